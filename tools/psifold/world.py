@@ -1,4 +1,5 @@
-"""Replays a trace's lines, and adds up the time that each processor was in each joint state.
+"""Replays a trace's lines, and adds up the time that each processor was in each joint state. Unlike
+psireplay/world.py it rejects lines that it can't follow, since nothing has checked them.
 
 Here a joint state is an integer with a bit for each element that occurs in some window: so a task's
 change is an exclusive or, and the time of a joint state is looked up by the integer.

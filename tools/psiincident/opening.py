@@ -8,6 +8,7 @@ from collections.abc import Iterator
 
 from psicli.fault import Fault
 from psirec.layout import META
+from psirec.meta import is_recording
 
 from .steps import Steps
 
@@ -25,7 +26,7 @@ def remote_of(source: str) -> tuple[str, str] | None:
 
 def recordings_in(folder: str, depth: int = 0) -> Iterator[str]:
     """The recordings in a folder, which may be one itself. Links aren't followed."""
-    if os.path.isfile(os.path.join(folder, META)):
+    if is_recording(folder):
         yield folder
         return
     with os.scandir(folder) as entries:

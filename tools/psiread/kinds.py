@@ -5,6 +5,8 @@ import glob
 import os
 import re
 
+from psirec.meta import is_recording
+
 # The number of bytes to look at.
 HEAD = 64
 TRACE_HEADER = re.compile(rb"psitrace [0-9]+ cpus=")
@@ -47,7 +49,7 @@ def kind_of_file(name: str) -> str | None:
     if os.path.isdir(name):
         return (
             "it is a recording: tools/psitrace makes a trace of it"
-            if has_meta(name)
+            if is_recording(name)
             else "it is a folder"
         )
     try:
@@ -70,17 +72,12 @@ def is_trace(name: str) -> bool:
         return False
 
 
-def has_meta(folder: str) -> bool:
-    """Whether a folder has a recording's file `meta`."""
-    return os.path.isfile(os.path.join(folder, "meta"))
-
-
 def recording_below(folder: str) -> str | None:
     """A folder with `meta` one or two levels below this one, if there is exactly one."""
     found = [
         path
         for pattern in ("*", "*/*")
         for path in glob.glob(os.path.join(glob.escape(folder), pattern))
-        if has_meta(path)
+        if is_recording(path)
     ]
     return found[0] if len(found) == 1 else None

@@ -26,7 +26,8 @@ from .files import Raw
 from .formats import Format, IntegerReader, integers_of
 from .names import Names
 from .pages import Page, PageFault, page_at, records_of
-from .recording import Meta, gaps_behind, kernel_of
+from .meta import Meta
+from .recording import gaps_behind, kernel_of
 from .source import Source, Unreadable
 
 # Events that a machine writes thousands of times a second; so are markers of memory samples.

@@ -46,7 +46,7 @@ def free_bytes(folder: str) -> int:
 
 def waits_for(it: Stored) -> str:
     """What a recorder waits for."""
-    ring, group = it.values(Key.RING), it.values(Key.RING_GROUP)
+    ring, group = it.meta.all(Key.RING), it.meta.all(Key.RING_GROUP)
     if not ring or ring[0] == "none":
         return "until it is stopped" if ring else "an ordinary recording"
     return f"waits for {ring[0]}{f' of {group[0]}' if group else ''}"
@@ -54,7 +54,7 @@ def waits_for(it: Stored) -> str:
 
 def began(it: Stored) -> str:
     """When a recording began, by its own clocks."""
-    words = (it.values(Key.MOMENT) or [""])[0].split()
+    words = (it.meta.one(Key.MOMENT) or "").split()
     return clock(float(words[1])) if len(words) > 1 else "an unknown time"
 
 

@@ -10,6 +10,7 @@ from dataclasses import dataclass
 
 from psirec import layout
 from psirec.layout import Key, Reason
+from psirec.meta import Lines
 
 from .folder import FOLDER_FLAGS, remove_all
 from .machine import read_file
@@ -29,31 +30,23 @@ class Limits:
 @dataclass(frozen=True)
 class Stored:
     """A recording: its folder's name, when it was last written (s since 1970), its bytes, whether a
-    recorder is writing it, and the lines of its `meta`.
+    recorder is writing it, and its `meta`.
     """
 
     name: str
     ended: float
     bytes: int
     is_written: bool
-    meta: tuple[tuple[str, str], ...]
-
-    def values(self, key: str) -> list[str]:
-        """The values of a key of `meta`."""
-        return [value for name, value in self.meta if name == key]
+    meta: Lines
 
     def reason(self) -> str:
         """Why it ended."""
-        found = self.values(Key.END)
-        return found[0] if found else Reason.KILLED
+        return self.meta.one(Key.END) or Reason.KILLED
 
     def lost(self) -> int:
         """The number of lost events. A flight recorder's buffers are overwritten on purpose."""
-        names = [it for it in layout.LOST_STATS if it != "overrun" or not self.values(Key.RING)]
-        rows = (value.partition(" ")[2].partition(":") for value in self.values(Key.STATS))
-        return sum(
-            int(count) for name, _, count in rows if name in names and count.strip().isdigit()
-        )
+        names = [it for it in layout.LOST_STATS if it != "overrun" or not self.meta.is_ring()]
+        return sum(sum(self.meta.lost(name).values()) for name in names)
 
 
 def is_locked(file: int) -> bool:
@@ -89,8 +82,7 @@ def stored_at(path: str) -> Stored | None:
         data, ended = read_file(f"/proc/self/fd/{file}"), os.fstat(file).st_mtime
         if not data.startswith(FIRST):
             return None
-        lines = data.decode(errors="replace").splitlines()
-        meta = tuple((key, value) for key, _, value in (line.partition(" ") for line in lines))
+        meta = Lines(data.decode(errors="replace"))
         return Stored(os.path.basename(path), ended, size_of(path), is_locked(file), meta)
     finally:
         os.close(file)

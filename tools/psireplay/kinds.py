@@ -6,6 +6,8 @@ import os
 import re
 from typing import Callable, NamedTuple, Optional
 
+from psirec.meta import is_recording
+
 # A file is recognised by its first bytes.
 HEAD = 4096
 TRACE, RULES, REPLAY, JSON = (
@@ -103,6 +105,6 @@ def why_refused(said: str, path: str, name: Optional[str] = None) -> str:
 
 def folder_told(name: str) -> str:
     """What a folder is, if it is given in place of a trace."""
-    if os.path.isfile(os.path.join(name, "meta")):
+    if is_recording(name):
         return f"{name} is a recording: `tools/psitrace {name}` makes a trace of it"
     return f"{name} is a folder"

@@ -10,6 +10,7 @@ from typing import NamedTuple, TextIO
 
 from psicli.fault import Fault
 from psicli.times import SECOND
+from psirec.meta import is_recording
 from psireplay.kinds import JSON, RULES, kind_of, told_kind
 
 from .metrics import SECOND_ROOT, Metrics, read_dump, read_json
@@ -130,7 +131,7 @@ class Inputs:
         folder = os.path.dirname(name) or "."
         if os.path.isdir(name):
             read_folder(name, self.put)
-        elif os.path.basename(name) == PRESSURE and os.path.exists(os.path.join(folder, "meta")):
+        elif os.path.basename(name) == PRESSURE and is_recording(folder):
             read_folder(folder, self.put)
         else:
             self.read_file(name)

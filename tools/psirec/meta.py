@@ -1,0 +1,41 @@
+"""Reads the lines of a recording's `meta`, for the recorder and for what reads recordings."""
+from __future__ import annotations
+
+import os
+import re
+
+from .layout import META, Key
+
+
+class Lines:
+    """The lines of a `meta`: the values of each key, in their order."""
+
+    def __init__(self, text: str) -> None:
+        lines = [line.partition(" ") for line in text.splitlines() if line]
+        self.values: dict[str, list[str]] = {}
+        for key, _, value in lines:
+            self.values.setdefault(key, []).append(value)
+        self.last_key = lines[-1][0] if lines else ""
+
+    def all(self, key: str) -> list[str]:
+        """The values of a key."""
+        return self.values.get(key, [])
+
+    def one(self, key: str) -> str | None:
+        """The first value of a key, if it has one."""
+        return next(iter(self.all(key)), None)
+
+    def is_ring(self) -> bool:
+        """Whether a flight recorder wrote this."""
+        return Key.RING in self.values
+
+    def lost(self, line: str) -> dict[int, int]:
+        """The number of events that each processor lost, by this line of its `stats`."""
+        form = re.compile(rf"cpu([0-9]{{1,5}}) {line}: ([0-9]{{1,19}})")
+        found = (form.fullmatch(it) for it in self.all(Key.STATS))
+        return {int(it[1]): int(it[2]) for it in found if it and int(it[2])}
+
+
+def is_recording(folder: str) -> bool:
+    """Whether a folder is a recording: it has a file `meta`."""
+    return os.path.isfile(os.path.join(folder, META))
