@@ -83,7 +83,9 @@ class Told(NamedTuple):
 # ---------------------------------------------------------------- what was known before
 
 
-def snapshot_prior(snapshot: Snapshot, events: Sequence[Event], beginning: Beginning, off: set[str]) -> Prior:
+def snapshot_prior(
+    snapshot: Snapshot, events: Sequence[Event], beginning: Beginning, off: set[str]
+) -> Prior:
     """What a snapshot says about the recording's start, though it was taken later: what was created
     since is removed.
     """
@@ -92,7 +94,11 @@ def snapshot_prior(snapshot: Snapshot, events: Sequence[Event], beginning: Begin
         if isinstance(event, (GroupMade, GroupRemoved)) and not event.hierarchy:
             first_events.setdefault(escaped_path(event.path), type(event))
     groups = [path for path in sorted(snapshot.groups) if first_events.get(path) is not GroupMade]
-    moved = {it.task for it in events if isinstance(it, Attach) and not it.hierarchy and it.moment < snapshot.moment}
+    moved = {
+        it.task
+        for it in events
+        if isinstance(it, Attach) and not it.hierarchy and it.moment < snapshot.moment
+    }
     settled = next((it.moment for it in events if is_end_of(snapshot, it)), NEVER)
     prior = Prior(groups, off, {}, Samples(), settled)
     for number, task in snapshot.tasks.items():
@@ -108,14 +114,19 @@ def snapshot_prior(snapshot: Snapshot, events: Sequence[Event], beginning: Begin
         prior.tasks[number] = Known(path, task.process, First(state, task.processor), False, name)
     if snapshot.tasks:
         unlisted = set(beginning.tasks) - set(prior.tasks)
-        prior.mended["task that the snapshot doesn't list, taken to be in the root"] += len(unlisted)
+        prior.mended["task that the snapshot doesn't list, taken to be in the root"] += len(
+            unlisted
+        )
     return prior
 
 
 def world_prior(world: World, samples: Samples, is_sound: bool) -> Prior:
     """The state of a world that was played up to here."""
     tasks = {
-        number: Known(task.group, task.process, First(task.state, task.processor), task.is_stalled, task.life.name)
+        number: Known(
+            task.group, task.process, First(task.state, task.processor), task.is_stalled,
+            task.life.name,
+        )
         for number, task in world.tasks.items()
     }
     groups = sorted(world.groups.live - world.groups.leaving)
@@ -131,7 +142,10 @@ def first_of(number: int, prior: Prior, beginning: Beginning) -> First:
     if said is None:
         state, processor, _ = known.first if known else First(State.ASLEEP, 0)
         is_idle = state is State.RUNNING and processor in beginning.runs
-        return First(State.ASLEEP if is_idle or (state is State.READY and not prior.is_sound) else state, processor)
+        return First(
+            State.ASLEEP if is_idle or (state is State.READY and not prior.is_sound) else state,
+            processor,
+        )
     if said.state is State.READY and said.moment > prior.settled:
         return First(late_state(known), said.processor)
     if said.state is State.ASLEEP and known and known.first.state is State.WAITING:
@@ -184,12 +198,18 @@ def begin(world: World, prior: Prior, beginning: Beginning) -> None:
     for path, sample in sorted(prior.samples.groups.items()):
         if path in world.groups.live:
             world.put(f"mem {path} {sample}")
-    firsts = {number: first_of(number, prior, beginning) for number in {*prior.tasks, *beginning.tasks}}
+    firsts = {
+        number: first_of(number, prior, beginning) for number in {*prior.tasks, *beginning.tasks}
+    }
     order = {State.ASLEEP: 0, State.WAITING: 0, State.READY: 1, State.RUNNING: 2}
-    for number in sorted(chosen(firsts, prior, beginning), key=lambda it: (order[firsts[it].state], it)):
+    for number in sorted(
+        chosen(firsts, prior, beginning), key=lambda it: (order[firsts[it].state], it)
+    ):
         first = firsts[number]
         known = prior.tasks.get(number) or Known(ROOT, number, first, False)
-        is_stalled = beginning.stalled.get(number, known.is_stalled and number not in beginning.depths)
+        is_stalled = beginning.stalled.get(
+            number, known.is_stalled and number not in beginning.depths
+        )
         begin_task(world, number, known, first, is_stalled)
 
 
@@ -200,7 +220,9 @@ def chosen(firsts: dict[int, First], prior: Prior, beginning: Beginning) -> list
     if len(firsts) <= MOST_TASKS // 2:
         return list(firsts)
     named = [number for number in firsts if number in beginning.tasks]
-    of_groups = {known.path: number for number, known in prior.tasks.items() if number not in beginning.tasks}
+    of_groups = {
+        known.path: number for number, known in prior.tasks.items() if number not in beginning.tasks
+    }
     return [*named, *of_groups.values()]
 
 
@@ -292,7 +314,9 @@ class Wanted(NamedTuple):
 def convert(source: Source, wanted: Wanted) -> Converted:
     """Converts a recording."""
     window, deepest = wanted.window, wanted.deepest
-    told = Told(waits_for_io(source.events, wanted.method), accounts_of(source.events, source.snapshot))
+    told = Told(
+        waits_for_io(source.events, wanted.method), accounts_of(source.events, source.snapshot)
+    )
     is_sound = not any(gap.start < window.start for gap in source.gaps)
     places = range(place_of(source.events, window.start), place_of(source.events, window.end + 1))
     prior = prior_of(source, places.start, told, deepest, is_sound)
@@ -307,17 +331,25 @@ def convert(source: Source, wanted: Wanted) -> Converted:
         origin -= wanted.lead_in.length()
         world.lives.clear()  # made-up tasks have no names
     world.clocks = Clocks(WINDOW)
-    begin(world, prior, beginning_of(source.events[places.start : places.stop], tells_of_births(source.events)))
+    begin(
+        world, prior,
+        beginning_of(source.events[places.start : places.stop], tells_of_births(source.events)),
+    )
     player = player_of(world, source, told)
     limit = play(player, source, places, Window(origin, window.end))
     if world.groups.leaving:
         world.mended["removed group that a task never left"] += len(world.groups.leaving)
     kinds = Counter(map(type, source.events[places.start : places.stop]))
     counts = Counter({NAMES[kind]: count for kind, count in kinds.items() if kind in NAMES})
-    lines = [f"psitrace {world.version()} cpus={world.processors}", *world.lines, f"{world.now} end"]
+    lines = [
+        f"psitrace {world.version()} cpus={world.processors}", *world.lines, f"{world.now} end",
+    ]
     uninterruptible = waits_for_io(source.events, Method.STATE)
     told_waits = count_in(told.waits, places), count_in(uninterruptible, places)
-    return Converted(lines, world, counts, *told_waits, player.victims, limit, window.start - origin, lead_in.left_out if lead_in else 0)
+    return Converted(
+        lines, world, counts, *told_waits, player.victims, limit, window.start - origin,
+        lead_in.left_out if lead_in else 0,
+    )
 
 
 def count_in(found: set[int], places: range) -> int:

@@ -58,7 +58,9 @@ def tell(line: str) -> None:
 # ---------------------------------------------------------------- the recording
 
 
-def choose_sources(machine: Machine, wanted: Wanted, group: str, folder: Folder, undoing: Undoing) -> tuple[Sources, bool]:
+def choose_sources(
+    machine: Machine, wanted: Wanted, group: str, folder: Folder, undoing: Undoing
+) -> tuple[Sources, bool]:
     """The best available sources, and whether the kernel's statistics must be switched on for them.
     """
     if wanted.has_probes:
@@ -82,7 +84,9 @@ def choose_sources(machine: Machine, wanted: Wanted, group: str, folder: Folder,
     return sources, statistics == Statistics.OFF
 
 
-def prepare(machine: Machine, wanted: Wanted, folder: Folder, undoing: Undoing) -> tuple[Instance, Sources]:
+def prepare(
+    machine: Machine, wanted: Wanted, folder: Folder, undoing: Undoing
+) -> tuple[Instance, Sources]:
     """Changes the machine as far as a recording requires; nothing is traced yet."""
     name = recorder_name()
     sources, needs_statistics = choose_sources(machine, wanted, name, folder, undoing)
@@ -92,7 +96,9 @@ def prepare(machine: Machine, wanted: Wanted, folder: Folder, undoing: Undoing) 
             switch_statistics_on(machine, undoing)
         except OSError as error:
             sources.events.remove(STATISTICS_EVENT)
-            folder.say(Key.NO_EVENT, f"{STATISTICS_EVENT}: kernel.sched_schedstats: {error.strerror}")
+            folder.say(
+                Key.NO_EVENT, f"{STATISTICS_EVENT}: kernel.sched_schedstats: {error.strerror}"
+            )
             sources.waits = BY_STATE
     instance.prepare(wanted.buffer_kb)
     events = instance.enable_all(sources, folder.say, tell)
@@ -118,7 +124,8 @@ def say_machine(folder: Folder, machine: Machine, wanted: Wanted) -> None:
 
 
 def record(
-    machine: Machine, wanted: Wanted, service: Service, folder: Folder, signals: Signals, trigger: Trigger | None, condition: int | None
+    machine: Machine, wanted: Wanted, service: Service, folder: Folder, signals: Signals,
+    trigger: Trigger | None, condition: int | None,
 ) -> Status:
     """Records, and undoes all changes, whatever happens."""
     ending = None
@@ -139,7 +146,9 @@ def record(
             if condition is not None:
                 recorder.watch(condition)
             elif trigger:
-                tell(f"there is no group {trigger.group} yet: the trigger waits until it is created")
+                tell(
+                    f"there is no group {trigger.group} yet: the trigger waits until it is created"
+                )
             tell(f"recording {machine.processors()} processors into {folder.path}; Ctrl-C ends it")
             ending = recorder.record()
             if wanted.has_containers:
@@ -148,7 +157,10 @@ def record(
             check_statistics(machine, sources, folder, ending)
     if ending:
         # Before it ends, so that there are never more recordings than wanted.
-        keep(os.path.dirname(os.path.abspath(folder.path)), service.limits, tell, os.path.basename(folder.path))
+        keep(
+            os.path.dirname(os.path.abspath(folder.path)), service.limits, tell,
+            os.path.basename(folder.path),
+        )
     return closed(folder, ending, undoing.left)
 
 
@@ -250,7 +262,10 @@ def update_textfile(service: Service, above: str) -> None:
             tell(f"{service.textfile} couldn't be written: {error.strerror}")
 
 
-def record_once(machine: Machine, out: str, wanted: Wanted, service: Service, signals: Signals, is_compressed: bool) -> Status:
+def record_once(
+    machine: Machine, out: str, wanted: Wanted, service: Service, signals: Signals,
+    is_compressed: bool,
+) -> Status:
     """Records into a new folder, and then runs and reports what the service wants."""
     above = os.path.dirname(os.path.abspath(out))
     trigger = Trigger(machine, wanted.until, wanted.group) if wanted.until else None

@@ -77,7 +77,9 @@ def whole_parts(folder: int, is_ended: bool) -> Iterator[str]:
     """The parts to which nothing more is written: for each processor all but the last one, or all
     after the end.
     """
-    parts = sorted((int(it[1]), int(it[2]), it[0]) for it in map(PART.fullmatch, os.listdir(folder)) if it)
+    parts = sorted(
+        (int(it[1]), int(it[2]), it[0]) for it in map(PART.fullmatch, os.listdir(folder)) if it
+    )
     for place, (processor, _, name) in enumerate(parts):
         if is_ended or (place + 1 < len(parts) and parts[place + 1][0] == processor):
             yield name
@@ -87,7 +89,9 @@ def opener_in(folder: int) -> Callable[[str, int], int]:
     """An opener for `open` that opens names in an open folder. It follows no link, and only the
     owner may read a new file.
     """
-    return lambda name, flags: os.open(name, flags | os.O_NOFOLLOW | os.O_CLOEXEC, 0o600, dir_fd=folder)
+    return lambda name, flags: os.open(
+        name, flags | os.O_NOFOLLOW | os.O_CLOEXEC, 0o600, dir_fd=folder
+    )
 
 
 def compress(folder: int, name: str) -> None:

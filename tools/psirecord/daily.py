@@ -46,7 +46,10 @@ def wait_for_room(out: str, limit: int, signals: Signals, tell: Callable[[str], 
         if not seconds:
             return True
         if not is_announced:
-            tell(f"{folder} has {limit} recordings of the last 24 hours: the next one begins in {seconds / 3600:.1f} hours")
+            tell(
+                f"{folder} has {limit} recordings of the last 24 hours: the next one begins in"
+                f" {seconds / 3600:.1f} hours"
+            )
             is_announced = True
         waiting.until(time.monotonic() + min(seconds, LOOK_SECONDS))
     return False

@@ -134,7 +134,10 @@ class Folder:
         header = read_file(f"{machine.tracing}/events/header_page")
         parts = [b"== header_page\n" + header]
         for event in [*events, "ftrace/print"]:
-            parts.append(b"== %s\n%s" % (event.encode(), read_file(f"{machine.tracing}/events/{event}/format")))
+            parts.append(
+                b"== %s\n%s"
+                % (event.encode(), read_file(f"{machine.tracing}/events/{event}/format"))
+            )
         self.write_whole(layout.FORMATS, b"".join(parts))
         self.page_bytes = page_bytes(header)
 
@@ -235,7 +238,9 @@ class Folder:
 def page_bytes(header: bytes) -> int:
     """The size of a page according to `events/header_page`: its data's offset and size together."""
     for line in header.splitlines():
-        words = {key: value for key, _, value in (it.strip().partition(b":") for it in line.split(b";"))}
+        words = {
+            key: value for key, _, value in (it.strip().partition(b":") for it in line.split(b";"))
+        }
         if words.get(b"field", b"").endswith(b" data"):
             return int(words[b"offset"]) + int(words[b"size"])
     return PAGE_BYTES

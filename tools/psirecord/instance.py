@@ -91,7 +91,9 @@ class Instance:
             except OSError as error:
                 say(Key.NO_EVENT, f"{event}: {error.strerror}")
                 if event in NEEDED or event.endswith(f"/{Probe.SWITCH}"):
-                    raise NotRecorded(f"the event {event} can't be switched on: {error.strerror}") from error
+                    raise NotRecorded(
+                        f"the event {event} can't be switched on: {error.strerror}"
+                    ) from error
                 tell(f"no event {event}: {without(event)}")
                 continue
             say(Key.EVENT, event)
@@ -150,7 +152,11 @@ class Instance:
     def statistics(self, processor: int) -> dict[str, str]:
         """The lines of `per_cpu/cpuN/stats`."""
         text = read_file(f"{self.folder}/per_cpu/cpu{processor}/stats").decode(errors="replace")
-        return {key: value.strip() for key, _, value in (it.partition(":") for it in text.splitlines()) if value}
+        return {
+            key: value.strip()
+            for key, _, value in (it.partition(":") for it in text.splitlines())
+            if value
+        }
 
 
 def lost_events(statistics: dict[str, str], is_ring: bool) -> int:
@@ -198,14 +204,21 @@ def remove_left_behind(machine: Machine, tell: Tell) -> None:
         return start_time(machine.proc, number) != start
 
     undoing = Undoing()
-    for found in PROBE.finditer(read_file(f"{machine.tracing}/kprobe_events").decode(errors="replace")):
+    for found in PROBE.finditer(
+        read_file(f"{machine.tracing}/kprobe_events").decode(errors="replace")
+    ):
         if is_left(found):
-            undoing.note(f"the probe {found['probe']}", remover(machine.remove_probe, found["probe"]))
+            undoing.note(
+                f"the probe {found['probe']}", remover(machine.remove_probe, found["probe"])
+            )
     for instance in sorted(os.listdir(f"{machine.tracing}/instances")):
         named = INSTANCE.fullmatch(instance)
         if named and is_left(named):
             if named["statistics"]:
-                undoing.note("kernel.sched_schedstats", lambda: write_file(f"{machine.proc}/{SCHEDULER_STATISTICS}", "0"))
+                undoing.note(
+                    "kernel.sched_schedstats",
+                    lambda: write_file(f"{machine.proc}/{SCHEDULER_STATISTICS}", "0"),
+                )
             undoing.note(f"the instance {instance}", remover(machine.remove_instance, instance))
     for what, _ in undoing.steps:
         tell(f"a recorder was killed: what it left is removed, {what}")

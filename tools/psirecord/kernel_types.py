@@ -35,7 +35,8 @@ class Place:
         """
         if not self.width:
             return f"+{self.bit // 8}($arg{argument}):{plain_type}"
-        return f"+{self.bit // WORD_BITS * 4}($arg{argument}):b{self.width}@{self.bit % WORD_BITS}/{WORD_BITS}"
+        offset, bit = self.bit // WORD_BITS * 4, self.bit % WORD_BITS
+        return f"+{offset}($arg{argument}):b{self.width}@{bit}/{WORD_BITS}"
 
 
 class KernelTypes:
@@ -79,7 +80,10 @@ class KernelTypes:
             has_widths, count = bool(info >> 31), info & 0xFFFF
             if place + TYPE.size + count * MEMBER.size > self.types_end:
                 continue
-            found = dict(self.member(place + TYPE.size + i * MEMBER.size, has_widths, wanted) for i in range(count))
+            found = dict(
+                self.member(place + TYPE.size + i * MEMBER.size, has_widths, wanted)
+                for i in range(count)
+            )
             if all(it in found for it in wanted):
                 return {it: found[it] for it in wanted}
         return {}
@@ -87,7 +91,11 @@ class KernelTypes:
     def member(self, place: int, has_widths: bool, wanted: tuple[str, ...]) -> tuple[str, Place]:
         """A member's name, empty if it isn't wanted, and its position."""
         name_place, _, offset = MEMBER.unpack_from(self.data, place)
-        known = [it for it in wanted if self.data.startswith(it.encode() + b"\0", self.strings + name_place)]
+        known = [
+            it
+            for it in wanted
+            if self.data.startswith(it.encode() + b"\0", self.strings + name_place)
+        ]
         if has_widths:
             return "".join(known), Place(offset & 0xFFFFFF, offset >> 24)
         return "".join(known), Place(offset, 0)

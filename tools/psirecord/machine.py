@@ -58,21 +58,31 @@ class Machine:
         """
         if os.geteuid() != 0:
             yield "root: tracing a whole machine takes it"
-        if os.path.exists(f"{self.proc}/self/ns/pid") and os.readlink(f"{self.proc}/self/ns/pid") != FIRST_PROCESS_NAMESPACE:
+        if (
+            os.path.exists(f"{self.proc}/self/ns/pid")
+            and os.readlink(f"{self.proc}/self/ns/pid") != FIRST_PROCESS_NAMESPACE
+        ):
             yield "the machine's own process numbers: this is a container, which has others"
         yield from self.missing_files()
 
     def missing_files(self) -> Iterator[str]:
         """The missing files."""
         if not os.path.isdir(f"{self.tracing}/instances"):
-            yield f"tracefs: {self.tracing}/instances isn't there (mount -t tracefs tracefs {self.tracing})"
+            yield (
+                f"tracefs: {self.tracing}/instances isn't there (mount -t tracefs tracefs"
+                f" {self.tracing})"
+            )
         if not os.path.exists(f"{self.groups}/cgroup.controllers"):
             yield (
-                f"control groups of version 2: {self.groups}/cgroup.controllers isn't there; with version 1, or both,"
-                " groups have no pressure files (systemd.unified_cgroup_hierarchy=1 at boot)"
+                f"control groups of version 2: {self.groups}/cgroup.controllers isn't there; with"
+                " version 1, or both, groups have no pressure files"
+                " (systemd.unified_cgroup_hierarchy=1 at boot)"
             )
         elif os.path.exists(f"{self.groups}/cgroup.events"):
-            yield f"the machine's own control groups: {self.groups} isn't the root of the hierarchy, so this is a container"
+            yield (
+                f"the machine's own control groups: {self.groups} isn't the root of the hierarchy,"
+                " so this is a container"
+            )
         if not read_file(f"{self.proc}/pressure/cpu"):
             yield f"pressure: {self.proc}/pressure/cpu can't be read (psi=1 at boot)"
 
@@ -97,12 +107,22 @@ class Machine:
         returns it with the condition of poll(2) that is the signal. `words` are those of
         Documentation/accounting/psi.rst: `some|full THRESHOLD WINDOW`, in us.
         """
-        path = f"{self.groups}{group}/{resource}.pressure" if group else f"{self.proc}/pressure/{resource}"
+        path = (
+            f"{self.groups}{group}/{resource}.pressure"
+            if group
+            else f"{self.proc}/pressure/{resource}"
+        )
         file = os.open(path, os.O_RDWR | os.O_NONBLOCK)
         try:
             os.write(file, words.encode() + b"\0")
         except OSError as error:
             os.close(file)
-            hint = "; without CAP_SYS_RESOURCE a window is a multiple of 2 s" if error.errno == errno.EINVAL else ""
-            raise OSError(error.errno, f"the kernel refuses this trigger, {error.strerror}{hint}") from error
+            hint = (
+                "; without CAP_SYS_RESOURCE a window is a multiple of 2 s"
+                if error.errno == errno.EINVAL
+                else ""
+            )
+            raise OSError(
+                error.errno, f"the kernel refuses this trigger, {error.strerror}{hint}"
+            ) from error
         return file, select.POLLPRI

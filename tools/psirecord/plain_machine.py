@@ -1,6 +1,8 @@
-"""A folder of plain files in place of the machine, for tests: what the kernel does by itself is done by hand here.
+"""A folder of plain files in place of the machine, for tests: what the kernel does by itself is
+done by hand here.
 
-    DIR/tracing    a folder with the files of an instance, `instances` and, if probes are available, `kprobe_events`
+    DIR/tracing    a folder with the files of an instance, `instances` and, if probes are available,
+                   `kprobe_events`
     DIR/cgroup     the root of the control groups
     DIR/proc       processes, `meminfo`, `pressure` and `sys/kernel/sched_schedstats`
     DIR/btf        the kernel's types, in the format of /sys/kernel/btf/vmlinux
@@ -22,7 +24,9 @@ from .machine import Machine, read_file
 def plain_machine(folder: str) -> PlainMachine:
     """The machine that this folder replaces."""
     top = os.path.abspath(folder)
-    return PlainMachine(tracing=f"{top}/tracing", groups=f"{top}/cgroup", proc=f"{top}/proc", types=f"{top}/btf")
+    return PlainMachine(
+        tracing=f"{top}/tracing", groups=f"{top}/cgroup", proc=f"{top}/proc", types=f"{top}/btf"
+    )
 
 
 def busy(path: str) -> OSError:
@@ -45,7 +49,9 @@ class PlainMachine(Machine):
 
     def processors(self) -> int:
         """The number of processors that have buffers."""
-        return sum(bool(re.fullmatch(r"cpu\d+", it)) for it in os.listdir(f"{self.tracing}/per_cpu"))
+        return sum(
+            bool(re.fullmatch(r"cpu\d+", it)) for it in os.listdir(f"{self.tracing}/per_cpu")
+        )
 
     def missing(self) -> Iterator[str]:
         """A folder needs no root."""
@@ -79,14 +85,21 @@ class PlainMachine(Machine):
         super().add_probe(definition)
         event = f"{self.tracing}/events/{definition.split()[0].partition(':')[2]}"
         os.makedirs(event)
-        for file, text in (("enable", "0\n"), ("filter", "none\n"), ("format", f"name: {os.path.basename(event)}\n")):
+        for file, text in (
+            ("enable", "0\n"),
+            ("filter", "none\n"),
+            ("format", f"name: {os.path.basename(event)}\n"),
+        ):
             with open(f"{event}/{file}", "w", encoding="ascii") as made:
                 made.write(text)
 
     def remove_probe(self, name: str) -> None:
         """Removes a probe; like the kernel, only if its event is off in all instances."""
         instances = [self.instance(it) for it in os.listdir(f"{self.tracing}/instances")]
-        if any(read_file(f"{it}/events/{name}/enable").startswith(b"1") for it in [self.tracing, *instances]):
+        if any(
+            read_file(f"{it}/events/{name}/enable").startswith(b"1")
+            for it in [self.tracing, *instances]
+        ):
             raise busy(name)
         with open(f"{self.tracing}/kprobe_events", encoding="ascii") as file:
             kept = [line for line in file if line.split()[0].partition(":")[2] != name]
@@ -97,5 +110,9 @@ class PlainMachine(Machine):
             os.rmdir(os.path.dirname(f"{self.tracing}/events/{name}"))
 
     def open_trigger(self, resource: str, words: str, group: str = "") -> tuple[int, int]:
-        """A plain file signals nothing, a FIFO does: the same one for the machine and all groups."""
-        return os.open(f"{os.path.dirname(self.tracing)}/trigger", os.O_RDWR | os.O_NONBLOCK), select.POLLIN
+        """A plain file signals nothing, a FIFO does: the same one for the machine and all groups.
+        """
+        return (
+            os.open(f"{os.path.dirname(self.tracing)}/trigger", os.O_RDWR | os.O_NONBLOCK),
+            select.POLLIN,
+        )

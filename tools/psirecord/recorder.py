@@ -40,8 +40,8 @@ MEGABYTE = 10**6
 class Wanted:
     """The operator's request: times in s, sizes in the named units. `is_ring` requests a flight
     recorder, and `until` has its trigger as `RESOURCE some|full THRESHOLD WINDOW`, or is empty.
-    `has_settings` requests the settings of systemd-oomd, `has_containers` the names of containers, and
-    `group` is the path of the group whose pressure is meant, or empty.
+    `has_settings` requests the settings of systemd-oomd, `has_containers` the names of containers,
+    and `group` is the path of the group whose pressure is meant, or empty.
     """
 
     seconds: float
@@ -75,9 +75,20 @@ class Recorder:
     """One recording, with its instance switched on."""
 
     def __init__(
-        self, wanted: Wanted, instance: Instance, folder: Folder, signals: Signals, trigger: Trigger | None, tell: Tell
+        self,
+        wanted: Wanted,
+        instance: Instance,
+        folder: Folder,
+        signals: Signals,
+        trigger: Trigger | None,
+        tell: Tell,
     ) -> None:
-        self.machine, self.wanted, self.instance, self.folder = instance.machine, wanted, instance, folder
+        self.machine, self.wanted, self.instance, self.folder = (
+            instance.machine,
+            wanted,
+            instance,
+            folder,
+        )
         self.signals, self.waiting = signals, Waiting(signals)
         self.trigger, self.tell = trigger, tell
         self.start = self.end = self.fired = self.drained = 0.0
@@ -115,13 +126,20 @@ class Recorder:
         try:
             self.instance.note_mark(layout.START)
         except OSError as error:
-            raise NotRecorded(f"no marker can be written, {self.instance.folder}/trace_marker: {error.strerror}") from error
+            raise NotRecorded(
+                f"no marker can be written, {self.instance.folder}/trace_marker: {error.strerror}"
+            ) from error
 
     def jobs(self) -> list[Job]:
         """The periodic jobs."""
         wanted, start = self.wanted, self.start
         jobs = [
-            Job(self.read_pressure, start + wanted.pressure_seconds, wanted.pressure_seconds, is_each_due=True),
+            Job(
+                self.read_pressure,
+                start + wanted.pressure_seconds,
+                wanted.pressure_seconds,
+                is_each_due=True,
+            ),
             Job(self.memory.sample, start, wanted.memory_seconds),
         ]
         if self.trigger and self.trigger.group:
@@ -168,7 +186,10 @@ class Recorder:
         if not trigger or trigger.is_current() or self.fired:
             return
         if trigger.file >= 0:
-            self.tell(f"the group {trigger.group} was removed: the trigger waits until it is created again")
+            self.tell(
+                f"the group {trigger.group} was removed: the trigger waits until it is created"
+                " again"
+            )
             self.waiting.unwatch()
             trigger.close()
         with contextlib.suppress(OSError):
@@ -192,7 +213,9 @@ class Recorder:
         """Reads the pressure files. A flight recorder keeps its readings, since most of them are
         older than its buffers when it ends.
         """
-        reading = read_pressure(self.machine, self.instance.mark, self.reading_count, time.monotonic())
+        reading = read_pressure(
+            self.machine, self.instance.mark, self.reading_count, time.monotonic()
+        )
         self.reading_count += 1
         if self.wanted.is_ring:
             self.readings.append(reading)
@@ -209,7 +232,11 @@ class Recorder:
         self.instance.note_mark(layout.SNAPSHOT_ENDS)
         if not self.wanted.is_ring:
             self.folder.write_whole(layout.SNAPSHOT, self.snapshots[-1].text())
-        while self.readings and self.readings[0].moment < self.snapshots[0].moment / 1e9 - self.wanted.pressure_seconds:
+        while (
+            self.readings
+            and self.readings[0].moment
+            < self.snapshots[0].moment / 1e9 - self.wanted.pressure_seconds
+        ):
             self.readings.popleft()
 
     def drain(self) -> None:
@@ -254,7 +281,10 @@ class Recorder:
         lost = self.write_statistics()
         self.write_cost(seconds)
         if self.memory.too_long:
-            self.tell(f"{self.memory.too_long} samples of groups whose paths are too long for a marker were left out")
+            self.tell(
+                f"{self.memory.too_long} samples of groups whose paths are too long for a marker"
+                " were left out"
+            )
         return Ending(reason, lost, seconds, is_whole)
 
     def has_snapshot_inside(self) -> bool:
@@ -265,7 +295,12 @@ class Recorder:
 
     def buffers_begin(self) -> float:
         """The time (s) from which the buffers have all events of all processors."""
-        return max([self.start, *(oldest_moment(self.instance.statistics(it)) for it in self.instance.buffers)])
+        return max(
+            [
+                self.start,
+                *(oldest_moment(self.instance.statistics(it)) for it in self.instance.buffers),
+            ]
+        )
 
     def write_ring(self, begin: float) -> bool:
         """Writes the snapshot with which a flight recorder's trace can begin, and the readings of
@@ -280,7 +315,10 @@ class Recorder:
         self.tell(f"the buffers hold the last {time.monotonic() - begin:.1f} s")
         has_signal = not self.fired or begin < self.fired
         if not has_signal:
-            self.tell(f"the moment of the signal, {begin - self.fired:.1f} s before, was overwritten: a larger --buffer-kb helps")
+            self.tell(
+                f"the moment of the signal, {begin - self.fired:.1f} s before, was overwritten: a"
+                " larger --buffer-kb helps"
+            )
         return has_signal
 
     def write_statistics(self) -> dict[int, int]:

@@ -51,7 +51,9 @@ def groups(machine: Machine) -> Iterator[Group]:
         yield Group(folder, layout.escaped_path(os.fsencode(folder[len(machine.groups) :])), number)
         try:
             with os.scandir(folder) as entries:
-                children = sorted((it.path, it.inode()) for it in entries if it.is_dir(follow_symlinks=False))
+                children = sorted(
+                    (it.path, it.inode()) for it in entries if it.is_dir(follow_symlinks=False)
+                )
         except OSError:
             continue
         pending.extend(reversed(children))
@@ -62,7 +64,10 @@ def groups(machine: Machine) -> Iterator[Group]:
 
 def memory_information(machine: Machine) -> dict[str, int]:
     """/proc/meminfo, in bytes."""
-    lines = (it.split() for it in read_file(f"{machine.proc}/meminfo").decode(errors="replace").splitlines())
+    lines = (
+        it.split()
+        for it in read_file(f"{machine.proc}/meminfo").decode(errors="replace").splitlines()
+    )
     return {it[0].rstrip(":"): int(it[1]) * KIB for it in lines if len(it) > 1}
 
 
@@ -105,9 +110,15 @@ class MemorySampler:
         the root find some.
         """
         known = memory_information(self.machine)
-        total, swap_total, swap_free = (known.get(it, 0) for it in ("MemTotal", "SwapTotal", "SwapFree"))
+        total, swap_total, swap_free = (
+            known.get(it, 0) for it in ("MemTotal", "SwapTotal", "SwapFree")
+        )
         self.write(layout.host_marker(total, swap_total, swap_free))
-        self.write(layout.memory_marker("/", total - known.get("MemAvailable", total), swap_total - swap_free, 0))
+        self.write(
+            layout.memory_marker(
+                "/", total - known.get("MemAvailable", total), swap_total - swap_free, 0
+            )
+        )
         unaccounted = set()
         for group in groups(self.machine):
             self.sample_memory(group)
@@ -144,20 +155,26 @@ class MemorySampler:
 
 @dataclass(frozen=True)
 class Reading:
-    """The pressure files of all groups, read between two markers; `moment` is CLOCK_MONOTONIC in s."""
+    """The pressure files of all groups, read between two markers; `moment` is CLOCK_MONOTONIC in s.
+    """
 
     moment: float
     text: bytes
 
 
 def read_pressure(machine: Machine, mark: Mark, number: int, moment: float) -> Reading:
-    """Reads all groups' pressure files. Each reading is a sample for the kernel too, so its totals depend on how often this
-    is done."""
+    """Reads all groups' pressure files. Each reading is a sample for the kernel too, so its totals
+    depend on how often this is done.
+    """
     mark(layout.pressure_marker(number, is_end=False))
     parts = []
     for group in groups(machine):
         for resource in layout.RESOURCES:
-            path = f"{machine.proc}/pressure/{resource}" if group.is_root() else f"{group.folder}/{resource}.pressure"
+            path = (
+                f"{machine.proc}/pressure/{resource}"
+                if group.is_root()
+                else f"{group.folder}/{resource}.pressure"
+            )
             text = read_file(path)
             if text:
                 head = layout.sample_line(number, group.path, resource)
@@ -181,7 +198,9 @@ class Snapshot:
 
     def text(self) -> bytes:
         """The contents of the snapshot's file."""
-        return "".join(f"{it}\n" for it in [layout.at_line(self.moment), *self.lines, layout.SNAPSHOT_END]).encode(errors="surrogateescape")
+        return "".join(
+            f"{it}\n" for it in [layout.at_line(self.moment), *self.lines, layout.SNAPSHOT_END]
+        ).encode(errors="surrogateescape")
 
 
 def preference(group: Group) -> str:
@@ -204,11 +223,17 @@ def task_line(machine: Machine, number: bytes, group: Group) -> str | None:
     text = read_file(f"{folder}/stat")
     end = text.rfind(b")")
     words = text[end + 1 :].split()
-    process = [it.split()[1] for it in read_file(f"{folder}/status").splitlines() if it.startswith(b"Tgid:")]
+    process = [
+        it.split()[1]
+        for it in read_file(f"{folder}/status").splitlines()
+        if it.startswith(b"Tgid:")
+    ]
     if end < 0 or len(words) < 37 or not process:
         return None
     name = os.fsdecode(text[text.find(b"(") + 1 : end])
-    return layout.task_line(int(number), int(process[0]), words[0].decode(), int(words[36]), group.path, name)
+    return layout.task_line(
+        int(number), int(process[0]), words[0].decode(), int(words[36]), group.path, name
+    )
 
 
 def take_snapshot(machine: Machine, moment: int) -> Snapshot:

@@ -1,14 +1,17 @@
-"""Stores the settings of systemd-oomd, if systemd runs, in the folder `systemd` of a recording, for tools/systemd-oomd.
+"""Stores the settings of systemd-oomd, if systemd runs, in the folder `systemd` of a recording, for
+tools/systemd-oomd.
 
 version     the first words of `systemctl --version`
 units       the output of `systemctl show` for all services, slices and scopes (SHOWN)
-groups      a line for each control group: its path, and its owner, memory.oom.group and attributes (group_line)
-etc/.. run/.. usr/..   oomd.conf with its drop-in files, and each unit file that has a setting of systemd-oomd, with those of
-            the same name in other folders, since one folder's files override another's. All other lines of unit files are
-            empty, since environments and arguments aren't recorded
+groups      a line for each control group: its path, and its owner, memory.oom.group and attributes
+            (group_line)
+etc/.. run/.. usr/..   oomd.conf with its drop-in files, and each unit file that has a setting of
+            systemd-oomd, with those of the same name in other folders, since one folder's files
+            override another's. All other lines of unit files are empty, since environments and
+            arguments aren't recorded
 
-So the folder can be given to `tools/systemd-oomd --settings`, like any folder of files, but has more. Nothing of this is traced: it
-is stored before the recording begins.
+So the folder can be given to `tools/systemd-oomd --settings`, like any folder of files, but has
+more. Nothing of this is traced: it is stored before the recording begins.
 """
 from __future__ import annotations
 
@@ -69,7 +72,12 @@ class Place:
     def asked(self, *words: str) -> Answer:
         """Runs `systemctl` with these words."""
         try:
-            done = subprocess.run([self.command, *words], stdin=subprocess.DEVNULL, capture_output=True, timeout=PATIENCE_SECONDS)
+            done = subprocess.run(
+                [self.command, *words],
+                stdin=subprocess.DEVNULL,
+                capture_output=True,
+                timeout=PATIENCE_SECONDS,
+            )
         except OSError as error:
             return Answer(b"", error.strerror)
         except subprocess.SubprocessError:
@@ -108,7 +116,8 @@ def group_line(group: Group) -> str:
     """A group, with everything that systemd-oomd reads there and that no trace has."""
     is_whole = number_in(f"{group.folder}/memory.oom.group") == 1
     avoid, omit = (is_true(group.folder, f"user.oomd_{it}") for it in ("avoid", "omit"))
-    return f"{group.path} uid={owner(group.folder)} oom_group={is_whole:d} avoid={avoid:d} omit={omit:d}\n"
+    attributes = f"oom_group={is_whole:d} avoid={avoid:d} omit={omit:d}"
+    return f"{group.path} uid={owner(group.folder)} {attributes}\n"
 
 
 # ---------------------------------------------------------------- files
@@ -124,7 +133,11 @@ def files_below(root: str, folder: str) -> Iterator[str]:
         return
     for name in names:
         if name.endswith(".d") and os.path.isdir(f"{root}/{folder}/{name}"):
-            yield from (f"{folder}/{name}/{it}" for it in sorted(os.listdir(f"{root}/{folder}/{name}")) if it.endswith(".conf"))
+            yield from (
+                f"{folder}/{name}/{it}"
+                for it in sorted(os.listdir(f"{root}/{folder}/{name}"))
+                if it.endswith(".conf")
+            )
         elif re.search(r"\.(service|slice|scope)$", name):
             yield f"{folder}/{name}"
 
@@ -134,14 +147,18 @@ def configurations(root: str) -> Iterator[str]:
     for folder in CONFIGURATIONS:
         if os.path.exists(f"{root}/{folder}/oomd.conf"):
             yield f"{folder}/oomd.conf"
-        yield from (it for it in files_below(root, folder) if it.startswith(f"{folder}/oomd.conf.d/"))
+        yield from (
+            it for it in files_below(root, folder) if it.startswith(f"{folder}/oomd.conf.d/")
+        )
 
 
 def unit_files(root: str, folders: tuple[str, ...]) -> Iterator[str]:
     """The files that have a setting of systemd-oomd, and those that may override them: drop-in
     files and units of the same name.
     """
-    found = {name: os.path.basename(name) for folder in folders for name in files_below(root, folder)}
+    found = {
+        name: os.path.basename(name) for folder in folders for name in files_below(root, folder)
+    }
     setting = {last for name, last in found.items() if SETTING.search(read_file(f"{root}/{name}"))}
     yield from (name for name, last in found.items() if last in setting)
 
@@ -170,9 +187,14 @@ def contents(machine: Machine, tell: Tell) -> Iterator[tuple[str, bytes]]:
     """The files by their names, with their contents."""
     place = place_of(machine)
     yield VERSION, place.asked("--version").printed.partition(b"\n")[0] + b"\n"
-    shown = place.asked("show", "--no-pager", "--type=service,slice,scope", "--property=" + ",".join(SHOWN), "*")
+    shown = place.asked(
+        "show", "--no-pager", "--type=service,slice,scope", "--property=" + ",".join(SHOWN), "*"
+    )
     if shown.fault:
-        tell(f"systemctl says nothing of units ({shown.fault}): what systemd-oomd watches is known by files alone")
+        tell(
+            f"systemctl says nothing of units ({shown.fault}): what systemd-oomd watches is known"
+            " by files alone"
+        )
     yield UNITS, shown.printed
     lines = "".join(group_line(it) for it in groups(machine))
     yield GROUPS, lines.encode(errors="surrogateescape")

@@ -22,7 +22,12 @@ class Undoing:
     def __enter__(self) -> Undoing:
         return self
 
-    def __exit__(self, kind: type[BaseException] | None, error: BaseException | None, trace: TracebackType | None) -> None:
+    def __exit__(
+        self,
+        kind: type[BaseException] | None,
+        error: BaseException | None,
+        trace: TracebackType | None,
+    ) -> None:
         """Undoes everything, whatever went wrong."""
         self.undo()
 

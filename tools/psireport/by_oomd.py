@@ -25,17 +25,27 @@ def section(page: Element, facts: Facts, runs: Runs) -> None:
     told: dict[str, Any] = json.loads(run.text())
     part = add(page, "section")
     say(part, "h2", "What oomd would have done")
-    say(part, "p", f"By the algorithm of oomd {told['oomd']}, which looked {told['looks']} times ", source(run), ".")
+    say(
+        part, "p", f"By the algorithm of oomd {told['oomd']}, which looked {told['looks']} times ",
+        source(run), ".",
+    )
     kills = told["decisions"]
     if not kills:
         say(part, "p", "It would have killed nobody.")
     if told["crash"]:
         say(part, "p", told["crash"])
     rows = [
-        [f"{seconds(it['moment_ns'])} s", it["victim"], it["ruleset_name"], it["plugin"], "; ".join(it["why"])] for it in kills[:SHOWN]
+        [
+            f"{seconds(it['moment_ns'])} s", it["victim"], it["ruleset_name"], it["plugin"],
+            "; ".join(it["why"]),
+        ]
+        for it in kills[:SHOWN]
     ]
     if rows:
-        table(part, "Kills, each as if the ones before it had freed nothing", ["at", "victim", "ruleset", "by", "because"], rows, 5)
+        table(
+            part, "Kills, each as if the ones before it had freed nothing",
+            ["at", "victim", "ruleset", "by", "because"], rows, 5,
+        )
         rest(part, len(kills), "kills")
     for note in told["notes"]:
         say(part, "p", note, class_="soft")

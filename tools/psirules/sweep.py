@@ -49,20 +49,28 @@ def values_of(text: str) -> list[str]:
     found = re.fullmatch(r"([0-9.]+)([KMGTkmgt%]?):([0-9.]+)\2:([0-9.]+)\2", text)
     numbers = [found[1], found[3], found[4]] if found else []
     if not found or not all(map(places.is_number, numbers)):
-        raise Fault(f"{quoted(text)} is no FROM:TO:STEP: write 20:90:10, or one letter after each as in 512M:2048M:512M")
+        raise Fault(
+            f"{quoted(text)} is no FROM:TO:STEP: write 20:90:10, or one letter after each as in"
+            " 512M:2048M:512M"
+        )
     start, end, step = map(Decimal, numbers)
     if not step or start > end:
         raise Fault(f"{quoted(text)} has no value: FROM is at most TO, and STEP above 0")
     count = int((end - start) / step) + 1
     if count > MOST_RUNS:
-        raise Fault(f"{quoted(text)} has {count} values, and at most {MOST_RUNS} are tried: take a greater step")
+        raise Fault(
+            f"{quoted(text)} has {count} values, and at most {MOST_RUNS} are tried: take a greater"
+            " step"
+        )
     return [f"{(start + number * step).normalize():f}{found[2]}" for number in range(count)]
 
 
 def axis(rules: RulesFile, text: str) -> Axis:
     name, _, values = text.rpartition("=")
     if not name or not values_of(values):
-        raise Fault(f"{quoted(text)} is no PLACE=VALUES: write 'ruleset/detector.threshold=20:90:10'")
+        raise Fault(
+            f"{quoted(text)} is no PLACE=VALUES: write 'ruleset/detector.threshold=20:90:10'"
+        )
     place, argument = places.find(rules, name)
     return Axis(place, argument, values_of(values))
 
@@ -97,17 +105,23 @@ class Row:
     def record(self, axes: list[Axis], rules: RulesFile) -> dict[str, object]:
         fault = str(self.found) if isinstance(self.found, Fault) else None
         kills = [] if isinstance(self.found, Fault) else [rules.record(kill) for kill in self.found]
-        values = {f"{one.place.spelled()}.{one.argument}": value for one, value in zip(axes, self.values)}
+        values = {
+            f"{one.place.spelled()}.{one.argument}": value for one, value in zip(axes, self.values)
+        }
         return {"trace": self.trace, "values": values, "fault": fault, "kills": kills}
 
 
 Choice = tuple[str, tuple[str, ...]]
 
 
-def replay(choice: Choice, axes: list[Axis], rules: RulesFile, given: argparse.Namespace, threads: int) -> list[Kill]:
+def replay(
+    choice: Choice, axes: list[Axis], rules: RulesFile, given: argparse.Namespace, threads: int
+) -> list[Kill]:
     """The kills of a trace with these values of the axes."""
     trace, values = choice
-    data = places.changed(rules, [(one.place, one.argument, value) for one, value in zip(axes, values)])
+    data = places.changed(
+        rules, [(one.place, one.argument, value) for one, value in zip(axes, values)]
+    )
     pace: Pace = given.pace
     with kept(data, rules.name) as file:
         try:
@@ -164,4 +178,9 @@ def run(given: argparse.Namespace) -> int:
         records = [row.record(axes, rules) for row in rows]
         return {"rules": given.file, "traces": given.traces, "status": status, "rows": records}
 
-    return telling.tell(given.form, [row.outcome(axes, len(given.traces) > 1) for row in rows], record, lambda: tell_table(axes, rows))
+    return telling.tell(
+        given.form,
+        [row.outcome(axes, len(given.traces) > 1) for row in rows],
+        record,
+        lambda: tell_table(axes, rows),
+    )

@@ -40,7 +40,9 @@ def between(one: Knot, other: Knot, time: int) -> tuple[int, int]:
     if time <= one[0]:
         return one[1], one[2]
     part, whole = time - one[0], other[0] - one[0]
-    return one[1] + (other[1] - one[1]) * part // whole, one[2] + (other[2] - one[2]) * part // whole
+    return (
+        one[1] + (other[1] - one[1]) * part // whole, one[2] + (other[2] - one[2]) * part // whole,
+    )
 
 
 class Memory(NamedTuple):
@@ -64,7 +66,11 @@ class Reading:
         it is 0.
         """
         get = self.values.get
-        return {it // 2: (self.values[it] * US, get(it + 1, 0) * US) for it in (0, 2, 4) if it in self.values}
+        return {
+            it // 2: (self.values[it] * US, get(it + 1, 0) * US)
+            for it in (0, 2, 4)
+            if it in self.values
+        }
 
     def shares(self, number: int) -> Optional[tuple[float, float]]:
         """avg10 of some and full of a resource, percent, if they are to shape its total."""
@@ -127,7 +133,11 @@ class Life:
             self.averages = [reading.values.get(AVERAGES + it, 0) for it in range(18)]
         if MEMORY in reading.values:
             values, self.memory_due = reading.values, 0
-            self.memory.append(Memory(reading.time, values[MEMORY], values.get(MEMORY + 1, 0), values.get(SCANS, -1)))
+            self.memory.append(
+                Memory(
+                    reading.time, values[MEMORY], values.get(MEMORY + 1, 0), values.get(SCANS, -1)
+                )
+            )
         if totals or self.last < 0:
             self.last = reading.time
 
@@ -153,7 +163,9 @@ class Life:
         """
         target, base, level = self.target, self.base, 2 * number
         if one[0] <= start and end <= other[0]:
-            part, whole, some, full = end - one[0], other[0] - one[0], other[1] - one[1], other[2] - one[2]
+            part, whole, some, full = (
+                end - one[0], other[0] - one[0], other[1] - one[1], other[2] - one[2],
+            )
             if some or full:
                 target[level] = one[1] + some * part // whole - base[level]
                 target[level + 1] = one[2] + full * part // whole - base[level + 1]
@@ -177,9 +189,12 @@ class Lives:
     """All lives, from rows in the order of time."""
 
     def __init__(
-        self, rows: Iterator[Plain], origin: int, every: int, places: Callable[[tuple[int, int]], Place], is_shaped: bool = False
+        self, rows: Iterator[Plain], origin: int, every: int,
+        places: Callable[[tuple[int, int]], Place], is_shaped: bool = False,
     ) -> None:
-        self.rows, self.origin, self.every, self.places, self.is_shaped = rows, origin, every, places, is_shaped
+        self.rows, self.origin, self.every, self.places, self.is_shaped = (
+            rows, origin, every, places, is_shaped,
+        )
         self.row = next(rows, None)
         self.tails: dict[str, Life] = {}
         self.born: list[Life] = []
@@ -204,7 +219,10 @@ class Lives:
     def put(self, reading: Reading, field: int, value: int, place: tuple[int, int]) -> None:
         """Sets a value of a reading. It may come twice if it is the same."""
         if reading.values.setdefault(field, value) != value:
-            raise Fault(f"{self.places(place)}: {reading.path} has another value at the same time at {self.places(reading.place)}")
+            raise Fault(
+                f"{self.places(place)}: {reading.path} has another value at the same time at"
+                f" {self.places(reading.place)}"
+            )
 
     def read_until(self, time: int) -> None:
         """Reads all readings up to a time (ns), and those after it by which it is known who is
@@ -215,7 +233,12 @@ class Lives:
         if self.row is None:
             self.time = max(self.time, time + (MOST_MISSED + 2) * self.every)
         for life in self.tails.values():
-            if life.gone is None and life.last < time and life.path != ROOT and self.is_absent(life, self.time):
+            if (
+                life.gone is None
+                and life.last < time
+                and life.path != ROOT
+                and self.is_absent(life, self.time)
+            ):
                 self.end(life)
 
     def read_round(self) -> None:
@@ -227,7 +250,10 @@ class Lives:
                 self.time = reading.time
                 self.take(reading)
         if len(self.rounds) > MOST_ROUNDS:
-            oldest = min((it.last for it in self.tails.values() if it.gone is None and it.path != ROOT), default=self.time)
+            oldest = min(
+                (it.last for it in self.tails.values() if it.gone is None and it.path != ROOT),
+                default=self.time,
+            )
             del self.rounds[1 : bisect.bisect_left(self.rounds, oldest) - 1]
 
     def is_open(self, time: int) -> bool:
@@ -235,8 +261,11 @@ class Lives:
         gone.
         """
         return any(
-            not life.is_known_until(time) and life.gone is None and (life.path == ROOT or not self.is_absent(life, self.time))
-            for life in self.tails.values() if life.is_sampled
+            not life.is_known_until(time)
+            and life.gone is None
+            and (life.path == ROOT or not self.is_absent(life, self.time))
+            for life in self.tails.values()
+            if life.is_sampled
         )
 
     def is_absent(self, life: Life, time: int) -> bool:
@@ -249,15 +278,28 @@ class Lives:
     def take(self, reading: Reading) -> None:
         """Takes a reading: it goes on with a life, or begins one."""
         if HOST in reading.values:
-            self.host.append((reading.time, tuple(reading.values.get(HOST + it, 0) for it in range(3))))
+            self.host.append(
+                (reading.time, tuple(reading.values.get(HOST + it, 0) for it in range(3)))
+            )
         life = self.tails.get(reading.path)
-        if reading.path != ROOT and reading.totals() and (not self.rounds or reading.time > self.rounds[-1] + self.every // 2):
+        if (
+            reading.path != ROOT
+            and reading.totals()
+            and (not self.rounds or reading.time > self.rounds[-1] + self.every // 2)
+        ):
             self.rounds.append(reading.time)
-        if life is not None and life.gone is None and life.path != ROOT and self.is_absent(life, reading.time):
+        if (
+            life is not None
+            and life.gone is None
+            and life.path != ROOT
+            and self.is_absent(life, reading.time)
+        ):
             self.end(life)
         if life is not None and life.gone is None and self.has_fallen(life, reading):
             if life.path == ROOT:
-                life.shift = [total for knots in life.knots for total in (knots[-1][1:3] if knots else (0, 0))]
+                life.shift = [
+                    total for knots in life.knots for total in (knots[-1][1:3] if knots else (0, 0))
+                ]
             else:
                 self.end(life)
         if not reading.totals() and (life is None or life.gone is not None):
@@ -284,12 +326,18 @@ class Lives:
                 if grown < 0:
                     has_fallen = True
                 elif grown > limit:
-                    raise Fault(f"{self.named(reading, level)} grows by {grown // US} us in {limit_text(reading.time - old[0])}")
+                    raise Fault(
+                        f"{self.named(reading, level)} grows by {grown // US} us in"
+                        f" {limit_text(reading.time - old[0])}"
+                    )
                 if total > limit and slower is None:
                     slower = level, total
         if has_fallen and slower:
             which, total = slower
-            raise Fault(f"{self.named(reading, which)} goes on at {total // US} us while another falls: a reset begins all at 0")
+            raise Fault(
+                f"{self.named(reading, which)} goes on at {total // US} us while another falls: a"
+                " reset begins all at 0"
+            )
         return has_fallen
 
     def named(self, reading: Reading, level: int) -> str:
@@ -305,7 +353,9 @@ class Lives:
         is_first = reading.path == ROOT or reading.time <= 0 or not (before or self.has_begun())
         life = Life(reading.path, 0 if is_first else tick, True)
         totals = reading.totals()
-        life.is_new = not is_first and all(some <= reading.time - life.tick * TICK for some, _ in totals.values())
+        life.is_new = not is_first and all(
+            some <= reading.time - life.tick * TICK for some, _ in totals.values()
+        )
         self.tails[reading.path] = life
         self.born.append(life)
         return life
