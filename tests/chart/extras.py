@@ -213,10 +213,6 @@ def check_texts_fit(program: str) -> None:
     must_fit("the story", Drawn(drawn_of(story(program), "--top=3", "--rules=examples/runaway.json")).svg)
 
 
-def memory_replay(program: str) -> bytes:
-    return run([program, "replay", "-", "--report-s", "1"], MEMORY_TRACE.encode())
-
-
 def drawn_memory(program: str, *words: str, trace: str = MEMORY_TRACE) -> Drawn:
     """The chart of a replay of this trace, with its memory."""
     with tempfile.NamedTemporaryFile("w", suffix=".trace") as file:

@@ -16,7 +16,6 @@ from shared.traces import MS, Event, Maker
 from psifold.fold import Fold  # noqa: E402
 from psifold.victims import Victim  # noqa: E402
 
-TOTAL = re.compile(rb"total=([0-9]+)")
 
 
 def folded(trace: str, window: int, victims: Sequence[Victim] = ()) -> tuple[str, Fold]:

@@ -23,7 +23,7 @@ from shared.outputs import run
 from .pages import data_of, page_of, read, story
 
 SECOND = 10**9
-TAB, RIGHT, ESCAPE, PLUS, SPACE = ("Tab", 9), ("ArrowRight", 39), ("Escape", 27), ("+", 187), (" ", 32)
+TAB, RIGHT, ESCAPE = ("Tab", 9), ("ArrowRight", 39), ("Escape", 27)
 PICTURE = 'document.querySelector("figure[data-panel]:not([hidden]) svg")'
 BOX = f"""(() => {{ {PICTURE}.scrollIntoView({{block: "center"}});
   const box = {PICTURE}.getBoundingClientRect(); return [box.x, box.y, box.width, box.height]; }})()"""

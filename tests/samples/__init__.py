@@ -13,7 +13,6 @@ from harness import must, must_be
 
 TOP = os.path.dirname(os.path.dirname(os.path.dirname(os.path.abspath(__file__))))
 START = 1_700_000_000
-RESOURCES = ("io", "memory", "cpu")
 SECOND = 10**9
 REPORT = re.compile(r"report (\d+) (\S+) (io|memory|cpu)\nsome [^\n]*total=(\d+)\nfull [^\n]*total=(\d+)\n")
 # Totals (us) by time (s), group and resource: some and full.

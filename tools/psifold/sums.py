@@ -23,7 +23,6 @@ BY_WAY = {
     int(Kind.RUNNING): (RUNS,),
     int(Kind.ASLEEP): (),
 }
-BYTE = 256
 
 
 def sets_of(kind: int) -> tuple[int, ...]:

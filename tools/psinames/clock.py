@@ -102,11 +102,6 @@ def wall_text(wall: WallTime) -> str:
     return f"{at.date.tm_year:04}-{at.date.tm_mon:02}-{at.date.tm_mday:02}T{at.clock}{offset}"
 
 
-def clock_at(wall: WallTime, now: int) -> str:
-    """The time of day at a time of the trace (ns), in whole seconds: `14:03:10`."""
-    return clock_time(wall.epoch + wall.ahead + now).clock.partition(".")[0]
-
-
 def span_text(wall: WallTime, length: int) -> str:
     """When a trace of this length (ns) was recorded."""
     first, last = clock_time(wall.epoch + wall.ahead), clock_time(wall.epoch + wall.ahead + length)

@@ -56,9 +56,6 @@ class Known(NamedTuple):
     groups: GroupNames
 
 
-NOTHING = Known(None, None, GroupNames({}))
-
-
 def add_clock(parser: Parser) -> None:
     """The options that say when a trace began, and in which zone times of day are."""
     add_start(parser, ", if it has no companion file that says so")
@@ -122,11 +119,6 @@ def must_fit(values: Mapping[str, Any]) -> None:
 def has_start(values: Mapping[str, Any]) -> bool:
     """Whether the start of a part was asked for."""
     return values["start"] is not None or values["at"] is not None
-
-
-def has_span(values: Mapping[str, Any]) -> bool:
-    """Whether a part of the trace was asked for."""
-    return any(values[name] is not None for name in ("start", "end", "at"))
 
 
 def span_in(

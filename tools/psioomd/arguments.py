@@ -53,7 +53,7 @@ def plain(read: Callable[[str], Any]) -> Callable[[str, Host], Any]:
 
 
 CGROUP = {"cgroup": Argument(plain(Patterns), True)}
-INT, UNSIGNED, TRUTH = Argument(plain(stoi)), Argument(plain(unsigned)), Argument(truth)
+UNSIGNED, TRUTH = Argument(plain(unsigned)), Argument(truth)
 REQUIRED_INT, RESOURCE = Argument(plain(stoi), True), Argument(resource, True)
 PRESSURE = {**CGROUP, "resource": RESOURCE, "threshold": REQUIRED_INT, "duration": REQUIRED_INT}
 KILL = {

@@ -12,7 +12,6 @@ from psireplay.world import World, Task
 KIB = 1 << 10
 NO_SAMPLE = Sample(0, 0, 0)
 NO_HOST = Host(0, 0, 0)
-MAX = (1 << 63) - 1
 RANKS = {"prefer": 1, "none": 0, "avoid": -1}
 
 

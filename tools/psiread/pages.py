@@ -23,7 +23,7 @@ MISSED_IS_TOLD = 1 << 30
 USED = (1 << 30) - 1
 
 # Kinds of records: 0 has its length in an extra word; 1 to 28 are lengths in words of four bytes.
-PADDING, TIME_EXTENDS, TIME_IS = 29, 30, 31
+PADDING, TIME_EXTENDS = 29, 30
 TIME_BITS = 27
 # The number of bits of a time in a record; the bits above are those of the previous time.
 MOMENT_BITS = 59

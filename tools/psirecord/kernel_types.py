@@ -53,11 +53,6 @@ class KernelTypes:
                 self.types, self.types_end = header + types, header + types + types_size
                 self.strings = header + strings
 
-    def name_at(self, place: int) -> bytes:
-        """The name at this position in the section of strings."""
-        start = self.strings + place
-        return self.data[start : self.data.index(b"\0", start)]
-
     def named(self, name: str, kind: int) -> Iterator[int]:
         """The possible positions of types with this name and kind. Each name occurs once among the
         strings. Some bytes merely look like a type, so the caller tries the positions until one

@@ -19,6 +19,7 @@ from psicli.parser import Parser
 from psicli.running import complain, run
 from psicli.status import Status
 from psicli.wording import counted, quoted
+from psireplay.program import program_path
 from psireplay.sampled import time_in_whole, wholes
 from psirules.command import add_form, add_pace
 from psirules.program import Pace, Program, read_kills
@@ -62,7 +63,7 @@ def command(given: argparse.Namespace, options: list[str]) -> list[str]:
     """
     rules = os.path.abspath(given.rules)
     replay = [
-        Program().absolute(),
+        program_path(),
         "replay",
         f"--rules={os.path.basename(rules) if given.copy else rules}",
         "--report-s=0",

@@ -33,7 +33,6 @@ STATUS = (
 MOST_SECONDS, MOST_PERCENT, MOST_RATIO = 1000000, 100, 1000
 # Totals with which a percentage is read; it is written as a percentage again.
 TOTALS = Host(0, 0, 0)
-SIZES = ("threshold",)
 NOTHING = ("continue", "dump_cgroup_overview")
 SECONDS = ("duration", "post_action_delay")
 PERCENTS = ("threshold", "threshold_pct", "size_threshold", "growing_size_percentile")

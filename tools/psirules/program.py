@@ -12,7 +12,7 @@ from typing import IO, TypeVar
 from psicli.fault import Fault
 from psicli.status import ProgramStatus
 from psireplay.kinds import folder_told, why_refused
-from psireplay.program import VARIABLE, named_program, program_path
+from psireplay.program import VARIABLE, named_program
 
 EMPTY_TRACE = b"psitrace 1 cpus=1\n0 end\n"
 
@@ -106,10 +106,6 @@ class Program:
 
     def __init__(self) -> None:
         self.path = named_program()
-
-    def absolute(self) -> str:
-        """Its path from the root, as other hosts have to have it too."""
-        return program_path()
 
     def replay(self, trace: str, rules: RulesAt, pace: Pace, threads: int) -> list[Kill]:
         """The kills of this trace by these rules, or a fault. The reports, of which one is left,

@@ -15,7 +15,6 @@ from .metrics import SECOND_ROOT
 from .rows import AVERAGES, HOST, MEMORY, ROOT, SCANS
 from .store import Plain
 
-MS = SECOND // 1000
 # Intervals are counted by tenths of a second.
 GRAIN = SECOND // 10
 MOST_INTERVAL = 600 * SECOND

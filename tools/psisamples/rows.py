@@ -10,10 +10,10 @@ from psicli.fault import Fault
 from psicli.times import SECOND
 from psirec.layout import escaped_path
 
-# Fields of a sample: the six totals (us) in the order of LEVELS, a group's memory and swap (bytes)
-# and scanned pages, the machine's memory, swap and free swap (bytes), and three averages
+# Fields of a sample, after the six totals (us) in the order of LEVELS: a group's memory and swap
+# (bytes) and scanned pages, the machine's memory, swap and free swap (bytes), and three averages
 # (hundredths of a percent) for each of the six levels.
-TOTALS, MEMORY, SWAP, SCANS, HOST, AVERAGES = 0, 6, 7, 8, 9, 12
+MEMORY, SWAP, SCANS, HOST, AVERAGES = 6, 7, 8, 9, 12
 MOST_COMPONENTS, MOST_BYTES, MOST_VALUE = 32, 255, 2**60
 ROOT = "/"
 

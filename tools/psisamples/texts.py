@@ -12,7 +12,6 @@ from psirec.layout import escaped_path
 from .block import RESOURCES
 from .rows import AVERAGES, HOST, MEMORY, ROOT, Put, hundredths, ns_of, whole
 
-HEAD = "time,group,what,values"
 Lines = Iterable[tuple[int, str]]
 # A line of a pressure file.
 PRESSURE_LINE = re.compile(

@@ -10,7 +10,7 @@ from .plan import Block
 
 # How a task leaves its processor for a state.
 HOW = {"w": "iowait", "s": "sleep", "z": "sleep", "r": "preempt", "R": "preempt"}
-ASLEEP, READY, RUNNING = "wsz", "rR", "xX"
+ASLEEP, RUNNING = "wsz", "xX"
 
 # A task of a block: its group, and its kind.
 Key = tuple[int, str]

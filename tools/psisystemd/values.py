@@ -23,10 +23,6 @@ UNITS = {
     "d": 86400 * SECOND, "day": 86400 * SECOND, "days": 86400 * SECOND,
     "w": 604800 * SECOND, "week": 604800 * SECOND, "weeks": 604800 * SECOND,
 }  # fmt: skip
-TRUTHS = {
-    **dict.fromkeys(("1", "yes", "y", "true", "t", "on"), True),
-    **dict.fromkeys(("0", "no", "n", "false", "f", "off"), False),
-}
 
 
 def share(text: str) -> int | None:
@@ -62,11 +58,6 @@ def duration(text: str) -> int | None:
         ns += int(Decimal(f"{found[1]}.{found[2] or 0}") * UNITS[found[3]])
         place = found.end()
     return ns if text.strip() else None
-
-
-def truth(text: str) -> bool | None:
-    """A boolean; None if it is malformed."""
-    return TRUTHS.get(text.strip().lower())
 
 
 def percent(hundredths: int) -> str:
