@@ -18,6 +18,8 @@ from .formats import Format, FormatFault, integers_of, state_letters, text_at
 Decoder = Callable[[int, int, bytes, int, int], Event]
 
 CURRENT = "common_pid"
+# The fields of `sched_switch` after the task in which it was written.
+SWITCH = ("prev_pid", "prev_state", "next_pid")
 
 # Creates an event of a kind from all of its values; this does the same as the kind's constructor in
 # a third of the time.
@@ -56,7 +58,7 @@ def number_decoder(kind: type, form: Format, names: tuple[str, ...]) -> Decoder:
 
 def switch_decoder(form: Format) -> Decoder:
     """A decoder for `sched_switch`, whose state becomes a letter."""
-    read = integers_of(form, (CURRENT, "prev_pid", "prev_state", "next_pid"))
+    read = integers_of(form, (CURRENT, *SWITCH))
     letters, stays = state_letters(form.print_format)
     known: dict[int, str] = {0: "R"}
 

@@ -1,0 +1,63 @@
+-- The exit codes of statuses, and the text that reports each status.
+use Rattle.std.specs.Prelude.{ℕ, ◌+◌, ◌-◌, ◌^◌, ◌==◌, min, if◌then◌else◌, List, [], ◌∷◌, ◌++◌, codes, decimal}
+use Rattle.page_spec.specs.declared.cause.PageCause.{PageCause}
+use Rattle.page_spec.specs.declared.cause.PageCause.TheVariants as page
+use Rattle.convert_table.specs.declared.fault.TableCause.{TableCause}
+use Rattle.convert_table.specs.declared.fault.TableCause.TheVariants as table
+use Rattle.convert_core.specs.declared.status.Status.{Status}
+use Rattle.convert_core.specs.declared.status.Status.TheVariants as status
+
+-- the exit status
+abbrev pub code_of : Status → ℕ
+code_of status.Done = 0
+code_of status.Usage = 1
+code_of (status.Page cpu number why) = 2
+code_of (status.Table fault) = 3
+code_of (status.NoFile file) = 4
+code_of status.ReadFault = 5
+code_of status.WriteFault = 6
+code_of (status.NoMemory _) = 7
+
+-- the name of a page's cause
+abbrev pub page_cause_text : PageCause → List ℕ
+page_cause_text page.TooLong = codes "TooLong"
+page_cause_text page.ShortRecord = codes "ShortRecord"
+page_cause_text page.TooMany = codes "TooMany"
+
+-- the name of a table's cause
+abbrev pub table_cause_text : TableCause → List ℕ
+table_cause_text table.TooLong = codes "TooLong"
+table_cause_text table.BadHeader = codes "BadHeader"
+table_cause_text table.BadPage = codes "BadPage"
+table_cause_text table.BadRow = codes "BadRow"
+table_cause_text table.NoEnd = codes "NoEnd"
+table_cause_text table.AfterEnd = codes "AfterEnd"
+
+-- the word with this number, from 0; nothing if there is none
+abbrev pub word_at : List (List ℕ) → ℕ → List ℕ
+word_at [] number = []
+word_at (word ∷ words) number = if number == 0 then word else word_at words (number - 1)
+
+-- the line that reports a rejected page
+abbrev pub page_text : ℕ → ℕ → PageCause → List ℕ
+page_text cpu number why =
+    codes "cpu " ++ (decimal cpu ++ (codes " page " ++ (decimal number ++ (codes ": " ++ (page_cause_text why ++ codes "\n")))))
+
+-- the line that reports a rejected table
+abbrev pub table_text : ℕ → TableCause → List ℕ
+table_text line why = codes "table line " ++ (decimal line ++ (codes ": " ++ (table_cause_text why ++ codes "\n")))
+
+-- the line that reports a missing file
+abbrev pub missing_text : List ℕ → List ℕ
+missing_text name = codes "no file: " ++ (name ++ codes "\n")
+
+-- the line that reports a status, with its newline, for a command's words; nothing for Done
+abbrev pub status_text : List (List ℕ) → Status → List ℕ
+status_text words status.Done = []
+status_text words status.Usage = codes "usage: psi_convert events TABLE PAGES..\n"
+status_text words (status.Page cpu number why) = page_text cpu number why
+status_text words (status.Table fault) = table_text fault.line fault.cause
+status_text words (status.NoFile file) = missing_text (word_at words (min (file + 1) (2 ^ 32 - 1)))
+status_text words status.ReadFault = codes "read fault\n"
+status_text words status.WriteFault = codes "write fault\n"
+status_text words (status.NoMemory _) = codes "out of memory\n"

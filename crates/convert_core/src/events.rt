@@ -1,0 +1,164 @@
+//! The events of the files of a command.
+ghost use Rattle.std.specs.Prelude.{◌≡◌, ◌≢◌, ◌+◌, ◌≤◌, ◌∷◌, [], ℕ, List, IfOk, Some, Ok, length, map, string_bytes};
+ghost use Rattle.outside.specs.Outside.{content_of};
+ghost use Rattle.convert_core.specs.Convert.{contents_of, convert_of, files_output};
+ghost use Rattle.convert_core.specs.Runs.{Converts, FailuresAreCounted, IsMissing, PutsOutput, ReadsInOrder, counts_of_run, ends_whole, refused_status, shelf_fault_in, table_status};
+
+use crate::files::put_files;
+use crate::status::Status;
+use convert_table::{TableFault, read_table};
+use file_reader::{FileFault, read_prefix};
+use outside::{BufferedSink, Pending, Shelf, Sink};
+use page_spec::Layout;
+use psi_base::{Fault, NoMemory};
+use std::alloc::Global;
+
+/// One more than the most bytes of a table, so that a longer one is rejected.
+const MOST_OF_TABLE: usize = 65_537;
+
+// Memory for one page.
+fn page_memory(alloc: Global, size: usize) -> Result<Vec<u8>, NoMemory>
+    ensures { IfOk result (λ page. length page.items ≡ size) }
+{
+    Ok(vec![in alloc; 0; size]?)
+}
+
+// Whether all events were written, or those up to a fault of the pages.
+fn ends_whole(status: Status) -> bool
+    ensures { result ≡ ends_whole status }
+{
+    match status {
+        Status::Done | Status::Page { .. } => true,
+        _ => false,
+    }
+}
+
+// Writes the events of files of pages in large pieces. All of them are sent before the end, unless
+// a file is missing or a read or write failed.
+fn put_buffered<S: Shelf, K: Sink>(
+    shelf: &mut S,
+    layout: &Layout,
+    names: &[String],
+    page: &mut [u8],
+    pending: &mut Pending,
+    out: &mut K,
+) -> Status
+    requires empty { pending.old ≡ [] }
+    requires size { length page.old ≡ layout.now.page }
+    requires least { 16 ≤ layout.now.page }
+    requires most { layout.now.page ≤ 2097152 }
+    requires few { length names.now ≤ 4096 }
+    ensures command { result ≢ Status.Usage }
+    ensures unchanged { S.holds shelf.new ≡ S.holds shelf.old }
+    ensures bytes { (wholes : List (List ℕ)) →
+        contents_of (S.holds shelf.old) (map string_bytes names.now) ≡ Some wholes →
+        PutsOutput (K.has out.old) (K.has out.new) (files_output layout.now 0 wholes) result }
+    ensures counts { FailuresAreCounted
+        (counts_of_run (S.faults shelf.old) (S.absent shelf.old) (K.faults out.old))
+        (counts_of_run (S.faults shelf.new) (S.absent shelf.new) (K.faults out.new)) result }
+    ensures order { ReadsInOrder (map string_bytes names.now) (S.reads shelf.old)
+        (S.reads shelf.new) (shelf_fault_in result) }
+    ensures missed { (file : ℕ) → result ≡ Status.NoFile file →
+        IsMissing (S.holds shelf.old) 1 (map string_bytes names.now) file }
+{
+    let mut buffered = BufferedSink::new(out, pending);
+    let status = put_files(shelf, layout, 0, names, page, &mut buffered);
+    if !ends_whole(status) {
+        return status;
+    }
+    match buffered.flush() {
+        Ok(()) => status,
+        Err(_) => Status::WriteFault,
+    }
+}
+
+// Writes the events of files of pages with a layout.
+fn put_events<S: Shelf, K: Sink>(
+    alloc: Global,
+    shelf: &mut S,
+    layout: &Layout,
+    names: &[String],
+    out: &mut K,
+) -> Status
+    requires least { 16 ≤ layout.now.page }
+    requires most { layout.now.page ≤ 2097152 }
+    requires few { length names.now ≤ 4096 }
+    ensures command { result ≢ Status.Usage }
+    ensures unchanged { S.holds shelf.new ≡ S.holds shelf.old }
+    ensures bytes { (wholes : List (List ℕ)) →
+        contents_of (S.holds shelf.old) (map string_bytes names.now) ≡ Some wholes →
+        Converts (K.has out.old) (K.has out.new) (Ok (files_output layout.now 0 wholes)) result }
+    ensures counts { FailuresAreCounted
+        (counts_of_run (S.faults shelf.old) (S.absent shelf.old) (K.faults out.old))
+        (counts_of_run (S.faults shelf.new) (S.absent shelf.new) (K.faults out.new)) result }
+    ensures order { ReadsInOrder (map string_bytes names.now) (S.reads shelf.old)
+        (S.reads shelf.new) (shelf_fault_in result) }
+    ensures missed { (file : ℕ) → result ≡ Status.NoFile file →
+        IsMissing (S.holds shelf.old) 1 (map string_bytes names.now) file }
+{
+    let mut page = match page_memory(alloc, layout.page as usize) {
+        Ok(page) => page,
+        Err(none) => return Status::NoMemory(none),
+    };
+    let mut pending = match Pending::new(alloc) {
+        Ok(pending) => pending,
+        Err(none) => return Status::NoMemory(none),
+    };
+    put_buffered(shelf, layout, names, &mut page, &mut pending, out)
+}
+
+// The status of a table's file that wasn't read.
+fn table_status(fault: FileFault) -> Status
+    ensures exact { result ≡ table_status fault }
+    ensures command { result ≢ Status.Usage }
+{
+    match fault {
+        FileFault::NoFile => Status::NoFile { file: 0 },
+        FileFault::ReadFault => Status::ReadFault,
+        FileFault::NoMemory(none) => Status::NoMemory(none),
+    }
+}
+
+// The status of a table that has no layout.
+fn refused_status(fault: Fault<TableFault>) -> Status
+    ensures exact { result ≡ refused_status fault }
+    ensures command { result ≢ Status.Usage }
+{
+    match fault {
+        Fault::Refused(fault) => Status::Table(fault),
+        Fault::NoMemory(none) => Status::NoMemory(none),
+    }
+}
+
+/// Writes the events of files of pages with the layout of a table.
+pub(crate) fn convert<S: Shelf, K: Sink>(
+    alloc: Global,
+    shelf: &mut S,
+    table: &str,
+    names: &[String],
+    out: &mut K,
+) -> Status
+    requires few { length names.now ≤ 4096 }
+    ensures command { result ≢ Status.Usage }
+    ensures unchanged { S.holds shelf.new ≡ S.holds shelf.old }
+    ensures bytes { (bytes : List ℕ) (wholes : List (List ℕ)) →
+        content_of (S.holds shelf.old) table.now ≡ Some bytes →
+        contents_of (S.holds shelf.old) (map string_bytes names.now) ≡ Some wholes →
+        Converts (K.has out.old) (K.has out.new) (convert_of bytes wholes) result }
+    ensures counts { FailuresAreCounted
+        (counts_of_run (S.faults shelf.old) (S.absent shelf.old) (K.faults out.old))
+        (counts_of_run (S.faults shelf.new) (S.absent shelf.new) (K.faults out.new)) result }
+    ensures order { ReadsInOrder (table.now ∷ map string_bytes names.now) (S.reads shelf.old)
+        (S.reads shelf.new) (shelf_fault_in result) }
+    ensures missed { (file : ℕ) → result ≡ Status.NoFile file →
+        IsMissing (S.holds shelf.old) 0 (table.now ∷ map string_bytes names.now) file }
+{
+    let bytes = match read_prefix(alloc, shelf, table, MOST_OF_TABLE) {
+        Ok(bytes) => bytes,
+        Err(fault) => return table_status(fault),
+    };
+    match read_table(alloc, &bytes) {
+        Ok(layout) => put_events(alloc, shelf, &layout, names, out),
+        Err(fault) => refused_status(fault),
+    }
+}

@@ -1,0 +1,27 @@
+-- The next event among records.
+use Rattle.std.specs.Prelude.{◌≡◌, List, [], ◌∷◌, Option, None, Some, Result, Ok, Err}
+use Rattle.page_spec.specs.declared.cause.PageCause.{PageCause}
+use Rattle.page_spec.specs.declared.layout.Layout.{Layout}
+use Rattle.page_spec.specs.Fields.{values_of}
+use Rattle.page_spec.specs.Items.{Item, Reading, after_items, events_of, faulty, nothing}
+use Rattle.page_spec.specs.Items.{Item as item, Reading as reading}
+use Rattle.page_spec.specs.Records.{Record}
+use Rattle.page_events.specs.declared.event.Event.{Event}
+use Rattle.page_events.specs.declared.event.Outcome.{Outcome}
+use Rattle.page_events.specs.declared.event.Outcome.TheVariants as outcome
+
+-- what a record is
+abbrev pub reading_seen : Outcome → Reading
+reading_seen outcome.Unread = reading.Unread
+reading_seen outcome.Short = reading.Short
+reading_seen (outcome.Read kind) = reading.Read kind.now
+
+-- an event
+abbrev pub item_of : Layout → Event → Item
+item_of layout event = item.Event event.time event.kind.now.name (values_of layout.letters event.bytes.now event.kind.now.fields)
+
+-- the next event of records, or the fault before it, and the records after it
+abbrev pub FindsEvent : Layout → List Record → List Record → Result (Option Event) PageCause → Type 0
+FindsEvent layout old new (Ok None) = events_of layout old ≡ nothing
+FindsEvent layout old new (Ok (Some event)) = events_of layout old ≡ after_items (item_of layout event ∷ []) (events_of layout new)
+FindsEvent layout old new (Err why) = events_of layout old ≡ faulty why

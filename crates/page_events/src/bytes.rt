@@ -1,0 +1,86 @@
+//! Numbers, least byte first, and parts of bytes.
+ghost use Rattle.std.specs.Prelude.{◌≡◌, ◌≤◌, length, take, drop};
+ghost use Rattle.page_spec.specs.Fields.{half_of, long_of, number_of, size_of, word_of};
+
+use page_spec::Width;
+
+/// The number in the first two bytes.
+#[inline(always)]
+pub(crate) fn half(bytes: &[u8]) -> u16
+    requires { 2 ≤ length bytes.now }
+    ensures { result ≡ half_of bytes.now }
+{
+    u16::from_le_bytes([bytes[0], bytes[1]])
+}
+
+/// The number in the first four bytes.
+#[inline(always)]
+pub(crate) fn word(bytes: &[u8]) -> u32
+    requires { 4 ≤ length bytes.now }
+    ensures { result ≡ word_of bytes.now }
+{
+    u32::from_le_bytes([bytes[0], bytes[1], bytes[2], bytes[3]])
+}
+
+/// The number in the first eight bytes.
+#[inline(always)]
+pub(crate) fn long(bytes: &[u8]) -> u64
+    requires { 8 ≤ length bytes.now }
+    ensures { result ≡ long_of bytes.now }
+{
+    u64::from_le_bytes([
+        bytes[0], bytes[1], bytes[2], bytes[3], bytes[4], bytes[5], bytes[6], bytes[7],
+    ])
+}
+
+/// The size of a number in bytes.
+#[inline(always)]
+pub(crate) fn size(width: Width) -> usize
+    ensures size { result ≡ size_of width }
+    ensures small { result ≤ 8 }
+{
+    match width {
+        Width::One => 1,
+        Width::Two => 2,
+        Width::Four => 4,
+        Width::Eight => 8,
+    }
+}
+
+/// The number of this width in the first bytes.
+#[inline(always)]
+pub(crate) fn number(width: Width, bytes: &[u8]) -> u64
+    requires { size_of width ≤ length bytes.now }
+    ensures { result ≡ number_of width bytes.now }
+{
+    match width {
+        Width::One => u64::from(bytes[0]),
+        Width::Two => u64::from(half(bytes)),
+        Width::Four => u64::from(word(bytes)),
+        Width::Eight => long(bytes),
+    }
+}
+
+/// The bytes from an offset on; none if there are no more.
+#[inline(always)]
+pub(crate) fn bytes_from(bytes: &[u8], from: usize) -> &[u8]
+    ensures { result.now ≡ drop from bytes.now }
+{
+    if from < bytes.len() {
+        &bytes[from..]
+    } else {
+        &[]
+    }
+}
+
+/// The first bytes, at most this many.
+#[inline(always)]
+pub(crate) fn bytes_to(bytes: &[u8], most: usize) -> &[u8]
+    ensures { result.now ≡ take most bytes.now }
+{
+    if most < bytes.len() {
+        &bytes[..most]
+    } else {
+        bytes
+    }
+}

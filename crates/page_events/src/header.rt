@@ -1,0 +1,58 @@
+//! The header of a page.
+ghost use Rattle.std.specs.Prelude.{◌≡◌, ◌+◌, ◌^◌, ◌<◌, ◌≤◌, length, MatchResult};
+ghost use Rattle.page_spec.specs.Records.{lost_before, lost_in, page_time, records_of, used_of};
+ghost use Rattle.page_spec.specs.declared.cause.PageCause.TheVariants.{TooLong};
+
+use crate::bytes::{bytes_from, bytes_to, long, word};
+use crate::records::Records;
+use page_spec::{Layout, PageCause};
+
+/// The header of a page, and the page's records.
+#[derive(Drop)]
+pub struct Header<'a> {
+    /// The time before the first record, in ns.
+    pub time: u64,
+    /// The number of events that were lost before the page, if any: 0 if it is unknown.
+    pub lost: Option<u64>,
+    /// The records.
+    pub records: Records<'a>,
+}
+
+// The number of events that were lost before a page, from its word of flags and the offset of its
+// records' end.
+fn lost(flags: u32, end: usize, page: &[u8]) -> Option<u64>
+    requires { end < 2 ^ 63 }
+    ensures { result ≡ lost_in flags end page.now }
+{
+    if flags / 0x8000_0000 % 2 == 0 {
+        None
+    } else if flags / 0x4000_0000 % 2 == 1 && end + 8 <= page.len() {
+        Some(long(bytes_from(page, end)))
+    } else {
+        Some(0)
+    }
+}
+
+/// Reads the header of a page. An error if its records don't fit in the page.
+pub fn read_header<'a>(layout: &Layout, page: &'a [u8]) -> Result<Header<'a>, PageCause>
+    requires { 16 ≤ length page.now }
+    ensures { MatchResult result
+        (λ found. (found.time ≡ page_time page.now)
+        × (found.lost ≡ lost_before layout.now.header page.now)
+        × (found.records ≡ records_of layout.now.header page.now)
+        × (layout.now.header + used_of page.now ≤ length page.now))
+        (λ why. (why ≡ TooLong) × (length page.now < layout.now.header + used_of page.now)) }
+{
+    let flags = word(bytes_from(page, 8));
+    let start = layout.header as usize;
+    let used = (flags % 0x4000_0000) as usize;
+    if page.len() < start + used {
+        return Err(PageCause::TooLong);
+    }
+    let time = long(page);
+    Ok(Header {
+        time,
+        lost: lost(flags, start + used, page),
+        records: Records::new(time, bytes_to(bytes_from(page, start), used)),
+    })
+}

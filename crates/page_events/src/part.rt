@@ -1,0 +1,105 @@
+//! What the rest of a page's records begins with.
+ghost use Rattle.std.specs.Prelude.{◌≡◌, ◌^◌, ◌<◌, ◌≤◌, length};
+ghost use Rattle.page_spec.specs.Fields.{word_of};
+ghost use Rattle.page_spec.specs.Records.{kind_step, long_step, step_at};
+ghost use Rattle.page_events.specs.Parts.{step_of};
+
+use crate::bytes::{bytes_from, bytes_to, word};
+
+/// What the rest of a page's records begins with, with the time (ns) and the rest after it.
+#[derive(Drop)]
+pub(crate) enum Part<'a> {
+    /// Nothing more.
+    End,
+    /// Something that is no event.
+    Skipped {
+        time: u64,
+        rest: &'a [u8],
+    },
+    /// The record of an event, with its bytes.
+    Found {
+        time: u64,
+        bytes: &'a [u8],
+        rest: &'a [u8],
+    },
+}
+
+/// The unit of a time's second word, in ns.
+const UNIT: u64 = 1 << 27;
+
+/// One more than the largest time in a record, in ns.
+const RANGE: u64 = 1 << 59;
+
+// The part of a kind with a second word, with which `after` begins.
+#[inline(always)]
+fn long_part(time: u64, kind: u32, amount: u64, after: &[u8]) -> Part<'_>
+    requires word { 4 ≤ length after.now }
+    requires amount { amount < 2 ^ 27 }
+    ensures { step_of result ≡ long_step time kind amount (word_of after.now) after.now }
+{
+    let more = word(after);
+    let length = more as usize;
+    let long = amount + u64::from(more) * UNIT;
+    if kind == 0 {
+        let bytes = bytes_to(bytes_from(after, 4), length.saturating_sub(4));
+        Part::Found {
+            time: time.wrapping_add(amount),
+            bytes,
+            rest: bytes_from(after, length),
+        }
+    } else if kind == 29 {
+        if amount == 0 {
+            Part::End
+        } else {
+            Part::Skipped {
+                time: time.wrapping_add(amount),
+                rest: bytes_from(after, length),
+            }
+        }
+    } else if kind == 30 {
+        Part::Skipped {
+            time: time.wrapping_add(long),
+            rest: bytes_from(after, 4),
+        }
+    } else {
+        Part::Skipped {
+            time: time / RANGE * RANGE + long,
+            rest: bytes_from(after, 4),
+        }
+    }
+}
+
+// The part of any kind. `after` follows its first word.
+#[inline(always)]
+fn kind_part(time: u64, kind: u32, amount: u64, after: &[u8]) -> Part<'_>
+    requires kind { kind < 32 }
+    requires amount { amount < 2 ^ 27 }
+    ensures { step_of result ≡ kind_step time kind amount after.now }
+{
+    if 0 < kind && kind < 29 {
+        let length = 4 * kind as usize;
+        let bytes = bytes_to(after, length);
+        Part::Found {
+            time: time.wrapping_add(amount),
+            bytes,
+            rest: bytes_from(after, length),
+        }
+    } else if after.len() < 4 {
+        Part::End
+    } else {
+        long_part(time, kind, amount, after)
+    }
+}
+
+/// What the rest of a page's records begins with, after a time (ns).
+#[inline(always)]
+#[tactic(auto, unfolding(page_spec::specs::Records::step_at))]
+pub(crate) fn part_at(time: u64, rest: &[u8]) -> Part<'_>
+    ensures { step_of result ≡ step_at time rest.now }
+{
+    if rest.len() < 4 {
+        return Part::End;
+    }
+    let first = word(rest);
+    kind_part(time, first % 32, u64::from(first / 32), bytes_from(rest, 4))
+}

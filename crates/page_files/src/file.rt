@@ -1,0 +1,98 @@
+//! The events of a file of pages.
+ghost use Rattle.std.specs.Prelude.{◌≡◌, ◌≤◌, ℕ, List, length, IsErr, IsErrOf, Some, None};
+ghost use Rattle.outside.specs.Outside.{HasCauses, IsAbsent, SameInner, content_of, counts_of};
+ghost use Rattle.outside.specs.Reads.{ReadsFile};
+ghost use Rattle.page_spec.specs.Items.{file_found, page_found};
+ghost use Rattle.page_files.specs.Puts.{HasFileWriteCause, PutsFile, shelf_fault_in, stop_at, stop_of_read};
+
+use crate::fill::fill;
+use event_lines::{PageStop, put_page};
+use outside::{Shelf, ShelfFault, Sink};
+use page_spec::{Layout, PageCause};
+
+/// The most pages of a file.
+const MOST_PAGES: u64 = 0xffff_ffff;
+
+/// Why the events of a file weren't all written.
+#[derive(Clone, Copy, Debug, PartialEq, Eq)]
+pub enum FileStop {
+    /// There is no file with this name.
+    NoFile,
+    /// A read failed.
+    ReadFault,
+    /// The page with this number, from 0, is rejected.
+    Refused { page: u64, cause: PageCause },
+    /// A write failed.
+    WriteFault,
+}
+
+// A shelf's fault as the end of a file's reading.
+fn read_stop(fault: ShelfFault) -> FileStop
+    ensures { result ≡ stop_of_read fault }
+{
+    match fault {
+        ShelfFault::NoFile => FileStop::NoFile,
+        ShelfFault::Failed => FileStop::ReadFault,
+    }
+}
+
+// The end of a page's writing as that of its file.
+fn page_stop(page: u64, stop: PageStop) -> FileStop
+    ensures { result ≡ stop_at page stop }
+{
+    match stop {
+        PageStop::Refused(cause) => FileStop::Refused { page, cause },
+        PageStop::WriteFault => FileStop::WriteFault,
+    }
+}
+
+/// Writes the losses and the events of a file's pages as lines, up to the first fault; fewer bytes
+/// after the last whole page are left out. `page` is memory for one page. Each byte is read once,
+/// and no page after the one with the first fault. After a failed read or write the sink has a
+/// prefix of the lines.
+pub fn put_file<S: Shelf, K: Sink>(
+    shelf: &mut S,
+    name: &str,
+    layout: &Layout,
+    cpu: u32,
+    page: &mut [u8],
+    out: &mut K,
+) -> Result<(), FileStop>
+    requires size { length page.old ≡ layout.now.page }
+    requires least { 16 ≤ layout.now.page }
+    requires most { layout.now.page ≤ 2097152 }
+    ensures unchanged { S.holds shelf.new ≡ S.holds shelf.old }
+    ensures size { length page.new ≡ length page.old }
+    ensures bytes { (whole : List ℕ) → content_of (S.holds shelf.old) name.now ≡ Some whole →
+        PutsFile (K.has out.old) (K.has out.new) cpu (file_found layout.now whole) result }
+    ensures cause { HasCauses (counts_of (S.faults shelf.old) (S.absent shelf.old))
+        (counts_of (S.faults shelf.new) (S.absent shelf.new))
+        (IsErrOf result FileStop.ReadFault) (IsErrOf result FileStop.NoFile) }
+    ensures writes { HasFileWriteCause (K.faults out.old) (K.faults out.new) result }
+    ensures below { SameInner (K.below out.old) (K.below out.new) }
+    ensures order { ReadsFile name.now 0 (S.reads shelf.old) (S.reads shelf.new)
+        (shelf_fault_in result) }
+    ensures missed { IsErrOf result FileStop.NoFile →
+        content_of (S.holds shelf.old) name.now ≡ None }
+    ensures lacking { IsAbsent (S.holds shelf.old) name.now → IsErr result }
+{
+    let size = layout.page as u64;
+    let mut number: u64 = 0;
+    'pages: loop {
+        match fill(shelf, name, number * size, page) {
+            Ok(count) if count < page.len() => return Ok(()),
+            Ok(_) => {}
+            Err(fault) => return Err(read_stop(fault)),
+        }
+        if number == MOST_PAGES {
+            return Err(FileStop::Refused {
+                page: number,
+                cause: PageCause::TooMany,
+            });
+        }
+        match put_page(layout, cpu, page, out) {
+            Ok(()) => number += 1,
+            Err(stop) => return Err(page_stop(number, stop)),
+        }
+    }
+}

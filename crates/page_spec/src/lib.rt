@@ -1,0 +1,13 @@
+//! The events in pages of a kernel's ring buffers: the definitions that the contracts of the
+//! converter cite, and their types. It reads nothing.
+//!
+//! In `specs/`, in reading order: `Fields` (numbers, states and texts in a record), `Records` (the
+//! records of a page), `Items` (the events and losses of a page and of a file, or the first fault),
+//! and `Lines` (an event as a line of text).
+#![tactic(auto)]
+
+mod cause;
+mod layout;
+
+pub use cause::PageCause;
+pub use layout::{Field, FieldList, Kind, KindList, Layout, LetterList, StateLetter, Width};

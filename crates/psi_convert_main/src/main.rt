@@ -1,0 +1,67 @@
+//! The program `psi_convert`: opens the real files and streams, calls `run`, and exits with its
+//! status.
+//!
+//! It has no logic of its own; `convert_core` does the work.
+#![tactic(auto)]
+
+ghost use Rattle.std.specs.Prelude.{◌≡◌, IfOk, [], OnErr, map, string_bytes};
+ghost use Rattle.std.specs.Process.{exit_status};
+ghost use Rattle.psi_base.specs.Memory.{no_memory};
+ghost use Rattle.convert_core.specs.declared.status.Status.{Status};
+ghost use Rattle.convert_core.specs.Status.{code_of};
+ghost use Rattle.psi_convert_main.specs.End.{EndsAs, RanAs};
+
+use convert_core::{Status, run};
+use host_files::{HostShelf, HostSink, words_of};
+use outside::{Shelf, Sink, put_all};
+use psi_base::NoMemory;
+use std::alloc::Global;
+use std::env;
+use std::process::ExitCode;
+
+// The exit status of a run.
+fn exit_code(status: Status) -> ExitCode
+    ensures { exit_status result ≡ code_of status }
+{
+    ExitCode::from(status.code())
+}
+
+// Ends the program if memory ran out for the words.
+fn end_without_words<N: Sink>(none: NoMemory, note: &mut N) -> ExitCode
+    ensures { EndsAs [] (Status.NoMemory no_memory) (exit_status result)
+        (N.faults note.old) (N.faults note.new) (N.has note.old) (N.has note.new) }
+{
+    let _ = put_all(note, b"out of memory\n");
+    exit_code(Status::NoMemory(none))
+}
+
+// Runs the words and ends as the run did: what a run promises about a status, the files and the
+// output holds for the status that the exit code and the message report.
+fn end_of<S: Shelf, K: Sink, N: Sink>(
+    alloc: Global,
+    words: Result<Vec<String>, NoMemory>,
+    shelf: &mut S,
+    out: &mut K,
+    note: &mut N,
+) -> ExitCode
+    ensures words { IfOk words (λ given. (status : Status)
+        × EndsAs (map string_bytes given.items) status (exit_status result)
+        (N.faults note.old) (N.faults note.new) (N.has note.old) (N.has note.new)
+        × RanAs (map string_bytes given.items) status (S.holds shelf.old)
+        (K.has out.old) (K.has out.new)) }
+    ensures none { OnErr words (EndsAs [] (Status.NoMemory no_memory) (exit_status result)
+        (N.faults note.old) (N.faults note.new) (N.has note.old) (N.has note.new)) }
+{
+    match words {
+        Ok(words) => exit_code(run(alloc, &words, shelf, out, note)),
+        Err(none) => end_without_words(none, note),
+    }
+}
+
+fn main(rt: HostRuntime) -> ExitCode {
+    let words = words_of(rt.alloc(), env::args(&rt));
+    let mut shelf = HostShelf::new(&rt, rt.stdin());
+    let mut out = HostSink::new(rt.stdout());
+    let mut note = HostSink::new(rt.stderr());
+    end_of(rt.alloc(), words, &mut shelf, &mut out, &mut note)
+}
