@@ -38,10 +38,9 @@ abbrev pub word_at : List (List ℕ) → ℕ → List ℕ
 word_at [] number = []
 word_at (word ∷ words) number = if number == 0 then word else word_at words (number - 1)
 
--- the line that reports a rejected page
-abbrev pub page_text : ℕ → ℕ → PageCause → List ℕ
-page_text cpu number why =
-    codes "cpu " ++ (decimal cpu ++ (codes " page " ++ (decimal number ++ (codes ": " ++ (page_cause_text why ++ codes "\n")))))
+-- the line that reports a rejected page of a file with this name
+abbrev pub page_text : List ℕ → ℕ → PageCause → List ℕ
+page_text name number why = name ++ codes " page " ++ decimal number ++ codes ": " ++ page_cause_text why ++ codes "\n"
 
 -- the line that reports a rejected table
 abbrev pub table_text : ℕ → TableCause → List ℕ
@@ -55,7 +54,7 @@ missing_text name = codes "no file: " ++ (name ++ codes "\n")
 abbrev pub status_text : List (List ℕ) → Status → List ℕ
 status_text words status.Done = []
 status_text words status.Usage = codes "usage: psi_convert events TABLE PAGES..\n"
-status_text words (status.Page cpu number why) = page_text cpu number why
+status_text words (status.Page cpu number why) = page_text (word_at words (min (cpu + 2) (2 ^ 32 - 1))) number why
 status_text words (status.Table fault) = table_text fault.line fault.cause
 status_text words (status.NoFile file) = missing_text (word_at words (min (file + 1) (2 ^ 32 - 1)))
 status_text words status.ReadFault = codes "read fault\n"

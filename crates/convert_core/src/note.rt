@@ -7,7 +7,7 @@ ghost use Rattle.convert_core.specs.Status.{missing_text, page_cause_text, page_
 use crate::status::Status;
 use convert_table::TableCause;
 use itoa::Buffer;
-use outside::{Sink, WriteFailed, put_all, put_each};
+use outside::{Sink, WriteFailed, put_all, put_each, put_number};
 use page_spec::PageCause;
 
 fn page_cause_name(cause: PageCause) -> &'static [u8]
@@ -33,29 +33,24 @@ fn table_cause_name(cause: TableCause) -> &'static [u8]
     }
 }
 
-// Writes the message for a rejected page.
+// Writes the message for a rejected page of a file.
+#[tactic(auto, using(outside::proofs::Grows::chain))]
 fn put_page_fault<N: Sink>(
     note: &mut N,
-    cpu: u32,
+    name: &str,
     page: u64,
     cause: PageCause,
 ) -> Result<(), WriteFailed>
-    ensures bytes { PutsAll (N.has note.old) (N.has note.new) result (page_text cpu page cause) }
+    ensures bytes { PutsAll (N.has note.old) (N.has note.new) result
+        (page_text name.now page cause) }
     ensures cause { HasCause (N.faults note.old) (N.faults note.new) result }
 {
-    let (mut first, mut second) = (Buffer::new(), Buffer::new());
-    put_each(
-        note,
-        &[
-            b"cpu ".as_slice(),
-            first.format(cpu).as_bytes(),
-            b" page ".as_slice(),
-            second.format(page).as_bytes(),
-            b": ".as_slice(),
-            page_cause_name(cause),
-            b"\n".as_slice(),
-        ],
-    )
+    put_all(note, name.as_bytes())?;
+    put_all(note, b" page ")?;
+    put_number(note, page)?;
+    put_all(note, b": ")?;
+    put_all(note, page_cause_name(cause))?;
+    put_all(note, b"\n")
 }
 
 // Writes the message for a rejected table.
@@ -115,7 +110,9 @@ pub(crate) fn put_status<N: Sink>(
     match status {
         Status::Done => put_all(note, b""),
         Status::Usage => put_all(note, b"usage: psi_convert events TABLE PAGES..\n"),
-        Status::Page { cpu, page, cause } => put_page_fault(note, cpu, page, cause),
+        Status::Page { cpu, page, cause } => {
+            put_page_fault(note, word_at(words, cpu.saturating_add(2)), page, cause)
+        }
         Status::Table(fault) => put_table_fault(note, fault.line, fault.cause),
         Status::NoFile { file } => put_missing(note, word_at(words, file.saturating_add(1))),
         Status::ReadFault => put_all(note, b"read fault\n"),
