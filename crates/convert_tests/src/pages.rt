@@ -1,0 +1,60 @@
+//! Makes pages of ring buffers: 64 bytes with a header of 16, as the table of `runs` has them. A
+//! test ends if memory runs out.
+
+use crate::runs::Host;
+
+/// The size of a page in bytes.
+const SIZE: usize = 64;
+
+/// The bits of a page's second word if events were lost before it, and if their number is stored.
+pub const LOST: u32 = 1 << 31;
+
+pub const STORED: u32 = 1 << 30;
+
+/// The kinds of records that are no events, as the lower bits of their first word.
+pub const PADDING: u32 = 29;
+
+pub const EXTENDS: u32 = 30;
+
+pub const STAMP: u32 = 31;
+
+/// Adds a number of this many bytes, least byte first.
+pub fn put(rt: &impl Host, bytes: &mut Vec<u8>, number: u64, count: usize) {
+    let mut rest = number;
+    for _ in 0..count {
+        bytes.push((rest % 256) as u8).expect(rt, "memory");
+        rest /= 256;
+    }
+}
+
+/// The first word of a record: its kind, and the time since the previous one in ns.
+pub fn head(kind: u32, delta: u32) -> u64 {
+    u64::from(delta * 32 + kind)
+}
+
+/// Adds the record of an event `note` (number 7) with a task, a signed number and a text of four
+/// bytes.
+pub fn put_note(rt: &impl Host, bytes: &mut Vec<u8>, delta: u32, number: u64, text: &[u8; 4]) {
+    put(rt, bytes, head(3, delta), 4);
+    put(rt, bytes, 7, 4);
+    put(rt, bytes, number, 4);
+    bytes.extend_from_slice(text).expect(rt, "memory");
+}
+
+/// A page with this time (ns), these flags, the bytes of its records, and this number after them.
+pub fn page_with(rt: &impl Host, time: u64, flags: u32, records: &[u8], lost: u64) -> Vec<u8> {
+    let mut page = Vec::new(rt.alloc());
+    put(rt, &mut page, time, 8);
+    put(rt, &mut page, u64::from(flags) + records.len() as u64, 8);
+    page.extend_from_slice(records).expect(rt, "memory");
+    put(rt, &mut page, lost, 8);
+    while page.len() < SIZE {
+        page.push(0).expect(rt, "memory");
+    }
+    page
+}
+
+/// A page without losses.
+pub fn page_of(rt: &impl Host, time: u64, records: &[u8]) -> Vec<u8> {
+    page_with(rt, time, 0, records, 0)
+}
