@@ -4,9 +4,10 @@ from __future__ import annotations
 from collections.abc import Iterator
 from typing import Any
 
-from psiread.formats import formats_of, page_format_of, sections_of
+from psiread.formats import Format, formats_of, page_format_of, sections_of
 from psiread.pages import PageFault, page_at, records_of
-from psiread.records import decoders_of
+from psiread.records import CURRENT, decoders_of
+from psiread.table import fields_of
 
 
 def value_text(value: Any) -> str:
@@ -16,6 +17,13 @@ def value_text(value: Any) -> str:
     return "".join(chr(byte) if 32 < byte < 127 and byte != 92 else f"\\{byte:03o}" for byte in value)
 
 
+def least_of(form: Format) -> int:
+    """The least size in bytes of a record with the fields that are read: a text may be empty."""
+    fields = [form.fields[name] for name in (CURRENT, *(fields_of(form.name) or ()))]
+    is_text = [field.size == 0 or "[" in field.type and not field.type.startswith("__data_loc") for field in fields]
+    return max(field.offset + (0 if text else field.size) for field, text in zip(fields, is_text))
+
+
 class Lines:
     """Decodes pages by a recording's formats."""
 
@@ -23,25 +31,34 @@ class Lines:
         sections = sections_of(formats)
         forms = formats_of(sections)
         self.page, self.decoders = page_format_of(sections), decoders_of(forms)
-        self.names = {form.number: name for name, form in forms.items()}
+        self.forms = {form.number: form for form in forms.values()}
+        self.least = {number: least_of(self.forms[number]) for number in self.decoders}
 
     def page_lines(self, data: bytes, at: int, processor: int) -> Iterator[str]:
-        """The lines of one page; PageFault if its header is wrong."""
-        page = page_at(data, at, self.page)
+        """The lines of one page; PageFault with the cause if it is malformed."""
+        try:
+            page = page_at(data, at, self.page)
+        except PageFault:
+            raise PageFault("TooLong") from None
         if page.lost:
             yield f"{page.moment} {processor} lost {max(page.lost, 0)}"
         for moment, start, end in records_of(data, page):
-            number = data[start] | data[start + 1] << 8
+            record = data[start : min(end, page.end)]
+            number = int.from_bytes(record[:2], "little")
+            if len(record) < max(2, self.least.get(number, 0)):
+                raise PageFault("ShortRecord")
             if number in self.decoders:
-                event = self.decoders[number](moment, processor, data, start, end)
-                yield " ".join([str(moment), str(processor), self.names[number], *map(value_text, event[2:])])
+                event = self.decoders[number](moment % 2**64, processor, record, 0, len(record))
+                words = [event[0], processor, self.forms[number].name, *map(value_text, event[2:])]
+                yield " ".join(map(str, words))
 
-    def file_lines(self, data: bytes, processor: int) -> tuple[list[str], int | None]:
-        """The lines of a file's whole pages, and the number of the first faulty page."""
+    def file_lines(self, data: bytes, processor: int) -> tuple[list[str], str]:
+        """The lines of a file's whole pages, and the first fault: its page and cause, or nothing."""
         lines: list[str] = []
         for page in range(len(data) // self.page.size):
             try:
-                lines += self.page_lines(data, page * self.page.size, processor)
-            except PageFault:
-                return lines, page
-        return lines, None
+                for line in self.page_lines(data, page * self.page.size, processor):
+                    lines.append(line)
+            except PageFault as fault:
+                return lines, f"page {page}: {fault}"
+        return lines, ""

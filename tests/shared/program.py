@@ -17,11 +17,13 @@ sys.path.append(os.path.join(TOP, "tools"))
 from psicli.fault import Fault  # noqa: E402
 from psireplay.program import built_program  # noqa: E402
 
-# What each program prints for a small trace, so that another program isn't taken for it.
+# What each program prints for a small input, so that another program isn't taken for it.
 TRACE = os.path.join(TOP, "examples", "one-wait.trace")
+PAGES = [os.path.join(TOP, "crates", "psi_convert_main", "data", name) for name in ("table", "cpu0.raw")]
 PRINTED = {
     "psi_oomd": (("check", TRACE), b"ok lines=5 events=4 end=2000000000\n"),
     "psi_observe": ((TRACE, "1", "/none"), b"end 2000000000 samples=0\n"),
+    "psi_convert": (("events", *PAGES), b"268440468 0 sched_switch 41 41 R -1\n"),
 }
 
 
