@@ -11,7 +11,7 @@ from harness import must, must_be
 from shared.program import TOP
 
 # Each program, and the page of docs/ that shows its arguments.
-PAGES = {"psi_oomd": "COMMANDS.md", "psi_observe": "OBSERVERS.md"}
+PAGES = {"psi_oomd": "COMMANDS.md", "psi_observe": "OBSERVERS.md", "psi_convert": "CONVERT.md"}
 PROGRAMS = tuple(PAGES)
 TOOLS = (
     *("awk", "cat", "chmod", "cp", "date", "dirname", "find", "git", "grep", "head", "mkdir", "mkfifo", "mktemp", "mv", "nproc", "readlink"),
@@ -168,6 +168,6 @@ def copies(room: str, has_git: bool = True) -> Iterator[Copy]:
 
 
 # Valid arguments of each program, with standard input.
-RIGHT = {"psi_oomd": ("check", "-"), "psi_observe": ("-", "1", "/")}
+RIGHT = {"psi_oomd": ("check", "-"), "psi_observe": ("-", "1", "/"), "psi_convert": ("events", "-", "-")}
 # All arguments of `gen` but one.
 GEN = "--seed 1 --cpus 1 --groups 1".split()

@@ -86,6 +86,24 @@ def check_faulty_words(room: str) -> None:
     must_be("two words", other.run("t", "1", place=place), (1, "", "psi_observe: psi_observe takes three words: TRACE OBSERVERS PATH\n"))
     missing = "psi_observe: no trace none: names count from the folder in which the command runs\n"
     must_be("no such file", other.run("none", "1", "/", place=place), (4, "", missing))
+    must_judge_pages(Copy(room, "psi_convert"), place)
+
+
+def must_judge_pages(copy: Copy, place: str) -> None:
+    """The words of psi_convert: a command, a table and files of pages."""
+    words = "psi_convert takes the word events and names: TABLE PAGES.."
+    folder = "names count from the folder in which the command runs"
+    option = "psi_convert has no option --raw: a name that begins with - is written as ./--raw"
+    for given, status, hint in (
+        ((), 1, words),
+        (("events", "t"), 1, words),
+        (("trace", "t", "t"), 1, words),
+        (("events", "none", "t"), 4, f"no table none: {folder}"),
+        (("events", "t", "t", "none"), 4, f"no file of pages none: {folder}"),
+        (("events", "t", "--raw"), 1, option),
+    ):
+        must_be(f"{given}", copy.run(*given, place=place), (status, "", f"psi_convert: {hint}\n"))
+    must_be("right words", copy.run("events", "t", "-", place=place)[0], 70)
 
 
 # Files that aren't traces, and the messages about them.

@@ -51,6 +51,17 @@ def check_a_trial_of_the_observers(room: str) -> None:
     must_be("the words", copy.trial("t", "1", "/a", place=place), (["given-1=<t>"], ["given-1", "1", "/a"]))
 
 
+def check_a_trial_of_pages(room: str) -> None:
+    copy = Copy(room, "psi_convert")
+    place = copy.give_rt()
+    for name in ("events", "t", "a", "b"):
+        with open(os.path.join(place, name), "w", encoding="utf-8") as file:
+            file.write(f"<{name}>")
+    files = ["given-1=<t>", "given-2=<a>", "given-3=<b>"]
+    found, words = copy.trial("events", "t", "a", "b", place=place)
+    must_be("the words", (sorted(found), words), (files, ["events", "given-1", "given-2", "given-3"]))
+
+
 def check_a_trial_without_an_answer(room: str) -> None:
     for copy in copies(room):
         words = RIGHT[copy.name]

@@ -15,7 +15,7 @@ own_words() {
     echo "    $variable=FILE          in the environment: FILE is run, and nothing is built"
 }
 
-# docs/COMMANDS.md and docs/OBSERVERS.md show the commands in the same words.
+# docs/COMMANDS.md, docs/OBSERVERS.md and docs/CONVERT.md show the commands in the same words.
 help_on_psi_oomd() {
     cat <<END
 psi_oomd replays a recorded trace of scheduler events: pressure, triggers and kills.
@@ -48,6 +48,20 @@ $(own_words)
 
 The manual has every word:    $manual
 Lines and statuses:           $documents/OBSERVERS.md
+Questions of operators:       $documents/OPERATING.md
+END
+}
+
+help_on_psi_convert() {
+    cat <<END
+psi_convert decodes the pages of a kernel's ring buffers: it prints a line for each event.
+
+    psi_convert events TABLE PAGES..
+
+$(own_words)
+
+The manual has every word:    $manual
+Table, lines and statuses:    $documents/CONVERT.md
 Questions of operators:       $documents/OPERATING.md
 END
 }

@@ -25,7 +25,11 @@ take() {
         --*) next='value'; return ;;
         esac
         plain=$((plain + 1))
-        [ "$plain" -ne "$place" ] || kind='trace'
+        # All names from there on are files of psi_convert.
+        case $name in
+        psi_convert) [ "$plain" -lt "$place" ] || kind='trace' ;;
+        *) [ "$plain" -ne "$place" ] || kind='trace' ;;
+        esac
     fi
     case $kind in file | trace) hand_over "$1" ;; esac
 }

@@ -177,12 +177,30 @@ look_at_counts() {
     fi
 }
 
+# Looks at the words of psi_convert: a command, a table, and files of pages.
+look_at_pages() {
+    if [ "${1-}" != events ] || [ $# -lt 3 ]; then word_fault "psi_convert takes the word events and names: TABLE PAGES.."; return; fi
+    shift
+    role='table'
+    for word do
+        case $word in
+        -?*) word_fault "psi_convert has no option $word: a name that begins with - is written as ./$word"; return ;;
+        esac
+        look_at_file "$word" "$role"
+        role='file of pages'
+    done
+}
+
 # Sets `hints` to what is wrong with these words, a line each, and `hint_status` to the status that the program ends with then. It
 # stays empty if only what is in a trace is wrong: that is for the program to judge.
 look_at_words() {
     hints='' hint_status=''
     if [ "$name" = psi_observe ]; then
         if [ $# -eq 3 ]; then look_at_file "$1" trace; else word_fault "psi_observe takes three words: TRACE OBSERVERS PATH"; fi
+        return
+    fi
+    if [ "$name" = psi_convert ]; then
+        look_at_pages "$@"
         return
     fi
     [ $# -gt 0 ] || { word_fault "which command? ./psi_oomd --help has all of them"; return; }
