@@ -49,6 +49,11 @@ EXAMPLES = {
             "tools/compare incident folded.trace --tick-ms 3000",
         ),
     ),
+    "events": (
+        Example("in the order of time", "tools/events incident | sort -n"),
+        Example("the switches of one processor", "tools/events incident | grep ' 0 sched_switch '"),
+        Example("the table that psi_convert reads", "tools/events incident --table >table"),
+    ),
     "export": (
         Example("the kills by rules", "tools/export a.trace --rules rules.json --only kill"),
         Example("a table for a spreadsheet", "tools/export a.trace --group /web --csv >web.csv"),
@@ -180,6 +185,7 @@ EXAMPLES = {
 # The page on each tool; the others are in OPERATING.
 READ_ON = {
     "compare": "docs/RECORDING.md",
+    "events": "docs/CONVERT.md",
     "fold": "docs/RECORDING.md",
     "ftrace-check": "docs/RECORDING.md",
     "oomd": "docs/OOMD.md",

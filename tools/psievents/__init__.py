@@ -1,0 +1,1 @@
+"""Prints the events of a recording as lines, with `psi_convert`."""
