@@ -53,5 +53,5 @@ TOOLS = (
 )
 # The programs, each with a manual page in `docs`.
 PROGRAMS = ("psi_oomd", "psi_observe")
-# The files in `tools` that aren't installed.
-OF_CHECKOUTS = ("package", "psipack")
+# The files in `tools` that aren't installed: psi_convert, which `events` runs, isn't packed yet.
+OF_CHECKOUTS = ("package", "psipack", "events", "psievents")
