@@ -1,7 +1,7 @@
 """Finds the definitions that the contracts of the top calls rest on: a closure over names.
 
-It starts from the clauses of `run` and `observe` and of the traits `Shelf` and `Sink`, and follows
-each name that they cite to its definition, and so on, also into the kit's libraries, but not into
+It starts from the clauses of both `run` and of `observe`, and of the traits `Shelf` and `Sink`, and
+follows each name that they cite to its definition, and so on, also into the kit's libraries, but not into
 its standard library. A definition is in a file of `specs/`, a type in one of `src/`; if a type has
 a `Model`, contracts see only that. The kit's own types aren't listed. If no kit is installed, its
 definitions aren't followed.
@@ -29,12 +29,17 @@ KIT = pathlib.Path("kit")
 
 # Where the reader of a contract starts: a file, and the words with which its function or trait
 # begins.
-ROOTS = (
-    ("replay_core/src/entry.rt", "pub fn run<"),
-    ("observe_core/src/entry.rt", "pub fn observe<"),
+Root = tuple[str, str]
+TRAITS: tuple[Root, ...] = (
     ("outside/src/shelf.rt", "pub trait Shelf "),
     ("outside/src/sink.rt", "pub trait Sink "),
 )
+# What is read together: the contracts of psi_oomd and psi_observe, and that of psi_convert.
+READINGS: tuple[tuple[Root, ...], ...] = (
+    (("replay_core/src/entry.rt", "pub fn run<"), ("observe_core/src/entry.rt", "pub fn observe<"), *TRAITS),
+    (("convert_core/src/command.rt", "pub fn run<"), *TRAITS),
+)
+ROOTS = tuple(dict.fromkeys(root for reading in READINGS for root in reading))
 
 # The kit's language and standard library, which aren't listed.
 PLAIN = ("std", "core", "mathlib")
@@ -229,9 +234,9 @@ def cited_by(item: Item) -> Iterator[Item]:
             yield found
 
 
-def roots() -> Iterator[Item]:
-    """The items that the clauses of the top calls and of the traits below them cite."""
-    for name, begins in ROOTS:
+def roots(starts: tuple[Root, ...]) -> Iterator[Item]:
+    """The items that the clauses of these top calls and traits cite."""
+    for name, begins in starts:
         path = CRATES / name
         text = without_comments(path.read_text(encoding="utf-8"), "//")
         head = re.split(r"\n[{}]\n", text[text.index(begins) :], maxsplit=1)[0]
@@ -243,10 +248,10 @@ def roots() -> Iterator[Item]:
 
 
 @functools.cache
-def believed() -> frozenset[Item]:
+def believed(starts: tuple[Root, ...] = ROOTS) -> frozenset[Item]:
     """All definitions and types that the contracts of the top calls rest on."""
     reached: set[Item] = set()
-    ahead = list(roots())
+    ahead = list(roots(starts))
     while ahead:
         item = ahead.pop()
         if item not in reached:

@@ -84,8 +84,8 @@ fields_of (word ∷ words) = with_first (field_of word) (fields_of words)
 -- ---- lines
 
 -- the letter of a state: its bits, and the letter
-unfoldable pub letter_of : List (List ℕ) → Option StateLetter
-letter_of words = do
+unfoldable pub state_letter_of : List (List ℕ) → Option StateLetter
+state_letter_of words = do
   bits ← next words
   letter ← next bits.1
   whole ← ended letter.1
@@ -105,7 +105,7 @@ kind_of words = do
 -- a line of this first word and these other words
 abbrev pub row_with : List ℕ → List (List ℕ) → Option Row
 row_with word words =
-    if bytes_eq word (codes "letter") then option_map (λ letter. row.Letter letter) (letter_of words)
+    if bytes_eq word (codes "letter") then option_map (λ letter. row.Letter letter) (state_letter_of words)
     else if bytes_eq word (codes "kind") then option_map (λ kind. row.Event kind) (kind_of words)
     else None
 

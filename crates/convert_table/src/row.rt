@@ -1,6 +1,6 @@
 //! The lines of a table.
 ghost use Rattle.std.specs.Prelude.{◌≡◌, ◌^◌, ◌<◌, ◌≤◌, [], ◌∷◌, IfSome, MatchOption, None, Some};
-ghost use Rattle.convert_table.specs.Table.{byte_in, ended, field_of, field_with, fields_of, kind_of, letter_of, next, page_of, row_of, small, width_of};
+ghost use Rattle.convert_table.specs.Table.{byte_in, ended, field_of, field_with, fields_of, kind_of, state_letter_of, next, page_of, row_of, small, width_of};
 ghost use Rattle.convert_table.specs.Takes.{GivesSome};
 
 use page_spec::{Field, FieldList, Kind, StateLetter, Width};
@@ -143,9 +143,9 @@ fn byte_in(word: &[u8]) -> Option<u8>
 }
 
 // The letter of a state: its bits, and the letter.
-#[tactic(auto, unfolding(crate::specs::Table::letter_of))]
-fn letter_of(mut words: Words) -> Option<StateLetter>
-    ensures { result ≡ letter_of words.entry }
+#[tactic(auto, unfolding(crate::specs::Table::state_letter_of))]
+fn state_letter_of(mut words: Words) -> Option<StateLetter>
+    ensures { result ≡ state_letter_of words.entry }
 {
     let bits = next(&mut words)?;
     let letter = next(&mut words)?;
@@ -204,7 +204,7 @@ pub(crate) fn row_of(alloc: Global, line: &[u8]) -> Result<Row, Fault<BadRow>>
     let mut words: Words<'_> = Parts::new(line);
     let word = next(&mut words).ok_or(BadRow)?;
     if word == b"letter".as_slice() {
-        let letter = letter_of(words).ok_or(BadRow)?;
+        let letter = state_letter_of(words).ok_or(BadRow)?;
         Ok(Row::Letter(letter))
     } else if word == b"kind".as_slice() {
         let kind = kind_of(alloc, words)?;

@@ -1,6 +1,6 @@
 //! Numbers, least byte first, and parts of bytes.
 ghost use Rattle.std.specs.Prelude.{◌≡◌, ◌≤◌, length, take, drop};
-ghost use Rattle.page_spec.specs.Fields.{half_of, long_of, number_of, size_of, word_of};
+ghost use Rattle.page_spec.specs.Fields.{half_of, long_of, number_in, size_of, word_of};
 
 use page_spec::Width;
 
@@ -51,7 +51,7 @@ pub(crate) fn size(width: Width) -> usize
 #[inline(always)]
 pub(crate) fn number(width: Width, bytes: &[u8]) -> u64
     requires { size_of width ≤ length bytes.now }
-    ensures { result ≡ number_of width bytes.now }
+    ensures { result ≡ number_in width bytes.now }
 {
     match width {
         Width::One => u64::from(bytes[0]),

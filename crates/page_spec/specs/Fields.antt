@@ -28,11 +28,11 @@ abbrev pub long_of : List ℕ → ℕ
 long_of bytes = from_le_bytes w64 bytes
 
 -- the number in the first bytes
-abbrev pub number_of : Width → List ℕ → ℕ
-number_of One bytes = slice_index bytes 0
-number_of Two bytes = half_of bytes
-number_of Four bytes = word_of bytes
-number_of Eight bytes = long_of bytes
+abbrev pub number_in : Width → List ℕ → ℕ
+number_in One bytes = slice_index bytes 0
+number_in Two bytes = half_of bytes
+number_in Four bytes = word_of bytes
+number_in Eight bytes = long_of bytes
 
 -- ---- values
 
@@ -73,9 +73,9 @@ located word bytes = until_zero (take (word / 2 ^ 16) (drop (word % 2 ^ 16) byte
 
 -- the value of a field of a record
 abbrev pub value_of : List StateLetter → List ℕ → Field → Value
-value_of letters bytes (field.Unsigned offset width) = Count (number_of width (drop offset bytes))
-value_of letters bytes (field.Signed offset width) = signed_of width (number_of width (drop offset bytes))
-value_of letters bytes (field.State offset width) = Letter (letter_of letters (number_of width (drop offset bytes)))
+value_of letters bytes (field.Unsigned offset width) = Count (number_in width (drop offset bytes))
+value_of letters bytes (field.Signed offset width) = signed_of width (number_in width (drop offset bytes))
+value_of letters bytes (field.State offset width) = Letter (letter_of letters (number_in width (drop offset bytes)))
 value_of letters bytes (field.Text offset most) = Bytes (until_zero (at_most most (drop offset bytes)))
 value_of letters bytes (field.Located offset) = Bytes (located (word_of (drop offset bytes)) bytes)
 
