@@ -116,6 +116,8 @@ def events() -> int:
     words.add_argument("--table", action="store_true", help="print the table, and no events")
     given = words.values()
     folder = given["recording"]
+    if os.path.exists(folder) and not os.path.isdir(folder):
+        raise Unreadable(f"{folder}: a recording is a folder")
     meta = meta_of(folder)
     fault = meta.version_fault()
     if fault:
