@@ -58,28 +58,28 @@ lane_is plans batches ticks out room cpu is below =
     ((is.each (cpu % length batches) (mod-lt cpu is.some)).each (cpu / length batches) (lane_there plans batches ticks out room cpu is below))
 
 -- the batch found for a processor is the batch at its place
-pub batch_found : (batches : List (List LaneView)) (workers cpu : ℕ) (batch : List LaneView) → workers ≡ length batches → 0 < length batches → batch ≡ get_or batches (cpu % workers) batch → batch ≡ batch_at batches (cpu % length batches)
-batch_found batches workers cpu batch many some there =
-    there ∙ ap (λ n. get_or batches (cpu % n) batch) many ∙ get_or_default batches (cpu % length batches) batch [] (mod-lt cpu some)
+pub batch_found : (batches : List (List LaneView)) (worker cpu : ℕ) (batch : List LaneView) → worker ≡ cpu % length batches → 0 < length batches → batch ≡ get_or batches worker batch → batch ≡ batch_at batches (cpu % length batches)
+batch_found batches worker cpu batch own some there =
+    there ∙ ap (λ n. get_or batches n batch) own ∙ get_or_default batches (cpu % length batches) batch [] (mod-lt cpu some)
 
 -- the lane found for a processor is the lane at its place
-pub lane_found : (batches : List (List LaneView)) (workers cpu : ℕ) (batch : List LaneView) (lane : LaneView) → workers ≡ length batches → batch ≡ batch_at batches (cpu % length batches) → cpu / length batches < length (batch_at batches (cpu % length batches))
-    → lane ≡ get_or batch (cpu / workers) lane → lane ≡ lane_of batches cpu
-lane_found batches workers cpu batch lane many same below there =
-    there ∙ ap (λ n. get_or batch (cpu / n) lane) many ∙ ap (λ xs. get_or xs (cpu / length batches) lane) same ∙ get_or_default (batch_at batches (cpu % length batches)) (cpu / length batches) lane no_lane below
+pub lane_found : (batches : List (List LaneView)) (place cpu : ℕ) (batch : List LaneView) (lane : LaneView) → place ≡ cpu / length batches → batch ≡ batch_at batches (cpu % length batches) → cpu / length batches < length (batch_at batches (cpu % length batches))
+    → lane ≡ get_or batch place lane → lane ≡ lane_of batches cpu
+lane_found batches place cpu batch lane own same below there =
+    there ∙ ap (λ n. get_or batch n lane) own ∙ ap (λ xs. get_or xs (cpu / length batches) lane) same ∙ get_or_default (batch_at batches (cpu % length batches)) (cpu / length batches) lane no_lane below
 
 -- the place of a processor's lane is within its batch
-pub place_inside : (plans : PlansView) (batches : List (List LaneView)) (ticks : Ticks) (out room cpu workers : ℕ) (batch lanes : List LaneView) → AreLanes plans batches ticks out room → cpu < length plans.plans → workers ≡ length batches
-    → batch ≡ get_or batches (cpu % workers) batch → lanes ≡ batch → cpu / workers < length lanes
-place_inside plans batches ticks out room cpu workers batch lanes is below many there same =
-    let found = same ∙ batch_found batches workers cpu batch many is.some there in
-    subst (λ n. cpu / n < length lanes) (sym many) (subst (λ (xs : List LaneView). cpu / length batches < length xs) (sym found) (lane_there plans batches ticks out room cpu is below))
+pub place_inside : (plans : PlansView) (batches : List (List LaneView)) (ticks : Ticks) (out room cpu worker place : ℕ) (batch lanes : List LaneView) → AreLanes plans batches ticks out room → cpu < length plans.plans → worker ≡ cpu % length batches → place ≡ cpu / length batches
+    → batch ≡ get_or batches worker batch → lanes ≡ batch → place < length lanes
+place_inside plans batches ticks out room cpu worker place batch lanes is below mine own there same =
+    let found = same ∙ batch_found batches worker cpu batch mine is.some there in
+    subst (λ n. n < length lanes) (sym own) (subst (λ (xs : List LaneView). cpu / length batches < length xs) (sym found) (lane_there plans batches ticks out room cpu is below))
 
 -- the lane at a processor's place belongs to that processor
-pub lane_at_places : (plans : PlansView) (batches : List (List LaneView)) (ticks : Ticks) (out room cpu workers : ℕ) (batch lanes : List LaneView) (lane : LaneView) → AreLanes plans batches ticks out room → cpu < length plans.plans → workers ≡ length batches
-    → batch ≡ get_or batches (cpu % workers) batch → lanes ≡ batch → lane ≡ get_or lanes (cpu / workers) lane → lane ≡ lane_of batches cpu
-lane_at_places plans batches ticks out room cpu workers batch lanes lane is below many there same here =
-    lane_found batches workers cpu lanes lane many (same ∙ batch_found batches workers cpu batch many is.some there) (lane_there plans batches ticks out room cpu is below) here
+pub lane_at_places : (plans : PlansView) (batches : List (List LaneView)) (ticks : Ticks) (out room cpu worker place : ℕ) (batch lanes : List LaneView) (lane : LaneView) → AreLanes plans batches ticks out room → cpu < length plans.plans → worker ≡ cpu % length batches → place ≡ cpu / length batches
+    → batch ≡ get_or batches worker batch → lanes ≡ batch → lane ≡ get_or lanes place lane → lane ≡ lane_of batches cpu
+lane_at_places plans batches ticks out room cpu worker place batch lanes lane is below mine own there same here =
+    lane_found batches place cpu lanes lane own (same ∙ batch_found batches worker cpu batch mine is.some there) (lane_there plans batches ticks out room cpu is below) here
 
 -- ---- clocks
 

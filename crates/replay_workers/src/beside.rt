@@ -9,6 +9,7 @@ ghost use Rattle.replay_workers.specs.Lanes.{HaveAllGone, MayAllGo, lane_of};
 ghost use Rattle.replay_workers.specs.Watches.{AreNewWatchers, AreSettled, AreWatching, HasMet, HaveCleared, HaveMet, HaveSampled, HaveSlot, HaveWatched, IsInRow, IsLaneThere, IsNewWatcher, IsWatcherThere, MayAllSample};
 
 use crate::batch::{Batch, go_all};
+use crate::place::LanePlace;
 use crate::ticks::Ticks;
 use crate::watch::Watcher;
 use outside::Gate;
@@ -28,9 +29,9 @@ fn watcher_of(
     ensures new { IfOk result (IsNewWatcher (lane_of batches.old cpu.0).cpu requested
         (lane_of batches.old cpu.0).row (lane_of batches.old cpu.0).on.plan) }
 {
-    let workers = batches.len();
-    let batch = &mut batches[cpu.0 as usize % workers];
-    batch.lanes[cpu.0 as usize / workers].watcher(alloc, requested)
+    let at = LanePlace::of(cpu, batches.len());
+    let batch = &mut batches[at.worker];
+    batch.lanes[at.place].watcher(alloc, requested)
 }
 
 /// The number of changes that justify a thread of their own, if a crew advances one interval at a
@@ -76,10 +77,9 @@ fn meet(batches: &mut [Batch<'_>], watcher: &mut Watcher, slot: Slot)
     ensures met { HasMet slot.0 (lane_of batches.old watcher.old.cpu).on
         watcher.old watcher.new }
 {
-    let cpu = watcher.cpu().0 as usize;
-    let workers = batches.len();
-    let batch = &mut batches[cpu % workers];
-    batch.lanes[cpu / workers].meet_watcher(watcher, slot);
+    let at = LanePlace::of(watcher.cpu(), batches.len());
+    let batch = &mut batches[at.worker];
+    batch.lanes[at.place].meet_watcher(watcher, slot);
 }
 
 fn meet_all(batches: &mut [Batch<'_>], watchers: &mut [Watcher], slot: Slot)
@@ -100,10 +100,9 @@ fn settle(batches: &mut [Batch<'_>], watcher: &mut Watcher)
     ensures settled { watcher.old.knows.seen
         ≤ (lane_of batches.old watcher.old.cpu).on.made }
 {
-    let cpu = watcher.cpu().0 as usize;
-    let workers = batches.len();
-    let batch = &mut batches[cpu % workers];
-    batch.lanes[cpu / workers].settle_watcher(watcher);
+    let at = LanePlace::of(watcher.cpu(), batches.len());
+    let batch = &mut batches[at.worker];
+    batch.lanes[at.place].settle_watcher(watcher);
 }
 
 fn settle_all(batches: &mut [Batch<'_>], watchers: &mut [Watcher])

@@ -11,7 +11,8 @@ ghost use Rattle.replay_workers.specs.Crew.{AreAt, AreNotPast, AreInRows, AreOnP
 use crate::batch::{Batch, go_all};
 use crate::beside::{WORTH_THREAD, clear, go_beside, watch};
 use crate::deal::{deal, room_for};
-use crate::fill::{fill, lane_in};
+use crate::fill::fill;
+use crate::place::{LanePlace, lane_in};
 use crate::ticks::Ticks;
 use crate::watch::Watcher;
 use aggregate::Rows;
@@ -259,9 +260,9 @@ impl<'a> Crew<'a> {
         ensures clock { IsClock result (plan_at self.old.plans cpu.0) slot.0
             (clocks_at self.old.clocks cpu.0).made }
     {
-        let workers = self.batches.len();
-        let batch = &mut self.batches[cpu.0 as usize % workers];
-        batch.lanes[cpu.0 as usize / workers].own(slot)
+        let at = LanePlace::of(cpu, self.batches.len());
+        let batch = &mut self.batches[at.worker];
+        batch.lanes[at.place].own(slot)
     }
 
     /// Returns a new reader of the row of processor `cpu`, which has seen all changes that the
@@ -274,9 +275,9 @@ impl<'a> Crew<'a> {
         ensures seen { IfOk result (λ reader. reader.knows
             ≡ new_reader (plan_at self.old.plans cpu.0) (clocks_at self.old.clocks cpu.0).made) }
     {
-        let workers = self.batches.len();
-        let batch = &mut self.batches[cpu.0 as usize % workers];
-        batch.lanes[cpu.0 as usize / workers].reader()
+        let at = LanePlace::of(cpu, self.batches.len());
+        let batch = &mut self.batches[at.worker];
+        batch.lanes[at.place].reader()
     }
 
     /// Shows `reader`, a reader of the row of processor `cpu`, the number of changes made:
@@ -291,9 +292,9 @@ impl<'a> Crew<'a> {
         ensures met { reader.new.knows
             ≡ count_shown (clocks_at self.old.clocks cpu.0).made reader.old.knows }
     {
-        let workers = self.batches.len();
-        let batch = &mut self.batches[cpu.0 as usize % workers];
-        batch.lanes[cpu.0 as usize / workers].meet(reader)
+        let at = LanePlace::of(cpu, self.batches.len());
+        let batch = &mut self.batches[at.worker];
+        batch.lanes[at.place].meet(reader)
     }
 
     /// Establishes that `reader`, a reader of the row of processor `cpu`, has seen at most the
@@ -306,8 +307,8 @@ impl<'a> Crew<'a> {
         ensures same { reader.new ≡ reader.old }
         ensures seen { reader.old.knows.seen ≤ (clocks_at self.old.clocks cpu.0).made }
     {
-        let workers = self.batches.len();
-        let batch = &mut self.batches[cpu.0 as usize % workers];
-        batch.lanes[cpu.0 as usize / workers].settle(reader)
+        let at = LanePlace::of(cpu, self.batches.len());
+        let batch = &mut self.batches[at.worker];
+        batch.lanes[at.place].settle(reader)
     }
 }

@@ -23,6 +23,7 @@ mod fill;
 mod lane;
 mod lane_clocks;
 mod laws;
+mod place;
 mod ticks;
 mod watch;
 

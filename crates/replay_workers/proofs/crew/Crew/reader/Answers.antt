@@ -1,4 +1,4 @@
-use Rattle.std.proofs.Common.{◌≡◌, ◌<◌, ap, arith, length, rules, subst, sym, ◌∙◌}
+use Rattle.std.proofs.Common.{◌≡◌, ◌/◌, ◌%◌, ◌<◌, ap, arith, length, rules, subst, sym, ◌∙◌}
 use Rattle.std.specs.Prelude.{IfOk, Some, is_some}
 use Rattle.proc_plan.specs.Clocks.{OnPlan}
 use Rattle.proc_plan.specs.Plans.{plan_at}
@@ -13,17 +13,21 @@ pub index_mut-requires : goal.index_mut-requires
 index_mut-requires c =
     let crew = c.self.inside in
     let below = subst (λ (view : CrewView). c.args.cpu.0 < length view.plans.plans) (sym c.self.view_is) c.requires.cpu in
-    let many : c.len-workers.result ≡ length crew.batches.items = search rules in
+    let many : c.len.result ≡ length crew.batches.items = search rules in
+    let worker = c.of-at.ensures.worker ∙ ap (λ n. c.args.cpu.0 % n) many in
+    let place = c.of-at.ensures.place ∙ ap (λ n. c.args.cpu.0 / n) many in
     let size : length c.batch.inside.lanes.items ≡ c.batch.inside.lanes.len = search rules in
-    let inside = place_inside crew.plans.now crew.batches.items crew.ticks crew.out crew.room c.args.cpu.0 c.len-workers.result c.index_mut-batch.result.now c.batch.inside.lanes.items c.self.invariant.lanes below many c.index_mut-batch.ensures.value c.batch.view_is in
+    let inside = place_inside crew.plans.now crew.batches.items crew.ticks crew.out crew.room c.args.cpu.0 c.of-at.result.worker c.of-at.result.place c.index_mut-batch.result.now c.batch.inside.lanes.items c.self.invariant.lanes below worker place c.index_mut-batch.ensures.value c.batch.view_is in
     omega (arith, inside, size)
 
 pub reader-requires : goal.reader-requires
 reader-requires c =
     let crew = c.self.inside in
     let below = subst (λ (view : CrewView). c.args.cpu.0 < length view.plans.plans) (sym c.self.view_is) c.requires.cpu in
-    let many : c.len-workers.result ≡ length crew.batches.items = search rules in
-    let lane = lane_at_places crew.plans.now crew.batches.items crew.ticks crew.out crew.room c.args.cpu.0 c.len-workers.result c.index_mut-batch.result.now c.batch.inside.lanes.items c.index_mut.result.now c.self.invariant.lanes below many c.index_mut-batch.ensures.value c.batch.view_is c.index_mut.ensures.value in
+    let many : c.len.result ≡ length crew.batches.items = search rules in
+    let worker = c.of-at.ensures.worker ∙ ap (λ n. c.args.cpu.0 % n) many in
+    let place = c.of-at.ensures.place ∙ ap (λ n. c.args.cpu.0 / n) many in
+    let lane = lane_at_places crew.plans.now crew.batches.items crew.ticks crew.out crew.room c.args.cpu.0 c.of-at.result.worker c.of-at.result.place c.index_mut-batch.result.now c.batch.inside.lanes.items c.index_mut.result.now c.self.invariant.lanes below worker place c.index_mut-batch.ensures.value c.batch.view_is c.index_mut.ensures.value in
     let row = ap (λ (l : LaneView). l.row) lane ∙ sym (rows_are crew.batches.items (length crew.plans.now.plans) c.args.cpu.0 below) ∙ ap (λ (view : CrewView). row_at view.rows c.args.cpu.0) c.self.view_is in
     ap is_some row ∙ c.requires.in_row
 
@@ -31,8 +35,10 @@ pub returns-clause-row : goal.returns-clause-row
 returns-clause-row c =
     let crew = c.self.inside in
     let below = subst (λ (view : CrewView). c.args.cpu.0 < length view.plans.plans) (sym c.self.view_is) c.requires.cpu in
-    let many : c.len-workers.result ≡ length crew.batches.items = search rules in
-    let lane = lane_at_places crew.plans.now crew.batches.items crew.ticks crew.out crew.room c.args.cpu.0 c.len-workers.result c.index_mut-batch.result.now c.batch.inside.lanes.items c.index_mut.result.now c.self.invariant.lanes below many c.index_mut-batch.ensures.value c.batch.view_is c.index_mut.ensures.value in
+    let many : c.len.result ≡ length crew.batches.items = search rules in
+    let worker = c.of-at.ensures.worker ∙ ap (λ n. c.args.cpu.0 % n) many in
+    let place = c.of-at.ensures.place ∙ ap (λ n. c.args.cpu.0 / n) many in
+    let lane = lane_at_places crew.plans.now crew.batches.items crew.ticks crew.out crew.room c.args.cpu.0 c.of-at.result.worker c.of-at.result.place c.index_mut-batch.result.now c.batch.inside.lanes.items c.index_mut.result.now c.self.invariant.lanes below worker place c.index_mut-batch.ensures.value c.batch.view_is c.index_mut.ensures.value in
     let row = ap (λ (l : LaneView). l.row) lane ∙ sym (rows_are crew.batches.items (length crew.plans.now.plans) c.args.cpu.0 below) ∙ ap (λ (view : CrewView). row_at view.rows c.args.cpu.0) c.self.view_is in
     subst (λ row. IfOk c.reader.result (λ (reader : ReaderEnd). Some reader.row ≡ row)) row c.reader.ensures.row
 
@@ -40,8 +46,10 @@ pub returns-clause-seen : goal.returns-clause-seen
 returns-clause-seen c =
     let crew = c.self.inside in
     let below = subst (λ (view : CrewView). c.args.cpu.0 < length view.plans.plans) (sym c.self.view_is) c.requires.cpu in
-    let many : c.len-workers.result ≡ length crew.batches.items = search rules in
-    let lane = lane_at_places crew.plans.now crew.batches.items crew.ticks crew.out crew.room c.args.cpu.0 c.len-workers.result c.index_mut-batch.result.now c.batch.inside.lanes.items c.index_mut.result.now c.self.invariant.lanes below many c.index_mut-batch.ensures.value c.batch.view_is c.index_mut.ensures.value in
+    let many : c.len.result ≡ length crew.batches.items = search rules in
+    let worker = c.of-at.ensures.worker ∙ ap (λ n. c.args.cpu.0 % n) many in
+    let place = c.of-at.ensures.place ∙ ap (λ n. c.args.cpu.0 / n) many in
+    let lane = lane_at_places crew.plans.now crew.batches.items crew.ticks crew.out crew.room c.args.cpu.0 c.of-at.result.worker c.of-at.result.place c.index_mut-batch.result.now c.batch.inside.lanes.items c.index_mut.result.now c.self.invariant.lanes below worker place c.index_mut-batch.ensures.value c.batch.view_is c.index_mut.ensures.value in
     let made = ap (λ (l : LaneView). l.on.made) lane ∙ ap (λ (on : OnPlan). on.made) (sym (clocks_are crew.batches.items (length crew.plans.now.plans) c.args.cpu.0 below)) ∙ ap (λ (view : CrewView). (clocks_at view.clocks c.args.cpu.0).made) c.self.view_is in
     let own = lane_is crew.plans.now crew.batches.items crew.ticks crew.out crew.room c.args.cpu.0 c.self.invariant.lanes below in
     let plan = ap (λ (l : LaneView). l.on.plan) lane ∙ own.plan ∙ ap (λ (view : CrewView). plan_at view.plans c.args.cpu.0) c.self.view_is in

@@ -1,5 +1,5 @@
 use Rattle.std.proofs.Common.{◌≡◌, ◌+◌, ◌*◌, arith}
-use Rattle.replay_workers.proofs.fill.LanePlace.next.Goals as goal
+use Rattle.replay_workers.proofs.place.LanePlace.next.Goals as goal
 
 pub returns-clause-next : goal.returns-clause-next
 returns-clause-next c =

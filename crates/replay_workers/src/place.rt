@@ -1,0 +1,80 @@
+//! Which lane is a processor's.
+ghost use Rattle.std.specs.Prelude.{◌≡◌, ◌+◌, ◌*◌, ◌<◌, ◌/◌, ◌%◌, length};
+ghost use Rattle.replay_workers.specs.Lanes.{batch_at, lane_at, lane_of};
+
+use crate::batch::Batch;
+use crate::lane::Lane;
+use psi_base::Cpu;
+
+/// The place of a processor's lane: the index of its worker's batch, and the index within the
+/// batch.
+#[derive(Clone, Copy, Debug)]
+pub(crate) struct LanePlace {
+    pub(crate) worker: usize,
+    pub(crate) place: usize,
+}
+
+impl LanePlace {
+    /// The place of the lane of processor `cpu`, if the processors are dealt to `workers` workers.
+    pub(crate) fn of(cpu: Cpu, workers: usize) -> LanePlace
+        requires { 0 < workers }
+        ensures worker { result.worker ≡ cpu.0 % workers }
+        ensures place { result.place ≡ cpu.0 / workers }
+    {
+        LanePlace {
+            worker: cpu.0 as usize % workers,
+            place: cpu.0 as usize / workers,
+        }
+    }
+
+    /// The place of processor 0's lane, for any number of workers.
+    pub(crate) fn first() -> LanePlace
+        ensures worker { result.worker ≡ 0 }
+        ensures place { result.place ≡ 0 }
+    {
+        LanePlace {
+            worker: 0,
+            place: 0,
+        }
+    }
+
+    /// The place of the next processor's lane. It takes no division, unlike `of`.
+    pub(crate) fn next(self, workers: usize) -> LanePlace
+        requires worker { self.worker < workers }
+        requires few { self.place < 64 }
+        ensures worker { result.worker < workers }
+        ensures next { result.place * workers + result.worker
+            ≡ self.place * workers + self.worker + 1 }
+    {
+        if self.worker + 1 < workers {
+            return LanePlace {
+                worker: self.worker + 1,
+                place: self.place,
+            };
+        }
+        LanePlace {
+            worker: 0,
+            place: self.place + 1,
+        }
+    }
+
+    /// The lane at this place.
+    pub(crate) fn lane<'b, 'a>(self, batches: &'b [Batch<'a>]) -> &'b Lane<'a>
+        requires worker { self.worker < length batches.now }
+        requires place { self.place < length (batch_at batches.now self.worker) }
+        ensures { result.now ≡ lane_at (batch_at batches.now self.worker) self.place }
+    {
+        let batch = &batches[self.worker];
+        &batch.lanes[self.place]
+    }
+}
+
+/// The lane of processor `cpu`.
+pub(crate) fn lane_in<'b, 'a>(batches: &'b [Batch<'a>], cpu: Cpu) -> &'b Lane<'a>
+    requires some { 0 < length batches.now }
+    requires place { cpu.0 / length batches.now
+        < length (batch_at batches.now (cpu.0 % length batches.now)) }
+    ensures { result.now ≡ lane_of batches.now cpu.0 }
+{
+    LanePlace::of(cpu, batches.len()).lane(batches)
+}
