@@ -1,5 +1,5 @@
 -- Proofs about tables whose rows are stored one after another in one list.
-use Rattle.std.proofs.Common.{◌≡◌, ◌≢◌, ℕ, zero, suc, ◌+◌, ◌-◌, ◌*◌, ◌≤◌, ◌<◌, List, [], ◌++◌, length, take, drop, get_or, set, replicate, refl, sym, ap, ◌∙◌, arith, ◌⊎◌, ⊎_elim}
+use Rattle.std.proofs.Common.{◌≡◌, ◌≢◌, ℕ, ◌+◌, ◌-◌, ◌*◌, ◌≤◌, ◌<◌, List, [], ◌++◌, length, take, drop, get_or, set, replicate, refl, sym, ap, ◌∙◌, arith, ◌⊎◌, ⊎_elim}
 use Rattle.std.proofs.Math.Nat.{mul-le-mul_right}
 use Rattle.std.proofs.Math.Seq.{take-set-lt}
 use Rattle.std.proofs.lemmas.List.{append_assoc, drop-append-le, drop-drop, drop-take, drop_at, get_or_past, length-append, length-take-le, take-append-le, take-take, take_at, length-take, length-drop, length-set, length-replicate, take-set-le, drop-set-lt, drop-set-add, take-replicate, drop-replicate, get_or-replicate, get_or-set_same, get_or-set_other}
@@ -153,22 +153,6 @@ sizes_same cpus slots table other has also = record {
       let case : (slot < slots) ⊎ (slots ≤ slot) = grind arith in
       ⊎_elim inside past case;
 }
-
--- tables with the same sizes are stored in lists of the same length
-pub flats_same : (cpus slots : ℕ) (flat : List (List ℕ)) (other_cpus other_slots : ℕ) (other : List (List ℕ)) → length flat ≡ slots * cpus → length other ≡ other_slots * other_cpus →
-    HaveSameSizes (rows_of cpus slots flat) (rows_of other_cpus other_slots other) → length flat ≡ length other
-flats_same cpus zero flat other_cpus other_slots other long also same =
-    let none : other_slots ≡ 0 = omega (arith, same.slots, length-rows_of cpus 0 flat, length-rows_of other_cpus other_slots other) in
-    let nothing : length other ≡ 0 * other_cpus = also ∙ ap (λ n. n * other_cpus) none in
-    omega (arith, long, nothing)
-flats_same cpus (suc slots) flat other_cpus other_slots other long also same =
-    let slots_are : other_slots ≡ suc slots = omega (arith, same.slots, length-rows_of cpus (suc slots) flat, length-rows_of other_cpus other_slots other) in
-    let other_long : length other ≡ suc slots * other_cpus = also ∙ ap (λ n. n * other_cpus) slots_are in
-    let row : length (row_in cpus flat 0) ≡ cpus = length-row_in cpus (suc slots) flat 0 long (omega arith) in
-    let other_row : length (row_in other_cpus other 0) ≡ other_cpus = length-row_in other_cpus (suc slots) other 0 other_long (omega arith) in
-    let rows_same : length (row_in cpus flat 0) ≡ length (row_in other_cpus other 0) =
-    ap length (sym (get_or-rows_of cpus (suc slots) flat 0 [] (omega arith))) ∙ same.cpus 0 ∙ ap length (get_or-rows_of other_cpus other_slots other 0 [] (omega arith)) in
-    long ∙ ap (λ n. suc slots * n) (sym row ∙ rows_same ∙ other_row) ∙ sym other_long
 
 pub keeps_sizes : KeepsSizes
 keeps_sizes = record {

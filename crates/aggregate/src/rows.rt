@@ -1,7 +1,7 @@
 //! The times of all groups on all processors at a tick, in one allocation.
 ghost use Rattle.std.specs.Prelude.{◌≡◌, ◌<◌, ◌*◌, [], IfOk, length, slice_index_or, slice_set, replicate};
 ghost use Rattle.aggregate.specs.Table as table;
-ghost use Rattle.aggregate.specs.Table.{new_table, put_times, HaveSameSizes, IsPlace, KeepsSizes, SetsOnePlace};
+ghost use Rattle.aggregate.specs.Table.{new_table, put_times, IsPlace, KeepsSizes, SetsOnePlace};
 
 use pressure_spec::{TIMES, Times};
 use psi_base::{Cpu, NoMemory, Slot};
@@ -45,17 +45,6 @@ impl Rows {
     {
         let place = slot.0 as usize * self.cpus as usize + cpu.0 as usize;
         self.times[place] = times;
-    }
-
-    /// Copies all times from `other`. Precondition: both have the same numbers of groups and
-    /// processors. Does not allocate.
-    pub fn copy_from(&mut self, other: &Rows)
-        requires { HaveSameSizes self.old other.now }
-        ensures { self.new ≡ other.now }
-    {
-        self.cpus = other.cpus;
-        self.slots = other.slots;
-        self.times.copy_from_slice(&other.times);
     }
 
     /// Sets the times of a group on all processors. Precondition: `row` has an entry for each

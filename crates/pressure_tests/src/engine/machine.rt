@@ -1,4 +1,6 @@
 //! A simulated machine for the tests: an engine of ticks, whose table of times is set by a test.
+ghost use Rattle.std.specs.Prelude.{◌≡◌, length};
+ghost use Rattle.aggregate.specs.Table.{HaveSameSizes};
 
 use crate::check::holds;
 use crate::engine::checks::{LAST_MOMENT, are_lives, are_triggers, table_grew_within};
@@ -34,6 +36,17 @@ impl Model for Machine {
     ghost view = { λ m. m.engine };
 
     ghost invariant = { λ m. IsMachine m.cpus m.slots m.at m.last m.next m.engine };
+}
+
+// Copies the times of a table of `slots` groups to one of the same sizes.
+fn copy_table(slots: u32, from: &Rows, into: &mut Rows)
+    requires slots { length from.now ≡ slots }
+    requires sizes { HaveSameSizes into.old from.now }
+    ensures { into.new ≡ from.now }
+{
+    'slots: for slot in 0..slots {
+        into.set_row(Slot(slot), from.row(Slot(slot)));
+    }
 }
 
 impl Machine {
@@ -76,7 +89,7 @@ impl Machine {
         let has_grown = table_grew_within(now - self.at, now, self.slots, &self.last, &self.next);
         holds(rt, has_grown, "times that can come next");
         self.engine.tick(now, &self.next);
-        self.last.copy_from(&self.next);
+        copy_table(self.slots, &self.next, &mut self.last);
         self.at = now;
     }
 
