@@ -133,9 +133,9 @@ impl<'j, 'a, L: Ledger> Observer<'j, 'a, L> {
             failed,
         } = self;
         all.merge(share);
-        board.notify(rt, driver, &mut pass)?;
+        board.tell(rt, driver, &mut pass)?;
         let state = board.read(rt, &mut pass);
-        board.notify(rt, driver, &mut pass)?;
+        board.tell(rt, driver, &mut pass)?;
         match failed {
             None => Ok((watcher.into_own(), state)),
             Some(none) => Err(none),

@@ -249,7 +249,7 @@ impl Board {
     /// Notifies an observer of all published states, so that its later reads return at least the
     /// latest tick. Each state that the observer has read is the published state of its tick.
     /// Always returns `Ok`.
-    pub fn notify<R: Wait>(
+    pub fn tell<R: Wait>(
         &self,
         rt: &R,
         driver: &mut DriverPass,

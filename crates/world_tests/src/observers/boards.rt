@@ -88,12 +88,8 @@ pub fn beside<R: Abort + Threads + Wait + Sync>(rt: &R, alloc: Global, ticks: u3
             ensures { result.0.board ≡ board }
         { watched(rt, alloc, &board, pass, ticks) },
     );
-    board
-        .notify(rt, &mut driver, &mut pass)
-        .expect(rt, "memory");
+    board.tell(rt, &mut driver, &mut pass).expect(rt, "memory");
     let last = board.read(rt, &mut pass);
-    board
-        .notify(rt, &mut driver, &mut pass)
-        .expect(rt, "memory");
+    board.tell(rt, &mut driver, &mut pass).expect(rt, "memory");
     Readings { states, last }
 }

@@ -3,7 +3,7 @@ use Rattle.crossbeam_utils.specs.Seq.{cell_view}
 use Rattle.observer_log.specs.Board.{ArePublished, note_of, as_driver, as_observer, after_known}
 use Rattle.observer_log.specs.declared.board.View.TheVariants.{Shown, Seen, Driver, Observer}
 use Rattle.observer_log.proofs.BoardSteps.{compares, driver_heard, driver_hears, is_driver, is_observer, notes, observer_heard, observer_hears}
-use Rattle.observer_log.proofs.board.Board.notify.Goals as goal
+use Rattle.observer_log.proofs.board.Board.tell.Goals as goal
 
 pub split_pass-seen-requires : goal.split_pass-seen-requires
 split_pass-seen-requires g c = (search rules, (search rules, (search rules, notes _ _)))
