@@ -1,9 +1,10 @@
 -- The end of the program.
 use Rattle.std.specs.Prelude.{◌≡◌, ℕ, List, ◌∷◌, true, false, codes, Option, Some}
-use Rattle.std.specs.Io.KnownBytes.{Appends}
+use Rattle.std.specs.Io.KnownBytes.{Appends, Keeps}
 use Rattle.outside.specs.Outside.{AppendsPrefix, Files, Increased, content_of}
+use Rattle.outside.specs.Reads.{ReadCall}
 use Rattle.convert_core.specs.Convert.{contents_of, convert_of, is_command}
-use Rattle.convert_core.specs.Runs.{Converts}
+use Rattle.convert_core.specs.Runs.{Converts, FailuresAreCounted, IsMissing, ReadsInOrder, RunCounts, shelf_fault_in}
 use Rattle.convert_core.specs.Status.{code_of, status_text}
 use Rattle.convert_core.specs.declared.status.Status.{Status}
 use Rattle.convert_core.specs.declared.status.Status.TheVariants as status
@@ -16,10 +17,29 @@ pub record EndsAs (words : List (List ℕ)) (ended : Status) (exit faults_before
   pub prefix : AppendsPrefix old new (status_text words ended)
   pub whole : (Increased faults_before faults_now → ⊥) → Appends old new (status_text words ended)
 
+-- the logs of reads before a run and after it
+pub record RunReads : Type 0 where
+  pub log : List ReadCall
+  pub log_now : List ReadCall
+
+-- the reads of a run, from its logs
+abbrev pub run_reads : List ReadCall → List ReadCall → RunReads
+run_reads log log_now = record { log = log; log_now = log_now }
+
 -- A status is that of a run of some words: it says about the output what the definition gives for
--- the bytes of the files. If the words aren't a command, the status is Usage.
-pub record RanAs (words : List (List ℕ)) (ended : Status) (files : Option Files) (old new : Option (List ℕ)) : Type 0 where
+-- the bytes of the files, a failure that it reports was counted, and the files were read in order.
+-- If the words aren't a command, the status is Usage, and the run did nothing.
+pub record RanAs (words : List (List ℕ)) (ended : Status) (files : Option Files) (before now : RunCounts) (reads : RunReads)
+    (old new : Option (List ℕ)) : Type 0 where
   pub converts : (table : List ℕ) (pages : List (List ℕ)) (bytes : List ℕ) (wholes : List (List ℕ)) → is_command words ≡ true
       → words ≡ codes "events" ∷ table ∷ pages → content_of files table ≡ Some bytes → contents_of files pages ≡ Some wholes
       → Converts old new (convert_of bytes wholes) ended
+  pub counts : FailuresAreCounted before now ended
+  pub order : (names : List (List ℕ)) → is_command words ≡ true → words ≡ codes "events" ∷ names
+      → ReadsInOrder names reads.log reads.log_now (shelf_fault_in ended)
+  pub missed : (names : List (List ℕ)) (file : ℕ) → words ≡ codes "events" ∷ names → ended ≡ status.NoFile file
+      → IsMissing files 0 names file
   pub unknown : is_command words ≡ false → ended ≡ status.Usage
+  pub usage : ended ≡ status.Usage → is_command words ≡ false
+  pub quiet : ended ≡ status.Usage → Keeps old new
+  pub unread : ended ≡ status.Usage → reads.log_now ≡ reads.log

@@ -5,11 +5,13 @@
 #![tactic(auto)]
 
 ghost use Rattle.std.specs.Prelude.{◌≡◌, IfOk, [], OnErr, map, string_bytes};
+ghost use Rattle.std.specs.Io.KnownBytes.{Keeps};
 ghost use Rattle.std.specs.Process.{exit_status};
 ghost use Rattle.psi_base.specs.Memory.{no_memory};
 ghost use Rattle.convert_core.specs.declared.status.Status.{Status};
+ghost use Rattle.convert_core.specs.Runs.{counts_of_run};
 ghost use Rattle.convert_core.specs.Status.{code_of};
-ghost use Rattle.psi_convert_main.specs.End.{EndsAs, RanAs};
+ghost use Rattle.psi_convert_main.specs.End.{EndsAs, RanAs, run_reads};
 
 use convert_core::{Status, run};
 use host_files::{HostShelf, HostSink, words_of};
@@ -35,8 +37,8 @@ fn end_without_words<N: Sink>(none: NoMemory, note: &mut N) -> ExitCode
     exit_code(Status::NoMemory(none))
 }
 
-// Runs the words and ends as the run did: what a run promises about a status, the files and the
-// output holds for the status that the exit code and the message report.
+// Runs the words and ends as the run did: what a run promises about a status, the files, the
+// output, the counts and the reads holds for the status that the exit code and the message report.
 fn end_of<S: Shelf, K: Sink, N: Sink>(
     alloc: Global,
     words: Result<Vec<String>, NoMemory>,
@@ -48,9 +50,14 @@ fn end_of<S: Shelf, K: Sink, N: Sink>(
         × EndsAs (map string_bytes given.items) status (exit_status result)
         (N.faults note.old) (N.faults note.new) (N.has note.old) (N.has note.new)
         × RanAs (map string_bytes given.items) status (S.holds shelf.old)
+        (counts_of_run (S.faults shelf.old) (S.absent shelf.old) (K.faults out.old))
+        (counts_of_run (S.faults shelf.new) (S.absent shelf.new) (K.faults out.new))
+        (run_reads (S.reads shelf.old) (S.reads shelf.new))
         (K.has out.old) (K.has out.new)) }
     ensures none { OnErr words (EndsAs [] (Status.NoMemory no_memory) (exit_status result)
         (N.faults note.old) (N.faults note.new) (N.has note.old) (N.has note.new)) }
+    ensures idle { OnErr words (Keeps (K.has out.old) (K.has out.new)
+        × (S.reads shelf.new ≡ S.reads shelf.old)) }
 {
     match words {
         Ok(words) => exit_code(run(alloc, &words, shelf, out, note)),
