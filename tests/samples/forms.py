@@ -60,6 +60,12 @@ def dump() -> str:
     )  # fmt: skip
 
 
+def stale_dump() -> str:
+    """The dump after a scrape without any series, which Prometheus marks in each of them by NaN."""
+    heads = dict.fromkeys(line.rpartition("} ")[0] for line in dump().splitlines())
+    return dump() + "".join(f"{it}}} NaN {(START + TIMES[-1] + 5) * 1000}\n" for it in heads)
+
+
 def json_lines() -> str:
     return "".join(
         json.dumps({"time": START + it.at, "group": it.group, it.resource: {"some": it.some, "full": it.full}}) + "\n"
@@ -92,7 +98,7 @@ def traces(room: Room, texts: Iterable[tuple[str, str | bytes]]) -> dict[str, st
 def check_all_formats_give_the_same_trace(program: str) -> None:
     texts: list[tuple[str, str | bytes]] = [
         ("csv", csv(rows())), ("JSON lines", json_lines()), ("a query of Prometheus", prometheus()), ("the same, indented", prometheus(2)),
-        ("promtool tsdb dump", dump()), ("OpenMetrics", openmetrics()), ("a loop", loop()), ("csv, compressed", gzip.compress(csv(rows()).encode())),
+        ("promtool tsdb dump", dump()), ("a dump with a stale marker", stale_dump()), ("OpenMetrics", openmetrics()), ("a loop", loop()), ("csv, compressed", gzip.compress(csv(rows()).encode())),
     ]  # fmt: skip
     with room_of(program) as room:
         found = traces(room, texts)

@@ -29,6 +29,8 @@ SIZES = {
 LABEL = re.compile(r'\s*([a-zA-Z_][a-zA-Z0-9_]*)\s*=\s*"((?:[^"\\]|\\.)*)"\s*,?')
 LINE = re.compile(r"([a-zA-Z_:][a-zA-Z0-9_:]*)?\s*(?:\{(.*)\})?\s+(\S+)\s+([0-9.eE+-]+)(?:\s+#.*)?")
 POINT = re.compile(r'\s*,?\s*\[\s*([0-9.eE+]+)\s*,\s*"([^"]*)"\s*\]')
+# How a dump writes the marker after which a series has no value.
+STALE = "NaN"
 # Timestamps of so many digits are ms.
 MILLISECONDS = re.compile("[0-9]{12,14}")
 
@@ -98,7 +100,9 @@ class Metrics:
 
 
 def put_value(put: Put, column: Column, time: int, text: str, line: int) -> None:
-    """A value of a series."""
+    """A value of a series. NaN, which ends a series after a scrape without it, is no sample."""
+    if text == STALE:
+        return
     put(
         time,
         column.group,
