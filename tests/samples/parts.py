@@ -114,8 +114,8 @@ def check_from_and_to(program: str) -> None:
         room.make("samples", "--from", "2023-11-14T22:23:10Z", "--to", "2023-11-14T22:24:50Z")
         must_be("the time of 590 s", START + 590, 1_700_000_590)
         must(room.text("it.trace") == first, "it is the same by the clock")
-        done = room.make("samples", "--from", "6000", status=2)
-        must("outside the samples" in done.said, f"after the end: {done.said}")
+        done = room.make("samples", "--from", "6000", status=12)
+        must("--from 6000 is after the end of the samples, 5400 s" in done.said, f"after the end: {done.said}")
 
 
 def check_rows_beyond_memory(_program: str) -> None:
