@@ -29,7 +29,7 @@ pub fn put(rt: &impl Host, bytes: &mut Vec<u8>, number: u64, count: usize) {
 
 /// The first word of a record: its kind, and the time since the previous one in ns.
 pub fn head(kind: u32, delta: u32) -> u64 {
-    u64::from(delta * 32 + kind)
+    u64::from(delta) * 32 + u64::from(kind)
 }
 
 /// Adds the record of an event `note` (number 7) with a task, a signed number and a text of four
@@ -45,10 +45,11 @@ pub fn put_note(rt: &impl Host, bytes: &mut Vec<u8>, delta: u32, number: u64, te
 pub fn page_with(rt: &impl Host, time: u64, flags: u32, records: &[u8], lost: u64) -> Vec<u8> {
     let mut page = Vec::new(rt.alloc());
     put(rt, &mut page, time, 8);
-    put(rt, &mut page, u64::from(flags) + records.len() as u64, 8);
+    let size = u64::from(flags).checked_add(records.len() as u64);
+    put(rt, &mut page, size.expect(rt, "a short page"), 8);
     page.extend_from_slice(records).expect(rt, "memory");
     put(rt, &mut page, lost, 8);
-    while page.len() < SIZE {
+    for _ in page.len()..SIZE {
         page.push(0).expect(rt, "memory");
     }
     page

@@ -128,7 +128,7 @@ fn long_tables(rt: HostRuntime) {
     let mut table = String::new(rt.alloc());
     table.push_str(START).expect(&rt, "memory");
     table.push_str("kind 7 ").expect(&rt, "memory");
-    while table.len() < 65_531 {
+    for _ in table.len()..65_531 {
         table.push('n').expect(&rt, "memory");
     }
     table.push_str("\nend\n").expect(&rt, "memory");
