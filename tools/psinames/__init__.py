@@ -1,3 +1,2 @@
-"""What a trace doesn't have: names of tasks and containers, and the time of day. A file beside the
-trace, its companion, has them.
-"""
+"""Names of tasks and containers, and the time of day of a trace. A trace itself has neither:
+they are in its companion, a second file next to it."""

@@ -1,6 +1,5 @@
-"""Which processes ran most in each group, window by window: for folded traces, which don't have the
-tasks any more, and for tools that don't read the whole trace.
-"""
+"""Finds the processes that ran most in each group, in windows of time. For folded traces, which
+no longer name the tasks, and for tools that don't read the whole trace."""
 from __future__ import annotations
 
 from collections.abc import Iterator
@@ -8,12 +7,12 @@ from typing import NamedTuple, Optional
 
 from .lives import Life
 
-# The processes that are kept of each group and window.
+# The number of processes that are stored for each group and window.
 KEPT = 3
 
 
 class Process(NamedTuple):
-    """A process in a window: its number, its name, and how long its threads ran, in ns."""
+    """A process in a window: its pid, its name, and the time (ns) for which its threads ran."""
 
     number: int
     name: str
@@ -21,8 +20,8 @@ class Process(NamedTuple):
 
 
 class Busy(NamedTuple):
-    """A group in a window: how long its own tasks ran, and those processes that ran longest, in ns.
-    """
+    """A group in a window: the time (ns) for which its own tasks ran, and the processes that ran
+    longest."""
 
     window: int
     path: str
@@ -31,7 +30,8 @@ class Busy(NamedTuple):
 
 
 class Runner(NamedTuple):
-    """Who runs on a processor: the group, the task, and since when (ns)."""
+    """The task that runs on a processor, the task's group, and the time (ns) since which it
+    runs."""
 
     path: str
     life: Life
@@ -39,7 +39,7 @@ class Runner(NamedTuple):
 
 
 class Clocks:
-    """Adds up who ran, in windows of `length` ns. The windows that have ended are in `done`."""
+    """Adds up run times in windows of `length` ns. `done` has the windows that have ended."""
 
     def __init__(self, length: int) -> None:
         self.length, self.number, self.end = length, 0, length
@@ -48,7 +48,8 @@ class Clocks:
         self.done: list[Busy] = []
 
     def run(self, processor: int, path: str, life: Optional[Life], now: int) -> None:
-        """From now on this task runs on the processor, or none."""
+        """Records that `life` runs on `processor` from `now` (ns) on. None is the idle
+        processor."""
         while now >= self.end:
             self.close()
         before = self.runners.get(processor)
@@ -61,7 +62,7 @@ class Clocks:
             del self.runners[processor]
 
     def close(self) -> None:
-        """Ends the window."""
+        """Ends the current window and begins the next one."""
         for processor, (path, life, since) in self.runners.items():
             key = path, life.leader
             self.ran[key] = self.ran.get(key, 0) + self.end - since
@@ -72,7 +73,7 @@ class Clocks:
         self.end += self.length
 
     def finish(self, now: int) -> list[Busy]:
-        """All windows up to the end of the trace."""
+        """Ends the last window at `now` (ns), and returns the groups of all windows."""
         while now >= self.end:
             self.close()
         self.end = now
@@ -81,7 +82,7 @@ class Clocks:
 
 
 def busiest(window: int, ran: dict[tuple[str, Life], int]) -> Iterator[Busy]:
-    """The groups of a window, each with the processes that ran longest."""
+    """Yields each group of a window with the processes that ran longest."""
     groups: dict[str, list[Process]] = {}
     for (path, leader), time in ran.items():
         if time:

@@ -1,4 +1,4 @@
-"""The time of day in a trace, which itself counts ns from its start."""
+"""Converts between times of day and times in a trace, which are in ns from the trace's start."""
 from __future__ import annotations
 
 import re
@@ -17,18 +17,19 @@ OFFSET = re.compile(r"([+-])([0-9]{2}):([0-9]{2})")
 
 
 class TimeOfDay(NamedTuple):
-    """A time of day without its date, in ns since midnight, as it was written."""
+    """A time of day without a date (ns since midnight), and the text that it was parsed from."""
 
     since_midnight: int
     text: str
 
 
-# A time in a trace as people write it: ns since the start, a time of day, or that with a date.
+# A time in a trace as people write it: ns since the start, a time of day, or a time with a date.
 Given = Union[int, TimeOfDay, WallTime]
 
 
 def time_of_day(word: str) -> Optional[TimeOfDay]:
-    """A time of day as `14:03`, `14:03:10` or `14:03:10.5`; None if it isn't one."""
+    """Parses a time of day such as `14:03`, `14:03:10` or `14:03:10.5`. Returns None if `word`
+    isn't one."""
     found = TIME_OF_DAY.fullmatch(word)
     if not found:
         return None
@@ -40,7 +41,7 @@ def time_of_day(word: str) -> Optional[TimeOfDay]:
 
 
 def time_given(word: str) -> Given:
-    """Parses a time: seconds since the start of the trace, or a time of day."""
+    """Parses a time: seconds since the start of the trace, a time of day, or a date and time."""
     if "T" in word:
         return wall_time(word)
     if at := time_of_day(word):
@@ -56,9 +57,9 @@ def time_given(word: str) -> Given:
 
 
 def offset_of(word: str, epoch: int) -> Optional[int]:
-    """The ns by which clocks of a zone are ahead of UTC at a time (ns since 1970). The zone is
-    `UTC`, an offset, `local`, or a name such as Europe/Berlin. None if it isn't one.
-    """
+    """Returns by how many ns the clocks of a zone are ahead of UTC at `epoch` (ns since 1970).
+    The zone is `UTC`, an offset, `local`, or a name such as Europe/Berlin. Returns None if
+    `word` is no zone."""
     found = OFFSET.fullmatch(word)
     if found and int(found[2]) < 15 and int(found[3]) < 60:
         return (int(found[2]) * HOUR + int(found[3]) * MINUTE) * (-1 if found[1] == "-" else 1)
@@ -74,20 +75,20 @@ def offset_of(word: str, epoch: int) -> Optional[int]:
 
 
 def offset_at(at: zoneinfo.ZoneInfo, epoch: int) -> int:
-    """The offset of a named zone (ns) at a time (ns since 1970)."""
+    """Returns the offset of a named zone from UTC (ns) at `epoch` (ns since 1970)."""
     offset = datetime.fromtimestamp(epoch // SECOND, timezone.utc).astimezone(at).utcoffset()
     return int(offset.total_seconds()) * SECOND if offset else 0
 
 
 def zone_name(word: str) -> str:
-    """Parses the name of a zone."""
+    """Checks the name of a time zone, and returns it unchanged."""
     if offset_of(word, 0) is None:
         raise Malformed(f"{word} isn't a time zone, such as UTC, +01:00, local or Europe/Berlin")
     return word
 
 
 def in_zone(wall: WallTime, word: Optional[str]) -> WallTime:
-    """The same time by the clocks of another zone, if one is given."""
+    """Converts a time to the zone `word`. Without a zone the time is returned unchanged."""
     ahead = offset_of(word, wall.epoch) if word else None
     return wall if ahead is None else wall._replace(ahead=ahead)
 
@@ -96,14 +97,14 @@ def in_zone(wall: WallTime, word: Optional[str]) -> WallTime:
 
 
 def wall_text(wall: WallTime) -> str:
-    """A time in ISO 8601 with its zone, which `wall_time` parses."""
+    """Formats a time in ISO 8601 with its zone, so that `wall_time` parses it."""
     at = clock_time(wall.epoch + wall.ahead)
     offset = zone(wall.ahead).removeprefix("UTC") or "Z"
     return f"{at.date.tm_year:04}-{at.date.tm_mon:02}-{at.date.tm_mday:02}T{at.clock}{offset}"
 
 
 def span_text(wall: WallTime, length: int) -> str:
-    """When a trace of this length (ns) was recorded."""
+    """Says in words when a trace that began at `wall` and is `length` ns long was recorded."""
     first, last = clock_time(wall.epoch + wall.ahead), clock_time(wall.epoch + wall.ahead + length)
     day = f" on {last.day}" if last.day != first.day else ""
     begin, end = (it.clock.partition(".")[0] for it in (first, last))
@@ -111,7 +112,7 @@ def span_text(wall: WallTime, length: int) -> str:
 
 
 def given_text(given: Given) -> str:
-    """A time as it was given."""
+    """Formats a time as the user wrote it."""
     if isinstance(given, TimeOfDay):
         return given.text
     return wall_text(given) if isinstance(given, WallTime) else seconds(given)
@@ -120,9 +121,9 @@ def given_text(given: Given) -> str:
 def time_in(
     given: Given, wall: Optional[WallTime], length: int, option: str, after: int = 0
 ) -> int:
-    """A given time in ns since the start of a trace of this length (ns), which began at `wall`. A
-    time of day is the first one after the start, and at most `after` ns after the end.
-    """
+    """Converts a time to ns since the start of a trace that began at `wall` and is `length` ns
+    long. A time of day means its first occurrence after the start, which may be up to `after` ns
+    past the end. Raises a Fault if the time isn't in the trace."""
     if isinstance(given, int):
         return given
     if not wall:

@@ -1,6 +1,5 @@
-"""The companion file of a trace, which psitrace writes: `X.trace.names` beside `X.trace`. It has
-what a trace can't express. docs/TRACES.md describes its lines.
-"""
+"""The companion file of a trace, `X.trace.names` next to `X.trace`, which psitrace writes. It
+has the names and times that a trace can't express. docs/TRACES.md describes its lines."""
 from __future__ import annotations
 
 import contextlib
@@ -29,11 +28,10 @@ PATH = r"(/[A-Za-z0-9_.@:\\/-]*)"
 
 @dataclass
 class Companion:
-    """What is known of a trace: its size in bytes and its SHA-256, its length in ns, the time of
-    day at its start, where the recording begins after a warm-up (ns), its tasks by their times, and
-    what ran most in each window of `window` ns. In a folded trace tasks have the label 0.
-    `containers` has names by the numbers of containers and pods.
-    """
+    """What is known of a trace: its size (bytes), its SHA-256, its length (ns), the time of day
+    at its start, the time (ns) at which the recording begins after a warm-up, its tasks with
+    their lifetimes, and the processes that ran most in each window of `window` ns. The tasks of
+    a folded trace have the label 0. `containers` maps the ids of containers and pods to names."""
 
     size: int
     digest: str
@@ -47,7 +45,7 @@ class Companion:
 
 
 def companion_of(trace: str) -> str:
-    """The name of a trace's companion file."""
+    """Returns the path of a trace's companion file."""
     return trace + SUFFIX
 
 
@@ -55,7 +53,7 @@ def companion_of(trace: str) -> str:
 
 
 def lines_of(known: Companion) -> Iterator[str]:
-    """The lines of the file."""
+    """Yields the lines of a companion file, without newlines."""
     yield HEADER
     yield f"trace {known.size} {known.digest}"
     yield f"length {known.length}"
@@ -78,7 +76,7 @@ def lines_of(known: Companion) -> Iterator[str]:
 
 
 def write(name: str, known: Companion) -> None:
-    """Writes the file, whole or not at all."""
+    """Writes a companion file atomically: an incomplete file never appears under its name."""
     part = f"{name}.part"
     try:
         with open(part, "w", encoding="utf-8", errors="surrogateescape", newline="\n") as file:
@@ -93,7 +91,7 @@ def write(name: str, known: Companion) -> None:
 # ---------------------------------------------------------------- reading
 
 Fields = tuple[str, ...]
-# What each line may have after its first word.
+# The form of each kind of line after its first word.
 FORMS: dict[str, re.Pattern[str]] = {
     "trace": re.compile(f"{NUMBER} ([0-9a-f]{{64}})"),
     "length": re.compile(NUMBER),
@@ -105,22 +103,22 @@ FORMS: dict[str, re.Pattern[str]] = {
     "name": re.compile(f"{NUMBER} (.{{0,80}})"),
     "busy": re.compile(f"{NUMBER} {PATH} {NUMBER}((?: {NUMBER} {NUMBER})*)"),
 }  # fmt: skip
-# The lines that precede the tasks: enough for tools that only need the time of day.
+# The kinds of lines before the tasks. They suffice for tools that only need the time of day.
 HEAD = ("trace", "length", "start", "begins", "container")
 
 
 class Malformed(ValueError):
-    """A line that isn't one of a companion file."""
+    """A line that has no place in a companion file."""
 
 
 class Reader:
-    """Takes the lines of a companion file."""
+    """Parses the lines of a companion file, and collects what they say in `known`."""
 
     def __init__(self) -> None:
         self.known = Companion(0, "", 0)
 
     def take(self, line: str) -> str:
-        """Takes a line; returns its first word."""
+        """Parses a line, and returns its first word."""
         word, _, rest = line.partition(" ")
         found = FORMS[word].fullmatch(rest) if word in FORMS else None
         if not found or not line.isprintable():
@@ -166,14 +164,14 @@ class Reader:
 
 
 def must_be_escaped(name: str) -> str:
-    """The name, which must be escaped."""
+    """Returns `name`, or raises Malformed if it isn't escaped."""
     if not is_escaped(name):
         raise Malformed(name)
     return name
 
 
 def read(name: str, is_whole: bool = True) -> Companion:
-    """Reads a companion file, or only its head."""
+    """Reads a companion file. Without `is_whole` it stops before the tasks."""
     reader, number, word = Reader(), 1, ""
     try:
         with open(name, encoding="utf-8", errors="surrogateescape", newline="\n") as file:
@@ -193,7 +191,8 @@ def read(name: str, is_whole: bool = True) -> Companion:
 
 
 def led(known: Companion) -> Companion:
-    """Finds the first thread of each task's process: the last one before the task's start."""
+    """Sets each task's `leader`, the first thread of its process: of the lives with the
+    process's number, the latest one that began no later than the task, or else the first one."""
     leaders: dict[int, list[Life]] = {}
     for life in known.tasks:
         if life.task == life.process:
@@ -209,7 +208,7 @@ def led(known: Companion) -> Companion:
 
 
 def digest_of(parts: Iterable[Union[bytes, memoryview]]) -> tuple[int, str]:
-    """The number of bytes and the SHA-256 of these parts."""
+    """Returns the total number of bytes in `parts` and their SHA-256."""
     found, size = hashlib.sha256(), 0
     for part in parts:
         found.update(part)
@@ -218,14 +217,15 @@ def digest_of(parts: Iterable[Union[bytes, memoryview]]) -> tuple[int, str]:
 
 
 def pieces_of(trace: str) -> Iterator[bytes]:
-    """The bytes of a file."""
+    """Yields the bytes of a file in pieces of up to 1 MiB."""
     with open(trace, "rb") as file:
         while piece := file.read(PIECE):
             yield piece
 
 
 def must_belong(name: str, known: Companion, trace: str) -> None:
-    """Rejects the companion of another trace: its names and its clock would be wrong here."""
+    """Rejects the companion of another trace: its names and its times would be wrong for this
+    one."""
     size = os.path.getsize(trace)
     why = f"its trace has {known.size} bytes, and {trace} {size}" if size != known.size else ""
     if not why and digest_of(pieces_of(trace))[1] != known.digest:
@@ -236,7 +236,8 @@ def must_belong(name: str, known: Companion, trace: str) -> None:
 
 
 def find(trace: str, is_whole: bool = True) -> Optional[Companion]:
-    """The companion of a trace, if it has one beside it. The standard input has none."""
+    """Reads the companion of a trace. Returns None if there is no such file, or if the trace is
+    the standard input."""
     name = companion_of(trace)
     if trace == "-" or not os.path.isfile(name) or not os.path.isfile(trace):
         return None

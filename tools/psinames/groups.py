@@ -1,4 +1,5 @@
-"""How a group's path is shown, and how an operator names a group."""
+"""Prints the paths of groups with the names of containers, and finds the group that an operator
+names."""
 from __future__ import annotations
 
 import re
@@ -13,16 +14,16 @@ from .text import escapes
 
 CONTAINER = re.compile("[0-9a-f]{64}")
 POD = re.compile("[0-9a-f]{8}(?:[-_][0-9a-f]{4}){3}[-_][0-9a-f]{12}")
-# A component of a path with such a number, anywhere in a text.
+# A path component with the id of a container or pod, anywhere in a text.
 LETTERS = r"[A-Za-z0-9_.@:\\-]*"
 COMPONENT = re.compile(f"{LETTERS}(?:{CONTAINER.pattern}|{POD.pattern}){LETTERS}")
-# The digits of a number by which two containers of the same name are told apart, and the fewest
-# that a file of names may have.
+# The digits of its id that are printed to distinguish containers of the same name, and the fewest
+# digits of an id in a file of names.
 SHORT, LEAST = 6, 12
 
 
 class GroupNames:
-    """The names of containers and pods by their numbers, for paths that have these numbers."""
+    """The names of containers and pods by their ids, for paths that contain these ids."""
 
     def __init__(self, containers: dict[str, str]) -> None:
         self.containers = containers
@@ -32,9 +33,9 @@ class GroupNames:
         self.known: dict[str, str] = {}
 
     def shown(self, path: str) -> str:
-        """The path, in which a component with the number of a known container or pod is replaced by
-        its name in braces, which no path has: `/kubepods.slice/{default/web/nginx}`.
-        """
+        """Returns `path` with each component that contains the id of a known container or pod
+        replaced by the name in braces: `/kubepods.slice/{default/web/nginx}`. No path contains
+        braces."""
         if not self.containers:
             return path
         if path not in self.known:
@@ -42,13 +43,13 @@ class GroupNames:
         return self.known[path]
 
     def in_text(self, text: str) -> str:
-        """A text in which each path is as it is shown."""
+        """Replaces the ids of known containers in every path of a text."""
         if not self.containers:
             return text
         return COMPONENT.sub(lambda found: self.component(found[0]), text)
 
     def component(self, text: str) -> str:
-        """A component of a path as it is shown."""
+        """Returns a path component with the id of a known container replaced by its name."""
         for form in (CONTAINER, POD):
             found = form.search(text)
             name = self.name(found[0].replace("_", "-")) if found else None
@@ -57,7 +58,7 @@ class GroupNames:
         return text
 
     def name(self, number: str) -> str | None:
-        """The name of a container or pod, if it is known."""
+        """Returns the name of the container or pod with this id, or None if it isn't known."""
         known = self.starts.get(number[:LEAST], number)
         if not number.startswith(known) or known not in self.containers:
             return None
@@ -67,9 +68,8 @@ class GroupNames:
     # ------------------------------------------------------------ by name
 
     def matches(self, word: str, path: str) -> bool:
-        """Whether a word names this group: its path, as it is or as it is shown, the last component
-        of one of these, such as a unit, or a container's name.
-        """
+        """Whether `word` names the group at `path`: it is the path (as in the trace or as
+        printed), the last component of one of these, such as a unit, or the name of a container."""
         shown = self.shown(path)
         container = re.search(r"/\{([^{}]*)\}\Z", shown)
         names = {path, shown, path.rpartition("/")[2]}
@@ -78,7 +78,8 @@ class GroupNames:
         )
 
     def find(self, word: str, paths: Iterable[str], where: str) -> str:
-        """The group of these that the word names; a Fault lists what there is `where`."""
+        """Returns the one path of `paths` that `word` names. Raises a Fault that lists the
+        candidates if there is none or more than one; `where` says in its message where they are."""
         names = list(dict.fromkeys(paths))
         if word in names:
             return word

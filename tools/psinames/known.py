@@ -1,4 +1,5 @@
-"""What a tool knows of a trace besides its lines, and the part of it that it was asked for."""
+"""Options and files that add names and the time of day to a trace, and the options that select a
+part of it."""
 from __future__ import annotations
 
 from collections.abc import Mapping
@@ -17,7 +18,7 @@ from .companion import Companion, find
 from .groups import GroupNames
 from .text import escaped
 
-# The length of --at, in ns, if none is given.
+# The default length (ns) of the time around --at.
 AROUND = 60 * SECOND
 
 HELP = {
@@ -41,15 +42,15 @@ HELP = {
 
 
 class Span(NamedTuple):
-    """A part of a trace, in ns from its start."""
+    """A part of a trace, by its start and end (ns since the trace's start)."""
 
     start: int
     end: int
 
 
 class Known(NamedTuple):
-    """What is known of a trace: the time of day at its start, its companion, and names of groups.
-    """
+    """What is known of a trace: the time of day at its start, its companion, and the names of
+    containers."""
 
     wall: Optional[WallTime]
     companion: Optional[Companion]
@@ -57,13 +58,13 @@ class Known(NamedTuple):
 
 
 def add_clock(parser: Parser) -> None:
-    """The options that say when a trace began, and in which zone times of day are."""
+    """Adds the options for the start of a trace and for the time zone of times of day."""
     add_start(parser, ", if it has no companion file that says so")
     parser.add_argument("--tz", type=zone_name, metavar="ZONE", help=HELP["tz"])
 
 
 def add_times(parser: Parser) -> None:
-    """The options that select a part of a trace."""
+    """Adds the options that select a part of a trace."""
     parser.add_argument("--from", dest="start", type=time_given, metavar="T", help=HELP["from"])
     parser.add_argument("--to", dest="end", type=time_given, metavar="T", help=HELP["to"])
     parser.add_argument("--at", type=time_given, metavar="T", help=HELP["at"])
@@ -72,7 +73,7 @@ def add_times(parser: Parser) -> None:
 
 
 def add_names(parser: Parser) -> None:
-    """The options about names."""
+    """Adds the options about names of processes and containers."""
     parser.add_argument("--containers", metavar="FILE", help=HELP["containers"])
     parser.add_argument("--no-names", action="store_true", help=HELP["no-names"])
 
@@ -81,7 +82,7 @@ def add_names(parser: Parser) -> None:
 
 
 def containers_in(name: str) -> dict[str, str]:
-    """The names of containers in a file."""
+    """Reads a file of container names. Returns escaped names by container id."""
     try:
         with open(name, encoding="utf-8", errors="surrogateescape") as file:
             found = names_in(file.read())
@@ -91,9 +92,8 @@ def containers_in(name: str) -> dict[str, str]:
 
 
 def known_of(trace: str, values: Mapping[str, Any], is_whole: bool = False) -> Known:
-    """What is known of a trace, with the options of `add_clock` and `add_names` as far as the tool
-    has them. Without `is_whole`, tasks aren't read.
-    """
+    """Collects what is known of a trace from its companion and from those options of `add_clock`
+    and `add_names` that the tool has. Without `is_whole`, the companion's tasks aren't read."""
     companion = find(trace, is_whole)
     has_names = not values.get("no_names")
     containers = dict(companion.containers) if companion and has_names else {}
@@ -117,14 +117,14 @@ def must_fit(values: Mapping[str, Any]) -> None:
 
 
 def has_start(values: Mapping[str, Any]) -> bool:
-    """Whether the start of a part was asked for."""
+    """Whether the options say where the part starts."""
     return values["start"] is not None or values["at"] is not None
 
 
 def span_in(
     values: Mapping[str, Any], wall: Optional[WallTime], length: int, what: str = "trace"
 ) -> Span:
-    """The part of a trace of this length (ns) that the options of `add_times` select."""
+    """Returns the part of a trace of `length` ns that the options of `add_times` select."""
     must_fit(values)
     if values["at"] is not None:
         at, half = time_in(values["at"], wall, length, "--at"), (values["window"] or AROUND) // 2
@@ -140,14 +140,13 @@ def span_in(
 
 
 def end_in(given: Given, wall: Optional[WallTime], length: int) -> int:
-    """The end of a part in ns, at most that of the trace: a time of day may be up to half a day
-    later.
-    """
+    """Returns the end of a part (ns), at most the end of the trace. A time of day may be up to
+    half a day after the end."""
     return min(time_in(given, wall, length, "--to", DAY // 2), length)
 
 
 def must_be_in(option: str, at: int, length: int, what: str) -> None:
-    """Rejects a time (ns) after the end."""
+    """Rejects a time (ns) after the end of the trace."""
     if at > length:
         why = f"is after the end of the {what}, {seconds(length)} s"
         raise Fault(f"{option} {seconds(at)} {why}", Status.NO_TIME)

@@ -1,14 +1,14 @@
-"""The lives of a trace's tasks, and what they were called."""
+"""The lifetimes of a trace's tasks, and the names that they had."""
 from __future__ import annotations
 
 from typing import Optional
 
 
 class Life:
-    """A task from its `fork` line to its exit, in ns of the trace: its label in the trace, its
-    number, its process, and its names with the time from which it had each. `leader` is the life of
-    the process's first thread, whose name is the process's, or its own if that isn't known.
-    """
+    """A task from its `fork` line to its exit (ns since the trace's start): its label in the
+    trace, its number (tid), its process, and its names, each with the time since which it had
+    it. `leader` is the life of the process's first thread, whose name is the name of the
+    process. If that isn't known, it is the task itself."""
 
     __slots__ = ("label", "first", "last", "task", "process", "leader", "names")
 
@@ -22,19 +22,19 @@ class Life:
 
     @property
     def name(self) -> str:
-        """Its last name, escaped; empty if none is known."""
+        """The task's last name, escaped. Empty if none is known."""
         return self.names[-1][1] if self.names else ""
 
     def rename(self, now: int, name: str) -> None:
-        """It has this name from now on. The first that becomes known was its name from the start.
-        """
+        """Records that the task has this name from `now` (ns) on. The first name that becomes
+        known counts from the task's start."""
         if not self.names:
             self.names = ((self.first, name),)
         elif self.name != name:
             self.names = (*self.names, (now, name))
 
     def name_at(self, now: int) -> str:
-        """Its name at a time (ns); the first one before that."""
+        """Returns the task's name at `now` (ns), or its first name if `now` is earlier."""
         found = self.names[0][1] if self.names else ""
         for since, name in self.names:
             if since > now:
@@ -43,8 +43,8 @@ class Life:
         return found
 
     def renumber(self, number: int) -> None:
-        """Its number has changed: by exec a thread takes over that of its process's first thread.
-        """
+        """Records a change of the task's number: at exec a thread takes over the number of its
+        process's first thread."""
         self.task = number
         if number == self.process:
             self.leader = self

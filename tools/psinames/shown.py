@@ -1,4 +1,4 @@
-"""Shows containers by their names in all that a tool prints."""
+"""Replaces the ids of containers by their names in everything that a tool prints."""
 from __future__ import annotations
 
 import io
@@ -11,13 +11,13 @@ from .known import known_of
 
 
 class Output(io.TextIOBase):
-    """An output in which containers and pods have their names."""
+    """A stream that replaces the ids of containers and pods by their names."""
 
     def __init__(self, stream: TextIO, names: GroupNames) -> None:
         self.stream, self.names = stream, names
 
     def write(self, text: str) -> int:
-        """Writes a text, in which each path must be whole."""
+        """Writes `text`, in which no path may be split between two calls."""
         self.stream.write(self.names.in_text(text))
         return len(text)
 
@@ -27,9 +27,8 @@ class Output(io.TextIOBase):
 
 
 def show_containers(traces: Iterable[str], values: Mapping[str, Any]) -> None:
-    """From now on, standard output has the names that the companions of these traces and the
-    options of `add_names` say.
-    """
+    """Wraps standard output so that it shows the container names from the companions of `traces`
+    and from the options of `add_names`."""
     containers: dict[str, str] = {}
     for trace in traces:
         containers.update(known_of(trace, values).groups.containers)

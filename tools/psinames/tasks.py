@@ -1,4 +1,4 @@
-"""Which process a trace's task belongs to, and how processes are shown."""
+"""Assigns the tasks of a trace to their processes, and prints how long processes ran."""
 from __future__ import annotations
 
 from collections.abc import Iterable, Mapping
@@ -7,15 +7,16 @@ from typing import NamedTuple, Optional
 from .companion import Companion
 from .lives import Life
 
-# The number of processes that are shown by name.
+# The number of processes that are printed by name.
 SHOWN = 3
-# What a process is called whose name isn't known.
+# The name that is printed for a process whose name isn't known.
 UNNAMED = "?"
 MS = 10**6
 
 
 class Share(NamedTuple):
-    """The processes of one name, or one thread: their numbers, and how long they ran (ns)."""
+    """The processes with the same name, or one thread: their numbers, and how long they ran
+    (ns)."""
 
     name: str
     numbers: tuple[int, ...]
@@ -24,9 +25,8 @@ class Share(NamedTuple):
 
 
 class Tasks:
-    """The lives of a trace's tasks by label. With `has_threads` each thread counts by itself, else
-    for its process.
-    """
+    """The lives of a trace's tasks by label. With `has_threads` each thread is counted by
+    itself, otherwise its run time counts for its process."""
 
     def __init__(self, known: Optional[Companion], has_threads: bool = False) -> None:
         self.has_threads = has_threads
@@ -36,16 +36,16 @@ class Tasks:
                 self.lives.setdefault(life.label, []).append(life)
 
     def runner(self, label: int, now: int) -> Optional[Life]:
-        """For whom a task counts that the trace creates at this time (ns): its process's first
-        thread. None if the task isn't known.
-        """
+        """Returns the life for which a task created at `now` (ns) counts: the first thread of
+        its process, or with `has_threads` the task itself. None if the task isn't known."""
         for life in self.lives.get(label, ()):
             if life.first == now:
                 return life if self.has_threads else life.leader
         return None
 
     def shares(self, times: Mapping[Optional[Life], int], now: int) -> list[Share]:
-        """The times (ns) by name, as it was at `now` (ns), the longest first."""
+        """Adds up the times (ns) by the name that each life had at `now` (ns). The longest comes
+        first."""
         found: dict[tuple[str, int], tuple[set[int], int]] = {}
         for life, time in times.items():
             name = (life.name_at(now) if life else "") or UNNAMED
@@ -60,13 +60,13 @@ class Tasks:
 
 
 def seconds_text(ns: int) -> str:
-    """Seconds with three decimals."""
+    """Formats a time (ns) as seconds with three decimals."""
     ms = (ns + MS // 2) // MS
     return f"{ms // 1000}.{ms % 1000:03} s"
 
 
 def share_text(share: Share) -> str:
-    """`import` (pid 4711), or `grep` (812 processes)."""
+    """Formats a share such as `import` (pid 4711), or `grep` (812 processes)."""
     many = f"{len(share.numbers)} processes"
     if len(share.numbers) == 1:
         many = f"{'thread' if share.is_thread else 'pid'} {share.numbers[0]}"
@@ -74,9 +74,8 @@ def share_text(share: Share) -> str:
 
 
 def shares_text(shares: Iterable[Share], others: int = 0) -> str:
-    """Who ran for how long: the first by name, and all others together; `others` is the time (ns)
-    of processes that nobody counted.
-    """
+    """Lists the first shares by name with their times, and all others together. `others` is the
+    run time (ns) of processes that aren't in `shares`."""
     shares = list(shares)
     named = [f"{share_text(it)} {seconds_text(it.time)}" for it in shares[:SHOWN]]
     rest = shares[SHOWN:]
@@ -91,9 +90,9 @@ def shares_text(shares: Iterable[Share], others: int = 0) -> str:
 
 
 def busiest(known: Companion, path: str, start: int, end: int) -> tuple[list[Share], int]:
-    """The processes that ran most in a group and below it in the windows that begin in this time
-    (ns), and how long others ran. A process that was never among the busiest is one of the others.
-    """
+    """Returns the shares of the processes that ran most in a group and its descendants, in the
+    windows that begin between `start` and `end` (ns), and the time (ns) for which others ran. A
+    process that was never among a window's busiest counts as one of the others."""
     prefix = path.rstrip("/") + "/"
     names: dict[int, Life] = {}
     for life in known.tasks:

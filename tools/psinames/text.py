@@ -1,4 +1,5 @@
-"""Names as text. Whoever can name a task or a container could otherwise write to a terminal."""
+"""Escapes names, so that whoever can name a task or a container can't send control characters to
+a terminal."""
 from __future__ import annotations
 
 import re
@@ -7,18 +8,17 @@ ESCAPE = re.compile(r"\\x([0-9a-f]{2})")
 
 
 def escaped(name: bytes) -> str:
-    """The name with each byte as `\\xHH` that isn't part of a printable character, and each
-    backslash. No escaped name needs to be escaped again to be shown.
-    """
+    """Escapes a name: each backslash, and each byte that isn't part of a printable character,
+    becomes `\\xHH`. An escaped name can be printed as it is."""
     text = name.decode("utf-8", "surrogateescape")
     return "".join(it if it.isprintable() and it != "\\" else escapes(it) for it in text)
 
 
 def escapes(letter: str) -> str:
-    """The bytes of a character as escapes."""
+    """Returns the bytes of a character as escapes."""
     return "".join(f"\\x{byte:02x}" for byte in letter.encode("utf-8", "surrogateescape"))
 
 
 def is_escaped(text: str) -> bool:
-    """Whether this could be an escaped name."""
+    """Whether `text` is an escaped name: printable, and with a backslash only in an escape."""
     return text.isprintable() and "\\" not in ESCAPE.sub("", text)

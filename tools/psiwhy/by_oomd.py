@@ -1,4 +1,4 @@
-"""Why rulesets of oomd 0.5.0 fired or didn't."""
+"""Explains why rulesets of oomd 0.5.0 fired or didn't."""
 from __future__ import annotations
 
 from typing import Optional
@@ -21,7 +21,8 @@ NO_VALUE = "oomd never looked"
 def extreme(
     most: Nearest, shown: str, limit: Optional[float], limit_shown: str, unit: str
 ) -> Optional[Extreme]:
-    """The value of a detector that came nearest to its limit."""
+    """Returns a detector's value that came nearest to its limit, or None if it was never
+    evaluated."""
     if most.value is None:
         return None
     word = "highest" if most.sign > 0 else "lowest"
@@ -34,7 +35,7 @@ def lasting(duration: Duration) -> str:
 
 
 def measure(it: Plugin) -> Measure:
-    """A detector."""
+    """Describes a detector and the value that came nearest to its threshold."""
     cgroup = it.args["cgroup"].text if "cgroup" in it.args else ""
     if isinstance(it, Above):
         average = "60 s, and over 10 s," if isinstance(it, Rising) else "10 s"
@@ -69,7 +70,8 @@ def held(it: Plugin, wanted: str, found: Optional[Extreme], duration: Duration) 
 
 
 def miss_at(it: Measure) -> Optional[Miss]:
-    """How near a detector came, if that can be measured."""
+    """Returns how near a detector came to being true, or None if it has no threshold to compare
+    with."""
     if it.extreme is None or not it.extreme.limit:
         return None
     value, limit = it.extreme.value, it.extreme.limit
@@ -81,9 +83,8 @@ def miss_at(it: Measure) -> Optional[Miss]:
 
 
 def miss_of(ruleset: Ruleset, groups: list[tuple[str, list[Measure]]]) -> Optional[Miss]:
-    """How near a ruleset came that never fired: as near as the nearest group, which is as near as
-    its farthest detector.
-    """
+    """Returns how near a ruleset that never fired came: a group of detectors is as near as its
+    farthest detector, and a ruleset is as near as its nearest group. None if it fired."""
     if ruleset.fired:
         return None
     near = [[miss for miss in map(miss_at, measures) if miss] for _, measures in groups]
@@ -99,7 +100,7 @@ def miss_of(ruleset: Ruleset, groups: list[tuple[str, list[Measure]]]) -> Option
 
 
 def choice(act: Act) -> Choice:
-    """An action with its candidates."""
+    """Describes an action with its candidates, the victim first."""
     found = []
     for it in act.candidates:
         is_chosen = act.victim is not None and it.path == act.victim.path
@@ -130,7 +131,7 @@ def firing(it: Fired) -> Firing:
 
 
 def part(ruleset: Ruleset) -> Part:
-    """A ruleset."""
+    """Describes a ruleset with its detectors and firings."""
     groups = [
         (f"group {number} {quoted(name)}", [measure(it) for it in detectors])
         for number, (name, detectors) in enumerate(ruleset.groups)
@@ -142,11 +143,11 @@ def part(ruleset: Ruleset) -> Part:
 
 
 def parts(engine: Engine) -> list[Part]:
-    """All rulesets."""
+    """Describes all rulesets of `engine`."""
     return [part(it) for it in engine.rulesets]
 
 
 def notes(engine: Engine) -> list[str]:
-    """What weakens the answer."""
+    """Returns the caveats of the answer, among them a crash of oomd."""
     crash = [f"oomd crashes at {seconds(engine.last)} s: {engine.crash}"] if engine.crash else []
     return [*engine.notes.texts, *crash]

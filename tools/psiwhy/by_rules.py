@@ -1,4 +1,4 @@
-"""Why rulesets of psi_oomd fired or didn't."""
+"""Explains why rulesets of psi_oomd fired or didn't."""
 from __future__ import annotations
 
 from typing import Any, NamedTuple, Optional
@@ -16,10 +16,10 @@ from .truths import Place, has_duration, longest, spans
 
 
 class Near(NamedTuple):
-    """How near something came to being true: the part of the way to its threshold, and of its
-    duration for which that held, each from 0 to 1; and the detector that kept it from being true,
-    with the longest time (ns) for which its condition held. The nearest is the greatest.
-    """
+    """How near a detector, a group or a ruleset came to being true. `part` is how much of its
+    threshold was reached, and `held` for how much of the duration the condition held, both from
+    0 to 1. `watch` is the detector that was farthest from being true, and `hold` the longest
+    time (ns) for which its condition held. A greater key is nearer."""
 
     part: float
     held: float
@@ -35,7 +35,8 @@ NEVER, TRUE = Near(0.0, 0.0), Near(1.0, 1.0)
 
 
 def hold_of(judged: Judged, place: Place, detector: dict[str, Any]) -> int:
-    """The longest time (ns) for which a detector's condition held, without its duration."""
+    """Returns the longest time (ns) for which a detector's condition held, regardless of its
+    duration."""
     if detector["name"] == "pressure_rising_beyond":
         return judged.watches[place[:3]].hold
     held = place._replace(held=True) if has_duration(detector) else place
@@ -43,7 +44,8 @@ def hold_of(judged: Judged, place: Place, detector: dict[str, Any]) -> int:
 
 
 def detector_near(judged: Judged, place: Place, detector: dict[str, Any]) -> Near:
-    """How near a detector came. Whether a group exists has no distance."""
+    """Returns how near a detector came to being true. (`exists` is excluded: it has no
+    distance.)"""
     watch = judged.watches[place[:3]]
     if judged.truths[place]:
         return TRUE._replace(watch=watch)
@@ -54,7 +56,8 @@ def detector_near(judged: Judged, place: Place, detector: dict[str, Any]) -> Nea
 
 
 def group_near(judged: Judged, ruleset: int, group: int) -> Near:
-    """How near a group of detectors came: as near as the farthest of them, but for `exists`."""
+    """Returns how near a group of detectors came: as near as the farthest of them, without
+    `exists`."""
     detectors = judged.json[ruleset]["detectors"][group][1:]
     found = [
         detector_near(judged, Place(ruleset, group, which), it)
@@ -65,14 +68,14 @@ def group_near(judged: Judged, ruleset: int, group: int) -> Near:
 
 
 def ruleset_near(judged: Judged, ruleset: int) -> Near:
-    """How near a ruleset came: as near as the nearest of its groups."""
+    """Returns how near a ruleset came: as near as its nearest group of detectors."""
     groups = range(len(judged.json[ruleset]["detectors"]))
     near = (group_near(judged, ruleset, group) for group in groups)
     return max(near, key=lambda it: it.key, default=NEVER)
 
 
 def miss_of(judged: Judged, ruleset: int) -> Optional[Miss]:
-    """How near a ruleset came that never fired."""
+    """Returns how near a ruleset came that never fired, or None if it fired."""
     if judged.truths[Place(ruleset)]:
         return None
     near = ruleset_near(judged, ruleset)
@@ -84,7 +87,7 @@ def miss_of(judged: Judged, ruleset: int) -> Optional[Miss]:
 
 
 def extreme(watch: Watch, host: Optional[int]) -> Optional[Extreme]:
-    """The value of a detector that came nearest to its threshold."""
+    """Returns a detector's value that came nearest to its threshold, or None if it has none."""
     name, args = watch.plugin
     if watch.nearest is None or name == "exists":
         return None
@@ -122,7 +125,7 @@ def extreme(watch: Watch, host: Optional[int]) -> Optional[Extreme]:
 
 
 def measure(judged: Judged, place: Place, detector: dict[str, Any]) -> Measure:
-    """A detector."""
+    """Describes a detector with its nearest value and the times at which it was true."""
     watch = judged.watches[place[:3]]
     true = spans(judged.truths[place], judged.evaluations)
     is_measured = detector["name"] != "exists"
@@ -136,7 +139,7 @@ def measure(judged: Judged, place: Place, detector: dict[str, Any]) -> Measure:
 
 
 def part(judged: Judged, number: int, fired: list[Firing]) -> Part:
-    """A ruleset."""
+    """Describes a ruleset with its detectors and firings."""
     groups = [
         (
             f"group {place} {quoted(name)}",
@@ -152,7 +155,7 @@ def part(judged: Judged, number: int, fired: list[Firing]) -> Part:
 
 
 def parts(judged: Judged, kills: list[Kill]) -> list[Part]:
-    """All rulesets, with these kills of the replay."""
+    """Describes all rulesets, given the kills of the replay."""
     found: list[list[Firing]] = [[] for _ in judged.json]
     for it in firings(judged, kills):
         names = [judged.json[it.ruleset]["detectors"][group][0] for group in it.groups]
@@ -162,7 +165,8 @@ def parts(judged: Judged, kills: list[Kill]) -> list[Part]:
 
 
 def verdict(judged: Judged, found: list[Part]) -> str:
-    """What came of rules that killed nobody: a firing without a victim, or the nearest miss."""
+    """Says in a phrase why rules killed nobody: a ruleset fired without a victim, or the nearest
+    miss."""
     names = [f"ruleset {number} ‘{printable(it['name'])}’" for number, it in enumerate(judged.json)]
     for name, it in zip(names, found):
         if it.firings:

@@ -1,4 +1,5 @@
-"""Why systemd-oomd killed or didn't: for memory pressure in each watched group, and for swap."""
+"""Explains why systemd-oomd killed or didn't, for memory pressure in each watched group and for
+swap."""
 from __future__ import annotations
 
 from typing import Optional
@@ -16,7 +17,7 @@ KILL = "kill"
 
 
 def candidate(it: Candidate, decision: Decision) -> choice.Candidate:
-    """A candidate, and why it was or wasn't chosen."""
+    """Describes a candidate of a decision, and why it was or wasn't chosen."""
     is_chosen = it.path == decision.victim
     wish = "" if it.preference == "none" else it.preference
     reason = (
@@ -35,7 +36,7 @@ def candidate(it: Candidate, decision: Decision) -> choice.Candidate:
 
 
 def firing(decision: Decision) -> Firing:
-    """A decision: whom it killed, or why nobody."""
+    """Describes a decision: the group that was killed, or why none was."""
     found = sorted(
         (candidate(it, decision) for it in decision.candidates), key=lambda it: not it.is_chosen
     )
@@ -45,7 +46,7 @@ def firing(decision: Decision) -> Firing:
 
 
 def course_measure(it: Course) -> Measure:
-    """How near a watched group came to its limit."""
+    """Describes how near the memory pressure of a watched group came to its limit."""
     limit, name = percent(it.limit), f"full memory pressure over 10 s of {it.path}"
     found = Extreme(
         "highest",
@@ -62,7 +63,7 @@ def course_measure(it: Course) -> Measure:
 
 
 def course_miss(it: Course) -> Miss:
-    """How near a watched group came that never had a decision."""
+    """Returns how near a watched group came for which systemd-oomd never decided to kill."""
     part = min(1.0, it.most / it.limit) if it.limit else 1.0
     held = min(1.0, (it.longest or 0) / it.duration) if it.duration else 0.0
     far = (
@@ -74,7 +75,8 @@ def course_miss(it: Course) -> Miss:
 
 
 def pressure_part(engine: Engine, path: str) -> Part:
-    """A watched group."""
+    """Describes the memory pressure of the watched group at `path`, with its decisions and
+    pauses."""
     course = engine.pressure.courses[path]
     decided = [
         firing(it) for it in engine.decisions if it.by == MEMORY_PRESSURE and it.watched == path
@@ -90,7 +92,7 @@ def pressure_part(engine: Engine, path: str) -> Part:
 
 
 def swap_part(engine: Engine, settings: Settings) -> Optional[Part]:
-    """Swap, if some unit is watched for it."""
+    """Describes the use of swap, or returns None if no unit is watched for it."""
     rule, limit = engine.swap, settings.limits.swap_used
     if not rule.was_watched:
         return None
@@ -124,7 +126,7 @@ def swap_part(engine: Engine, settings: Settings) -> Optional[Part]:
 
 
 def parts(engine: Engine, settings: Settings) -> list[Part]:
-    """Each watched group, and swap."""
+    """Describes each watched group, and then swap."""
     found = [pressure_part(engine, path) for path in sorted(engine.pressure.courses)]
     swap = swap_part(engine, settings)
     return [*found, swap] if swap else found

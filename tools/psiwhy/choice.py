@@ -1,4 +1,5 @@
-"""Why an action chooses a group, or doesn't: the numbers of its candidates, each with a reason."""
+"""Explains why an action chooses a group or doesn't: the values of its candidates, each with a
+reason."""
 from __future__ import annotations
 
 from fractions import Fraction
@@ -16,9 +17,8 @@ Numbers = dict[str, object]
 
 
 class Candidate(NamedTuple):
-    """A group that an action matches, its numbers for people and by name, whether it was chosen,
-    and why or why not.
-    """
+    """A group that an action matches: `text` has its values for people, `numbers` by name, and
+    `reason` says why it was or wasn't chosen."""
 
     path: str
     text: str
@@ -28,9 +28,8 @@ class Candidate(NamedTuple):
 
 
 class Choice(NamedTuple):
-    """What an action did: whom it killed, or why nobody, and its candidates. With `recursive` these
-    are those of each level.
-    """
+    """The outcome of an action: its victim, or the reason why there is none, and its candidates.
+    With `recursive` these are the candidates of all levels."""
 
     action: int
     plugin: str
@@ -40,9 +39,8 @@ class Choice(NamedTuple):
 
 
 class Measured(NamedTuple):
-    """The number of a candidate by which it is compared, for people too, and why it isn't enough;
-    empty if it is.
-    """
+    """The value by which a candidate is ranked, as a number and for people. `lack` says why the
+    value is too small, and is empty if it suffices."""
 
     value: int
     text: str
@@ -95,7 +93,7 @@ def has_task(now: Evaluation, path: str) -> bool:
 def compared(
     plugin: Plugin, now: Evaluation, paths: list[str], victim: Optional[str]
 ) -> list[Candidate]:
-    """The candidates of an action that compares one number."""
+    """Returns the candidates of an action that ranks by one value, in order of rank."""
     measured = {path: MEASURES[plugin.name](plugin.args, now, path) for path in paths}
     order = sorted(paths, key=lambda it: (preference(now, it), -measured[it].value, it))
     found = []
@@ -113,7 +111,7 @@ def compared(
 
 
 def behind(now: Evaluation, path: str, victim: str, value: int, most: int) -> str:
-    """Why the victim comes before a candidate that is enough."""
+    """Says why the victim is ranked before another candidate whose value suffices."""
     if preference(now, path) > preference(now, victim):
         return f"{victim} is preferred"
     if value < most:
@@ -129,9 +127,8 @@ def wish_of(now: Evaluation, path: str) -> str:
 
 
 class Sizes:
-    """The candidates of `kill_by_memory_size_or_growth`: those with a live task, and of these the
-    ones of the best preference, by size.
-    """
+    """The candidates of `kill_by_memory_size_or_growth`: `live` are those with a live task,
+    `first` those of them with the best preference, by descending size."""
 
     def __init__(self, plugin: Plugin, now: Evaluation, paths: list[str]) -> None:
         args = plugin.args
@@ -176,7 +173,8 @@ class Sizes:
         }
 
     def best(self) -> Optional[str]:
-        """The group that is chosen."""
+        """Returns the group that the action chooses: the largest if it is large, otherwise the
+        one that grew most, otherwise the largest. None without candidates."""
         if not self.first or self.is_large(self.first[0]):
             return next(iter(self.first), None)
         growing = [it for it in self.first[: self.few] if self.is_growing(it)]
@@ -186,7 +184,7 @@ class Sizes:
         return [*order, self.first[0]][0]
 
     def why(self, victim: str) -> str:
-        """Why the victim was chosen."""
+        """Says why the victim was chosen."""
         if self.is_large(victim):
             return f"the largest, with at least {self.share} % of all"
         few = f"the {self.few} largest" if self.few > 1 else "the largest alone"
@@ -196,7 +194,7 @@ class Sizes:
         return f"the largest: none has {self.share} % of all, and {grown}"
 
     def why_not(self, path: str, victim: str) -> str:
-        """Why a candidate with a live task wasn't."""
+        """Says why a candidate with a live task wasn't chosen."""
         if path not in self.first:
             return f"{victim} is preferred"
         if self.is_large(victim) or not self.is_growing(victim):
@@ -212,7 +210,7 @@ class Sizes:
 def by_size(
     plugin: Plugin, now: Evaluation, paths: list[str], victim: Optional[str]
 ) -> list[Candidate]:
-    """The candidates of `kill_by_memory_size_or_growth`."""
+    """Returns the candidates of `kill_by_memory_size_or_growth`, in order of rank."""
     sizes = Sizes(plugin, now, paths)
     rest = [path for path in sizes.live if path not in sizes.first]
     dead = [path for path in paths if path not in sizes.live]
@@ -232,13 +230,13 @@ def by_size(
 def candidates(
     plugin: Plugin, now: Evaluation, paths: list[str], victim: Optional[str]
 ) -> list[Candidate]:
-    """The candidates among siblings, the chosen one first."""
+    """Returns the candidates among sibling groups, the chosen one first."""
     make = compared if plugin.name in MEASURES else by_size
     return sorted(make(plugin, now, paths, victim), key=lambda it: not it.is_chosen)
 
 
 def best(plugin: Plugin, now: Evaluation, paths: list[str]) -> Optional[str]:
-    """The candidate that comes first by the printed numbers."""
+    """Returns the first candidate in the order of the printed values, or None if none suffices."""
     if plugin.name not in MEASURES:
         return Sizes(plugin, now, paths).best()
     enough = (it for it in compared(plugin, now, paths, None) if not it.reason)
@@ -246,7 +244,8 @@ def best(plugin: Plugin, now: Evaluation, paths: list[str]) -> Optional[str]:
 
 
 def step_to(plugin: Plugin, now: Evaluation, paths: list[str], victim: str) -> Optional[str]:
-    """The candidate through which an action came to its victim: the victim, or a group above it."""
+    """Returns the group among `paths` that an action chose on its way to its victim: the victim
+    itself, or with `recursive` an ancestor of it."""
     if plugin.args.get("recursive", "false") not in TRUTHS:
         return victim
     above = [it for it in paths if f"{victim}/".startswith(f"{it.rstrip('/')}/")]
@@ -255,7 +254,7 @@ def step_to(plugin: Plugin, now: Evaluation, paths: list[str], victim: str) -> O
 
 
 def choice(number: int, plugin: Plugin, now: Evaluation, victim: Optional[str]) -> Choice:
-    """What an action did at an evaluation, given its victim."""
+    """Describes what an action did at an evaluation, given its victim or None."""
     paths = sorted(path for path in now.world.live if plugin.covers(path))
     if victim is None:
         return Choice(number, plugin.name, None, *nobody(plugin, now, paths))
@@ -270,7 +269,7 @@ def choice(number: int, plugin: Plugin, now: Evaluation, victim: Optional[str]) 
 
 
 def nobody(plugin: Plugin, now: Evaluation, matches: list[str]) -> tuple[str, list[Candidate]]:
-    """Why an action found no victim, and the groups that it matched."""
+    """Says why an action found no victim, and returns the groups that it matched as candidates."""
     found = candidates(plugin, now, matches, None)
     if not matches:
         return f"no live group matches '{plugin.args['cgroup']}'", found

@@ -1,6 +1,5 @@
-"""The machine at each evaluation of the rules: its groups, their last samples, their pressure, and
-what the rules remember of earlier evaluations.
-"""
+"""Rebuilds the machine at each evaluation of the rules: its groups, their last samples, their
+pressure, and what the rules remember of earlier evaluations."""
 from __future__ import annotations
 
 import itertools
@@ -14,15 +13,15 @@ from psireplay.lines import Report, read
 from .judged import Asked
 
 NO_SAMPLE = Sample(0, 0, 0)
-# The rules remember the sizes at this many evaluations.
+# The number of earlier evaluations whose sizes the rules remember.
 REMEMBERED = 4
 
 
 class Evaluation:
-    """An evaluation at a time (ns). `full` has full averages in hundredths of a percent, by path,
-    resource and average; `sizes` the sizes (bytes) at the evaluations before, the newest first, and
-    `scans` the scan counts at the evaluation before.
-    """
+    """The machine at an evaluation, at the time `moment` (ns). `full` has full averages in
+    hundredths of a percent, by path, resource and average. `sizes` has the sizes (bytes) at
+    earlier evaluations, the newest first, and `scans` the scan counts (pages) at the previous
+    evaluation."""
 
     def __init__(self, world: World[Task]) -> None:
         self.moment = 0
@@ -32,7 +31,7 @@ class Evaluation:
         self.scans: dict[Group, int] = {}
 
     def take(self, moment: int, reports: list[Report]) -> None:
-        """Becomes the evaluation at this time, with these reports."""
+        """Advances to the evaluation at `moment` (ns) with its reports."""
         self.moment = moment
         self.full = {}
         for it in reports:
@@ -40,7 +39,7 @@ class Evaluation:
             self.full[it.path, it.resource, "avg60"] = it.full.avg60
 
     def remember(self) -> None:
-        """Stores what the next evaluation compares with."""
+        """Stores the sizes and scan counts with which the next evaluation compares."""
         groups = self.world.live.values()
         self.scans = {group: self.sample(group).scanned for group in groups}
         self.sizes = {
@@ -49,33 +48,34 @@ class Evaluation:
         }
 
     def sample(self, group: Group) -> Sample:
-        """The last sample; zeros if the group has none."""
+        """Returns the group's last sample, or a sample of zeros if it has none."""
         return group.sample or NO_SAMPLE
 
     def at(self, path: str) -> Sample:
         return self.sample(self.world.live[path])
 
     def pressure(self, path: str, resource: str) -> int:
-        """The sum of full pressure over 10 s and 60 s, in hundredths of a percent."""
+        """Returns the sum of full pressure over 10 s and 60 s, in hundredths of a percent."""
         return sum(self.full.get((path, resource, it), 0) for it in ("avg10", "avg60"))
 
     def rise(self, path: str) -> int:
-        """The pages scanned since the evaluation before; 0 if the group wasn't live then."""
+        """Returns the pages scanned since the previous evaluation, 0 if the group wasn't live
+        then."""
         group = self.world.live[path]
         scanned = self.sample(group).scanned
         return max(0, scanned - self.scans.get(group, scanned))
 
     def growth(self, path: str) -> tuple[int, int]:
-        """The growth as a fraction: the size over the mean of earlier sizes. The denominator is 0
-        if there are none.
-        """
+        """Returns the growth as a fraction: the size divided by the mean of earlier sizes. The
+        denominator is 0 if there is no earlier size, or if all were 0."""
         group = self.world.live[path]
         past = self.sizes.get(group, [])
         return self.sample(group).memory * len(past), sum(past)
 
 
 def evaluations(printed: Iterable[bytes], asked: Asked) -> Iterator[Evaluation]:
-    """The evaluations of a replay with a report at each. Each is valid until the next is taken."""
+    """Yields the evaluations of a replay that prints a report at each. It is one object, which
+    changes when the next evaluation is taken."""
     world = World(Task)
     found = Evaluation(world)
     reports = (it for it in read(printed) if isinstance(it, Report))

@@ -1,4 +1,4 @@
-"""Why each ruleset fired or didn't, whoever evaluates it: the facts, as lines and as JSON."""
+"""Formats why each ruleset fired or didn't, as lines and as JSON, for all kinds of rules."""
 from __future__ import annotations
 
 from typing import NamedTuple, Optional
@@ -7,15 +7,15 @@ from typing import NamedTuple, Optional
 from psicli.times import seconds
 from .choice import Candidate, Choice
 
-# At most this many candidates of an action, and lines of firings of a ruleset, are printed.
+# The most candidates that are printed of an action, and the most lines of firings of a ruleset.
 MOST_CANDIDATES, MOST_FIRINGS = 8, 40
 Span = tuple[int, int]
 
 
 class Extreme(NamedTuple):
-    """The value that came nearest to a limit, when it was reached first (ns) and by which group,
-    and the limit; both in `unit`, and for people.
-    """
+    """The value that came nearest to a limit, the time (ns) at which it was first reached and
+    the group that reached it, and the limit. Value and limit are in `unit`; `shown` and
+    `limit_shown` are for people."""
 
     word: str
     value: float
@@ -33,9 +33,9 @@ class Extreme(NamedTuple):
 
 
 class Measure(NamedTuple):
-    """A detector: what it waits for, its nearest value or why there is none, the longest time (ns)
-    for which its condition held, the time (ns) for which it must, and when it was true (ns).
-    """
+    """A detector: what it waits for (`wanted`), its nearest value or why there is none
+    (`absent`), the longest time (ns) for which its condition held, the time (ns) for which it
+    must hold, and the spans (ns) in which it was true."""
 
     plugin: str
     wanted: str
@@ -69,9 +69,8 @@ class Measure(NamedTuple):
 
 
 class Firing(NamedTuple):
-    """A firing at a time (ns), what was true then, and what its actions did. If it rested until a
-    later time (ns), or something else kept it from acting, none ran.
-    """
+    """A firing at the time `moment` (ns): what was true then, and what the actions did. No
+    action ran if the ruleset rested until a later time (ns) or was paused."""
 
     moment: int
     by: list[str]
@@ -94,9 +93,8 @@ class Firing(NamedTuple):
 
 
 class Miss(NamedTuple):
-    """How near a ruleset that never fired came, from 0 to 1: the part of the way to the threshold,
-    and of the duration; and the value that was missing, for people.
-    """
+    """How near a ruleset that never fired came: which part of the threshold and of the duration
+    it reached, from 0 to 1, and for people the value that was missing."""
 
     part: float
     held: float
@@ -104,14 +102,13 @@ class Miss(NamedTuple):
 
     @property
     def key(self) -> tuple[float, float]:
-        """Nearer is greater."""
+        """A key by which misses are compared: the nearest is the greatest."""
         return self.part, self.held
 
 
 class Part(NamedTuple):
-    """A ruleset, or what is like one: its name, its detectors by their group's name, its firings,
-    and if it never fired, how near it came.
-    """
+    """A ruleset, or a rule of systemd-oomd: its name, its groups of detectors by name, its
+    firings, and how near it came if it never fired."""
 
     name: str
     groups: list[tuple[str, list[Measure]]]
@@ -119,7 +116,7 @@ class Part(NamedTuple):
     miss: Optional[Miss]
 
     def victims(self) -> list[tuple[int, str]]:
-        """The kills, by time (ns) and path."""
+        """Returns the kills as pairs of a time (ns) and a path."""
         return [(it.moment, one.victim) for it in self.firings for one in it.choices if one.victim]
 
     def record(self) -> dict[str, object]:
@@ -143,7 +140,7 @@ def candidate_record(it: Candidate) -> dict[str, object]:
 
 
 def spans_text(spans: list[Span], most: int = 3) -> str:
-    """`from 146 s to 214 s`, of the first spans."""
+    """Formats the first `most` spans (ns), such as `from 146 s to 214 s`."""
     found = [
         f"at {seconds(start)} s" if start == end else f"from {seconds(start)} s to {seconds(end)} s"
         for start, end in spans[:most]
@@ -153,7 +150,7 @@ def spans_text(spans: list[Span], most: int = 3) -> str:
 
 
 def head_of(part: Part) -> str:
-    """What a ruleset did, in a line."""
+    """Says in a line what a ruleset did."""
     if not part.firings:
         return f"{part.name}: never fired"
     killed = [f"{path} at {seconds(moment)} s" for moment, path in part.victims()]
@@ -164,7 +161,7 @@ def head_of(part: Part) -> str:
 
 
 def choice_lines(it: Choice, is_all: bool) -> list[str]:
-    """An action and its candidates."""
+    """Returns the lines for an action and its candidates."""
     lines = [f"action {it.action} {it.plugin}: {f'killed {it.victim}' if it.victim else it.nobody}"]
     shown = it.candidates if is_all else it.candidates[:MOST_CANDIDATES]
     for one in shown:
@@ -176,7 +173,8 @@ def choice_lines(it: Choice, is_all: bool) -> list[str]:
 
 
 def firing_lines(found: list[Firing], is_all: bool) -> list[str]:
-    """Firings with their actions; those in a row during the same rest are one line."""
+    """Returns the lines for firings with their actions. Consecutive firings during the same rest
+    are one line."""
     lines: list[str] = []
     place = 0
     while place < len(found):
@@ -205,7 +203,7 @@ def firing_lines(found: list[Firing], is_all: bool) -> list[str]:
 
 
 def part_lines(part: Part, is_all: bool) -> list[str]:
-    """A ruleset: what it did, its detectors, its firings."""
+    """Returns the lines for a ruleset: what it did, its detectors and its firings."""
     lines = [head_of(part)]
     for name, measures in part.groups:
         lines += [f"  {name}"] if name else []
@@ -222,14 +220,14 @@ def part_lines(part: Part, is_all: bool) -> list[str]:
 
 
 def nearest(parts: list[Part]) -> Optional[Part]:
-    """The ruleset that never fired and came nearest."""
+    """Returns the ruleset that came nearest among those that never fired, or None."""
     missed = [it for it in parts if it.miss and it.miss.part]
     order = sorted(missed, key=lambda it: it.miss.key if it.miss else (0.0, 0.0))
     return order[-1] if order else None
 
 
 def lines_of(parts: list[Part], is_all: bool) -> list[str]:
-    """The whole explanation."""
+    """Returns the lines of the whole explanation."""
     lines = [line for part in parts for line in part_lines(part, is_all)]
     best = nearest(parts)
     if best and best.miss:

@@ -1,4 +1,4 @@
-"""When rulesets fired, and what their actions did then."""
+"""Finds when rulesets fired, and what their actions did then."""
 from __future__ import annotations
 
 import collections
@@ -16,9 +16,8 @@ from .truths import Place
 
 
 class Firing(NamedTuple):
-    """A ruleset fired at a time (ns), by these groups of detectors. If it rested until a later time
-    (ns), no action ran.
-    """
+    """A firing of a ruleset at a time (ns), and the groups of detectors that were true. If it
+    rested until a later time (ns), no action ran."""
 
     moment: int
     ruleset: int
@@ -28,7 +27,7 @@ class Firing(NamedTuple):
 
 
 class Chains:
-    """The actions of each ruleset, its kills by time, and until when (ns) it rests."""
+    """The actions of each ruleset, its kills by time, and the time (ns) until which it rests."""
 
     def __init__(self, judged: Judged, kills: list[Kill]) -> None:
         self.actions = [
@@ -40,7 +39,8 @@ class Chains:
         self.rests: dict[int, int] = {}
 
     def run(self, ruleset: int, now: Evaluation) -> Iterator[Choice]:
-        """What the actions of a ruleset that fires did, up to the one that ended the chain."""
+        """Yields what the actions of a firing ruleset did, up to the action that ended the
+        chain."""
         kills = self.kills[ruleset, now.moment]
         for number, plugin in enumerate(self.actions[ruleset]):
             victim = kills.get(number)
@@ -51,13 +51,14 @@ class Chains:
                 return
 
     def resting(self, ruleset: int, moment: int) -> Optional[int]:
-        """Until when it rests, if it does at this time."""
+        """Returns the time (ns) until which a ruleset rests, or None if it doesn't rest at
+        `moment` (ns)."""
         until = self.rests.get(ruleset, 0)
         return until if moment < until else None
 
 
 def firings(judged: Judged, kills: list[Kill]) -> list[Firing]:
-    """All firings, in order of time and of rulesets."""
+    """Returns all firings, in order of time and then of rulesets."""
     fired = {number: set(judged.truths[Place(number)]) for number in range(len(judged.json))}
     if not any(fired.values()):
         return []

@@ -1,4 +1,5 @@
-"""What a rules file did on a trace: its kills, when detectors were true, and how near they came."""
+"""Evaluates a rules file on a trace: its kills, when detectors were true, and how near they
+came."""
 from __future__ import annotations
 
 import json
@@ -12,14 +13,13 @@ from psireplay.runs import Done, Runs
 from .nearness import Watch, watch
 from .truths import ALWAYS, Truths, truths
 
-# What `replay` takes if no option says more.
+# The defaults of `replay`: the tick (ms) and the interval of evaluations (s).
 TICK_MS, INTERVAL_S = 2000, 5
 
 
 class Asked(NamedTuple):
-    """A trace and rules by their files' names, with the tick (ms) and the interval of evaluations
-    (s) if they aren't the program's own.
-    """
+    """The file names of a trace and of rules. `tick_ms` and `interval_s` (the interval of
+    evaluations) are None for the program's defaults."""
 
     trace: str
     rules: str
@@ -29,7 +29,7 @@ class Asked(NamedTuple):
 
     @property
     def pace(self) -> list[str]:
-        """The options of `replay` for both."""
+        """The options of `replay` for tick and interval."""
         options = (("--tick-ms", self.tick_ms), ("--interval-s", self.interval_s))
         return [f"{name}={value}" for name, value in options if value is not None]
 
@@ -41,10 +41,9 @@ class Asked(NamedTuple):
 
 
 class Judged(NamedTuple):
-    """What the rules did: `json` has them as the program understood them, `asked` the runs that
-    show when detectors were true, and `watches` how near each came, by ruleset, group and detector.
-    `host` is the machine's memory in bytes.
-    """
+    """The outcome of rules on a trace. `json` has the rules as the program parsed them, `asked`
+    the runs that show when detectors were true, and `watches` how near each detector came, by
+    ruleset, group and detector. `host` is the machine's memory (bytes)."""
 
     of: Asked
     run: Done
@@ -61,7 +60,7 @@ class Judged(NamedTuple):
 
 
 def read_rules(runs: Runs, asked: Asked) -> tuple[list[dict[str, Any]], Rules]:
-    """The rules as the program understood them, with their drop-in file."""
+    """Returns the rules as the program parsed them, including the drop-in file."""
     words = [f"--drop-in={asked.drop_in}"] if asked.drop_in is not None else []
     text = runs.program("rules", *words, "--", asked.rules).text()
     with tempfile.NamedTemporaryFile("w", suffix=".json", encoding="utf-8") as file:
@@ -73,7 +72,8 @@ def read_rules(runs: Runs, asked: Asked) -> tuple[list[dict[str, Any]], Rules]:
 
 
 def judge(runs: Runs, asked: Asked, run: Done) -> Judged:
-    """Judges a replay of the trace by the rules, which has a report at each evaluation."""
+    """Evaluates the rules' detectors on a trace. `run` is a replay that prints a report at each
+    evaluation."""
     values, rules = read_rules(runs, asked)
     before = len(runs.done)
     found = truths(runs, values, asked.trace, asked.pace)

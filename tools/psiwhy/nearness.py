@@ -1,4 +1,5 @@
-"""How near each detector came to its threshold: the highest value at the evaluations."""
+"""Measures how near each detector came to its threshold, by the highest value at the
+evaluations."""
 from __future__ import annotations
 
 from typing import Any, Iterable, NamedTuple, Optional
@@ -11,15 +12,14 @@ from psireplay.rules import Plugin, argument, size
 from psireplay.trace import Events
 
 Looked = dict[str, "Group"]
-# The detectors of pressure, each with the seconds over which its average is.
+# The pressure detectors, each with the window (s) of the average that it compares.
 PRESSURE = {"pressure_above": 10, "pressure_rising_beyond": 60}
 
 
 class Group(NamedTuple):
-    """What a group has at an evaluation: full averages of IO and of memory over 10 and 60 s in
-    hundredths of a percent, its memory in bytes if there was a sample, and how many pages were
-    scanned since the evaluation before.
-    """
+    """A group at an evaluation: full averages of IO and of memory over 10 and 60 s (hundredths
+    of a percent), its memory (bytes) or None without a sample, and the number of pages scanned
+    since the previous evaluation."""
 
     full: dict[tuple[str, str], int]
     memory: Optional[int]
@@ -27,7 +27,8 @@ class Group(NamedTuple):
 
 
 class Nearest(NamedTuple):
-    """The nearest value, when it was reached first (ns), and by which group."""
+    """The value nearest to the threshold, the time (ns) at which it was first reached, and the
+    group."""
 
     value: int
     moment: int
@@ -35,38 +36,39 @@ class Nearest(NamedTuple):
 
 
 class Memory:
-    """The last samples of groups and of the host at an evaluation, and the pages that groups had
-    scanned at the one before.
-    """
+    """The last samples of groups and of the host at an evaluation, and each group's scan count
+    (pages) at the previous one."""
 
     def __init__(self, trace: str) -> None:
         self.groups, self.events = Groups(), Events(trace)
         self.before: dict[TraceGroup, int] = {}
 
     def go_to(self, moment: int) -> None:
-        """Takes the events up to the next evaluation (ns)."""
+        """Advances to the evaluation at `moment` (ns) by the events up to then."""
         self.before = {group: scanned(group) for group in self.groups.live.values()}
         for event in self.events.until(moment):
             self.groups.take(*event)
 
     def memory(self, path: str) -> Optional[int]:
-        """The bytes of a live group's last sample, if there is one."""
+        """Returns the memory (bytes) at the last sample of a live group, or None without a
+        sample."""
         sample = self.groups.live[path].sample
         return sample.memory if sample else None
 
     def rise(self, path: str) -> int:
-        """The pages scanned since the evaluation before; 0 if the group wasn't live then."""
+        """Returns the pages scanned since the previous evaluation, 0 if the group wasn't live
+        then."""
         group = self.groups.live[path]
         return max(0, scanned(group) - self.before.get(group, scanned(group)))
 
 
 def scanned(group: TraceGroup) -> int:
-    """The pages that a group had scanned at its last sample."""
+    """Returns a group's scan count (pages) at its last sample."""
     return group.sample.scanned if group.sample else 0
 
 
 class Watch:
-    """A detector, and the nearest that it came to what it waits for."""
+    """A detector, and the value that came nearest to its threshold."""
 
     def __init__(self, detector: dict[str, Any]) -> None:
         self.plugin = Plugin(
@@ -74,12 +76,12 @@ class Watch:
         )
         self.nearest: Optional[Nearest] = None
         self.has_matched = self.lacks_swap = False
-        # The longest time (ns) for which a pressure was above the threshold, by printed digits.
+        # The longest time (ns) for which a pressure was above the threshold, by the printed digits.
         self.hold = 0
         self.since: Optional[int] = None
 
     def look(self, moment: int, groups: Looked, memory: Memory) -> None:
-        """Looks at an evaluation."""
+        """Updates the nearest value with an evaluation's."""
         name = self.plugin.name
         if name == "swap_free":
             host = memory.groups.host
@@ -113,9 +115,8 @@ class Watch:
             self.nearest = Nearest(value, moment, path)
 
     def part(self, host: Optional[int]) -> float:
-        """Which part of the way to its threshold it went at most, from 0 to 1, on a host with this
-        memory (bytes).
-        """
+        """Returns how close the detector came to its threshold, as a fraction from 0 to 1.
+        `host` is the host's memory (bytes)."""
         name, args = self.plugin
         if self.nearest is None or name == "exists":
             return 0.0
@@ -131,9 +132,9 @@ class Watch:
         )
 
     def nearest_told(self, host: Optional[int], hold: int) -> str:
-        """The nearest value, and how far it is from the threshold, or the longest time (ns) for
-        which the condition held from the duration; in a sentence's words.
-        """
+        """Says in a sentence's words the nearest value, and its distance from the threshold or,
+        if it was above, by how much its hold was too short. `hold` is the longest time (ns) for
+        which the condition held."""
         name, args = self.plugin
         if self.nearest is None or name in ("exists", "memory_reclaim"):
             return self.came(host)
@@ -158,7 +159,7 @@ class Watch:
         return f"{share(-value)} percent of the swap was free {at}, {limit_shown}"
 
     def wanted(self) -> str:
-        """What the detector waits for."""
+        """Says what the detector waits for."""
         name, args = self.plugin
         long = lasting(args)
         whom = args.get("cgroup", "")
@@ -175,7 +176,7 @@ class Watch:
         }[name]
 
     def came(self, host: Optional[int]) -> str:
-        """How near it came."""
+        """Says how near the detector came to its threshold."""
         name, args = self.plugin
         if self.nearest is None:
             none = (
@@ -206,17 +207,18 @@ class Watch:
 
 
 def reached(value: int, limit: int) -> float:
-    """The part of a limit that a value is, at most 1."""
+    """Returns a value as a fraction of a limit, at most 1."""
     return min(1.0, value / limit) if limit > 0 else 1.0
 
 
 def lasting(args: dict[str, str]) -> str:
-    """For how long a condition must hold, if it must."""
+    """Says for how long a condition must hold. Empty if it has no duration."""
     return f" for {args['duration']} s" if args.get("duration", "0") != "0" else ""
 
 
 def short_of(args: dict[str, str], hold: int, is_above: bool) -> str:
-    """For how long (ns) a value was above its threshold at most, if that was too short."""
+    """Says by how much the longest `hold` (ns) above the threshold was too short. Empty if it
+    wasn't."""
     missing = int(args.get("duration", "0")) * SECOND - hold
     return (
         f" for {seconds(hold)} s at most, {seconds(missing)} s short of {args['duration']} s"
@@ -234,7 +236,7 @@ def mebibytes(number: int) -> str:
 
 
 def groups_of(reports: list[Report], memory: Memory) -> Looked:
-    """The groups that had reports at a moment."""
+    """Returns the groups that had reports at an evaluation."""
     full: dict[str, dict[tuple[str, str], int]] = {}
     for it in reports:
         shares = full.setdefault(it.path, {})
@@ -247,9 +249,8 @@ def groups_of(reports: list[Report], memory: Memory) -> Looked:
 def watch(
     printed: Iterable[bytes], trace: str, evaluations: list[int], watches: list[Watch]
 ) -> Optional[int]:
-    """Looks at all evaluations of a replay with a report at each. Returns the host's memory in
-    bytes, if the trace has it.
-    """
+    """Passes all evaluations of a replay with a report at each to `watches`. Returns the host's
+    memory (bytes), or None if the trace doesn't have it."""
     memory, due = Memory(trace), set(evaluations)
     reports: list[Report] = []
     groups: Looked = {}

@@ -1,10 +1,9 @@
-"""When detectors were true, by psi_oomd itself: rulesets with one detector each, which kill
-whenever it is true.
+"""Finds when detectors were true by running psi_oomd on rulesets with one detector each, which kill
+whenever the detector is true.
 
-A kill changes nothing else in a replay, and an action that rests for 0 s kills at each evaluation.
-So when such a ruleset kills, its detector was true. It kills the root, which is a candidate as long
-as some task is live: without one nobody can be killed anyway.
-"""
+A kill changes nothing else in a replay, and an action with a post-action delay of 0 s kills at
+each evaluation. So a ruleset kills exactly when its detector is true. The victim is the root,
+which is a candidate as long as some task is live; without a live task no rule can kill."""
 from __future__ import annotations
 
 import json
@@ -17,16 +16,15 @@ from psireplay.lines import Kill, read
 
 from psireplay.runs import Runs
 
-# A rules file has so many rulesets at most.
+# The most rulesets in a rules file.
 MOST = 64
 KILL = {"name": "kill_by_memory_size_or_growth", "args": {"cgroup": "/", "post_action_delay": "0"}}
 Detector = dict[str, Any]
 
 
 class Place(NamedTuple):
-    """A ruleset, one of its groups of detectors, a detector of it, by numbers from 0; -1 is for
-    all. With `held` its condition is evaluated without its duration.
-    """
+    """A ruleset, one of its groups of detectors, and one detector of the group, by indices from
+    0; -1 stands for all of them. With `held` the detector is evaluated without its duration."""
 
     ruleset: int
     group: int = -1
@@ -35,7 +33,7 @@ class Place(NamedTuple):
 
 
 ALWAYS = Place(-1)
-# The moments (ns) of the evaluations at which it was true.
+# The times (ns) of the evaluations at which each place was true.
 Truths = dict[Place, list[int]]
 
 
@@ -44,15 +42,15 @@ def without_duration(detector: Detector) -> Detector:
 
 
 def has_duration(detector: Detector) -> bool:
-    """Whether the condition must hold for a while; for memory_reclaim it is how long a rise counts.
-    """
+    """Whether the condition must hold for a duration. The duration of memory_reclaim is
+    something else: it says how long a rise counts."""
     return bool(
         detector["name"] != "memory_reclaim" and detector["args"].get("duration", "0") != "0"
     )
 
 
 def questions(rulesets: list[dict[str, Any]]) -> Iterator[tuple[Place, list[list[Any]]]]:
-    """What is asked of psi_oomd: the detectors of a ruleset of its own for each place."""
+    """Yields the detectors of the ruleset that psi_oomd evaluates for each place."""
     yield ALWAYS, [["always"]]
     for number, ruleset in enumerate(rulesets):
         yield Place(number), ruleset["detectors"]
@@ -65,7 +63,7 @@ def questions(rulesets: list[dict[str, Any]]) -> Iterator[tuple[Place, list[list
 
 
 def truths(runs: Runs, rulesets: list[dict[str, Any]], trace: str, pace: list[str]) -> Truths:
-    """When each was true in a trace."""
+    """Returns the times (ns) at which each place of the rulesets was true in a trace."""
     asked = list(questions(rulesets))
     found: Truths = {place: [] for place, _ in asked}
     with tempfile.TemporaryDirectory() as folder:
@@ -91,7 +89,7 @@ def truths(runs: Runs, rulesets: list[dict[str, Any]], trace: str, pace: list[st
 
 
 def spans(moments: list[int], evaluations: list[int]) -> list[tuple[int, int]]:
-    """From which evaluation to which it was true at all of them, in ns."""
+    """Joins consecutive evaluations into spans: the first and last time (ns) of each."""
     places = {moment: place for place, moment in enumerate(evaluations)}
     found: list[tuple[int, int]] = []
     last = -2
@@ -107,5 +105,5 @@ def spans(moments: list[int], evaluations: list[int]) -> list[tuple[int, int]]:
 
 
 def longest(moments: list[int], evaluations: list[int]) -> int:
-    """For how long it was true at a stretch, in ns."""
+    """Returns the longest time (ns) for which a place was true without interruption."""
     return max((end - start for start, end in spans(moments, evaluations)), default=0)
