@@ -1,3 +1,2 @@
-"""What the tools share: the program that they run, the lines that `replay` prints, times, rules
-files and memory samples.
-"""
+"""Code that the tools share for replays: running psi_oomd, parsing the lines that `replay`
+prints, and reading traces, rules files and memory samples."""

@@ -1,5 +1,4 @@
-"""The groups of a trace, as its events create and remove them, with their last samples of memory.
-"""
+"""The groups of a trace, as its events create and remove them, with their last memory samples."""
 from __future__ import annotations
 
 from collections.abc import Callable, Iterator
@@ -12,7 +11,7 @@ from psiworld.groups import ROOT, parent_of
 
 
 class Sample(NamedTuple):
-    """A `mem` line: bytes of memory and of swap, and pages scanned so far."""
+    """A `mem` line: the memory and the swap in use (bytes), and the pages scanned up to then."""
 
     memory: int
     swap: int
@@ -20,7 +19,7 @@ class Sample(NamedTuple):
 
 
 class Host(NamedTuple):
-    """A `host` line, in bytes."""
+    """A `host` line: the machine's memory, its swap, and its free swap (bytes)."""
 
     memory: int
     swap: int
@@ -28,11 +27,10 @@ class Host(NamedTuple):
 
 
 class Group:
-    """A group from its creation to its removal (`made` and `removed`, ns). Groups have numbers in
-    the order of their creation, and the root is 0; `life` counts the groups that had this path.
-    `counted` has the numbers of those groups, of this one and all above, whose accounting is on: a
-    task of this group counts in these.
-    """
+    """A group from its creation to its removal (`made` and `removed`, ns). Groups are numbered
+    in the order of their creation, and the root is 0. `life` counts the groups with the same
+    path, from 1. `counted` has the numbers of this group and its ancestors whose accounting is
+    on: a task of the group counts in these."""
 
     __slots__ = (
         "path", "number", "parent", "life", "made", "removed", "is_accounted", "counted",
@@ -48,30 +46,30 @@ class Group:
         self.tasks = 0
         self.preference = "none"
         self.sample: Sample | None = None
-        # The pages that removed groups below it had scanned: they remain in its count.
+        # The pages scanned by removed children, which remain in this group's count.
         self.scanned_by_removed = 0
         self.find_counted()
 
     def find_counted(self) -> None:
-        """Finds the groups whose accounting is on; those above this one must be up to date."""
+        """Updates `counted`. Requires that the parent's `counted` is up to date."""
         above: tuple[int, ...] = self.parent.counted if self.parent else ()
         self.counted: tuple[int, ...] = (self.number, *above) if self.is_accounted else above
 
     def line(self) -> Iterator[Group]:
-        """The group and all above, up to the root."""
+        """Yields the group and its ancestors, up to the root."""
         group: Group | None = self
         while group:
             yield group
             group = group.parent
 
     def is_below(self, top: Group) -> bool:
-        """Whether it is this group or below it."""
+        """Whether the group is `top` or a descendant of it."""
         return any(group is top for group in self.line())
 
     def whole_sample(self) -> Sample | None:
-        """Its last sample. A group without a sample of its own has the sum of its children's, since
-        the kernel also counts children in their parent; None if they have none either.
-        """
+        """Returns the group's last sample. A group without a sample of its own has the sum of
+        its children's, since the kernel charges a child's memory to its parent too. None without
+        any sample."""
         if self.sample or self.path == ROOT:
             return self.sample
         below = [it for it in (child.whole_sample() for child in self.children.values()) if it]
@@ -81,15 +79,15 @@ class Group:
         return Sample(sum(it.memory for it in below), sum(it.swap for it in below), scanned)
 
     def has_tasks(self) -> bool:
-        """Whether it or a descendant has a task."""
+        """Whether the group or a descendant has a task."""
         return self.tasks > 0 or any(child.has_tasks() for child in self.children.values())
 
 
 class Groups:
-    """All groups so far, by number, and the live ones by path; how many had each path; the last
-    sample of the host, and the number of samples so far. Events are taken in order of their times:
-    `now` is the last one's (ns). Tools extend the methods `pass_to`, `made` and `removed`.
-    """
+    """All groups of the trace up to the current event, by number, and the live ones by path; the
+    number of groups created with each path; the host's last sample, and the number of samples.
+    Events must be in order of time: `now` is the time (ns) of the last one. Tools override
+    `pass_to`, `made` and `removed`."""
 
     def __init__(self) -> None:
         self.now = 0
@@ -104,7 +102,7 @@ class Groups:
         }  # fmt: skip
 
     def take(self, moment: int, verb: str, fields: list[str]) -> None:
-        """Takes an event at a time (ns). Verbs that change nothing here are skipped."""
+        """Applies an event at `moment` (ns). Verbs that change nothing here are skipped."""
         if moment != self.now:
             if moment < self.now:
                 raise ValueError("time goes back")
@@ -115,14 +113,14 @@ class Groups:
             play(*fields)
 
     def pass_to(self, moment: int) -> None:
-        """Time passes to a later one (ns), at which the next event is; nothing changed since `now`.
-        """
+        """Called before time advances to `moment` (ns), the next event's time. Nothing changed
+        since `now`."""
 
     def made(self, group: Group) -> None:
-        """A group was created."""
+        """Called after `group` was created."""
 
     def removed(self, group: Group) -> None:
-        """A group was removed."""
+        """Called after `group` was removed."""
 
     # ------------------------------------------------------------ verbs
 
@@ -166,15 +164,13 @@ class Groups:
     # ------------------------------------------------------------ names
 
     def name(self, group: Group) -> str:
-        """The path; if several groups had it, with `#` and the number of this one among them. No
-        path has a `#`.
-        """
+        """Returns the group's path. If several groups had it, `#` and the number of this one
+        among them follow. No path contains a `#`."""
         return group.path if self.counts[group.path] == 1 else f"{group.path}#{group.life}"
 
     def named(self, word: str) -> list[Group]:
-        """The groups with this path, or the group that PATH#N names. It is a Fault if there never
-        was one.
-        """
+        """Returns the groups with the path `word`, or the one that PATH#N names. Raises a Fault
+        if there never was such a group."""
         path, _, life = word.partition("#")
         found = [it for it in self.all if it.path == path and (not life or str(it.life) == life)]
         if not found:

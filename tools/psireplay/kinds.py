@@ -1,5 +1,5 @@
-"""Recognises files of an unexpected kind, so that a message can say what a file is and what to do.
-"""
+"""Recognises files of an unexpected kind, so that a message can say what a file is and what to
+do."""
 from __future__ import annotations
 
 import os
@@ -8,7 +8,7 @@ from typing import Callable, NamedTuple, Optional
 
 from psirec.meta import is_recording
 
-# A file is recognised by its first bytes.
+# The number of bytes at the start of a file by which its kind is recognised.
 HEAD = 4096
 TRACE, RULES, REPLAY, JSON = (
     "a trace",
@@ -19,7 +19,8 @@ TRACE, RULES, REPLAY, JSON = (
 
 
 class Kind(NamedTuple):
-    """What a file is, and what to do with it; `{name}` in the advice is its name."""
+    """A kind of file, and advice on how to use such a file. `{name}` in the advice is replaced
+    by its name."""
 
     what: str
     advice: str = ""
@@ -33,7 +34,7 @@ def has(pattern: bytes) -> Callable[[bytes], bool]:
     return lambda head: re.match(pattern, head) is not None
 
 
-# The first test that a file's prefix passes says what it is.
+# Tests of a file's first bytes, each with the kind that it recognises. The first match counts.
 KINDS: tuple[tuple[Callable[[bytes], bool], Kind], ...] = (
     (lambda head: not head, Kind("empty")),
     (starts(b"\x1f\x8b"), Kind("compressed by gzip", "`gunzip -c {name}` prints its content")),
@@ -55,14 +56,13 @@ KINDS: tuple[tuple[Callable[[bytes], bool], Kind], ...] = (
 
 
 def kind_of(head: bytes) -> Optional[Kind]:
-    """The kind of a file that begins with these bytes, if it is known."""
+    """Returns the kind of a file that begins with `head`, or None if it isn't known."""
     return next((kind for test, kind in KINDS if test(head)), None)
 
 
 def file_kind(path: str) -> Optional[Kind]:
-    """The kind of a regular file, if it is known. No other file is opened: a pipe can't be read
-    twice.
-    """
+    """Returns the kind of a regular file, or None if it isn't known. Other files aren't opened,
+    since a pipe can't be read twice."""
     if not os.path.isfile(path):
         return None
     try:
@@ -73,8 +73,8 @@ def file_kind(path: str) -> Optional[Kind]:
 
 
 def told_kind(kind: Optional[Kind], expected: str, name: str) -> str:
-    """What a file is in place of what was expected, to follow its name; empty if that isn't known.
-    """
+    """Says what a file is instead of what was expected, as the end of a message. Empty if that
+    isn't known or the file is as expected."""
     if not kind or (kind.what, expected) in ((expected, expected), (JSON, RULES)):
         return ""
     advice = kind.advice.format(name=name)
@@ -86,16 +86,14 @@ def told_kind(kind: Optional[Kind], expected: str, name: str) -> str:
 
 
 def what_it_is(path: str, expected: str, name: Optional[str] = None) -> str:
-    """What a file is in place of what was expected; empty if that isn't known. Messages call it by
-    its name.
-    """
+    """Says what the file at `path` is instead of what was expected. Empty if that isn't known.
+    `name` is the name that messages use, if it isn't the path."""
     return told_kind(file_kind(path), expected, path if name is None else name)
 
 
 def why_refused(said: str, path: str, name: Optional[str] = None) -> str:
-    """What the program said of a trace or of rules, with what the file is instead, if its very
-    beginning was refused.
-    """
+    """Returns the program's message about a trace or rules. If it rejected the very beginning of
+    the file, the message also says what the file is instead."""
     expected = (
         TRACE if said.startswith("trace line 1: ") else RULES if said.endswith("BadJson") else ""
     )
@@ -104,7 +102,7 @@ def why_refused(said: str, path: str, name: Optional[str] = None) -> str:
 
 
 def folder_told(name: str) -> str:
-    """What a folder is, if it is given in place of a trace."""
+    """Says what a folder is that was given in place of a trace."""
     if is_recording(name):
         return f"{name} is a recording: `tools/psitrace {name}` makes a trace of it"
     return f"{name} is a folder"

@@ -1,4 +1,4 @@
-"""The lines that `psi_oomd replay` prints, read in order. docs/COMMANDS.md says what each means."""
+"""Parses the lines that `psi_oomd replay` prints. docs/COMMANDS.md says what each means."""
 from __future__ import annotations
 
 import re
@@ -14,7 +14,7 @@ AVERAGES = ("avg10", "avg60", "avg300")
 
 
 class Pressure(NamedTuple):
-    """A line of a pressure file: averages in hundredths of a percent, and the total in us."""
+    """A line of a pressure file: averages in hundredths of a percent, and the total (us)."""
 
     avg10: int
     avg60: int
@@ -23,7 +23,7 @@ class Pressure(NamedTuple):
 
 
 class Report(NamedTuple):
-    """A pressure file at a moment in ns. That of interrupts has no line `some`."""
+    """A pressure file at a time (ns). The file for interrupts has no line `some`."""
 
     moment: int
     path: str
@@ -33,7 +33,7 @@ class Report(NamedTuple):
 
 
 class Event(NamedTuple):
-    """A signal of a trigger at a moment in ns; the threshold and the window are in us."""
+    """A signal of a trigger at a time (ns). The threshold and the window are in us."""
 
     moment: int
     trigger: int
@@ -45,7 +45,7 @@ class Event(NamedTuple):
 
 
 class Kill(NamedTuple):
-    """What an action of a ruleset would have killed at a moment in ns. Numbers are from 0."""
+    """A kill that an action of a ruleset would have made at a time (ns). Numbers count from 0."""
 
     moment: int
     ruleset: int
@@ -54,7 +54,7 @@ class Kill(NamedTuple):
 
 
 class End(NamedTuple):
-    """The last line: the end in ns, and how many ticks, signals and kills there were."""
+    """The last line: the end of the trace (ns), and the numbers of ticks, signals and kills."""
 
     moment: int
     ticks: int
@@ -64,10 +64,10 @@ class End(NamedTuple):
 
 Line = Union[Report, Event, Kill, End]
 
-# At most this many bytes of a line are shown in a message.
+# The most bytes of a line that are shown in a message.
 SHOWN = 60
 ADVICE = ": give all that `psi_oomd replay` prints, and see what it says on standard error"
-# No number that replay prints has more digits.
+# No number that replay prints has more digits than these.
 NUMBER = "(?:0|[1-9][0-9]{0,18})"
 PATH = r"/[A-Za-z0-9_.@:\\/-]*"
 SHARES = " ".join(rf"{average}=({NUMBER})\.([0-9][0-9])" for average in AVERAGES)
@@ -92,9 +92,8 @@ def pressure_of(fields: tuple[str, ...]) -> Pressure:
 
 
 class Reader:
-    """Takes line after line. Of a report it holds the head, and the line `some`, until the file is
-    whole.
-    """
+    """Parses line after line. It stores a report's head and its line `some` until the report is
+    complete."""
 
     def __init__(self) -> None:
         self.head: Optional[tuple[str, str, str]] = None
@@ -102,7 +101,7 @@ class Reader:
         self.is_ended = False
 
     def due(self) -> Optional[str]:
-        """The word with which the next line must begin, where there is but one."""
+        """Returns the word with which the next line must begin, or None if there are several."""
         if not self.head:
             return None
         return "full" if self.some or self.head[2] == "irq" else "some"
@@ -112,9 +111,8 @@ class Reader:
         return not self.is_ended and (verb == due if due else verb not in LEVELS)
 
     def take(self, line: str) -> Optional[Line]:
-        """What the line completes, if anything. A line that replay doesn't print there is a
-        ValueError.
-        """
+        """Parses a line. Returns the item that it completes, or None if it completes none.
+        Raises ValueError if replay can't print the line at this point."""
         verb = line.partition(" ")[0]
         found = FORMS[verb].fullmatch(line) if verb in FORMS and self.is_in_place(verb) else None
         if not found:
@@ -147,7 +145,8 @@ class Reader:
 
 
 def refused(number: int, text: bytes) -> Fault:
-    """That replay prints no such line there; if it is the first one, what the input is instead."""
+    """Returns the error that replay can't print this line here. For the first line it also says
+    what the input is instead."""
     found = told_kind(kind_of(text), REPLAY, "FILE") if number == 1 else ""
     if found:
         return Fault(f"the input: {found}")
@@ -156,9 +155,8 @@ def refused(number: int, text: bytes) -> Fault:
 
 
 def read(printed: Iterable[bytes]) -> Iterator[Line]:
-    """The lines, without those of live clocks. A line that replay doesn't print there is a fault,
-    or no last one.
-    """
+    """Yields the items of a replay's output, without the lines of live clocks. Raises a Fault at
+    a line that replay can't print there, or if the last line is missing."""
     reader = Reader()
     number = 0
     for number, text in enumerate(printed, 1):

@@ -1,7 +1,6 @@
-"""The program that tools and tests run: the program in PSI_OOMD, or else the launcher above the
-tools' folder. So it is in a checkout, where the launcher builds it, and where it is installed, with
-the program that is there.
-"""
+"""Runs psi_oomd for tools and tests: the program that the variable PSI_OOMD names, or else the
+launcher in the folder above the tools. In a checkout the launcher builds the program; in an
+installation it is next to the program."""
 from __future__ import annotations
 
 import os
@@ -21,24 +20,23 @@ LAUNCHER = os.path.join(TOP, "psi_oomd")
 VARIABLE = "PSI_OOMD"
 # A trace without events, for a run that only reads rules.
 NO_EVENTS = b"psitrace 1 cpus=1\n0 end\n"
-# The longest tick allows the longest traces, so what `replay` took at some tick is taken at this
-# one.
+# The longest tick allows the longest traces, so a trace that `replay` accepts with some tick is
+# accepted with this one.
 LONGEST_TICK = "--tick-ms=60000"
-# The statuses by which a trace and a rules file are rejected.
+# The statuses of a run that rejected its trace or its rules file.
 REFUSALS = (ProgramStatus.TRACE_REFUSED, ProgramStatus.RULES_REFUSED)
 ADVICE = "build ./psi_oomd, or let the variable PSI_OOMD name the program"
 
 
-# What the launcher keeps of `--try` ends so. The variable NOTED is set for the tools that a tool
-# runs, once it is reported.
+# The suffix of a program that `--try` built. A tool sets the variable NOTED once it has warned of
+# such a program, so that the tools that it runs don't repeat the warning.
 UNPROVED = "-unproved"
 NOTED = "PSI_OOMD_IS_NOTED"
 
 
 def named_program() -> str:
-    """The program's name as it is given, or the launcher's. Once per run it is reported if that
-    program isn't proved.
-    """
+    """Returns the name of the program in PSI_OOMD, or the launcher's. It warns once per run if
+    that program isn't proved."""
     name = os.environ.get(VARIABLE) or LAUNCHER
     if name.endswith(UNPROVED) and not os.environ.get(NOTED):
         os.environ[NOTED] = "1"
@@ -53,17 +51,16 @@ def named_program() -> str:
 
 
 def program_path() -> str:
-    """The program's name as a whole path. It needn't be there."""
+    """Returns the program's absolute path, even if no such file exists."""
     return os.path.abspath(shutil.which(named_program()) or named_program())
 
 
 def built_program(launcher: str = LAUNCHER) -> str:
-    """The program of a launcher, built where it is older than its sources, which the launcher then
-    reports on standard error.
+    """Builds the launcher's program if it is older than its sources, and returns its path. The
+    launcher reports a build on standard error.
 
-    The launcher looks at all sources at each start, so what is run more than once is run without
-    it.
-    """
+    The launcher checks all sources at each start, so a program that is run more than once is run
+    without the launcher."""
     done = subprocess.run([launcher, "--build"], stdout=subprocess.PIPE, encoding="utf-8")
     if done.returncode:
         raise Fault(f"{launcher} couldn't be built: {ADVICE}")
@@ -71,9 +68,8 @@ def built_program(launcher: str = LAUNCHER) -> str:
 
 
 def start(words: list[str], notes: IO[bytes]) -> subprocess.Popen[bytes]:
-    """A run of the program on a pipe, whose output comes by another. What it says of faults goes
-    into the file of notes.
-    """
+    """Starts the program with pipes as standard input and output. Standard error goes into the
+    file `notes`."""
     path = program_path()
     try:
         path = built_program() if path == LAUNCHER else path
@@ -85,14 +81,14 @@ def start(words: list[str], notes: IO[bytes]) -> subprocess.Popen[bytes]:
 
 
 def finish(run: subprocess.Popen[bytes], notes: IO[bytes], what: str, name: str) -> str:
-    """What the run printed. If its status isn't 0 that is a fault, in the program's own words, with
-    what the file is instead. The message calls the file what it is to be, and by its name.
-    """
+    """Waits for a run, and returns what it printed. Raises a Fault if its status isn't 0, with
+    the program's own message and what the file is instead. The message calls the file `what` and
+    by its `name`."""
     assert run.stdin and run.stdout
     try:
         run.stdin.close()
     except BrokenPipeError:
-        pass  # It was refused before its end.
+        pass  # The program rejected its input before the end.
     with run.stdout as output:
         printed = output.read().decode("latin-1")
     status = run.wait()
@@ -107,9 +103,8 @@ def finish(run: subprocess.Popen[bytes], notes: IO[bytes], what: str, name: str)
 
 
 def opened(name: str) -> IO[bytes]:
-    """A file to read. One that can't be opened is a fault, in the program's words where it isn't
-    there.
-    """
+    """Opens a file for reading. Raises a Fault if it can't be opened, in the program's words if
+    it doesn't exist."""
     try:
         return open(name, "rb")
     except FileNotFoundError:
@@ -119,7 +114,7 @@ def opened(name: str) -> IO[bytes]:
 
 
 def accepted_rules(name: str) -> bytes:
-    """The bytes of a rules file that the program takes; another one is a fault."""
+    """Returns the bytes of a rules file. Raises a Fault if the program rejects it."""
     with opened(name) as rules:
         given = rules.read()
     with tempfile.NamedTemporaryFile(suffix=".json") as file, tempfile.TemporaryFile() as notes:
@@ -130,22 +125,21 @@ def accepted_rules(name: str) -> bytes:
         try:
             run.stdin.write(NO_EVENTS)
         except BrokenPipeError:
-            pass  # A refused rules file ends the run before the trace is read.
+            pass  # A rejected rules file ends the run before the trace is read.
         finish(run, notes, "the rules file", name)
     return given
 
 
 class CheckedTrace:
-    """The lines of a trace, each handed to `psi_oomd check` as it is taken. A trace that is refused
-    is a fault at its end.
-    """
+    """The lines of a trace, each passed on to `psi_oomd check`. If that rejects the trace, the
+    last line is followed by a Fault."""
 
     def __init__(self, name: str) -> None:
         self.name = name
         self.end = 0
 
     def lines(self) -> Iterator[bytes]:
-        """All lines; after them `end` is the trace's end in ns."""
+        """Yields all lines. Afterwards `end` is the trace's end (ns)."""
         with opened(self.name) as file, tempfile.TemporaryFile() as notes:
             run = start(["check", "-", LONGEST_TICK], notes)
             assert run.stdin

@@ -1,4 +1,5 @@
-"""The output of a replay, for tools that take a trace, or what `psi_oomd replay` printed."""
+"""Provides the output of a replay to tools that accept either a trace or what `psi_oomd replay`
+printed."""
 from __future__ import annotations
 
 import contextlib
@@ -20,21 +21,21 @@ TRACE_HELP = (
     "a trace, which is replayed; without it the output of psi_oomd replay or whatif is read from"
     " standard input"
 )
-# The options of a replay that tools have too, by the name of their value.
+# The options of a replay that tools also have, by the names of their values.
 OPTIONS = {"tick_ms": "--tick-ms", "report_s": "--report-s", "interval_s": "--interval-s"}
 REFUSED = (ProgramStatus.TRACE_REFUSED, ProgramStatus.RULES_REFUSED)
-# The statuses of a replay that succeeded, perhaps without printing all: the tool closed the pipe.
+# The statuses of a replay that succeeded, or that couldn't write because the tool closed the pipe.
 UNREAD = (0, ProgramStatus.WRITE_FAULT)
 
 
 def add_report(parser: Parser) -> None:
-    """--report-s of `psi_oomd replay`."""
+    """Adds the option --report-s of `psi_oomd replay`."""
     parser.add_argument("--report-s", metavar="N", type=whole_number(1, 3600),
                         help="the interval of reports, as in `psi_oomd replay` (1)")  # fmt: skip
 
 
 def words_of(trace: str, values: Mapping[str, Any], report_s: int) -> list[str]:
-    """The arguments of the replay that a tool's options ask for."""
+    """Returns the arguments of the replay that a tool's options ask for."""
     given = {name: values[name] for name in OPTIONS if values.get(name) is not None}
     options = {"report_s": report_s, **given}
     words = [f"{OPTIONS[name]}={value}" for name, value in options.items()]
@@ -43,7 +44,7 @@ def words_of(trace: str, values: Mapping[str, Any], report_s: int) -> list[str]:
 
 
 def must_have_trace(trace: Optional[str], values: Mapping[str, Any]) -> None:
-    """Rejects options of a replay if nothing is replayed."""
+    """Rejects options of a replay if there is no trace to replay."""
     for name, option in OPTIONS.items():
         if trace is None and values.get(name) is not None:
             raise Fault(f"{option} is for the replay of a TRACE: give one")
@@ -51,9 +52,9 @@ def must_have_trace(trace: Optional[str], values: Mapping[str, Any]) -> None:
 
 @contextlib.contextmanager
 def replayed(trace: Optional[str], values: Mapping[str, Any], report_s: int) -> Iterator[IO[bytes]]:
-    """The output of a replay: of a trace, with reports every `report_s` seconds, or the standard
-    input. If the program rejects the trace or the rules, that is a Fault at the end.
-    """
+    """Yields the output of a replay: of `trace` with reports every `report_s` seconds, or
+    without a trace the standard input. Raises a Fault at the end if the program rejects the
+    trace or the rules."""
     must_have_trace(trace, values)
     if trace is None:
         with open(0, "rb", closefd=False) as printed:
@@ -82,7 +83,7 @@ def replayed(trace: Optional[str], values: Mapping[str, Any], report_s: int) -> 
 def must_have_ended(
     run: subprocess.Popen[bytes], notes: IO[bytes], trace: str, rules: Optional[str]
 ) -> None:
-    """Rejects a trace or rules that the program rejected."""
+    """Waits for the program, and raises a Fault if it rejected the trace or the rules."""
     status = run.wait()
     if status in UNREAD:
         return

@@ -1,9 +1,8 @@
-"""What a rules file says: the names of rulesets and plugins, and the thresholds that a chart can
+"""Reads the names of rulesets and plugins from a rules file, and the thresholds that a chart can
 show.
 
-The program decides whether a file is one, so what is read here has the form that docs/RULES.md
-describes.
-"""
+The program validates a file first, so a file that is read here has the form that docs/RULES.md
+describes."""
 from __future__ import annotations
 
 import fnmatch
@@ -20,19 +19,18 @@ POWERS = {"K": 1, "M": 2, "G": 3, "T": 4}
 
 
 class Plugin(NamedTuple):
-    """A detector or an action, with its arguments as texts."""
+    """A detector or an action, with its arguments as strings."""
 
     name: str
     args: dict[str, str]
 
     def covers(self, path: str) -> bool:
-        """Whether one of its patterns matches this path."""
+        """Whether one of the plugin's patterns matches `path`."""
         return any(does_match(pattern, path) for pattern in self.args["cgroup"].split(","))
 
     def may_kill(self, path: str) -> bool:
-        """Whether an action of this kind can choose the path: it matches, or a group above it does
-        and the action goes down.
-        """
+        """Whether an action of this kind can choose `path`: it matches the path, or the action
+        is recursive and matches an ancestor."""
         above = [path[:place] for place, letter in enumerate(path) if letter == "/" and place]
         goes_down = self.args.get("recursive", "false") in TRUTHS
         return self.covers(path) or goes_down and any(self.covers(it) for it in ["/", *above])
@@ -47,23 +45,22 @@ class Ruleset(NamedTuple):
 
 
 class Killer(NamedTuple):
-    """Who kills: a ruleset's name, and the name of an action's plugin."""
+    """The names of the ruleset and of the action's plugin that made a kill."""
 
     ruleset: str
     plugin: str
 
 
 def printable(text: str) -> str:
-    """The text with a sign in place of each character that a picture or a line can't have."""
+    """Replaces each character that isn't printable by U+FFFD."""
     return "".join(it if it.isprintable() else "\N{REPLACEMENT CHARACTER}" for it in text)
 
 
 def does_match(pattern: str, path: str) -> bool:
-    """Whether a pattern matches a path: as many components, in each of which `*` is any run of
-    bytes.
+    """Whether `pattern` matches `path`: both have the same number of components, and `*` matches
+    any string within a component.
 
-    `?` and `[`, which would mean something here, stand in no pattern that the program takes.
-    """
+    `?` and `[` would be special here, but no pattern that the program accepts contains them."""
     if pattern == "/" or path == "/":
         return pattern == path
     parts, names = pattern.lstrip("/").split("/"), path[1:].split("/")
@@ -71,7 +68,7 @@ def does_match(pattern: str, path: str) -> bool:
 
 
 def argument(value: Any) -> str:
-    """An argument as a text: whole numbers and truths may stand for the text of their spelling."""
+    """Returns an argument as a string: whole numbers and booleans as JSON spells them."""
     return value if isinstance(value, str) else json.dumps(value)
 
 
@@ -86,9 +83,8 @@ def ruleset_of(value: Any) -> Ruleset:
 
 
 def unmatched(rulesets: list[Ruleset], paths: set[str]) -> list[str]:
-    """The patterns of these rulesets that match none of these groups, each with its ruleset: such a
-    rule does nothing there.
-    """
+    """Returns the patterns that match none of `paths`, each with its ruleset. Such a rule does
+    nothing on these groups."""
     found = []
     for ruleset in rulesets:
         patterns = [
@@ -104,17 +100,16 @@ def unmatched(rulesets: list[Ruleset], paths: set[str]) -> list[str]:
 
 
 class Rules:
-    """The rulesets of a file, by their numbers."""
+    """The rulesets of a file, by number."""
 
     def __init__(self, name: str) -> None:
-        """Reads a file. One that isn't there, or that the program refuses, is a fault."""
+        """Reads a rules file. Raises a Fault if it can't be read or the program rejects it."""
         self.name = name
         self.rulesets = [ruleset_of(it) for it in json.loads(accepted_rules(name))["rulesets"]]
 
     def killer(self, kill: Kill) -> Killer:
-        """Who kills here. A kill that none of these rules can do is a fault: the replay was by
-        other rules.
-        """
+        """Returns the ruleset and plugin that made a kill. Raises a Fault if no action of these
+        rules can have made it, because the replay was by other rules."""
         ruleset = self.rulesets[kill.ruleset] if kill.ruleset < len(self.rulesets) else None
         which = f"ruleset {kill.ruleset}, action {kill.action}"
         if not ruleset or kill.action >= len(ruleset.actions):
@@ -133,9 +128,8 @@ class Rules:
 
 
 def size(text: str, host: Optional[int]) -> Optional[int]:
-    """The bytes that a size says, of which a percentage is one of the host's memory. None where
-    that isn't known.
-    """
+    """Parses a size, and returns bytes. A percentage refers to `host`, the host's memory
+    (bytes); the result is None if that isn't known."""
     if text.endswith("%"):
         return None if host is None else host * int(text[:-1]) // 100
     power = POWERS.get(text[-1].upper(), 0)

@@ -1,4 +1,4 @@
-"""The commands that are run for a page: each is told on it, with its number."""
+"""Runs the commands for a page of a report, which lists each with its number."""
 from __future__ import annotations
 
 import os
@@ -19,9 +19,9 @@ PROGRAM = "psi_oomd"
 
 
 class Done(NamedTuple):
-    """A command that was run: its number on the page, its words, its status, and what it said on
-    standard error; and the file that was made for it, if one was.
-    """
+    """A command that was run: its number on the page, its words, its exit status, what it wrote
+    to standard error, its output, and the contents of the file that was made for it, empty if
+    there was none."""
 
     number: int
     words: str
@@ -40,15 +40,15 @@ class Done(NamedTuple):
 
 
 def refused_file(words: list[str], said: str) -> str:
-    """The file of these words that the program refused: the trace is the last one."""
+    """Returns the name of the file that the program rejected: its rules, or else the trace,
+    which is the last of the words."""
     rules = [word.partition("=")[2] for word in words if word.startswith("--rules=")]
     return rules[0] if rules and said.startswith("rules") else words[-1]
 
 
 class Runs:
-    """Runs psi_oomd and the tools beside this one. Standard output goes into files, since that of a
-    replay can be long.
-    """
+    """Runs psi_oomd and the tools of this folder. Standard output goes into files, since a
+    replay's can be long."""
 
     def __init__(self) -> None:
         path = program_path()
@@ -66,7 +66,7 @@ class Runs:
         return self.run([self.path, *words], [PROGRAM, *words], (0,))
 
     def tool(self, name: str, *words: str, taken: tuple[int, ...] = (0,)) -> Done:
-        """A tool, of which these statuses say that it did what it should."""
+        """Runs a tool. `taken` are the exit statuses that mean success."""
         path = os.path.join(TOP, "tools", name)
         return self.run([sys.executable, path, *words], [f"tools/{name}", *words], taken)
 
@@ -89,9 +89,9 @@ class Runs:
         return found
 
     def commit(self) -> str:
-        """The commit of the sources beside this tool, as the launcher says it."""
+        """Returns the commit of the sources next to this tool, as the launcher prints it."""
         try:
             said = subprocess.run([LAUNCHER, "--version"], capture_output=True, text=True).stdout
-        except OSError:  # the tools stand alone, and a variable names the program
+        except OSError:  # there is no launcher, and PSI_OOMD names the program
             said = ""
         return said.strip().removeprefix(f"{PROGRAM} ") or "of no known commit"

@@ -1,9 +1,8 @@
-"""The mark of a trace that was made of samples: its first event makes a group whose name says so,
-and its second removes it.
+"""The mark of a trace that was made from samples: the first event creates a group whose name has
+the details, and the second removes it.
 
-Such a trace has the pressure of groups, but its tasks, its processors and who ran when are made up.
-Every tool that needs these asks here, and refuses such a trace.
-"""
+Such a trace has the pressure of groups, but its tasks, its processors and its context switches
+are synthetic. Every tool that needs real ones calls this module, and rejects such a trace."""
 from __future__ import annotations
 
 import os
@@ -19,16 +18,15 @@ FIELDS = ("every-ms", "gap-ms", "scans", "set", "part", "start-ms", "skip-ms")
 MARK = re.compile(
     rb"psitrace [12] cpus=\d+\n0 group (/psi-samples(?::[a-z-]+:[0-9a-f]+){7})\n0 rmgroup \1\n"
 )
-# As many bytes of a trace have its mark.
+# The bytes at the start of a trace that contain its mark.
 MOST_BYTES = 512
 
 
 class Sampled(NamedTuple):
-    """What a mark says: the interval between samples and the longest one (ns), and whether scanned
-    pages were sampled; and of traces that were made together the set's number, the part's from 1
-    on, when the part begins in the set, and until when (ns of the part) the part before has its
-    kills.
-    """
+    """The contents of a mark: the interval between samples and the longest gap (ns), and whether
+    scanned pages were sampled. For traces that were made together also the set's number, the
+    part's number from 1, the time (ns) in the set at which the part begins, and the time (ns) in
+    the part up to which the previous part has the kills."""
 
     every: int
     gap: int
@@ -39,7 +37,7 @@ class Sampled(NamedTuple):
     skip: int
 
     def lines(self) -> list[str]:
-        """The lines of a trace after its first one."""
+        """Returns the lines of the mark, which follow the header of a trace."""
         values = (
             self.every // MS,
             self.gap // MS,
@@ -61,19 +59,19 @@ class Sampled(NamedTuple):
         return [f"0 group {name}\n", f"0 rmgroup {name}\n"]
 
     def interval(self) -> str:
-        """The interval, for people."""
+        """Says the interval between samples, for people."""
         longest = f", with gaps of up to {seconds(self.gap)} s" if self.gap > 2 * self.every else ""
         return f"samples each {seconds(self.every)} s{longest}"
 
 
 def mark_in(data: bytes) -> bytes:
-    """The lines of a trace up to the end of its mark; none if it has no mark."""
+    """Returns the lines of a trace up to the end of its mark; empty if it has none."""
     found = MARK.match(data)
     return found[0] if found else b""
 
 
 def sampled_in(data: bytes) -> Optional[Sampled]:
-    """What the mark says at the beginning of a trace; none if it has no mark."""
+    """Returns the mark at the start of a trace, or None if it has none."""
     found = MARK.match(data[:MOST_BYTES])
     if not found:
         return None
@@ -88,9 +86,8 @@ def sampled_in(data: bytes) -> Optional[Sampled]:
 
 
 def sampled(name: str) -> Optional[Sampled]:
-    """What the mark of a trace says; none if it has no mark, or can't be read: whatever reads it
-    next says why. - is the standard input, if that is a file.
-    """
+    """Returns the mark of a trace. None if it has no mark, or if it can't be read: the next
+    reader reports why. `-` is the standard input, if that is a file."""
     try:
         if name == "-":
             return sampled_in(os.pread(0, MOST_BYTES, 0))
@@ -101,30 +98,29 @@ def sampled(name: str) -> Optional[Sampled]:
 
 
 def refusal(name: str, found: Sampled, what: str) -> str:
-    """Why a tool refuses such a trace; `what` the tool needs and the trace doesn't have."""
+    """Returns the message that rejects a trace of samples. `what` is what the tool needs and
+    such a trace doesn't have."""
     return f"{name} was made of {found.interval()}: it doesn't say {what} (docs/SAMPLES.md)"
 
 
 def refuse_sampled(file: str, name: str, what: str) -> None:
-    """A trace in this file that was made of samples is a fault for a tool that needs what such a
-    trace doesn't have.
-    """
+    """Raises a Fault if the trace was made from samples. `what` is what the tool needs and such
+    a trace doesn't have."""
     found = sampled(file)
     if found:
         raise Fault(refusal(name, found, what))
 
 
 class Whole(NamedTuple):
-    """A trace, or the traces that were made together of longer samples, by the name of the first of
-    them.
-    """
+    """A trace, or a set of traces that were made together from longer samples, named after its
+    first trace."""
 
     name: str
     parts: list[tuple[str, Optional[Sampled]]]
 
 
 def wholes(names: list[str]) -> list[Whole]:
-    """The traces of these names; those that were made together of samples are one."""
+    """Groups the traces `names`: those that were made together from samples are one."""
     found: dict[str, Whole] = {}
     for place, name in enumerate(names):
         mark = sampled(name)
@@ -137,8 +133,8 @@ def wholes(names: list[str]) -> list[Whole]:
 
 
 def time_in_whole(time: int, mark: Optional[Sampled]) -> Optional[int]:
-    """The time (ns) in the whole of what a part has at a time; none if the part before has it too.
-    """
+    """Converts a time (ns) in a part to the time in the whole set. None if the previous part has
+    it too."""
     if mark is None:
         return time
     return mark.start + time if time >= mark.skip else None

@@ -1,4 +1,4 @@
-"""The samples of memory that a trace has of some groups."""
+"""Reads the memory samples of some groups from a trace."""
 from __future__ import annotations
 
 import contextlib
@@ -12,7 +12,7 @@ from .trace import event_in
 
 
 class Sample(NamedTuple):
-    """A `mem` line: a moment in ns, and bytes of memory and of swap."""
+    """A `mem` line: its time (ns), and the memory and swap in use (bytes)."""
 
     moment: int
     memory: int
@@ -20,8 +20,8 @@ class Sample(NamedTuple):
 
 
 class Life:
-    """The samples of a group from when it was made until it was removed, at `end` in ns, or never.
-    """
+    """The samples of a group from its creation to its removal at `end` (ns), None if it was
+    never removed."""
 
     def __init__(self) -> None:
         self.samples: list[Sample] = []
@@ -29,10 +29,10 @@ class Life:
 
 
 class Samples(Groups):
-    """The samples of these groups, by path and by life, and the host's last sample."""
+    """The samples of the given groups, by path and by life, and the host's last sample."""
 
     def __init__(self, name: str, groups: list[str], end: int) -> None:
-        """Reads a trace, which must end at this time (ns)."""
+        """Reads a trace. Raises a Fault if it doesn't end at `end` (ns)."""
         super().__init__()
         self.lives: dict[str, list[Life]] = {path: [Life()] for path in groups}
         trace = CheckedTrace(name)

@@ -1,7 +1,6 @@
-"""Which groups stalled most, by the totals that a replay printed. Tasks are in groups without
-groups below (but for the root's), so what a group above shows comes from these, and they alone are
-ranked.
-"""
+"""Ranks groups by how long they stalled, from the totals that a replay printed. Apart from the
+root, only groups without children have tasks. An ancestor's stalls come from these groups, so
+only they are ranked."""
 from __future__ import annotations
 
 from typing import Iterable, NamedTuple, Optional
@@ -9,21 +8,20 @@ from typing import Iterable, NamedTuple, Optional
 from .lines import LEVELS, Pressure, Report, read
 
 ROOT = "/"
-# The resources that are ranked, in the order of columns; interrupts are no stalls.
+# The ranked resources, in the order of columns. Time spent on interrupts is no stall.
 RANKED = ("io", "memory", "cpu")
 
 
 class Stalls(NamedTuple):
-    """A group, and for how long (us) some of its tasks were stalled and all were, by (resource,
-    level).
-    """
+    """A group, and for how long (us) some or all of its tasks were stalled, by resource and
+    level."""
 
     path: str
     totals: dict[tuple[str, str], int]
 
     def rank(self) -> tuple[int, int]:
-        """The longest time in which all waited for one resource, and the longest in which some did.
-        """
+        """Returns the sort key: the longest time (us) in which all tasks waited for one
+        resource, and the longest in which some did."""
         full, some = (
             max(self.totals.get((it, level), 0) for it in RANKED) for level in ("full", "some")
         )
@@ -31,9 +29,9 @@ class Stalls(NamedTuple):
 
 
 class Lives:
-    """By how much the totals of all groups grew between two times (ns): the reports after `start`
-    and up to `end`. A group that is created again counts with the earlier one of its path.
-    """
+    """The growth of all groups' totals between two times (ns), from the reports after `start`
+    and up to `end`. A group that is created again counts with the earlier group of the same
+    path."""
 
     def __init__(self, start: int, end: float) -> None:
         self.start, self.end = start, end
@@ -41,7 +39,7 @@ class Lives:
         self.found: dict[str, Stalls] = {}
 
     def take(self, report: Report) -> None:
-        """Takes a report."""
+        """Adds a report."""
         lines: tuple[Optional[Pressure], ...] = (report.some, report.full)
         for level, pressure in zip(LEVELS, lines):
             if pressure:
@@ -55,9 +53,9 @@ class Lives:
 
 
 def ranked(printed: Iterable[bytes], start: int = -1, end: float = float("inf")) -> list[Stalls]:
-    """The groups without child groups in the output of a replay, those that stalled most between
-    two times (ns) first; only the root if there are no others.
-    """
+    """Returns the groups without children in the output of a replay, sorted by how long they
+    stalled between two times (ns), the longest first. Only the root if there are no other
+    groups."""
     lives = Lives(start, end)
     for line in read(printed):
         if isinstance(line, Report):

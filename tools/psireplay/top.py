@@ -33,14 +33,14 @@ COUNT, NUMBER = re.compile("[1-9][0-9]{0,5}"), re.compile("-?[0-9]+")
 
 
 def row_of(stalls: Stalls, known: Known, span: Span) -> list[str]:
-    """The cells of a group's row."""
+    """Returns the cells of a group's row."""
     times = (stalls.totals.get((resource, level), 0) for resource in RANKED for level in LEVELS)
     cells = [f"{time // MICROSECONDS}.{time % MICROSECONDS // 1000:03}" for time in times]
     return [*cells, known.groups.shown(stalls.path), processes_of(stalls.path, known, span)]
 
 
 def processes_of(path: str, known: Known, span: Span) -> str:
-    """The processes that ran most in a group, if they have names."""
+    """Lists the processes that ran most in a group. Empty if the trace doesn't have their names."""
     if not known.companion or not known.companion.busy:
         return ""
     shares, others = busiest(known.companion, path, *span)
@@ -48,7 +48,7 @@ def processes_of(path: str, known: Known, span: Span) -> str:
 
 
 def table(rows: list[list[str]]) -> str:
-    """The rows: numbers to the right, and the texts after them to the left."""
+    """Formats rows of cells: numbers are right-aligned, and the texts after them left-aligned."""
     count = len(RANKED) * len(LEVELS)
     widths = [max(len(row[place]) for row in rows) for place in range(count + 1)]
     lines = []
@@ -59,7 +59,7 @@ def table(rows: list[list[str]]) -> str:
 
 
 def parser() -> Parser:
-    """The parser of the command line."""
+    """Returns the parser of the command line."""
     words = Parser(ABOUT)
     words.add_argument("words", nargs="*", metavar="TRACE|N",
                        help="a trace, which is replayed (without it standard input is read), and"
@@ -71,7 +71,7 @@ def parser() -> Parser:
 
 
 def words_in(words: list[str]) -> tuple[Optional[str], int]:
-    """The trace and the number of groups among the arguments, in any order."""
+    """Returns the trace and the number of groups from the arguments, which may be in any order."""
     for it in words:
         if NUMBER.fullmatch(it) and not COUNT.fullmatch(it) and not os.path.exists(it):
             raise Fault(f"argument N: {it} isn't a whole number from 1 to 999999")
@@ -83,7 +83,7 @@ def words_in(words: list[str]) -> tuple[Optional[str], int]:
 
 
 def top() -> int:
-    """Prints the table."""
+    """Prints the table, and returns the exit status."""
     values: dict[str, Any] = parser().values()
     trace, count = words_in(values["words"])
     known = known_of(trace or STANDARD_INPUT, values, is_whole=True)

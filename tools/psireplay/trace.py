@@ -1,4 +1,5 @@
-"""The file of a trace: its header, its end, its groups and its events. It isn't checked here."""
+"""Reads a trace file: its header, its end, its groups and its events. It doesn't check the
+trace."""
 from __future__ import annotations
 
 import io
@@ -14,22 +15,22 @@ from .sampled import MOST_BYTES, mark_in
 HEADER = re.compile(rb"psitrace [12] cpus=([1-9][0-9]?)\n")
 END = re.compile(rb"(?:\A|\n)([0-9]{1,19}) end\n\Z")
 GROUP = re.compile(rb"^[0-9]+ group (\S+)$", re.MULTILINE)
-# At least the bytes of a header and of a last line.
+# Enough bytes for a header or a last line.
 SHORT = 64
-# The end of a file that doesn't end like a trace: the program rejects it later.
+# The end (ns) of a file that doesn't end like a trace. The program rejects such a file later.
 UNKNOWN = 2**63
-# An event: its time in ns, its verb, and the verb's fields.
+# An event: its time (ns), its verb, and the verb's fields.
 Event = tuple[int, str, list[str]]
 
 
 def cpus_in(file: IO[bytes]) -> int | None:
-    """The number of processors by the header, which is read here; None if it isn't one."""
+    """Reads the header, and returns the number of processors. None if the line isn't a header."""
     found = HEADER.fullmatch(file.readline(SHORT))
     return int(found[1]) if found else None
 
 
 def end_in(file: IO[bytes]) -> int | None:
-    """The end of a trace in ns; None if the file doesn't end like a trace."""
+    """Returns the end of a trace (ns), or None if the file doesn't end like a trace."""
     size = file.seek(0, os.SEEK_END)
     file.seek(max(0, size - SHORT))
     found = END.search(file.read())
@@ -37,7 +38,8 @@ def end_in(file: IO[bytes]) -> int | None:
 
 
 def end_of(trace: str, unknown: int = UNKNOWN) -> int:
-    """The end of a trace in ns; `unknown` if the file can't be read, or doesn't end like one."""
+    """Returns the end of a trace (ns), or `unknown` if the file can't be read or doesn't end
+    like a trace."""
     try:
         with open(trace, "rb") as file:
             end = end_in(file)
@@ -47,16 +49,16 @@ def end_of(trace: str, unknown: int = UNKNOWN) -> int:
 
 
 def groups_in(number: int) -> set[str]:
-    """The groups that a trace ever has, with the root and without those of a mark; the file is open
-    under this number.
-    """
+    """Returns the paths of all groups that a trace ever creates, and the root, without the group
+    of a mark. `number` is the file descriptor of the trace."""
     with mmap.mmap(number, 0, access=mmap.ACCESS_READ) as data:
         found = GROUP.findall(data, len(mark_in(data[:MOST_BYTES])))
     return {"/", *(path.decode("latin-1") for path in found)}
 
 
 def groups_of(trace: str) -> set[str]:
-    """The groups that the trace in a file ever has; only the root if it can't be read."""
+    """Returns the paths of all groups that a trace ever creates, and the root. Only the root if
+    the file can't be read."""
     try:
         with open(trace, "rb") as file:
             return groups_in(file.fileno())
@@ -65,27 +67,27 @@ def groups_of(trace: str) -> set[str]:
 
 
 def event_in(line: str) -> Event:
-    """The event of a line after the header."""
+    """Parses a line after the header."""
     moment, verb, *fields = line.split()
     return int(moment), verb, fields
 
 
 def events_of(trace: str) -> Iterator[Event]:
-    """The events of the trace in a file."""
+    """Yields the events of a trace file."""
     with io.TextIOWrapper(opened(trace), "latin-1", newline="\n") as file:
         next(file, None)
         yield from map(event_in, file)
 
 
 class Events:
-    """The events of the trace in a file, up to one time after another."""
+    """The events of a trace file, which are taken up to one time after another."""
 
     def __init__(self, trace: str) -> None:
         self.events = events_of(trace)
         self.following = next(self.events, None)
 
     def until(self, moment: float) -> Iterator[Event]:
-        """The next events up to this time (ns)."""
+        """Yields the next events up to `moment` (ns)."""
         while self.following and self.following[0] <= moment:
             yield self.following
             self.following = next(self.events, None)

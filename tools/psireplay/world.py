@@ -1,10 +1,10 @@
-"""The world of a trace, event by event: the tools' one interpreter of the verbs of docs/TRACES.md.
+"""The state of a trace's tasks and groups, event by event. This is the tools' one interpreter of
+the verbs of docs/TRACES.md.
 
-The trace must be one that psi_oomd accepts. Tools extend the methods `leave` and `enter`, which are
-called before and after each change of a task, and add up what they need. Two other modules
-interpret lines, and both on purpose: psifold/world.py must reject what it can't fold, and
-psifold/check.py checks folded traces independently, so that an error here can't hide one there.
-"""
+The trace must be one that psi_oomd accepts. Tools override `leave` and `enter`, which are called
+before and after each change of a task, and add up what they need. Two other modules interpret
+lines too, both on purpose: psifold/world.py must reject what it can't fold, and psifold/check.py
+checks folded traces independently, so that an error here can't hide one there."""
 from __future__ import annotations
 
 from collections.abc import Callable
@@ -12,17 +12,16 @@ from typing import Generic, TypeVar
 
 from psireplay.groups import Group, Groups
 
-# What a task does: it is ready, runs, sleeps, or waits for IO.
+# The states of a task: ready, running, sleeping, and waiting for IO.
 READY, RUNNING, ASLEEP, IOWAIT = range(4)
-# What a task does that left its processor, by the word of the trace.
+# The state of a task after it left its processor, by the word in the trace.
 AFTER = {"preempt": READY, "sleep": ASLEEP, "iowait": IOWAIT}
 NO_TASK = "0"
 
 
 class Task:
-    """A task: its number in the trace, its group, the processor on which it was last ready, what it
-    does, and whether it is in a memory stall.
-    """
+    """A task: its pid in the trace, its group, the processor on which it was last ready, its
+    state, and whether it is in a memory stall."""
 
     __slots__ = ("pid", "group", "cpu", "state", "is_stalled")
 
@@ -35,9 +34,8 @@ T = TypeVar("T", bound=Task)
 
 
 class World(Groups, Generic[T]):
-    """The groups and the tasks, and which task runs on each processor. `create` makes a task of its
-    number, its group and its processor.
-    """
+    """The groups and the tasks of a trace, and the task that runs on each processor. `create`
+    makes a task from its pid, its group and its processor."""
 
     def __init__(self, create: Callable[[str, Group, int], T]) -> None:
         super().__init__()
@@ -51,10 +49,11 @@ class World(Groups, Generic[T]):
         }  # fmt: skip
 
     def leave(self, task: T) -> None:
-        """The task is about to change or to exit: it no longer counts as what it is."""
+        """Called before the task changes or exits: it no longer counts with its present state."""
 
     def enter(self, task: T) -> None:
-        """The task was created, or has changed: from now on it counts as what it is."""
+        """Called after the task was created or has changed: from now on it counts with its new
+        state."""
 
     # ------------------------------------------------------------ verbs
 
@@ -82,7 +81,7 @@ class World(Groups, Generic[T]):
             self.enter(task)
 
     def play_wake(self, pid: str, cpu: str) -> None:
-        """A blocked task is ready on a processor; or a ready one moves there."""
+        """Makes a blocked task ready on a processor, or moves a ready task to it."""
         task = self.tasks[pid]
         self.leave(task)
         task.cpu, task.state = int(cpu), READY
@@ -109,7 +108,8 @@ class World(Groups, Generic[T]):
         self.enter(task)
 
     def play_pressure(self, path: str, word: str) -> None:
-        """If the accounting changes, all tasks of the group and below it count otherwise."""
+        """Turns a group's accounting on or off, which changes how all tasks of the group and its
+        descendants count."""
         group = self.live[path]
         if group.is_accounted == (word == "on"):
             return

@@ -1,3 +1,2 @@
-"""What systemd-oomd would have killed in a trace, with a machine's own settings:
-tools/systemd-oomd.
-"""
+"""Computes what systemd-oomd would have killed in a trace, with a machine's own settings. This
+is the tool tools/systemd-oomd."""

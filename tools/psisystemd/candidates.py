@@ -1,4 +1,4 @@
-"""The groups that may be killed, and their order."""
+"""The groups that systemd-oomd may kill, in the order in which it would."""
 from __future__ import annotations
 
 from collections.abc import Iterable, Iterator
@@ -11,15 +11,14 @@ from psiworld.groups import ROOT
 
 
 def is_below(path: str, above: str) -> bool:
-    """Whether a path is this one or a descendant of it."""
+    """Whether `path` is `above` or a descendant of it."""
     return above == ROOT or path == above or path.startswith(f"{above}/")
 
 
 def memory_of(group: Group) -> Sample | None:
-    """A group's memory as systemd-oomd reads it: for the root without swap and scans. None if
-    nothing can be read: the group has no memory controller, or its accounting is off, so that it
-    has no pressure files.
-    """
+    """Returns a group's memory as systemd-oomd reads it; for the root, swap and scans are 0.
+    None if nothing can be read, because the group has no memory controller, or its accounting is
+    off and so it has no pressure files."""
     sample = group.whole_sample()
     if group.path == ROOT:
         return Sample(sample.memory if sample else 0, 0, 0)
@@ -27,9 +26,8 @@ def memory_of(group: Group) -> Sample | None:
 
 
 def leaves(group: Group, settings: Settings) -> Iterator[Group]:
-    """The candidates of a watched group: its descendants without children, and those that are
-    killed as a whole.
-    """
+    """Yields the candidates of a watched group: its descendants without children, and those that
+    are killed as a whole (memory.oom.group)."""
     if not group.children:
         yield group
     for child in group.children.values():
@@ -40,9 +38,8 @@ def leaves(group: Group, settings: Settings) -> Iterator[Group]:
 
 
 def preference(group: Group, settings: Settings, above: str) -> str:
-    """A candidate's preference, which counts if the candidate belongs to root, or to the owner of
-    the watched group.
-    """
+    """Returns a candidate's preference, which counts only if the candidate belongs to root or to
+    the owner of the watched group `above`."""
     if settings.owner(group.path) not in (0, settings.owner(above)):
         return "none"
     return settings.preference(group.path, group.preference)
@@ -51,7 +48,8 @@ def preference(group: Group, settings: Settings, above: str) -> str:
 def candidates_of(
     world: World[Task], settings: Settings, watched: Iterable[str]
 ) -> dict[str, Group]:
-    """The candidates of all watched groups that can be read, by their paths."""
+    """Returns the candidates of all watched groups, by path, without those whose memory can't be
+    read."""
     found = (
         it
         for path in watched
@@ -64,9 +62,9 @@ def candidates_of(
 def gathered(
     candidates: dict[str, Group], settings: Settings, above: str, risen: dict[Group, int]
 ) -> list[Candidate]:
-    """The candidates that are `above` or its descendants, by their paths. `risen` has the scanned
-    pages by which they are ranked; if a group isn't in it, all that it ever scanned counts.
-    """
+    """Returns the candidates at and below the group `above`, in order of paths. `risen` has the
+    scanned pages by which they are ranked. If a group isn't in it, all pages that it ever
+    scanned count."""
     found = []
     for path, group in sorted(candidates.items()):
         sample = memory_of(group)
@@ -83,5 +81,5 @@ def gathered(
 
 
 def is_avoided(candidate: Candidate) -> bool:
-    """Whether it is ranked after all that aren't avoided."""
+    """Whether the candidate is ranked after all that don't have the preference `avoid`."""
     return candidate.preference == "avoid"

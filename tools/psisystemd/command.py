@@ -42,7 +42,7 @@ error, a bad setting, a trace that psi_oomd rejects."""
 
 
 def parser() -> Parser:
-    """The parser of the command line."""
+    """Returns the parser of the command line."""
     words = Parser(ABOUT, STATUS)
     add = words.add_argument
     add("trace", metavar="TRACE", help="a trace, or - for the standard input")
@@ -58,7 +58,7 @@ def parser() -> Parser:
 
 
 class Compared:
-    """The kills by a rules file in oomd's format."""
+    """The kills by a rules file in oomd's format, for comparison."""
 
     def __init__(self, name: str, rules: RulesFile, kills: list[Kill]) -> None:
         self.name, self.rules, self.kills = name, rules, kills
@@ -70,7 +70,7 @@ class Compared:
         )
 
     def verdict(self, own: list[Decision]) -> str:
-        """How the first kills differ."""
+        """Says how the first kills differ in time and victim."""
         one, other = (own[0] if own else None), (self.kills[0] if self.kills else None)
         if not one or not other:
             who = "systemd-oomd" if one else self.name if other else "neither"
@@ -88,7 +88,7 @@ class Compared:
 
 
 def compared(program: Program, name: str, trace: str, interval_s: int | None) -> Compared:
-    """Replays the trace with a rules file."""
+    """Replays the trace with a rules file, and returns its kills."""
     with contextlib.ExitStack() as files:
         rules, file = accepted(program, name, files)
         kills = program.replay(trace, file, Pace(None, interval_s), processors())
@@ -96,9 +96,8 @@ def compared(program: Program, name: str, trace: str, interval_s: int | None) ->
 
 
 def told_decisions(decisions: list[Decision], is_all: bool) -> Iterator[tuple[int, list[str]]]:
-    """The decisions as lines, by their times (ns). If a group is killed for swap in consecutive
-    checks, it is listed once.
-    """
+    """Yields each decision's time (ns) and its lines. Consecutive decisions to kill the same
+    group for swap are listed once."""
     for _, same in itertools.groupby(
         decisions, key=lambda it: (it.by, it.victim, it.by == SWAP or it.moment)
     ):
@@ -114,7 +113,7 @@ def told_decisions(decisions: list[Decision], is_all: bool) -> Iterator[tuple[in
 
 
 def tell_lines(engine: Engine, other: Compared | None, is_all: bool) -> None:
-    """Prints for people: the decisions in order of time, and how near the limits came."""
+    """Prints text for people: the decisions in order of time, and how near the limits came."""
     told = [(moment, 0, lines) for moment, lines in told_decisions(engine.decisions, is_all)]
     told += [(it.moment, 1, [other.line(it)]) for it in other.kills] if other else []
     for _, _, lines in sorted(told, key=lambda it: it[:2]):
@@ -142,7 +141,7 @@ def tell_lines(engine: Engine, other: Compared | None, is_all: bool) -> None:
 def tell_json(
     engine: Engine, other: Compared | None, given: argparse.Namespace, settings: Settings
 ) -> None:
-    """Prints JSON for programs."""
+    """Prints the results as JSON."""
     swap, memory, moment = engine.swap.most
     told: dict[str, object] = {
         "trace": given.trace,
@@ -165,7 +164,7 @@ def tell_json(
 
 
 def work(given: argparse.Namespace) -> int:
-    """Prints what systemd-oomd would have done."""
+    """Prints what systemd-oomd would have done, and returns the exit status."""
     if not given.is_json:
         show_containers([given.trace], vars(given))
     if given.interval_s and not given.compare:

@@ -1,9 +1,8 @@
 """systemd-oomd's rules: what it checks, when, and which group it chooses.
 
-This follows systemd 252 and 257, whose rules are the same: they differ only in settings. It checks
-the pressure of groups each second, and the machine's swap each 0.15 s. docs/SYSTEMD.md lists the
-differences.
-"""
+This follows systemd 252 and 257, which have the same rules and differ only in settings.
+systemd-oomd checks the pressure of groups each second, and the machine's swap each 0.15 s.
+docs/SYSTEMD.md lists the differences between this module and systemd-oomd."""
 from __future__ import annotations
 
 from collections.abc import Iterable
@@ -27,9 +26,9 @@ LEAST_SWAP_PERCENT = 5
 
 @dataclass
 class Look:
-    """The state of a watched group between checks: since when it is above its limit, the pages
-    scanned at the previous check, and when a scan was last seen.
-    """
+    """The state of a watched group between checks: its limit (hundredths of a percent) and
+    duration (ns), the time (ns) since which its pressure is above the limit, the scan count
+    (pages) at the previous check, and when (ns) a scan was last seen."""
 
     group: Group
     limit: int
@@ -41,9 +40,8 @@ class Look:
 
 
 class Scans:
-    """The pages that each group scanned between the last two samples. A check that finds no new
-    sample keeps the result of the previous one.
-    """
+    """The number of pages that each group scanned between the last two samples. A check that
+    finds no new sample uses the result of the previous one."""
 
     def __init__(self) -> None:
         self.samples = 0
@@ -52,7 +50,7 @@ class Scans:
         self.risen: dict[Group, int] = {}
 
     def take(self, now: int, world: World[Task]) -> None:
-        """Takes the present samples."""
+        """Takes the latest samples at `now` (ns), if they are new."""
         if world.samples == self.samples:
             return
         self.samples = world.samples
@@ -62,8 +60,8 @@ class Scans:
             sample = memory_of(group)
             if sample:
                 self.totals[group] = sample.scanned
-                # It isn't known whether pages scanned before the trace began are new, so they don't
-                # count.
+                # It isn't known when pages were scanned that a group had before the trace began, so
+                # they don't count.
                 old = before.get(group, sample.scanned if group.made == 0 else 0)
                 self.risen[group] = sample.scanned - (old if old <= sample.scanned else 0)
 
@@ -72,7 +70,7 @@ class Scans:
 
 
 class PressureRule:
-    """The rule for memory pressure."""
+    """The rule for memory pressure, which is checked each second."""
 
     def __init__(self, world: World[Task], settings: Settings) -> None:
         self.world, self.settings = world, settings
@@ -90,9 +88,8 @@ class PressureRule:
         """
 
     def look(self, now: int, averages: dict[str, int]) -> list[Decision]:
-        """The decisions at `now` (ns), from each group's full memory pressure over 10 s in
-        hundredths of a percent.
-        """
+        """Returns the decisions at `now` (ns). `averages` has the full memory pressure over 10 s
+        of each watched group, in hundredths of a percent."""
         self.scans.take(now, self.world)
         self.update(now, averages)
         above = [it for it in self.looks.values() if it.since is not None]
@@ -118,9 +115,8 @@ class PressureRule:
         return decisions
 
     def update(self, now: int, averages: dict[str, int]) -> None:
-        """Reads the watched groups. If a group's accounting was off, it isn't watched any more
-        until it is created again.
-        """
+        """Updates the state of each watched group. A group whose accounting was off once isn't
+        watched until it is created again."""
         before, self.looks = self.looks, {}
         for path, group in self.world.live.items():
             watched = self.settings.watched(path)
@@ -150,7 +146,7 @@ class PressureRule:
             self.judge(now, look, averages[path])
 
     def judge(self, now: int, look: Look, pressure: int) -> None:
-        """Updates since when it is above its limit."""
+        """Updates the time since which the group's pressure is above its limit."""
         if pressure > look.limit:
             look.since = now if look.since is None else look.since
         else:
@@ -166,8 +162,8 @@ class PressureRule:
         return f"memory pressure of {path} {pressure} for {seconds(now - (target.since or 0))} s"
 
     def told_once(self, now: int, target: Look, averages: dict[str, int]) -> list[Decision]:
-        """The decision that nothing was scanned, at the first check at which this prevents a kill.
-        """
+        """Returns the decision that nobody is killed because nothing was scanned, but only at
+        the first check at which this prevents a kill."""
         if target.is_told:
             return []
         target.is_told = True
@@ -182,9 +178,9 @@ class PressureRule:
     def decided(
         self, now: int, target: Look, averages: dict[str, int], known: set[Group]
     ) -> Decision:
-        """The victim, or why there is none. If a group was no candidate at the previous check, all
-        pages that it ever scanned count.
-        """
+        """Returns the decision for the group `target`: the victim, or why there is none. `known`
+        has the candidates of the previous check. For any other group all pages that it ever
+        scanned count."""
         path = target.group.path
         risen = {group: count for group, count in self.scans.risen.items() if group in known}
         found = gathered(self.candidates, self.settings, path, risen)
@@ -205,7 +201,7 @@ class PressureRule:
 
 
 class SwapRule:
-    """The rule for swap."""
+    """The rule for swap, which is checked each 0.15 s."""
 
     def __init__(self, world: World[Task], settings: Settings) -> None:
         self.world, self.settings = world, settings
@@ -218,13 +214,12 @@ class SwapRule:
         self.was_watched = self.is_absent = False
 
     def is_due(self) -> bool:
-        """Whether a check would find a new sample; without one the result would be the same as
-        before.
-        """
+        """Whether a check would find a new sample. Without one the result would be that of the
+        previous check."""
         return self.world.samples != self.samples
 
     def look(self, now: int) -> list[Decision]:
-        """The decisions at `now` (ns)."""
+        """Returns the decisions at `now` (ns)."""
         self.samples = self.world.samples
         watched = [path for path in self.world.live if self.settings.watched(path).swap]
         host, root = self.world.host, self.world.live[ROOT].sample
@@ -262,9 +257,8 @@ class SwapRule:
 
 
 def chosen(world: World[Task], decision: Decision) -> Decision:
-    """The decision with the first candidate that isn't skipped as the victim. If that group has no
-    tasks, nothing is killed, and no other candidate is tried.
-    """
+    """Returns `decision` with its victim, the first candidate that isn't skipped. If that group
+    has no tasks, nothing is killed, and no other candidate is tried."""
     first: Candidate | None = next((it for it in decision.candidates if not it.passed_over), None)
     if not first:
         return replace(decision, why=f"{decision.why}; but there is no candidate")
@@ -277,7 +271,7 @@ def chosen(world: World[Task], decision: Decision) -> Decision:
 
 
 class Engine:
-    """Both rules over a trace."""
+    """Both rules applied to a trace."""
 
     def __init__(self, settings: Settings) -> None:
         self.world = World(Task)
@@ -288,24 +282,23 @@ class Engine:
         self.next_look = SWAP_INTERVAL
 
     def look_at_swap(self, until: int) -> None:
-        """Checks swap up to `until` (ns), once per new sample, since all further checks have the
-        same result.
-        """
+        """Checks swap up to `until` (ns). It checks once per new sample, since further checks
+        have the same result."""
         if self.next_look < until:
             if self.swap.is_due():
                 self.decisions += self.swap.look(self.next_look)
             self.next_look = -(-until // SWAP_INTERVAL) * SWAP_INTERVAL
 
     def take(self, moment: int, verb: str, fields: list[str]) -> None:
-        """Takes an event of the trace. Checks before its time don't see it."""
+        """Applies an event of the trace, after the swap checks that are due before its time."""
         self.look_at_swap(moment)
         self.world.take(moment, verb, fields)
 
     def look_at_pressure(self, now: int, averages: dict[str, int]) -> None:
-        """Checks pressure at a full second, after the lines of that time."""
+        """Checks pressure at a full second (`now`, ns), after the events of that time."""
         self.look_at_swap(now + 1)
         self.decisions += self.pressure.look(now, averages)
 
     def kills(self) -> Iterable[Decision]:
-        """The decisions that kill a group."""
+        """Returns the decisions that kill a group."""
         return (it for it in self.decisions if it.victim is not None)

@@ -1,4 +1,4 @@
-"""oomd.conf and its drop-in files: the limits for all groups."""
+"""The limits for all groups, from oomd.conf and its drop-in files."""
 from __future__ import annotations
 
 import difflib
@@ -19,7 +19,7 @@ MAIN_ANYWHERE = 256
 
 @dataclass(frozen=True)
 class Limits:
-    """Shares in hundredths of a percent, and ns."""
+    """The limits from oomd.conf: shares in hundredths of a percent, and the duration in ns."""
 
     swap_used: int = 9000
     pressure: int = 6000
@@ -28,7 +28,8 @@ class Limits:
     """Which settings are given, and where."""
 
     def changed(self, setting: Setting) -> Limits:
-        """The limits with this setting changed."""
+        """Returns the limits with one setting changed, or raises a Fault if its value is
+        malformed."""
         if setting.name == "DefaultMemoryPressureDurationSec":
             return self.put(setting, "duration", checked_duration(setting) or Limits.duration)
         found = share(setting.value)
@@ -49,8 +50,8 @@ NAMES = {
 
 
 def checked_duration(setting: Setting) -> int | None:
-    """A duration of at least a second, in ns; None if it is empty or 0, which select the default.
-    """
+    """Parses a duration of at least 1 s, and returns it in ns. None if it is empty or 0, which
+    select the default."""
     if not setting.value:
         return None
     found = duration(setting.value)
@@ -62,7 +63,7 @@ def checked_duration(setting: Setting) -> int | None:
 
 
 def unknown(setting: Setting, names: list[str], where: str) -> str:
-    """The message that systemd has no such setting there."""
+    """Returns the message that systemd doesn't know this setting in `where`."""
     meant = difflib.get_close_matches(setting.name, names, 1)
     guess = f"; did you mean {meant[0]}?" if meant else ""
     return (
@@ -72,14 +73,15 @@ def unknown(setting: Setting, names: list[str], where: str) -> str:
 
 
 def configurations(root: str, version: int) -> list[str]:
-    """oomd.conf and its drop-in files; the last one has priority."""
+    """Lists oomd.conf and its drop-in files. The last file has priority."""
     mains = [os.path.join(root, it, "oomd.conf") for it in CONFIGURATIONS]
     main = [it for it in (mains if version >= MAIN_ANYWHERE else mains[:1]) if os.path.exists(it)]
     return main[:1] + drop_ins(root, [f"{it}/oomd.conf.d" for it in CONFIGURATIONS])
 
 
 def read_limits(root: str, version: int, notes: list[str]) -> Limits:
-    """The limits in a folder of files. Ignored settings are added to the notes."""
+    """Reads the limits from the files below `root`. Adds a note to `notes` for each ignored
+    setting."""
     limits = Limits()
     for path in configurations(root, version):
         for setting in settings_of(path):

@@ -1,6 +1,5 @@
-"""Applies systemd-oomd's rules to a trace: psi_oomd replays it, and prints its pressure each
-second.
-"""
+"""Applies systemd-oomd's rules to a trace, with the pressure that a replay by psi_oomd prints
+each second."""
 from __future__ import annotations
 
 import contextlib
@@ -29,8 +28,8 @@ BY = (MEMORY_PRESSURE, SWAP)
 
 @contextlib.contextmanager
 def kept_trace(name: str) -> Iterator[str]:
-    """The path of a trace, which is read twice: the standard input is copied to a temporary file.
-    """
+    """Yields the path of a trace that can be read twice: the standard input is copied to a
+    temporary file."""
     if name != "-":
         yield name
         return
@@ -42,18 +41,16 @@ def kept_trace(name: str) -> Iterator[str]:
 
 @dataclass(frozen=True)
 class Second:
-    """A check: its time (ns), and the full memory pressure over 10 s of the watched groups, in
-    hundredths of a percent.
-    """
+    """A check: its time (ns), and the full memory pressure over 10 s of the watched groups and
+    the root, in hundredths of a percent."""
 
     moment: int
     averages: dict[str, int]
 
 
 def kept(printed: Iterable[bytes], settings: Settings) -> Iterator[bytes]:
-    """The lines without the reports that no check needs: those of other resources, and of unwatched
-    groups. The root's reports occur each second.
-    """
+    """Yields the lines that checks need. It drops the reports of other resources, and of
+    unwatched groups except the root, whose reports mark each second."""
     is_kept = True
     for line in printed:
         if line[:5] not in (b"some ", b"full "):
@@ -72,14 +69,14 @@ def is_needed(path: str, settings: Settings) -> bool:
 
 
 def seconds_of(printed: Iterable[bytes], settings: Settings) -> Iterator[Second]:
-    """The checks of a replay."""
+    """Yields the checks of a replay."""
     reports = (it for it in read(kept(printed, settings)) if isinstance(it, Report))
     for moment, of_moment in itertools.groupby(reports, key=lambda it: it.moment):
         yield Second(moment, {it.path: it.full.avg10 for it in of_moment})
 
 
 def decide(engine: Engine, trace: str, seconds: Iterator[Second]) -> None:
-    """Takes the trace's events and the checks, merged by time."""
+    """Passes the trace's events and the checks to `engine`, merged by time."""
     events = Events(trace)
     for second in seconds:
         for event in events.until(second.moment):
@@ -90,7 +87,8 @@ def decide(engine: Engine, trace: str, seconds: Iterator[Second]) -> None:
 
 
 def replayed(program: Program, trace: str, settings: Settings, threads: int) -> Engine:
-    """What systemd-oomd would have done in a trace with these settings; or an error."""
+    """Returns what systemd-oomd would have done in a trace with these settings. Raises a Refusal
+    if psi_oomd rejects the trace."""
     words = [
         "replay",
         f"--tick-ms={LOOK_MS}",
@@ -119,14 +117,16 @@ def replayed(program: Program, trace: str, settings: Settings, threads: int) -> 
 
 
 def kills_of(decisions: Iterable[Decision]) -> list[Kill]:
-    """The kills in the form of replays: the name of the rule takes the place of the ruleset."""
+    """Converts decisions to the kills of a replay, in which a rule's index takes the place of
+    the ruleset."""
     return [
         Kill(it.moment, BY.index(it.by), 0, it.victim) for it in decisions if it.victim is not None
     ]
 
 
 def warnings(engine: Engine, settings: Settings) -> list[str]:
-    """What is missing from the trace or the settings, so that nothing could be killed."""
+    """Returns warnings about what the trace or the settings lack, so that nothing could be
+    killed."""
     found = []
     pressure, swap = engine.pressure, engine.swap
     unread = sorted(pressure.unread - set(pressure.courses))

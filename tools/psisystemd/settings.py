@@ -1,9 +1,8 @@
-"""The settings of a machine, from a folder, by the paths of groups.
+"""The settings of a machine, by the paths of groups.
 
-The folder contains files as in a machine's root, or what tools/record stored, which also has what
-systemd itself reported about its units, and each group's owner and attributes. These reports have
-priority over files.
-"""
+They are read from a folder with files as in a machine's root, or from what tools/record stored.
+The latter also has what systemd itself reported about its units, and each group's owner and
+attributes. Such reports have priority over files."""
 from __future__ import annotations
 
 import os
@@ -26,9 +25,8 @@ NO_UNIT = Unit()
 
 @dataclass(frozen=True)
 class Watched:
-    """How a group is watched: for swap, and for memory pressure, with its limit in hundredths of a
-    percent and its duration in ns.
-    """
+    """The rules by which a group is watched: swap, and memory pressure with its limit
+    (hundredths of a percent) and duration (ns)."""
 
     swap: bool
     pressure: bool
@@ -38,9 +36,8 @@ class Watched:
 
 @dataclass(frozen=True)
 class Attributes:
-    """The attributes of a group's folder: its owner's number, whether it is killed as a whole, and
-    its preference.
-    """
+    """The attributes of a group's folder: its owner (uid), whether the group is killed as a
+    whole, and its preference."""
 
     owner: int
     is_whole: bool
@@ -48,8 +45,8 @@ class Attributes:
 
 
 def version_of(path: str) -> int:
-    """The version of a recorded machine's systemd, from the first words of `systemctl --version`.
-    """
+    """Parses the version of a recorded machine's systemd from the output of `systemctl
+    --version`."""
     found = re.match(r"systemd ([0-9]{1,4})\b", text_at(path))
     if not found:
         raise Fault(
@@ -60,7 +57,7 @@ def version_of(path: str) -> int:
 
 
 def recorded_groups(path: str) -> dict[str, Attributes]:
-    """The groups of a recorded machine."""
+    """Parses the attributes of a recorded machine's groups, by path."""
     groups = {}
     for number, line in enumerate(text_at(path).splitlines(), 1):
         found = GROUP_LINE.fullmatch(line)
@@ -75,7 +72,7 @@ def recorded_groups(path: str) -> dict[str, Attributes]:
 
 
 class Settings:
-    """All settings of systemd-oomd. Notes list what was ignored."""
+    """All settings of systemd-oomd on a machine. `notes` lists ignored settings."""
 
     def __init__(self, root: str, version: int | None = None) -> None:
         self.root = root
@@ -108,7 +105,7 @@ class Settings:
         self.watches: dict[str, Watched] = {}
 
     def unit(self, path: str) -> Unit:
-        """The settings of the unit whose group this is."""
+        """Returns the settings of the unit whose group is at `path`."""
         if path not in self.units:
             self.units[path] = self.looked_up(path)
         return self.units[path]
@@ -122,7 +119,7 @@ class Settings:
         return replace(shown, is_whole=by_files.is_whole)
 
     def watched(self, path: str) -> Watched:
-        """How the group is watched."""
+        """Returns how the group is watched."""
         if path not in self.watches:
             unit = self.unit(path)
             limit = self.limits.pressure if unit.limit is None else unit.limit
@@ -138,25 +135,25 @@ class Settings:
         return bool(self.unit(path).is_whole)
 
     def owner(self, path: str) -> int:
-        """The number of the user that owns the group. If it isn't recorded: a user's manager and
-        its descendants belong to the user.
-        """
+        """Returns the uid of the group's owner. If it isn't recorded, a user's manager and its
+        descendants belong to the user, and other groups to root."""
         if path in self.groups:
             return self.groups[path].owner
         found = BELOW_MANAGER.search(path)
         return int(found[1]) if found else 0
 
     def preference(self, path: str, traced: str) -> str:
-        """The group's preference: from its attributes, else from its unit, else from the trace."""
+        """Returns the group's preference, from its attributes, or else from its unit, or else
+        from the trace (`traced`)."""
         if path in self.groups:
             return self.groups[path].preference
         return self.unit(path).preference or (traced if traced == "avoid" else "none")
 
 
 def unit_of(path: str) -> tuple[str, bool] | None:
-    """The unit whose group this is, and whether it belongs to a user's manager; None if no manager
-    has it: units are in slices, and a user's units in slices below the manager.
-    """
+    """Returns the name of the unit whose group is at `path`, and whether it belongs to a user's
+    manager. None if no manager has it: units are in slices, and a user's units in slices below
+    the manager."""
     if path == "/":
         return "-.slice", False
     *above, name = path[1:].split("/")

@@ -1,6 +1,5 @@
-"""Files of settings: sections, settings, comments and continued lines according to
-systemd.syntax(7).
-"""
+"""Parses files of settings with sections, comments and continued lines, according to
+systemd.syntax(7)."""
 from __future__ import annotations
 
 import os
@@ -14,7 +13,7 @@ from psicli.wording import quoted
 
 @dataclass(frozen=True)
 class Setting:
-    """A setting, its section, and its file and line."""
+    """A setting with its section, its value, and its place (file and line)."""
 
     place: str
     section: str
@@ -22,12 +21,13 @@ class Setting:
     value: str
 
     def fault(self, wanted: str) -> Fault:
-        """The error that its value is malformed."""
+        """Returns the error that the setting's value is malformed; `wanted` says what it has to
+        be."""
         return Fault(f"{self.place}: {self.name} is {quoted(self.value)}: it has to be {wanted}")
 
 
 def bytes_at(path: str) -> bytes:
-    """The bytes of a file."""
+    """Reads the bytes of a file. Raises a Fault if that fails."""
     try:
         with open(path, "rb") as file:
             return file.read()
@@ -36,7 +36,7 @@ def bytes_at(path: str) -> bytes:
 
 
 def text_at(path: str) -> str:
-    """The text of a file, which must be UTF-8."""
+    """Reads the text of a file, which must be UTF-8."""
     data = bytes_at(path)
     try:
         return data.decode("utf-8")
@@ -46,9 +46,8 @@ def text_at(path: str) -> str:
 
 
 def whole_lines(text: str) -> Iterator[tuple[int, str]]:
-    """Each line with its number from 1, without comments and empty lines; a line that ends in a
-    backslash continues in the next one, and comments in between don't end it.
-    """
+    """Yields each logical line with its number from 1, without comments and empty lines. A line
+    that ends in a backslash continues in the next one, and comments in between don't end it."""
     begun: tuple[int, str] | None = None
     for number, line in enumerate(text.split("\n"), 1):
         if line.lstrip()[:1] in ("#", ";"):
@@ -65,7 +64,7 @@ def whole_lines(text: str) -> Iterator[tuple[int, str]]:
 
 
 def settings_of(path: str) -> Iterator[Setting]:
-    """The settings of a file, in order. A malformed line is an error."""
+    """Yields the settings of a file in order. Raises a Fault at a malformed line."""
     section = ""
     for number, line in whole_lines(text_at(path)):
         place = f"{path} line {number}"
@@ -86,9 +85,9 @@ def settings_of(path: str) -> Iterator[Setting]:
 
 
 def drop_ins(root: str, folders: list[str]) -> list[str]:
-    """The drop-in files in these folders, in the order of their names. If several have one name,
-    the first is used. An empty file, or a link to /dev/null, only hides the others.
-    """
+    """Returns the drop-in files in `folders`, sorted by file name. Of files with the same name,
+    the one in the first folder is used, even if it is empty or a link to /dev/null, which then
+    only hides the others."""
     found: dict[str, str] = {}
     for folder in folders:
         try:

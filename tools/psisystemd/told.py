@@ -1,4 +1,4 @@
-"""The results: kills, why nothing was killed, and how near the limits came."""
+"""The results as text and JSON: kills, why nothing was killed, and how near the limits came."""
 from __future__ import annotations
 
 from dataclasses import dataclass, field
@@ -12,7 +12,7 @@ UNITS = ((1 << 30, "G"), (1 << 20, "M"), (1 << 10, "K"))
 
 
 def size(count: int) -> str:
-    """A number of bytes, with one decimal of a unit."""
+    """Formats a number of bytes with one decimal and a unit."""
     for unit, letter in UNITS:
         if count >= unit:
             return f"{count / unit:.1f}{letter}"
@@ -21,11 +21,10 @@ def size(count: int) -> str:
 
 @dataclass(frozen=True)
 class Candidate:
-    """A group that could be chosen: pages scanned in the time by which it is ranked, bytes of
-    memory and swap, and its preference. `passed_over` says why it wasn't chosen, if not just
-    because of its rank. `is_new` says that it was no candidate at the previous check, so that all
-    pages count.
-    """
+    """A group that could be chosen: the scanned pages by which it is ranked, its memory and swap
+    (bytes), and its preference. `passed_over` says why it was skipped; it is empty for a group
+    that only ranked too low. `is_new` says that the group was no candidate at the previous
+    check, so that all pages that it ever scanned count."""
 
     path: str
     scanned: int
@@ -36,7 +35,7 @@ class Candidate:
     is_new: bool = False
 
     def told(self, by: str, span: str) -> str:
-        """The values by which it was ranked."""
+        """Returns the values by which the candidate was ranked."""
         span = " ever" if self.is_new else span
         rank = (
             f"scanned {self.scanned} pages{span}, memory {size(self.memory)}"
@@ -52,9 +51,8 @@ class Candidate:
 
 @dataclass(frozen=True)
 class Decision:
-    """A decision at a time (ns): the victim or None, the rule, the watched group, the reason, and
-    all candidates by rank. `span` is the time in which pages were counted.
-    """
+    """A decision at a time (ns): the victim or None, the rule, the watched group, the reason,
+    and all candidates in order of rank. `span` says in which time the pages were scanned."""
 
     moment: int
     victim: str | None
@@ -65,7 +63,7 @@ class Decision:
     span: str = ""
 
     def lines(self, is_all: bool) -> list[str]:
-        """The decision as text lines."""
+        """Returns the decision as lines of text."""
         when = f"{seconds(self.moment)} s"
         gap = " " * (len(when) + 2)
         chosen = next((it for it in self.candidates if it.path == self.victim), None)
@@ -83,7 +81,7 @@ class Decision:
         return told
 
     def record(self) -> dict[str, object]:
-        """The decision for JSON."""
+        """Returns the decision as a JSON object."""
         candidates = [
             {"path": it.path, "scanned": it.scanned, "memory": it.memory, "swap": it.swap,
             "preference": it.preference,
@@ -99,9 +97,9 @@ class Decision:
 
 @dataclass
 class Course:
-    """How near a watched group came: its limit, the greatest pressure (hundredths of a percent) and
-    when (ns), and the longest time above the limit.
-    """
+    """How near a watched group came to a kill: its limit and its greatest pressure (both in
+    hundredths of a percent), when that was reached (ns), and the longest time (ns) above the
+    limit, None if it was never above."""
 
     path: str
     limit: int
@@ -111,7 +109,8 @@ class Course:
     longest: int | None = None
 
     def take(self, moment: int, pressure: int, since: int | None) -> None:
-        """Takes the pressure at a time (ns), and since when it is above its limit."""
+        """Records the pressure at a time (ns). `since` is the time since which the pressure is
+        above the limit, None if it isn't."""
         if pressure > self.most:
             self.most, self.most_at = pressure, moment
         if since is not None:

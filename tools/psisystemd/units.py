@@ -1,6 +1,5 @@
-"""The settings of systemd-oomd in units: from their files and drop-in files, merged like systemd
-does, and from `systemctl show`.
-"""
+"""The settings of systemd-oomd in units, from unit files and drop-in files, merged as systemd
+does, and from `systemctl show`."""
 from __future__ import annotations
 
 import os
@@ -27,9 +26,9 @@ LIMIT, DURATION_OF_UNIT = "ManagedOOMMemoryPressureLimit", "ManagedOOMMemoryPres
 PREFERENCE, POLICY = "ManagedOOMPreference", "OOMPolicy"
 NAMES = (SWAP, PRESSURE, LIMIT, DURATION_OF_UNIT, PREFERENCE)
 POLICIES = ("continue", "stop", "kill")
-# From this version a unit has a duration of its own.
+# The first version in which a unit may have its own duration.
 OWN_DURATION = 257
-# The name of that duration in `systemctl show`.
+# The name of a unit's duration in `systemctl show`.
 SHOWN_DURATION = "ManagedOOMMemoryPressureDurationUSec"
 
 
@@ -38,9 +37,9 @@ Meaning = TypeVar("Meaning")
 
 @dataclass(frozen=True)
 class Unit:
-    """The settings for a unit's group. The limit is in hundredths of a percent, the duration in ns;
-    None if oomd.conf determines it. `is_whole` is memory.oom.group, None if it isn't set.
-    """
+    """The settings for a unit's group. The limit is in hundredths of a percent and the duration
+    in ns; None selects oomd.conf's. `is_whole` says whether memory.oom.group is set, None if the
+    unit doesn't say."""
 
     swap: bool = False
     pressure: bool = False
@@ -53,7 +52,7 @@ class Unit:
     """Where each setting stands."""
 
     def changed(self, setting: Setting, version: int) -> Unit:
-        """The unit with this setting changed; systemd knows its name."""
+        """Returns the unit with one setting changed. Precondition: the setting's name is known."""
         places = {**self.places, setting.name: setting.place}
         if setting.name in (SWAP, PRESSURE):
             is_on = chosen(setting, MODES, "auto")
@@ -87,7 +86,8 @@ class Unit:
 
 
 def chosen(setting: Setting, words: dict[str, Meaning], empty: str) -> Meaning:
-    """The meaning of the setting's word; an empty value means the same as the word `empty`."""
+    """Returns the meaning of the setting's value, or raises a Fault if it isn't one of `words`.
+    An empty value means the same as the word `empty`."""
     value = setting.value or empty
     if value not in words:
         raise setting.fault(" or ".join(words))
@@ -98,16 +98,17 @@ def chosen(setting: Setting, words: dict[str, Meaning], empty: str) -> Meaning:
 
 
 def template_of(name: str) -> str | None:
-    """The template of an instance: user@.service of user@1000.service."""
+    """Returns the template of an instance, such as user@.service for user@1000.service. None if
+    `name` isn't an instance."""
     prefix, is_instance, rest = name.partition("@")
     instance, _, kind = rest.rpartition(".")
     return f"{prefix}@.{kind}" if is_instance and instance else None
 
 
 def widened(name: str) -> str | None:
-    """The name without its part after the last dash: a-b-.service for a-b-c.service, and a-.service
-    for that. For a template the result isn't a template: a-.service for a-b@.service.
-    """
+    """Shortens a unit's name to the prefix before its last dash: a-b-.service for a-b-c.service,
+    then a-.service. For a template the result isn't a template: a-.service for a-b@.service.
+    None if there is no such prefix."""
     name = name.replace("@.", ".", 1)
     stem = name.partition("@")[0] if "@" in name else name.rpartition(".")[0]
     front = stem.removesuffix("-").rpartition("-")[0]
@@ -115,9 +116,8 @@ def widened(name: str) -> str | None:
 
 
 def drop_in_names(name: str) -> Iterator[str]:
-    """The names whose drop-in files also apply to this unit, the most specific first: for
-    u-v@x.service those of u-v@.service, u-.service and u-@x.service. A name may occur twice.
-    """
+    """Yields the names whose drop-in files also apply to a unit, the most specific first: for
+    u-v@x.service these are u-v@.service, u-.service and u-@x.service. A name may occur twice."""
     yield name
     if template := template_of(name):
         yield from drop_in_names(template)
@@ -126,7 +126,7 @@ def drop_in_names(name: str) -> Iterator[str]:
 
 
 class UnitFiles:
-    """The unit files in a folder, of the system's manager or of the users'."""
+    """The unit files below a root, of the system's manager or of users' managers."""
 
     def __init__(self, root: str, is_users: bool, version: int, notes: list[str]) -> None:
         self.root, self.version, self.notes = root, version, notes
@@ -135,7 +135,7 @@ class UnitFiles:
         self.known: dict[str, Unit] = {}
 
     def unit(self, name: str) -> Unit:
-        """The merged settings of this unit."""
+        """Returns the merged settings of a unit."""
         if name not in self.known:
             self.known[name] = self.read(name)
         return self.known[name]
@@ -150,7 +150,7 @@ class UnitFiles:
         return unit
 
     def paths(self, name: str, kind: str) -> list[str]:
-        """The unit's file, or that of its template, and then its drop-in files."""
+        """Returns the unit's file, or its template's, and then its drop-in files."""
         files = [
             os.path.join(self.root, it, one)
             for one in (name, template_of(name))
@@ -162,9 +162,8 @@ class UnitFiles:
         return mains + drop_ins(self.root, folders + [f"{it}/{kind}.d" for it in self.folders])
 
     def is_known(self, setting: Setting, kind: str) -> bool:
-        """Whether it is a known setting. An unknown setting with their prefix is added to the
-        notes.
-        """
+        """Whether systemd knows the setting in a unit of this kind. Adds a note if it is ignored
+        although it looks like a setting of systemd-oomd."""
         if setting.name == DURATION_OF_UNIT and self.version < OWN_DURATION:
             self.note(
                 f"{setting.place}: {setting.name} means nothing before systemd {OWN_DURATION}"
@@ -188,7 +187,8 @@ class UnitFiles:
             self.notes.append(text)
 
     def named(self) -> list[str]:
-        """The units and templates for which some file has a setting, in order."""
+        """Returns the sorted names of units and templates for which there is a file or a drop-in
+        folder."""
         found = set()
         for folder in self.folders:
             for name in os.listdir(os.path.join(self.root, folder)):
@@ -202,9 +202,8 @@ class UnitFiles:
 
 
 def shown_units(path: str, version: int) -> dict[str, tuple[str, Unit]]:
-    """Units by their groups' paths, each with its name, as `systemctl show` printed them: blocks of
-    lines, separated by empty ones.
-    """
+    """Parses the output of `systemctl show`, blocks of lines separated by empty lines. Returns
+    each unit's name and settings by its group's path."""
     found: dict[str, tuple[str, Unit]] = {}
     block: list[Setting] = []
     for number, line in enumerate([*text_at(path).splitlines(), ""], 1):
@@ -226,7 +225,7 @@ def shown_units(path: str, version: int) -> dict[str, tuple[str, Unit]]:
 
 
 def shown_unit(shown: dict[str, Setting], version: int) -> Unit:
-    """The settings in a block."""
+    """Returns the settings in a block of `systemctl show`."""
     unit = Unit()
     for name in (SWAP, PRESSURE, PREFERENCE):
         if name in shown:

@@ -1,4 +1,4 @@
-"""The formats of systemd's values: shares, durations and booleans."""
+"""Parses systemd's shares and durations, and formats percentages."""
 from __future__ import annotations
 
 import re
@@ -11,7 +11,7 @@ WHOLE = 10000
 SCALE = (1 << 32) - 1
 """All of it, as `systemctl show` has the limit of a unit."""
 SHARE = re.compile(r"([0-9]{1,9})(?:\.([0-9]{1,2}))?([%‰‱])")
-# For each sign its hundredths of a percent, and the most decimals before it.
+# The hundredths of a percent for each sign, and the most decimals before the sign.
 SIGNS = {"%": (100, 2), "‰": (10, 1), "‱": (1, 0)}
 PART = re.compile(r"\s*([0-9]{1,18})(?:\.([0-9]{1,9}))?\s*([a-zA-Zµμ]*)")
 UNITS = {
@@ -26,9 +26,8 @@ UNITS = {
 
 
 def share(text: str) -> int | None:
-    """A number with its sign as hundredths of a percent, at most 100 percent; None if it is
-    malformed.
-    """
+    """Parses a number with its sign as hundredths of a percent. None if it is malformed or above
+    100 percent."""
     found = SHARE.fullmatch(text)
     if not found:
         return None
@@ -40,16 +39,16 @@ def share(text: str) -> int | None:
 
 
 def share_of_scale(text: str) -> int | None:
-    """A number as `systemctl show` prints it, or with a sign, as hundredths of a percent."""
+    """Parses a share, as `systemctl show` prints it or with a sign, as hundredths of a percent.
+    None if it is malformed."""
     if re.fullmatch("[0-9]{1,10}", text) and int(text) <= SCALE:
         return (int(text) * WHOLE + SCALE // 2) // SCALE
     return share(text)
 
 
 def duration(text: str) -> int | None:
-    """A duration in the format of systemd.time(7) as ns, in seconds if it has no unit; None if it
-    is malformed or infinite.
-    """
+    """Parses a duration in the format of systemd.time(7), in seconds if it has no unit, as ns.
+    None if it is malformed or infinite."""
     place, ns = 0, 0
     while place < len(text):
         found = PART.match(text, place)
@@ -61,5 +60,5 @@ def duration(text: str) -> int | None:
 
 
 def percent(hundredths: int) -> str:
-    """A share in percent, as the kernel and people write it: `50 %`, `71.2 %`."""
+    """Formats hundredths of a percent without trailing zeros: `50 %`, `71.2 %`."""
     return f"{hundredths // 100}.{hundredths % 100:02}".rstrip("0").rstrip(".") + " %"
