@@ -1,19 +1,17 @@
-"""The events of a recording, whether they were read from pages of ring buffers or from text.
+"""The events of a recording, the same for pages of ring buffers and for text.
 
-`moment` is in ns by the recording's clock, `processor` is the one on which the event was written,
-and `current` the task that ran there (0 is the idle task). Tasks are threads, numbered as in the
-first PID namespace. The names of the kernel's events are those of
-`include/trace/events/{sched,task,cgroup,oom}.h`.
-"""
+`moment` is in ns of the recording's clock, `processor` is the one on which the event was
+written, and `current` the task that ran there (0 is the idle task). Tasks are threads, numbered
+as in the first PID namespace. The names of the kernel's events are those of
+`include/trace/events/{sched,task,cgroup,oom}.h`."""
 from __future__ import annotations
 
 from typing import NamedTuple, Union
 
 
 class Switch(NamedTuple):
-    """`sched_switch`: `previous` leaves in `state`, the letter of the kernel's print format (`R`:
-    it stays ready).
-    """
+    """`sched_switch`: `previous` leaves the processor and `next` gets it. `state` is the letter
+    of the kernel's print format for `previous` (`R`: it remains ready)."""
 
     moment: int
     processor: int
@@ -24,7 +22,7 @@ class Switch(NamedTuple):
 
 
 class Wakeup(NamedTuple):
-    """`sched_wakeup`: the task is ready on `target`."""
+    """`sched_wakeup`: the task is ready on the processor `target`."""
 
     moment: int
     processor: int
@@ -34,9 +32,7 @@ class Wakeup(NamedTuple):
 
 
 class FirstWakeup(NamedTuple):
-    """`sched_wakeup_new`: a new task is ready for the first time. It is written in the task's
-    parent.
-    """
+    """`sched_wakeup_new`: a new task is ready for the first time. `current` is its parent."""
 
     moment: int
     processor: int
@@ -46,8 +42,8 @@ class FirstWakeup(NamedTuple):
 
 
 class Migration(NamedTuple):
-    """`sched_migrate_task`: a ready task, or a task that is about to be woken, moves to `target`.
-    """
+    """`sched_migrate_task`: a ready task, or a task that is about to be woken, moves from
+    processor `origin` to `target`."""
 
     moment: int
     processor: int
@@ -58,7 +54,8 @@ class Migration(NamedTuple):
 
 
 class NewTask(NamedTuple):
-    """`task_newtask`, written in the parent. `flags` are those of clone(2)."""
+    """`task_newtask`: a task was created. `current` is its parent, and `flags` are those of
+    clone(2)."""
 
     moment: int
     processor: int
@@ -68,9 +65,8 @@ class NewTask(NamedTuple):
 
 
 class Exec(NamedTuple):
-    """`sched_process_exec`: if `old` differs, that thread has taken over the number of its
-    process's first thread.
-    """
+    """`sched_process_exec`: if `old` differs from `task`, the thread `old` has taken over the
+    number of its process's first thread."""
 
     moment: int
     processor: int
@@ -80,7 +76,8 @@ class Exec(NamedTuple):
 
 
 class WaitEnds(NamedTuple):
-    """`sched_stat_iowait`: the sleep that ends was a wait for IO. It precedes the wakeup."""
+    """`sched_stat_iowait`: the sleep of `task` that ends was a wait for IO. It precedes the
+    wakeup."""
 
     moment: int
     processor: int
@@ -89,9 +86,8 @@ class WaitEnds(NamedTuple):
 
 
 class SwitchProbe(NamedTuple):
-    """A probe on `psi_task_switch`, right before the `sched_switch` of the same processor: whether
-    psi takes the task that leaves as waiting for IO.
-    """
+    """A probe on `psi_task_switch`, right before the `sched_switch` of the same processor:
+    `waits` says whether psi counts the task that leaves as waiting for IO."""
 
     moment: int
     processor: int
@@ -101,10 +97,8 @@ class SwitchProbe(NamedTuple):
 
 
 class ShowProbe(NamedTuple):
-    """A probe on `psi_show`: `current` reads the pressure file of a resource (an index into
-    RESOURCES) of the group whose accounts are at this address; the kernel samples the group for
-    that.
-    """
+    """A probe on `psi_show`: `current` reads a pressure file, so the kernel samples the group.
+    `resource` is an index into RESOURCES, and `group` the address of the group's psi data."""
 
     moment: int
     processor: int
@@ -114,9 +108,8 @@ class ShowProbe(NamedTuple):
 
 
 class AverageProbe(NamedTuple):
-    """A probe on `psi_avgs_work`: the kernel samples a group on its own; this work is part of the
-    group's accounts.
-    """
+    """A probe on `psi_avgs_work`: the kernel's periodic work samples a group. `work` is the
+    address of the work, which is a part of the group's psi data."""
 
     moment: int
     processor: int
@@ -126,8 +119,7 @@ class AverageProbe(NamedTuple):
 
 class ReadyProbe(NamedTuple):
     """A probe on `psi_task_change`: psi counts the task as ready. At a wakeup this precedes the
-    event of the wakeup.
-    """
+    event of the wakeup."""
 
     moment: int
     processor: int
@@ -144,7 +136,7 @@ class StallBegins(NamedTuple):
 
 
 class StallEnds(NamedTuple):
-    """A probe on `psi_memstall_leave`; `flags` is 0 if `current` isn't in any more stalls."""
+    """A probe on `psi_memstall_leave`; `flags` is 0 if `current` is in no other stall."""
 
     moment: int
     processor: int
@@ -153,9 +145,8 @@ class StallEnds(NamedTuple):
 
 
 class Attach(NamedTuple):
-    """`cgroup_attach_task`: a task moves to a group. If a process moves with all its threads, it
-    names the first thread. `hierarchy` is 0 for cgroup 2 only.
-    """
+    """`cgroup_attach_task`: a task moves to a group. If a process moves with all its threads,
+    `task` is its first thread. `hierarchy` is 0 for cgroup 2 only."""
 
     moment: int
     processor: int
@@ -166,9 +157,9 @@ class Attach(NamedTuple):
 
 
 class AttachProbe(NamedTuple):
-    """A probe on the function `cgroup_attach_task`, which `current` runs right before its event:
-    `whole` is 0 if only the task moves, by `cgroup.threads`, and not its process with all threads.
-    """
+    """A probe on the function `cgroup_attach_task`, which `current` runs right before the event
+    of that name: `whole` is 0 if only the task moves, by `cgroup.threads`, and not its process
+    with all threads."""
 
     moment: int
     processor: int
@@ -178,7 +169,7 @@ class AttachProbe(NamedTuple):
 
 
 class GroupMade(NamedTuple):
-    """`cgroup_mkdir`."""
+    """`cgroup_mkdir`: a group was created."""
 
     moment: int
     processor: int
@@ -188,7 +179,7 @@ class GroupMade(NamedTuple):
 
 
 class GroupRemoved(NamedTuple):
-    """`cgroup_rmdir`."""
+    """`cgroup_rmdir`: a group was removed."""
 
     moment: int
     processor: int
@@ -198,7 +189,7 @@ class GroupRemoved(NamedTuple):
 
 
 class Victim(NamedTuple):
-    """`mark_victim`: the kernel's own killer chose the task."""
+    """`mark_victim`: the kernel's OOM killer chose the task."""
 
     moment: int
     processor: int
@@ -227,9 +218,8 @@ class Marker(NamedTuple):
 
 
 class Named(NamedTuple):
-    """The task has this name, which is another than the processor's events showed before. It was
-    read in a switch, right before that, or in `sched_process_exec`.
-    """
+    """The name of a task, if it differs from the name in earlier events of the processor. It
+    precedes the switch or the `sched_process_exec` in which it was read."""
 
     moment: int
     processor: int
@@ -245,7 +235,7 @@ Event = Union[
     Named,
 ]  # fmt: skip
 
-# The name of each kind in counts and messages: the kernel's name, or the probe's.
+# The name of each kind of event in counts and messages: the kernel's name, or the probe's.
 NAMES: dict[type, str] = {
     Switch: "sched_switch", Wakeup: "sched_wakeup", FirstWakeup: "sched_wakeup_new",
     Migration: "sched_migrate_task",
@@ -260,12 +250,12 @@ NAMES: dict[type, str] = {
     Marker: "trace_marker",
 }  # fmt: skip
 
-# clone(2): the new task is a thread of its parent's process; or it begins in a group that the
+# Flags of clone(2): the new task is a thread of its parent's process; it begins in a group that the
 # caller named.
 CLONE_THREAD = 0x10000
 CLONE_INTO_CGROUP = 0x2_0000_0000
 
-# The letters of tasks that exit: dead, and zombie.
+# The state letters of tasks that exit: dead, and zombie.
 GONE = ("X", "Z")
 
 
@@ -273,9 +263,9 @@ NEVER = 2**64
 
 
 class Gap(NamedTuple):
-    """Lost events of a processor: how many (0 if that isn't known), somewhere from `start` to `end`
-    in ns; or up to `end` if `start` is 0, or from `start` if `end` is NEVER.
-    """
+    """Lost events of a processor: `lost` is their number (0 if unknown). They were lost between
+    `start` and `end` (ns); a `start` of 0 is the beginning, and an `end` of NEVER the end of the
+    recording."""
 
     processor: int
     start: int

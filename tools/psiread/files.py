@@ -1,6 +1,6 @@
-"""Opens the files of a recording's folder: regular files only, since a device or a FIFO would block
-or never end. At most the bytes that `meta` counts are read from compressed pages.
-"""
+"""Opens the files of a recording's folder. Only regular files are opened, since a device or a
+FIFO could block or never end. From compressed pages at most the number of bytes in `meta` is
+read."""
 from __future__ import annotations
 
 import gzip
@@ -13,14 +13,14 @@ from psirec.layout import PACKED, part_name, raw_name
 
 from .source import Unreadable
 
-# If `meta` has no count (the recorder was killed), the pages of a part are at most this many bytes:
-# eight times what the recorder writes into one.
+# The most bytes in a part if `meta` has no count, because the recorder was killed: eight times what
+# the recorder writes into a part.
 MOST_PART_BYTES = 64 << 20
 PIECE = 8 << 20
 
 
 def open_regular(path: str) -> IO[bytes]:
-    """A regular file to read."""
+    """Opens a regular file for reading. Raises Unreadable for any other kind of file."""
     file = os.open(path, os.O_RDONLY | os.O_NONBLOCK | os.O_CLOEXEC)
     if not stat.S_ISREG(os.fstat(file).st_mode):
         os.close(file)
@@ -29,7 +29,7 @@ def open_regular(path: str) -> IO[bytes]:
 
 
 def bytes_of(folder: str, name: str) -> bytes:
-    """The bytes of a file of the folder."""
+    """Returns the bytes of a file of the folder."""
     try:
         with open_regular(os.path.join(folder, name)) as file:
             return file.read()
@@ -38,14 +38,14 @@ def bytes_of(folder: str, name: str) -> bytes:
 
 
 def text_of(folder: str, name: str) -> str:
-    """The file as text, in which no byte is lost."""
+    """Returns a file's text. Bytes that aren't UTF-8 become surrogates, so that no byte is lost."""
     return bytes_of(folder, name).decode("utf-8", "surrogateescape")
 
 
 class Raw:
-    """The pages of a processor: one file, or parts read as one. Reading more than `most` bytes is
-    an error; `count` is the number of bytes read.
-    """
+    """The pages of a processor, from one file or from several parts that are read as one.
+    Reading more than `most` bytes of compressed parts is an error; `count` is the number of
+    bytes read."""
 
     def __init__(self, folder: str, processor: int, most: int | None) -> None:
         self.name = raw_name(processor)
@@ -58,7 +58,7 @@ class Raw:
             raise Unreadable(f"{self.name}: {fault.strerror}") from None
 
     def read(self, size: int) -> bytes:
-        """The next `size` bytes; fewer at the end."""
+        """Returns the next `size` bytes, or fewer at the end."""
         try:
             data = bytearray(self.file.read(size))
             while self.names[1:] and len(data) < size:
@@ -77,7 +77,7 @@ class Raw:
         return bytes(data)
 
     def read_all(self) -> bytes:
-        """All bytes."""
+        """Returns all remaining bytes."""
         pieces = []
         while piece := self.read(PIECE):
             pieces.append(piece)
@@ -85,7 +85,8 @@ class Raw:
 
 
 def parts_of(folder: str, processor: int) -> list[str]:
-    """The paths of a processor's parts. If a part exists twice, the recorder was compressing it."""
+    """Returns the paths of a processor's parts in order. If a part exists both plain and
+    compressed, the recorder was interrupted while compressing it, and the plain file is taken."""
     names = set(os.listdir(folder))
     parts: list[str] = []
     while (
@@ -97,7 +98,7 @@ def parts_of(folder: str, processor: int) -> list[str]:
 
 
 def open_part(name: str) -> IO[bytes]:
-    """A part, which may be compressed."""
+    """Opens a part, which may be compressed."""
     file = open_regular(name)
     if name.endswith(PACKED):
         return gzip.GzipFile(fileobj=file)  # type: ignore[return-value]

@@ -1,9 +1,8 @@
-"""The formats of a recording's events: the offset of each field in a record, from the kernel's own
-`format` files.
+"""Parses the formats of a recording's events, which have the offset of each field in a record, from
+the kernel's own `format` files.
 
 A field's line is `field:TYPE NAME; offset:N; size:N; signed:N;`, offsets and sizes in bytes
-(`Documentation/trace/events.rst` of Linux, section 2.2). Numbers are little-endian.
-"""
+(`Documentation/trace/events.rst` of Linux, section 2.2). Numbers are little-endian."""
 from __future__ import annotations
 
 import operator
@@ -18,20 +17,19 @@ FIELD = re.compile(
 )
 INTEGERS = {(1, True): "b", (1, False): "B", (2, True): "h", (2, False): "H",
             (4, True): "i", (4, False): "I", (8, True): "q", (8, False): "Q"}  # fmt: skip
-# The largest pages of ring buffers have 1 MB.
+# The largest accepted page (bytes). The largest pages of ring buffers have 1 MB.
 MOST_PAGE = 1 << 21
-# Reads integer fields of the record at an offset.
+# Reads integer fields of the record that begins at an offset.
 IntegerReader = Callable[[bytes, int], tuple[int, ...]]
 
 
 class FormatFault(Exception):
-    """The formats of a kernel whose pages can't be read."""
+    """Formats whose pages or records can't be read."""
 
 
 class Field(NamedTuple):
-    """A field of a record; `offset` and `size` are bytes, and `size` is 0 for a text that ends the
-    record.
-    """
+    """A field of a record. `offset` and `size` are in bytes, and `size` is 0 for a text that
+    ends the record."""
 
     type: str
     offset: int
@@ -49,7 +47,8 @@ class Format(NamedTuple):
 
 
 def field_of(line: str) -> tuple[str, Field] | None:
-    """The name and the field in this line of a format; None if it has none."""
+    """Parses a line of a format. Returns the field's name and the field, or None if the line has
+    none."""
     found = FIELD.match(line)
     if not found:
         return None
@@ -59,7 +58,8 @@ def field_of(line: str) -> tuple[str, Field] | None:
 
 
 def sections_of(text: str) -> dict[str, list[str]]:
-    """The lines of each `== NAME` of the recording's file of formats."""
+    """Splits the recording's file of formats into its sections `== NAME`, and returns each one's
+    lines."""
     sections: dict[str, list[str]] = {}
     lines: list[str] = []
     for line in text.split("\n"):
@@ -71,12 +71,12 @@ def sections_of(text: str) -> dict[str, list[str]]:
 
 
 def fields_of(lines: Sequence[str]) -> dict[str, Field]:
-    """All fields of a format, by name."""
+    """Returns all fields of a format, by name."""
     return dict(found for found in map(field_of, lines) if found)
 
 
 def formats_of(sections: dict[str, list[str]]) -> dict[str, Format]:
-    """The formats of all events, by the event's name without its system's."""
+    """Returns the formats of all events, by the event's name without the name of its subsystem."""
     formats = {}
     for path, lines in sections.items():
         number = next(
@@ -90,9 +90,8 @@ def formats_of(sections: dict[str, list[str]]) -> dict[str, Format]:
 
 
 class PageFormat(NamedTuple):
-    """A page of a ring buffer, according to `events/header_page`: its size, the size of its field
-    for the used bytes, and the offset of its records.
-    """
+    """The layout of a ring buffer's page, according to `events/header_page`: its size, the size
+    of the field for the used bytes, and the offset of its records, all in bytes."""
 
     size: int
     commit_size: int
@@ -100,7 +99,7 @@ class PageFormat(NamedTuple):
 
 
 def page_format_of(sections: dict[str, list[str]]) -> PageFormat:
-    """The format of the recording's pages."""
+    """Returns the layout of the recording's pages."""
     fields = fields_of(sections.get("header_page", ()))
     try:
         data, commit = fields["data"], fields["commit"]
@@ -114,10 +113,9 @@ def page_format_of(sections: dict[str, list[str]]) -> PageFormat:
 
 
 def state_letters(print_format: str) -> tuple[dict[int, str], int]:
-    """The letter of each bit of `prev_state` in the print format of `sched_switch`, and the bit of
-    `R+`, which is the one above those: a task that was preempted while it was about to sleep, and
-    stays ready.
-    """
+    """Returns the letter of each bit of `prev_state` in the print format of `sched_switch`, and
+    the bit of `R+`, which is the next higher one: the task was preempted while it was about to
+    sleep, and remains ready."""
     letters = {
         int(bit, 16): letter
         for bit, letter in re.findall(r"\{\s*(0x[0-9a-fA-F]{1,16}),\s*\"(\w)\"", print_format)
@@ -128,7 +126,7 @@ def state_letters(print_format: str) -> tuple[dict[int, str], int]:
 
 
 def integers_of(form: Format, names: Sequence[str]) -> IntegerReader:
-    """A reader for these fields, all of them integers."""
+    """Returns a reader for the fields `names`, which must be integers."""
     try:
         fields = [form.fields[name] for name in names]
         order = sorted(range(len(fields)), key=lambda place: fields[place].offset)
@@ -143,7 +141,8 @@ def integers_of(form: Format, names: Sequence[str]) -> IntegerReader:
 
 
 def in_order(reader: struct.Struct, places: list[int]) -> IntegerReader:
-    """A reader that uses this structure and returns the numbers in the order of `places`."""
+    """Returns a reader that unpacks a structure and returns its numbers in the order of
+    `places`."""
     unpack = reader.unpack_from
     if places == list(range(len(places))):
         return unpack
@@ -152,7 +151,7 @@ def in_order(reader: struct.Struct, places: list[int]) -> IntegerReader:
 
 
 def text_at(data: bytes, at: int, end: int, field: Field) -> bytes:
-    """A text field of the record from `at` to `end`, without its terminating zero."""
+    """Returns a text field of the record from `at` to `end`, without its terminating zero."""
     if field.type.startswith("__data_loc"):
         where = int.from_bytes(data[at + field.offset : at + field.offset + 4], "little")
         start = at + (where & 0xFFFF)

@@ -7,10 +7,10 @@ import re
 
 from psirec.meta import is_recording
 
-# The number of bytes to look at.
+# The number of bytes at the start of a file by which its kind is recognised.
 HEAD = 64
 TRACE_HEADER = re.compile(rb"psitrace [0-9]+ cpus=")
-# The first bytes of a file, what it is, and advice.
+# The first bytes of a file, and what it is, with advice.
 KINDS = (
     (b"\x1f\x8b", "it is compressed by gzip: unpack it with gunzip -c"),
     (b"\xfd7zXZ\0", "it is compressed by xz: unpack it, an archive with tar xf"),
@@ -27,7 +27,7 @@ RULES = "it seems to be a rules file"
 
 
 def kind_of(head: bytes) -> str | None:
-    """What a file with these first bytes is, with advice. None if that is unknown."""
+    """Says what a file with these first bytes is, with advice. None if its kind is unknown."""
     if not head:
         return "it is empty"
     if TRACE_HEADER.match(head):
@@ -43,9 +43,8 @@ def kind_of(head: bytes) -> str | None:
 
 
 def kind_of_file(name: str) -> str | None:
-    """What a file or a folder is, with advice; None if it can't be read, or `name` is the standard
-    input.
-    """
+    """Says what a file or a folder is, with advice. None if its kind is unknown, it can't be
+    read, or `name` is the standard input."""
     if os.path.isdir(name):
         return (
             "it is a recording: tools/psitrace makes a trace of it"
@@ -62,7 +61,7 @@ def kind_of_file(name: str) -> str | None:
 
 
 def is_trace(name: str) -> bool:
-    """Whether a file has the first bytes of a trace."""
+    """Whether a file begins like a trace."""
     try:
         if not os.path.isfile(name):
             return False
@@ -73,7 +72,8 @@ def is_trace(name: str) -> bool:
 
 
 def recording_below(folder: str) -> str | None:
-    """A folder with `meta` one or two levels below this one, if there is exactly one."""
+    """Returns the recording one or two levels below `folder`, if there is exactly one, otherwise
+    None."""
     found = [
         path
         for pattern in ("*", "*/*")

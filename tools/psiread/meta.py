@@ -26,7 +26,7 @@ class Meta(Lines):
         return int(count)
 
     def version_fault(self) -> str | None:
-        """Why the folder's layout is unknown; None if it is known."""
+        """Says why the folder's layout isn't supported, None if it is."""
         version, words = self.one(Key.RECORDING), (self.one(Key.UNAME) or "").split()
         if version is not None and version not in VERSIONS:
             return f"{META}: this is a recording of version {version}, and {VERSION} is known"
@@ -35,19 +35,20 @@ class Meta(Lines):
         return None
 
     def end(self) -> str | None:
-        """Why the recording ended; None if nothing says that it did."""
+        """Says why the recording ended, None if the recorder wrote no end."""
         if self.one(Key.RECORDING) is None:
             return Reason.SECONDS if self.last_key == SKETCH_END else None
         return self.one(Key.END)
 
     def ring_start(self) -> int:
-        """The time in ns from which all processors have events in a flight recorder's ring; else 0.
-        """
+        """Returns the time (ns) from which all processors have events in a flight recorder's
+        ring, or 0."""
         start = self.one(Key.RING_START) or ""
         return ns_of(start) if re.fullmatch(r"[0-9]{1,10}(\.[0-9]{1,9})?", start) else 0
 
     def bytes(self) -> int | None:
-        """The bytes of all pages together, as counted by the recorder; None if it was killed."""
+        """Returns the total bytes of all pages, as the recorder counted them. None if it was
+        killed."""
         count = self.one(Key.BYTES) or ""
         return int(count) if re.fullmatch("[0-9]{1,15}", count) else None
 
@@ -56,7 +57,8 @@ class Meta(Lines):
         return self.one(Key.RECORDING) not in (None, WITHOUT_END)
 
     def realtime(self) -> int | None:
-        """The number of ns that CLOCK_REALTIME was ahead of CLOCK_MONOTONIC."""
+        """Returns by how many ns CLOCK_REALTIME was ahead of CLOCK_MONOTONIC, None if not
+        recorded."""
         found = re.fullmatch(
             r"realtime ([0-9]{1,12}\.[0-9]{1,9}) monotonic ([0-9]{1,12}\.[0-9]{1,9})",
             self.one(Key.MOMENT) or "",
@@ -64,28 +66,28 @@ class Meta(Lines):
         return ns_of(found[1]) - ns_of(found[2]) if found else None
 
     def ahead(self) -> int:
-        """The number of ns by which local time was ahead of UTC; 0 if that wasn't recorded."""
+        """Returns by how many ns local time was ahead of UTC, 0 if that wasn't recorded."""
         found = re.fullmatch("([+-])([0-9]{2}):([0-9]{2})", self.one(Key.ZONE) or "")
         minutes = 60 * int(found[2]) + int(found[3]) if found else 0
         return minutes * 60 * 10**9 * (-1 if found and found[1] == "-" else 1)
 
     def had_event(self, name: str) -> bool:
-        """Whether an event of this name was on."""
+        """Whether the recorder had switched on the event `name`."""
         return any(event.rpartition("/")[2] == name for event in self.all(Key.EVENT))
 
     def has_all_bytes(self) -> bool:
-        """Whether all pages that it counts must be there: if the disk was full, some couldn't be
-        written.
-        """
+        """Whether all pages that `meta` counts must be there. If the disk was full, some
+        couldn't be written."""
         return self.end() is not None and not self.ended_early()
 
     def ended_early(self) -> bool:
-        """Whether the recorder ended because something failed."""
+        """Whether the recording ended because something failed."""
         return (self.end() or "").split(" ")[0] in (Reason.DISK_FULL, Reason.FAILED)
 
 
 def meta_of(folder: str) -> Meta:
-    """The folder's `meta`. If there is none, this may be the folder above a recording."""
+    """Reads the `meta` of a recording. If there is none, the error suggests a recording below
+    the folder."""
     if not os.path.lexists(folder):
         raise Unreadable(f"{folder}: No such file or directory")
     if os.path.isdir(folder) and not os.path.lexists(os.path.join(folder, META)):

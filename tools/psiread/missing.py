@@ -1,6 +1,5 @@
-"""Finds what is missing from a recording: pages that `meta` counts, a part of the snapshot, files
-that aren't read, and sound times.
-"""
+"""Finds what a recording lacks: pages that `meta` counts, a part of the snapshot, files that
+aren't read, and plausible times."""
 from __future__ import annotations
 
 import os
@@ -14,20 +13,19 @@ from .events import NEVER, Event, Gap, GroupMade, GroupRemoved, Marker
 from .source import Source
 from psicli.times import SECOND, seconds_to_ms
 
-# If pages are missing, a processor whose first or last event is this far (ns) from the recording's
-# start or end lost some there.
+# If pages are missing, a processor whose first or last event is farther than this (ns) from the
+# start or the end of the recording has lost events there.
 FAR = SECOND // 10
-# A trace has at most a million ticks; at ticks of 2 s this is its greatest length (ns).
+# The greatest length of a trace (ns): a million ticks of 2 s.
 MOST_LENGTH = 10**6 * 2 * SECOND
 RAW = re.compile(r"cpu([0-9]{1,9})(?:\.[0-9]+)?\.raw(?:\.gz)?")
 GROUP_SAMPLE = f"{MARK}mem ".encode()
 
 
 class Expected(NamedTuple):
-    """What a complete recording contains: the bytes of pages that `meta` counts (None if it
-    doesn't, or not all could be written), whether the recorder's last marker must be among the
-    events, and whether its snapshots have an end mark.
-    """
+    """The contents of a complete recording: the bytes of pages that `meta` counts (None if it
+    has no count, or if not all could be written), whether the recorder's last marker must be
+    among the events, and whether its snapshots have an end mark."""
 
     byte_count: int | None
     has_stop: bool
@@ -35,7 +33,7 @@ class Expected(NamedTuple):
 
 
 def tell_missing(source: Source, folder: str, expected: Expected) -> None:
-    """Adds what is missing to the losses."""
+    """Adds what the recording lacks to the source's losses and notes."""
     if expected.byte_count is not None and source.bytes != expected.byte_count:
         tell_bytes(source, expected.byte_count, expected.has_stop)
     for processor in unread_processors(folder, source.processors):
@@ -58,10 +56,9 @@ def tell_missing(source: Source, folder: str, expected: Expected) -> None:
 
 
 def tell_bytes(source: Source, count: int, has_stop: bool) -> None:
-    """Adds a loss if the pages have more bytes than `meta` counts, or fewer. If all processors'
-    events end at one time, before the recorder's last marker, nothing up to then is missing: that
-    is no loss.
-    """
+    """Compares the bytes of pages with the number in `meta`, and adds the difference to the
+    losses. If all processors' events end at one time, before the recorder's last marker, nothing
+    is missing before that time: then the difference is only a note."""
     if source.bytes > count:
         source.losses.append(
             f"the pages have {source.bytes} bytes, and meta counts {count}: some aren't of this"
@@ -83,7 +80,7 @@ def tell_bytes(source: Source, count: int, has_stop: bool) -> None:
 
 
 def missing_ends(source: Source) -> Iterator[tuple[Gap, str]]:
-    """The processors whose events begin late or end early, each with its gap and a description."""
+    """Yields a gap and its description for each processor whose events begin late or end early."""
     length, (firsts, lasts) = source.stop - source.start, ends_of(source)
     for processor in range(source.processors):
         if processor not in firsts:
@@ -101,7 +98,7 @@ def missing_ends(source: Source) -> Iterator[tuple[Gap, str]]:
 
 
 def ends_of(source: Source) -> tuple[dict[int, int], dict[int, int]]:
-    """The times (ns) of each processor's first and last event."""
+    """Returns the times (ns) of each processor's first and last event."""
     firsts: dict[int, int] = {}
     lasts: dict[int, int] = {}
     for event in source.events:
@@ -111,7 +108,8 @@ def ends_of(source: Source) -> tuple[dict[int, int], dict[int, int]]:
 
 
 def unread_processors(folder: str, processors: int) -> list[int]:
-    """Processors that have files in the folder but exceed the number in `meta`."""
+    """Returns the processors that have files in the folder, but whose numbers exceed those in
+    `meta`."""
     found = (RAW.fullmatch(name) for name in os.listdir(folder))
     return sorted({int(it[1]) for it in found if it and int(it[1]) >= processors})
 
@@ -120,9 +118,9 @@ def unread_processors(folder: str, processors: int) -> list[int]:
 
 
 def missing_in_snapshot(source: Source) -> str | None:
-    """What a snapshot without an end mark must list and doesn't: the recorder itself, and all
-    groups of the first memory sample that no event created. None if it lists all.
-    """
+    """Says what a snapshot without an end mark lacks. It must list the recorder itself, and all
+    groups of the first memory sample that weren't created or removed during the recording. None
+    if it lists them all."""
     snapshot = source.snapshot
     if snapshot.is_cut:
         return "its last line has no newline"
@@ -143,7 +141,8 @@ def missing_in_snapshot(source: Source) -> str | None:
 
 
 def first_sampled(events: list[Event]) -> set[str]:
-    """The groups of the first memory sample: the recorder writes a line for each."""
+    """Returns the groups of the first memory sample, for which the recorder writes a line per
+    group."""
     found: set[str] = set()
     for event in events:
         if isinstance(event, Marker) and event.text.startswith(GROUP_SAMPLE):
@@ -158,7 +157,7 @@ def first_sampled(events: list[Event]) -> set[str]:
 
 
 def bound_times(source: Source) -> None:
-    """Removes events whose times a trace can't have, and adds them to the losses."""
+    """Limits the source to the times that a trace can have, and adds a loss if there are others."""
     if source.stop < source.start:
         source.losses.append("the recording ends before it begins: times of its pages are damaged")
         source.stop = source.start

@@ -1,6 +1,5 @@
-"""Names of tasks in the records of a processor: each switch has the name of the task that leaves,
-and each exec that of the file.
-"""
+"""Reads names of tasks from a processor's records: each switch has the name of the task that
+leaves, and each exec the name of the file."""
 from __future__ import annotations
 
 from typing import Any, NamedTuple, Optional
@@ -13,9 +12,8 @@ MOST_NAME = 15
 
 
 class NameFields(NamedTuple):
-    """Where the records have names: the number of `sched_switch`, and the start and the end of its
-    field; the number of `sched_process_exec`, and its field.
-    """
+    """The places of names in records: the number of `sched_switch` with the start and end of its
+    field (bytes), and the number of `sched_process_exec` with its field."""
 
     switch: int
     start: int
@@ -25,7 +23,8 @@ class NameFields(NamedTuple):
 
 
 def name_fields(forms: dict[str, Format]) -> NameFields:
-    """The fields according to the recording's formats; numbers are -1 if it doesn't have them."""
+    """Returns the fields with names according to the recording's formats. An event's number is
+    -1 if the recording doesn't have it."""
     switch, exec_ = forms.get("sched_switch"), forms.get("sched_process_exec")
     name = switch.fields.get("prev_comm") if switch else None
     file = exec_.fields.get("filename") if exec_ else None
@@ -35,7 +34,7 @@ def name_fields(forms: dict[str, Format]) -> NameFields:
 
 
 class Names:
-    """The names that the records of one processor have shown so far."""
+    """The names that the records of one processor have shown up to now."""
 
     def __init__(self, fields: NameFields) -> None:
         self.fields = fields
@@ -44,7 +43,8 @@ class Names:
         self.known: dict[int, bytes] = {}
 
     def of_switch(self, event: Any, data: bytes, at: int) -> Optional[Named]:
-        """The name of the task that leaves by this switch, if it is new; the record is at `at`."""
+        """Returns the name of the task that leaves by this switch, None if it is known already.
+        `at` is the offset of the record in `data`."""
         name = data[at + self.start : at + self.end]
         task = event[3]
         if self.known.get(task) == name:
@@ -56,9 +56,8 @@ class Names:
         return Named(event.moment, event.processor, event.current, task, text)
 
     def of_exec(self, event: Event, data: bytes, at: int, end: int) -> Optional[Named]:
-        """The name that a task gets by exec, which is that of its file; scripts may be called
-        differently, which their next switch shows.
-        """
+        """Returns the name that a task gets by exec, which is that of its file. A script may be
+        called differently, which its next switch shows."""
         assert isinstance(event, Exec) and self.fields.file
         name = text_at(data, at, end, self.fields.file).rpartition(b"/")[2][:MOST_NAME]
         if not name:
@@ -66,7 +65,7 @@ class Names:
         return Named(event.moment, event.processor, event.current, event.task, name)
 
     def of(self, number: int, event: Event, data: bytes, at: int, end: int) -> Optional[Named]:
-        """The new name in the record of an event with this number, if it has one."""
+        """Returns the new name in the record of an event with this number, None if it has none."""
         if number == self.switch:
             return self.of_switch(event, data, at)
         return self.of_exec(event, data, at, end) if number == self.exec else None

@@ -19,13 +19,14 @@ from .records import Decoder
 
 MISSED = 1 << 31
 MISSED_IS_TOLD = 1 << 30
-# The rest of `commit`: a page's records have at most this many bytes (the largest pages have 1 MB).
+# The bits of `commit` with the number of used bytes (the largest pages have 1 MB).
 USED = (1 << 30) - 1
 
 # Kinds of records: 0 has its length in an extra word; 1 to 28 are lengths in words of four bytes.
 PADDING, TIME_EXTENDS = 29, 30
 TIME_BITS = 27
-# The number of bits of a time in a record; the bits above are those of the previous time.
+# The number of time bits in an absolute timestamp record. The bits above are taken from the
+# previous time.
 MOMENT_BITS = 59
 
 WORD = struct.Struct("<I").unpack_from
@@ -37,9 +38,9 @@ class PageFault(Exception):
 
 
 class Page(NamedTuple):
-    """The header of a page: the time of its first record in ns, the number of events lost before it
-    (0: none, -1: unknown), and the start and end of its records.
-    """
+    """The header of a page: the time (ns) of its first record, the number of events lost before
+    the page (0 for none, -1 for unknown), and the start and end of its records (offsets in
+    bytes)."""
 
     moment: int
     lost: int
@@ -48,7 +49,7 @@ class Page(NamedTuple):
 
 
 def page_at(data: bytes, at: int, form: PageFormat) -> Page:
-    """The page that begins at this offset."""
+    """Parses the header of the page that begins at the offset `at`."""
     moment = LONG(data, at)[0]
     commit = LONG(data, at + 8)[0] if form.commit_size == 8 else WORD(data, at + 8)[0]
     start = at + form.data
@@ -63,7 +64,7 @@ def page_at(data: bytes, at: int, form: PageFormat) -> Page:
 
 
 def records_of(data: bytes, page: Page) -> Iterator[tuple[int, int, int]]:
-    """The time (ns), start and end of each event's record of the page."""
+    """Yields the time (ns), start and end of each event's record in a page."""
     moment, at, end = page.moment, page.start, page.end
     while at + 4 <= end:
         word = WORD(data, at)[0]
@@ -97,9 +98,8 @@ def records_of(data: bytes, page: Page) -> Iterator[tuple[int, int, int]]:
 
 
 class Pages(NamedTuple):
-    """The pages of one processor: its events in order, the gaps, and the number of bytes after the
-    last whole page.
-    """
+    """The contents of one processor's pages: its events in order, the gaps, and the number of
+    bytes after the last whole page."""
 
     events: list[Event]
     gaps: list[Gap]
@@ -114,9 +114,8 @@ def read_pages(
     names: Names,
     is_ring: bool,
 ) -> Pages:
-    """Reads all pages of a processor. In a flight recorder's ring a loss before the first page is
-    no gap: it was overwritten on purpose.
-    """
+    """Reads all pages of a processor. In a flight recorder's ring a loss before the first page
+    is no gap, because the ring overwrites old pages by design."""
     events: list[Event] = []
     gaps: list[Gap] = []
     named = names.switch, names.exec

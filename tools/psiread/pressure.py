@@ -1,6 +1,5 @@
-"""The pressure files of a recording, and those that a replay prints: totals of stall time in us,
-over time.
-"""
+"""Reads the pressure files of a recording, and the reports of a replay: stall totals (us) over
+time."""
 from __future__ import annotations
 
 import re
@@ -26,30 +25,29 @@ READING = re.compile(rb"pressure ([0-9]{1,18}) (begin|end)\s*")
 
 
 class File(NamedTuple):
-    """A pressure file: a group's, of a resource."""
+    """A pressure file, identified by its group and its resource."""
 
     path: str
     resource: str
 
 
 class Totals(NamedTuple):
-    """The totals of a pressure file at a time (ns): stall time of some and full, in us."""
+    """The totals of a pressure file at a time (ns): the stall times of some and full (us)."""
 
     moment: int
     some: int
     full: int
 
 
-# The totals that a replay reported for each file, in order of time; and the readings of the
-# machine's files, by number.
+# The totals that a replay reported for each file, in order of time, and the readings of the
+# machine's own files, by the reading's number.
 Series = dict[File, list[Totals]]
 Readings = dict[int, dict[File, Totals]]
 
 
 def reading_markers(source: Source) -> Iterator[tuple[Marker, int, bool]]:
-    """The markers around the readings of the pressure files: each with the reading's number, and
-    whether it is the begin marker.
-    """
+    """Yields the markers at the start and end of each reading of the pressure files, each with
+    the reading's number, and whether it is the start."""
     for event in source.events:
         if isinstance(event, Marker) and event.text.startswith(MARK.encode()):
             found = READING.fullmatch(event.text[len(MARK) :])
@@ -58,12 +56,13 @@ def reading_markers(source: Source) -> Iterator[tuple[Marker, int, bool]]:
 
 
 def recorder_of(source: Source) -> int | None:
-    """The task that read the pressure files; None if the recording has no reading."""
+    """Returns the task that read the pressure files, None if the recording has no reading."""
     return next((marker.current for marker, _, _ in reading_markers(source)), None)
 
 
 def spans_of(source: Source) -> dict[int, tuple[int, int]]:
-    """The start and end of each reading of the pressure files, in ns of the recording's clock."""
+    """Returns the start and end of each reading of the pressure files (ns of the recording's
+    clock)."""
     begins: dict[int, int] = {}
     spans: dict[int, tuple[int, int]] = {}
     for marker, number, is_begin in reading_markers(source):
@@ -75,9 +74,8 @@ def spans_of(source: Source) -> dict[int, tuple[int, int]]:
 
 
 def machine_readings(folder: str, source: Source) -> Readings:
-    """The contents of the machine's own files. The files of a reading were read one after the
-    other, so each has a time of its own between the start and the end of the reading.
-    """
+    """Reads the contents of the machine's own pressure files. The files of a reading were read
+    one after the other, so each gets its own time between the start and the end of the reading."""
     spans = spans_of(source)
     found: dict[int, list[tuple[File, int, int]]] = {}
     for number, path, resource, some, full in SAMPLE.findall(text_of(folder, PRESSURE)):
@@ -94,7 +92,7 @@ def machine_readings(folder: str, source: Source) -> Readings:
 
 
 def replay_series(printed: str) -> Series:
-    """The totals that a replay printed; times are ns since the trace's start."""
+    """Parses the totals that a replay printed. Times are in ns since the trace's start."""
     series: Series = {}
     for moment, path, resource, some, full in REPORT.findall(printed):
         series.setdefault(File(path, resource), []).append(
@@ -104,7 +102,8 @@ def replay_series(printed: str) -> Series:
 
 
 def totals_at(totals: list[Totals], moment: int) -> Totals:
-    """The totals at a time (ns), interpolated linearly between two reports; they begin at 0."""
+    """Returns the totals at a time (ns), interpolated linearly between two reports. They are 0
+    at time 0."""
     place = bisect_left([it.moment for it in totals], moment)
     if place == len(totals):
         return totals[-1]
@@ -121,7 +120,7 @@ def totals_at(totals: list[Totals], moment: int) -> Totals:
 
 
 class Pair(NamedTuple):
-    """The growth of a file's totals of some and full, in us, on the machine and in the replay."""
+    """The growth (us) of a file's totals of some and full, on the machine and in the replay."""
 
     file: File
     machine: tuple[int, int]
@@ -129,7 +128,8 @@ class Pair(NamedTuple):
 
 
 class Compared(NamedTuple):
-    """The readings that were compared, the time between them (ns), and the growth of each file."""
+    """The numbers of the first and last compared readings, the time between them (ns), and the
+    growth of each file."""
 
     first: int
     last: int
@@ -138,14 +138,13 @@ class Compared(NamedTuple):
 
 
 def growth(before: Totals, after: Totals) -> tuple[int, int]:
-    """The growth of some and full, in us."""
+    """Returns the growth of some and full (us)."""
     return after.some - before.some, after.full - before.full
 
 
 def made_in(source: Source) -> dict[str, int]:
-    """The time (ns) at which each group was created during the recording, by path; the last time if
-    it was created repeatedly.
-    """
+    """Returns the time (ns) at which each group was created during the recording, by path. For a
+    group that was created repeatedly it is the last time."""
     made = (it for it in source.events if isinstance(it, GroupMade) and not it.hierarchy)
     return {escaped_path(it.path): it.moment for it in made}
 
@@ -153,10 +152,9 @@ def made_in(source: Source) -> dict[str, int]:
 def first_totals(
     file: File, readings: list[dict[File, Totals]], made: dict[str, int]
 ) -> Totals | None:
-    """The totals from which a file's growth is counted: those of the first reading; if its group
-    wasn't accounted then and had no files, those of the first reading that has some. None if the
-    group was created later: it began at 0.
-    """
+    """Returns the totals from which a file's growth is counted: those of the first reading, or
+    if its group had no files then because it wasn't accounted, those of the first reading that
+    has them. None if the group was created later, so that its totals began at 0."""
     is_new = file not in readings[0] and made.get(file.path, 0) > max(
         it.moment for it in readings[0].values()
     )
@@ -164,9 +162,8 @@ def first_totals(
 
 
 def readings_within(readings: Readings, start: int, end: int) -> list[int]:
-    """The numbers of the readings that took place entirely from `start` to `end`, ns of the
-    recording's clock.
-    """
+    """Returns the numbers of the readings that lie entirely between `start` and `end` (ns of the
+    recording's clock)."""
     return [
         number
         for number, files in readings.items()
@@ -177,10 +174,9 @@ def readings_within(readings: Readings, start: int, end: int) -> list[int]:
 def compared(
     readings: Readings, series: Series, made: dict[str, int], start: int, end: int
 ) -> Compared | None:
-    """All files that both have at the last reading of a trace from `start` to `end`, in ns of the
-    recording's clock; `made` has the times at which groups were created. None if the trace has
-    fewer than two readings.
-    """
+    """Compares all files that machine and replay have at the last reading of a trace from
+    `start` to `end` (ns of the recording's clock). `made` has the times at which groups were
+    created. None if the trace has fewer than two readings."""
     inside = readings_within(readings, start, end)
     if len(inside) < 2:
         return None

@@ -1,4 +1,4 @@
-"""Reads the folder of a recording. Its names are those of `psirec.layout`."""
+"""Reads the folder of a recording. The names of its files are in `psirec.layout`."""
 from __future__ import annotations
 
 import os
@@ -25,12 +25,12 @@ from .records import Decoder, decoders_of
 from .snapshot import snapshot_of
 from .source import Source, Unreadable
 
-# The first word after MARK of the markers of a reading of the pressure files.
+# The first word after MARK in the markers of a reading of the pressure files.
 READING = "pressure"
 
 
 class Kernel(NamedTuple):
-    """How this recording's kernel writes its pages and records, and names in these."""
+    """The layout of the kernel's pages and records, and of the names in records."""
 
     page: PageFormat
     decoders: dict[int, Decoder]
@@ -39,7 +39,7 @@ class Kernel(NamedTuple):
 
 
 def kernel_of(folder: str) -> Kernel:
-    """The formats in the recording's folder."""
+    """Reads the formats in the recording's folder."""
     sections = sections_of(text_of(folder, FORMATS))
     try:
         forms = formats_of(sections)
@@ -49,9 +49,9 @@ def kernel_of(folder: str) -> Kernel:
 
 
 def gaps_behind(processor: int, lost: int, gaps: list[Gap], last: Event | None) -> list[Gap]:
-    """What a processor lost after the last page that was read: only the statistics show it, which
-    count all lost events. `gaps` are the known gaps, and `last` is the last event.
-    """
+    """Returns the events that a processor lost after the last page that was read, as a gap. Only
+    the statistics show them, which count all lost events. `gaps` are the known gaps, and `last`
+    is the last event."""
     behind = lost - sum(gap.lost for gap in gaps)
     return (
         [Gap(processor, last.moment if last else 0, NEVER, behind)]
@@ -61,9 +61,8 @@ def gaps_behind(processor: int, lost: int, gaps: list[Gap], last: Event | None) 
 
 
 def read_processors(folder: str, meta: Meta, source: Source) -> None:
-    """Reads the pages of all processors, and merges their events by time; a processor's events stay
-    in the order in which they were written.
-    """
+    """Reads the pages of all processors, and merges their events by time. Events of one
+    processor remain in the order in which they were written."""
     kernel = kernel_of(folder)
     overrun = {} if meta.is_ring() else meta.lost("overrun")
     for processor in range(source.processors):
@@ -93,12 +92,12 @@ def read_processors(folder: str, meta: Meta, source: Source) -> None:
 
 
 def is_marker(event: Event, word: str) -> bool:
-    """Whether this is a marker of the recorder that begins with this word."""
+    """Whether `event` is a marker of the recorder that begins with `word`."""
     return isinstance(event, Marker) and event.text.startswith((MARK + word).encode())
 
 
 def first_moments(events: list[Event]) -> dict[int, int]:
-    """The time of each processor's first event, in ns."""
+    """Returns the time (ns) of each processor's first event."""
     firsts: dict[int, int] = {}
     for event in events:
         firsts.setdefault(event.processor, event.moment)
@@ -106,15 +105,15 @@ def first_moments(events: list[Event]) -> dict[int, int]:
 
 
 def first_moment(events: list[Event], word: str) -> int | None:
-    """The time of the first such marker, in ns."""
+    """Returns the time (ns) of the recorder's first marker that begins with `word`, None if
+    there is none."""
     return next((event.moment for event in events if is_marker(event, word)), None)
 
 
 def begin_ring(source: Source, start: int) -> None:
-    """Skips what was partly overwritten: a flight recorder's trace begins after `start`, when all
-    processors have events, at the next reading of the pressure files, so that the totals to compare
-    with are known.
-    """
+    """Skips the part of a flight recorder's ring that was partly overwritten. The trace begins
+    after `start`, when all processors have events, at the next reading of the pressure files, so
+    that the totals to compare with are known."""
     whole_from = max([start, *first_moments(source.events).values()])
     source.events = [event for event in source.events if event.moment >= whole_from]
     if not source.events:
@@ -125,7 +124,8 @@ def begin_ring(source: Source, start: int) -> None:
 
 
 def tell_losses(source: Source, meta: Meta) -> None:
-    """Adds the other losses: events with unknown times, and what followed the end of the files."""
+    """Adds the other losses: events that were lost at unknown times, and what followed an early
+    end."""
     for line in LOST_STATS[1:]:
         for processor, count in sorted(meta.lost(line).items()):
             source.losses.append(f"cpu {processor}: {count} events by '{line}', nobody knows when")
@@ -141,8 +141,8 @@ def tell_losses(source: Source, meta: Meta) -> None:
 def read_recording(
     folder: str, is_forced: bool, read: Callable[[str, Meta, Source], None] = read_processors
 ) -> Source:
-    """Reads a folder. If its recorder was killed, `is_forced` is required. `read` reads its events.
-    """
+    """Reads a folder by the function `read`. Unless `is_forced`, it rejects a recording without
+    an end, whose recorder was killed."""
     meta = meta_of(folder)
     fault = meta.version_fault()
     if fault is None and meta.end() is None and not is_forced:
@@ -178,7 +178,7 @@ def read_recording(
 
 
 def containers_of(folder: str) -> dict[str, str]:
-    """The names of containers and pods, by their numbers. A damaged file has none."""
+    """Reads the names of containers and pods, by their ids. A damaged file counts as empty."""
     if not os.path.isfile(os.path.join(folder, containers.FILE)):
         return {}
     try:

@@ -1,4 +1,4 @@
-"""Decodes the records of ring buffers to events, by the formats in the recording."""
+"""Decodes the records of ring buffers, by the formats in the recording."""
 from __future__ import annotations
 
 from collections.abc import Callable
@@ -13,19 +13,19 @@ from .events import (
 )  # fmt: skip
 from .formats import Format, FormatFault, integers_of, state_letters, text_at
 
-# Decodes a record to an event: its time in ns, the processor, the pages, and the start and end of
-# the record.
+# Decodes a record to an event. The arguments are its time (ns), the processor, the pages, and the
+# start and end of the record.
 Decoder = Callable[[int, int, bytes, int, int], Event]
 
 CURRENT = "common_pid"
-# The fields of `sched_switch` after the task in which it was written.
+# The fields of `sched_switch` after the common ones.
 SWITCH = ("prev_pid", "prev_state", "next_pid")
 
-# Creates an event of a kind from all of its values; this does the same as the kind's constructor in
-# a third of the time.
+# Creates an event from all of its values. It does the same as the constructor of the event's kind,
+# in a third of the time.
 made: Any = tuple.__new__
 
-# The events that only have integers: the fields after the task in which they were written.
+# The events that only have integers, each with its fields after the common ones.
 NUMBERS: dict[str, tuple[type, tuple[str, ...]]] = {
     "sched_wakeup": (Wakeup, ("pid", "target_cpu")),
     "sched_wakeup_new": (FirstWakeup, ("pid", "target_cpu")),
@@ -46,7 +46,7 @@ NUMBERS: dict[str, tuple[type, tuple[str, ...]]] = {
 
 
 def number_decoder(kind: type, form: Format, names: tuple[str, ...]) -> Decoder:
-    """A decoder for an event whose fields are these integers."""
+    """Returns a decoder for an event whose fields are the integers `names`."""
     read = integers_of(form, (CURRENT, *names))
 
     def decode(moment: int, processor: int, data: bytes, start: int, end: int) -> Event:
@@ -57,13 +57,13 @@ def number_decoder(kind: type, form: Format, names: tuple[str, ...]) -> Decoder:
 
 
 def switch_decoder(form: Format) -> Decoder:
-    """A decoder for `sched_switch`, whose state becomes a letter."""
+    """Returns a decoder for `sched_switch`, which converts the state to its letter."""
     read = integers_of(form, (CURRENT, *SWITCH))
     letters, stays = state_letters(form.print_format)
     known: dict[int, str] = {0: "R"}
 
     def letter_of(state: int) -> str:
-        # Like the print format: the letter of the lowest bit comes first, and no letter's bit is R.
+        # Like the print format: the lowest bit's letter comes first, and no letter's bit is R.
         lowest = state & -state
         known[state] = "R" if state & stays else letters.get(lowest, "R")
         return known[state]
@@ -80,7 +80,7 @@ def switch_decoder(form: Format) -> Decoder:
 
 
 def group_decoder(kind: Union[type[GroupMade], type[GroupRemoved]], form: Format) -> Decoder:
-    """A decoder for `cgroup_mkdir` and `cgroup_rmdir`."""
+    """Returns a decoder for `cgroup_mkdir` or `cgroup_rmdir`."""
     read = integers_of(form, (CURRENT, "root"))
     path = form.fields["path"]
 
@@ -92,7 +92,7 @@ def group_decoder(kind: Union[type[GroupMade], type[GroupRemoved]], form: Format
 
 
 def attach_decoder(form: Format) -> Decoder:
-    """A decoder for `cgroup_attach_task`."""
+    """Returns a decoder for `cgroup_attach_task`."""
     read = integers_of(form, (CURRENT, "dst_root", "pid"))
     path = form.fields["dst_path"]
 
@@ -104,7 +104,7 @@ def attach_decoder(form: Format) -> Decoder:
 
 
 def marker_decoder(form: Format) -> Decoder:
-    """A decoder for `print`, the event of a write to `trace_marker`."""
+    """Returns a decoder for `print`, the event of a write to `trace_marker`."""
     read = integers_of(form, (CURRENT,))
     text = form.fields["buf"]
 
@@ -115,7 +115,7 @@ def marker_decoder(form: Format) -> Decoder:
 
 
 def decoder_of(name: str, form: Format) -> Decoder | None:
-    """The decoder of this event's records; None if they aren't needed."""
+    """Returns the decoder of an event's records, None if the event isn't needed."""
     if name in NUMBERS:
         return number_decoder(NUMBERS[name][0], form, NUMBERS[name][1])
     if name == "sched_switch":
@@ -128,7 +128,7 @@ def decoder_of(name: str, form: Format) -> Decoder | None:
 
 
 def decoders_of(formats: dict[str, Format]) -> dict[int, Decoder]:
-    """The decoders by the number of their event."""
+    """Returns the decoders of all needed events, by the event's number."""
     decoders: dict[int, Decoder] = {}
     for name, form in formats.items():
         try:

@@ -1,10 +1,9 @@
 """Reads a recording of any length in little memory: its pages in parts, and the events of all
 processors in slices of time.
 
-What must be known of the whole recording before the first slice is read by a *survey*: the rare
-events, the first and the last event of each processor and the first of each kind; what was lost;
-and the tasks that never leave a processor.
-"""
+A *survey* first reads what must be known of the whole recording before the first slice: the rare
+events, the first and the last event of each processor and the first of each kind, the losses,
+and the tasks that never leave a processor."""
 from __future__ import annotations
 
 import contextlib
@@ -30,18 +29,19 @@ from .meta import Meta
 from .recording import gaps_behind, kernel_of
 from .source import Source, Unreadable
 
-# Events that a machine writes thousands of times a second; so are markers of memory samples.
+# The frequent events, which a machine writes thousands of times a second. Markers of memory samples
+# are frequent too.
 OFTEN = (
     "sched_switch", "sched_wakeup", "sched_migrate_task", "sched_stat_iowait", Probe.SWITCH,
     Probe.STALL_BEGINS, Probe.STALL_ENDS,
     Probe.INTERRUPT, Probe.READY, Probe.SHOW, Probe.AVERAGE,
 )  # fmt: skip
 SAMPLES = (MARK + "mem ").encode(), (MARK + "host ").encode()
-# The first memory samples of each processor that are kept, to check the snapshot; there are at most
-# this many groups.
+# The number of each processor's first memory samples that a survey stores, to check the snapshot. A
+# sample has at most this many groups.
 FIRST_SAMPLES = 2048
-# The least length (ns) of a slice. If some processors have few events, what is read at once may be
-# far shorter.
+# The shortest slice (ns). The parts that are read at once may be far shorter if some processors
+# have few events.
 LEAST_SLICE = 2 * 10**9
 # The number of bytes that are read at once, for all processors together.
 READ_BYTES = 8 << 20
@@ -49,9 +49,8 @@ MOMENT = itemgetter(0)
 
 
 class WaitingSwitch(Switch):
-    """A switch that begins a wait for IO, as the probe right before it reported. The probe itself
-    isn't kept.
-    """
+    """A switch that begins a wait for IO, as the probe right before it reported. The probe
+    itself is dropped."""
 
     __slots__ = ()
 
@@ -62,20 +61,19 @@ class Records:
     def __init__(self, folder: str) -> None:
         self.kernel = kernel_of(folder)
         forms = self.kernel.forms
-        # For a switch the task that leaves and the next one; for its probe the task, and whether it
-        # waits.
+        # For a switch the task that leaves and the next task; for its probe the task, and whether
+        # that waits.
         self.switch, self.ends_of = reader_of(forms, "sched_switch", ("prev_pid", "next_pid"))
         self.probe, self.told_by = reader_of(forms, Probe.SWITCH, (Probe.PID, Probe.IO))
-        # The events that a survey skips.
+        # The numbers of the events that a survey skips.
         self.often = {forms[name].number for name in OFTEN if name in forms}
 
 
 def reader_of(
     forms: dict[str, Format], name: str, fields: tuple[str, ...]
 ) -> tuple[int, IntegerReader]:
-    """An event's number, and a reader for these fields of its records; -1 and a reader of nothing
-    if the recording doesn't have it.
-    """
+    """Returns an event's number, and a reader for these fields of its records. If the recording
+    doesn't have the event, the number is -1 and the reader reads nothing."""
     form = forms.get(name)
     return (
         (form.number, integers_of(form, fields))
@@ -85,9 +83,8 @@ def reader_of(
 
 
 class Reader:
-    """The pages of one processor's file, part by part. `gaps` are the gaps so far, and `rest` is
-    the number of bytes after the last whole page.
-    """
+    """Reads the pages of one processor's file part by part. `gaps` are the gaps in the pages
+    that were read, and `rest` is the number of bytes after the last whole page."""
 
     def __init__(
         self,
@@ -107,20 +104,20 @@ class Reader:
         self.form = records.kernel.page
         self.size = max(size // self.form.size, 1) * self.form.size
         self.rest, self.before, self.gaps = 0, 0, list[Gap]()
-        # The last probe whose switch hasn't come yet: the task, and whether it waits.
+        # The last probe whose switch hasn't been read yet: the task, and whether it waits.
         self.told: tuple[int, ...] | None = None
         self.file = Raw(folder, processor, most)
         self.names = Names(records.kernel.names)
 
     def data(self) -> bytes:
-        """The next whole pages; nothing at the end."""
+        """Returns the next whole pages, empty at the end."""
         data = self.file.read(self.size)
         rest = len(data) % self.form.size
         self.rest += rest
         return data[: len(data) - rest]
 
     def pages(self, data: bytes) -> Iterator[Page]:
-        """The headers of pages. Losses are added to the gaps."""
+        """Yields the headers of pages, and adds losses to the gaps."""
         for at in range(0, len(data), self.form.size):
             page = page_at(data, at, self.form)
             if page.lost and not self.is_ring:
@@ -129,7 +126,7 @@ class Reader:
             yield page
 
     def part(self) -> list[Event] | None:
-        """The events of the next pages; None at the end."""
+        """Returns the events of the next pages, None at the end."""
         data = self.data()
         try:
             return self.decoded(data) if data else None
@@ -137,7 +134,7 @@ class Reader:
             raise Unreadable(f"{self.name}: {fault}") from None
 
     def decoded(self, data: bytes) -> list[Event]:
-        """The events in these pages except probes of switches."""
+        """Returns the events in these pages without the probes of switches."""
         events: list[Event] = []
         add, processor, records, told, moment = (
             events.append,
@@ -180,9 +177,8 @@ class Reader:
 
 
 class Surveyed:
-    """The result of surveying a processor: its rare events, the number of the others, the tasks
-    that were switched to and from, and its last event.
-    """
+    """The result of surveying a processor: its rare events, the tasks that were switched to and
+    from, and its last event."""
 
     def __init__(self, reader: Reader) -> None:
         self.rare: list[Event] = []
@@ -200,7 +196,8 @@ class Surveyed:
         self.gaps, self.rest, self.bytes = reader.gaps, reader.rest, reader.file.count
 
     def take(self, reader: Reader, data: bytes) -> None:
-        """Takes the next pages. The first of each frequent kind is kept."""
+        """Surveys the next pages. The first event of each frequent kind is stored like a rare
+        one."""
         records, processor, seen, leave, come = (
             reader.records,
             reader.processor,
@@ -233,7 +230,7 @@ class Surveyed:
             self.last = decoders[number](last[0], processor, data, *last[1:])
 
     def take_rare(self, event: Event, number: int) -> None:
-        """Takes an event if it is rare: memory samples aren't, except the first ones."""
+        """Stores an event if it is rare. Memory samples aren't, except for the first ones."""
         is_sample = type(event) is Marker and event.text.startswith(SAMPLES)
         self.samples += is_sample
         if not is_sample or self.samples <= FIRST_SAMPLES:
@@ -242,9 +239,8 @@ class Surveyed:
 
 
 def survey_share(readers: list[Reader], own: Connection, others: list[Connection]) -> None:
-    """Surveys some of the processors, in a process of its own, until the other end of the
-    connection is closed. Sends the result, or why something can't be read.
-    """
+    """Surveys some of the processors in a process of its own, and sends the result, or why
+    something can't be read. The process ends when the other end of the connection is closed."""
     signal.signal(signal.SIGINT, signal.SIG_IGN)
     for line in others:
         line.close()
@@ -257,9 +253,8 @@ def survey_share(readers: list[Reader], own: Connection, others: list[Connection
 
 
 def end_with(line: Connection) -> None:
-    """Ends this process when the other end of the connection, which never sends anything, is
-    closed.
-    """
+    """Ends this process when the other end of the connection is closed. That end never sends
+    anything."""
     with contextlib.suppress(EOFError, OSError):
         line.recv()
     os._exit(1)
@@ -284,7 +279,7 @@ def surveyed_at_once(readers: list[Reader]) -> list[Surveyed]:
 
 
 def share_from(line: Connection) -> list[Surveyed]:
-    """The result that arrives on a connection."""
+    """Receives the result of a survey. Raises Unreadable if the process failed or ended."""
     try:
         found = line.recv()
     except EOFError:
@@ -296,9 +291,9 @@ def share_from(line: Connection) -> list[Surveyed]:
 
 
 class Survey:
-    """Reads the folder of a recording twice: first for what is rare, in several processes if it is
-    large, and then in slices. `silent` are the tasks that run and never leave.
-    """
+    """Reads the folder of a recording twice: first the rare events, in several processes if the
+    recording is large, and then all events in slices. `silent` are the tasks that were switched
+    to and never leave."""
 
     def __init__(self, folder: str, is_large: bool) -> None:
         self.folder, self.is_large, self.silent = folder, is_large, set[int]()
@@ -306,7 +301,7 @@ class Survey:
         self.most: int | None = None
 
     def readers(self) -> list[Reader]:
-        """A reader for each processor, at its first page."""
+        """Returns a reader for each processor, at its first page."""
         size, most = READ_BYTES // self.processors, self.most
         return [
             Reader(self.folder, processor, self.records, self.is_ring, size, most)
@@ -314,7 +309,7 @@ class Survey:
         ]
 
     def read(self, _: str, meta: Meta, source: Source) -> None:
-        """Reads the whole recording: the source gets the rare events, and what was lost."""
+        """Surveys the whole recording, and adds the rare events and the losses to `source`."""
         self.processors, self.is_ring, self.most = source.processors, meta.is_ring(), meta.bytes()
         overrun = {} if self.is_ring else meta.lost("overrun")
         coming, leaving = set[int](), set[int]()
@@ -337,7 +332,8 @@ class Survey:
         self.silent = coming - leaving
 
     def slices(self, whole_from: int) -> Iterator[list[Event]]:
-        """The events in slices, from the time (ns) at which they are complete."""
+        """Yields the events in slices, from the time `whole_from` (ns) at which they are
+        complete."""
         for events in slices_of(self.readers()):
             yield (
                 events
@@ -350,9 +346,8 @@ class Survey:
 
 
 def slices_of(readers: list[Reader]) -> Iterator[list[Event]]:
-    """The events of all processors in order of time, in slices: each has all events up to some time
-    that weren't in an earlier one, and all but the last cover at least LEAST_SLICE ns.
-    """
+    """Yields the events of all processors in order of time, in slices. All slices but the last
+    cover at least LEAST_SLICE ns."""
     events: list[Event] = []
     for part in parts_of(readers):
         events += part
@@ -363,9 +358,8 @@ def slices_of(readers: list[Reader]) -> Iterator[list[Event]]:
 
 
 def parts_of(readers: list[Reader]) -> Iterator[list[Event]]:
-    """The events in parts, which may be short: each ends when the first processor has no more
-    events in memory.
-    """
+    """Yields the events in parts, which may be short: a part ends where the first processor has
+    no more events in memory."""
     waiting: dict[int, list[Event]] = {place: [] for place in range(len(readers))}
     ended: set[int] = set()
     boundary = 0

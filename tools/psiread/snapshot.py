@@ -1,4 +1,4 @@
-"""Reads a recording's snapshot: the groups and threads at one time of it."""
+"""Reads a recording's snapshot: the groups and threads at one time in the recording."""
 from __future__ import annotations
 
 import re
@@ -12,9 +12,8 @@ NUMBER = re.compile("[0-9]{1,18}")
 
 
 def snapshot_of(folder: str) -> Snapshot:
-    """The contents of the snapshot's lines. Malformed lines are ignored: a task's name may contain
-    anything.
-    """
+    """Parses the snapshot. Malformed lines are ignored, since a task's name may contain
+    anything."""
     snapshot, text = Snapshot(), text_of(folder, SNAPSHOT)
     for words in (line.split(" ", 6) for line in text.split("\n")):
         if words == [SNAPSHOT_END]:
@@ -41,5 +40,5 @@ def snapshot_of(folder: str) -> Snapshot:
 
 
 def path_of(text: str) -> str:
-    """A path in the folder's files as it is written in a trace."""
+    """Converts a path from the folder's files to the form that it has in a trace."""
     return escaped_path(text.encode("utf-8", "surrogateescape"))

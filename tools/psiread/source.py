@@ -1,6 +1,5 @@
-"""The input of a conversion, from whatever it was read: events in one order, what was lost, and
-what else is known.
-"""
+"""The input of a conversion, in the same form for pages and for text: events in one order,
+losses, and what else is known of the recording."""
 from __future__ import annotations
 
 from collections import Counter
@@ -13,13 +12,12 @@ from .events import Event, Gap
 
 
 class Unreadable(Fault):
-    """The input can't be used; the text says why."""
+    """An input that can't be used; the message says why."""
 
 
 class ListedTask(NamedTuple):
-    """A thread of a snapshot: its process, its state's letter, its processor, its group as in a
-    trace, and its name.
-    """
+    """A thread of a snapshot: its process, the letter of its state, its processor, its group's
+    path as in a trace, and its name."""
 
     process: int
     state: str
@@ -30,32 +28,33 @@ class ListedTask(NamedTuple):
 
 @dataclass
 class Snapshot:
-    """A snapshot taken during the recording: groups with their preferences, their types if the
-    recorder wrote these, groups whose pressure isn't accounted, and threads.
-    """
+    """A snapshot taken during the recording at `moment` (ns): groups with their preferences,
+    their types if the recorder wrote these, groups whose pressure isn't accounted, and threads."""
 
     moment: int = 0
     groups: dict[str, str] = field(default_factory=dict)
     unaccounted: list[str] = field(default_factory=list)
     tasks: dict[int, ListedTask] = field(default_factory=dict)
     types: dict[str, str] = field(default_factory=dict)
-    # Whether its last line is the end, and whether its last line is cut.
+    # Whether the last line is the end mark, and whether the last line is cut off.
     has_end: bool = False
     is_cut: bool = False
 
 
 @dataclass
 class Source:
-    """A recording. Times are ns of its own clock; adding `realtime` gives ns since 1970."""
+    """A recording. Times are in ns of the recording's own clock; adding `realtime` gives ns
+    since 1970."""
 
     events: list[Event]
     processors: int
     start: int
     stop: int
     gaps: list[Gap] = field(default_factory=list)
-    # Losses that concern the whole recording, or have no known place: no stretch of it is sound.
+    # Losses that concern the whole recording, or whose time is unknown, so that no stretch is free
+    # of them.
     losses: list[str] = field(default_factory=list)
-    # What was repaired, and how often; and other remarks.
+    # The number of repairs of each kind, and other remarks.
     mended: Counter[str] = field(default_factory=Counter)
     notes: list[str] = field(default_factory=list)
     snapshot: Snapshot = field(default_factory=Snapshot)
@@ -65,11 +64,12 @@ class Source:
     # Whether the events include the time at which psi counts a wakeup.
     has_ready_probe: bool = False
     realtime: int | None = None
-    # The ns by which the recorded machine's clocks were ahead of UTC.
+    # The number of ns by which the recorded machine's local time was ahead of UTC.
     ahead: int = 0
-    # Names of containers and pods, by their numbers.
+    # The names of containers and pods, by their ids.
     containers: dict[str, str] = field(default_factory=dict)
     # The number of bytes of pages that were read.
     bytes: int = 0
-    # In a flight recorder's ring the time (ns) from which the events are complete.
+    # The time (ns) from which the events of a flight recorder's ring are complete, 0 for other
+    # recordings.
     whole_from: int = 0

@@ -14,19 +14,19 @@ from .formats import Field, Format, FormatFault, formats_of, page_format_of, sec
 from .records import CURRENT, NUMBERS, SWITCH
 from .source import Unreadable
 
-# The fields of the events that have more than integers, in the order in which they are written.
+# The fields of the events that have more than integers, in the order of the table.
 TEXTS: dict[str, tuple[str, ...]] = {
     "cgroup_mkdir": ("root", "path"),
     "cgroup_rmdir": ("root", "path"),
     "cgroup_attach_task": ("dst_root", "dst_path", "pid"),
     "print": ("buf",),
 }
-# A record begins with its event's number, and the largest offset and size of a field.
+# The largest number of an event, and the largest offset and size of a field.
 MOST = 65535
 
 
 def field_word(name: str, field: Field) -> str:
-    """A field as a word of the table."""
+    """Formats a field as a word of the table."""
     if name == "prev_state":
         form = "state"
     elif field.type.startswith("__data_loc"):
@@ -41,14 +41,14 @@ def field_word(name: str, field: Field) -> str:
 
 
 def fields_of(name: str) -> tuple[str, ...] | None:
-    """The fields of an event after the task in which it was written; None if it isn't read."""
+    """Returns the fields of an event after the common ones, None if the event isn't read."""
     if name in NUMBERS:
         return NUMBERS[name][1]
     return SWITCH if name == "sched_switch" else TEXTS.get(name)
 
 
 def kind_line(form: Format, names: tuple[str, ...]) -> str:
-    """The line of an event."""
+    """Returns the table's line for an event."""
     try:
         words = [field_word(name, form.fields[name]) for name in (CURRENT, *names)]
     except KeyError as missing:
@@ -57,7 +57,7 @@ def kind_line(form: Format, names: tuple[str, ...]) -> str:
 
 
 def table_lines(sections: dict[str, list[str]]) -> Iterator[str]:
-    """The lines of the table of these formats."""
+    """Yields the lines of the table, without newlines."""
     page, forms = page_format_of(sections), formats_of(sections)
     yield "psi_layout 1"
     yield f"page {page.size} {page.data}"
@@ -73,7 +73,7 @@ def table_lines(sections: dict[str, list[str]]) -> Iterator[str]:
 
 
 def table_of(folder: str) -> str:
-    """The table of a recording."""
+    """Returns the table of a recording."""
     try:
         return "".join(f"{line}\n" for line in table_lines(sections_of(text_of(folder, FORMATS))))
     except FormatFault as fault:

@@ -1,6 +1,6 @@
-"""Which sleeps were waits for IO. The kernel counts those in which the task's `in_iowait` is set,
-rather than all in state D: on a journaling file system a third to a half of the latter don't count.
-"""
+"""Finds the sleeps that were waits for IO. The kernel counts those during which the task's
+`in_iowait` is set, and not every sleep in state D: on a journaling file system a third to a half
+of the latter don't count."""
 from __future__ import annotations
 
 from collections.abc import Callable, Sequence
@@ -13,7 +13,7 @@ UNINTERRUPTIBLE = "D"
 
 
 class Method(Enum):
-    """How a wait for IO is recognised, the best method first."""
+    """The ways to recognise a wait for IO, the most exact first."""
 
     PROBE = "probe"  # the bit that psi itself reads, by a probe on psi_task_switch
     STATISTICS = "stat"  # sched_stat_iowait, which needs kernel.sched_schedstats=1
@@ -21,9 +21,8 @@ class Method(Enum):
 
 
 def best_method(events: Sequence[Event], has_probe: bool) -> Method:
-    """The best method that the recording supports. A probe that was on but never wrote means that
-    nothing waited.
-    """
+    """Returns the most exact method that the recording supports. A probe that was on but never
+    wrote means that nothing waited."""
     kinds = {type(event) for event in events}
     if has_probe or SwitchProbe in kinds:
         return Method.PROBE
@@ -31,10 +30,9 @@ def best_method(events: Sequence[Event], has_probe: bool) -> Method:
 
 
 def by_probe(events: Sequence[Event], told: dict[int, SwitchProbe] | None = None) -> set[int]:
-    """The places of the switches that begin a wait for IO: the probe comes right before them on the
-    same processor. If events are read in parts, `told` has the probes whose switch is still to
-    come, by processor, and is passed from part to part.
-    """
+    """Returns the indices of the switches that begin a wait for IO, by the probe right before
+    each on the same processor. If events are read in parts, pass the same `told` for each part:
+    it has the probes whose switch is still to come, by processor."""
     waits: set[int] = set()
     told = {} if told is None else told
     for place, event in enumerate(events):
@@ -48,9 +46,8 @@ def by_probe(events: Sequence[Event], told: dict[int, SwitchProbe] | None = None
 
 
 def by_statistics(events: Sequence[Event]) -> set[int]:
-    """The places of the switches that begin a wait for IO, if the end of such a sleep is written
-    before its wakeup.
-    """
+    """Returns the indices of the switches that begin a wait for IO, by the events that report
+    the end of such a sleep before its wakeup."""
     waits: set[int] = set()
     asleep: dict[int, int] = {}
     for place, event in enumerate(events):
@@ -64,9 +61,7 @@ def by_statistics(events: Sequence[Event]) -> set[int]:
 
 
 def by_state(events: Sequence[Event]) -> set[int]:
-    """The places of the switches that begin a wait for IO, if each sleep in state D is taken for
-    one.
-    """
+    """Returns the indices of the switches that begin a sleep in state D."""
     return {
         place
         for place, event in enumerate(events)
@@ -75,7 +70,7 @@ def by_state(events: Sequence[Event]) -> set[int]:
 
 
 def waits_for_io(events: Sequence[Event], method: Method) -> set[int]:
-    """The places of the switches that begin a wait for IO."""
+    """Returns the indices of the switches that begin a wait for IO, by this method."""
     ways: dict[Method, Callable[[Sequence[Event]], set[int]]] = {
         Method.PROBE: by_probe, Method.STATISTICS: by_statistics, Method.STATE: by_state,
     }  # fmt: skip

@@ -1,6 +1,5 @@
-"""The part of a recording that is converted: a window of time, and a stretch in which nothing was
-lost.
-"""
+"""Selects the part of a recording that is converted: a window of time, and in it a stretch
+without losses."""
 from __future__ import annotations
 
 from collections import Counter
@@ -12,26 +11,25 @@ from psicli.times import seconds_to_ms
 
 
 class Window(NamedTuple):
-    """A window of time, in ns of the recording's clock; both ends are included."""
+    """A window of time, in ns of the recording's clock. Both ends are included."""
 
     start: int
     end: int
 
     def length(self) -> int:
-        """Its length in ns."""
+        """Returns the window's length (ns)."""
         return self.end - self.start
 
 
 def overlapping(gaps: Iterable[Gap], window: Window) -> list[Gap]:
-    """The gaps that touch the window. A gap begins with the last event before it, and ends with the
-    first event after it.
-    """
+    """Returns the gaps that touch the window. A gap begins at the last event before the loss,
+    and ends at the first event after it."""
     return [gap for gap in gaps if gap.end > window.start and gap.start < window.end]
 
 
 def longest_stretch(gaps: Iterable[Gap], window: Window) -> Window:
-    """The longest part of the window without loss on any processor; the first if several are equal.
-    """
+    """Returns the longest part of the window without loss on any processor, the first if several
+    are equally long."""
     best, start = Window(window.start, window.start), window.start
     for gap in sorted(gaps, key=lambda it: it.start):
         stretch = Window(start, min(max(gap.start, start), window.end))
@@ -43,9 +41,7 @@ def longest_stretch(gaps: Iterable[Gap], window: Window) -> Window:
 
 
 def loss_text(gaps: Iterable[Gap], whole: Window) -> str:
-    """The number of events that each processor lost, and the times in the recording between which
-    that was.
-    """
+    """Says how many events each processor lost, and between which times of the recording."""
     gaps = list(gaps)
     lost = Counter({gap.processor: 0 for gap in gaps})
     for gap in gaps:
