@@ -1,3 +1,2 @@
-"""What tools/rules and tools/fleet are made of: each module has one part, and none computes
-pressure or kills of its own.
-"""
+"""The parts of tools/rules and tools/fleet. None of these modules computes pressure or kills
+itself."""

@@ -1,4 +1,4 @@
-"""Kills by oomd 0.5.0, in place of those by psi_oomd's own rules."""
+"""Finds the kills that oomd 0.5.0 would make, in place of psi_oomd's kills by a rules file."""
 import functools
 import json
 
@@ -16,7 +16,7 @@ INTERVAL = 5
 
 
 def names_of(read: Configuration) -> bytes:
-    """The names of a configuration's rulesets and actions, as rules."""
+    """Returns a configuration's names of rulesets and actions in the form of a rules file."""
     rulesets = [
         {
             "name": it.name,
@@ -29,14 +29,14 @@ def names_of(read: Configuration) -> bytes:
 
 
 class ByOomd(RulesFile):
-    """The names in a configuration of oomd."""
+    """A configuration of oomd, in place of a rules file: its names of rulesets and actions."""
 
     def __init__(self, name: str) -> None:
         super().__init__(name, names_of(read_configuration(name)))
 
 
 def replay(program: Program, run: Run, trace: str, threads: int) -> list[Kill]:
-    """The kills of a trace by oomd's algorithm."""
+    """Returns the kills in a trace by oomd's algorithm."""
     with kept_trace(trace) as file:
         found = emulate(program, Run(file, run.config, interval=run.interval), threads)
     for text in found.notes.texts:
@@ -47,6 +47,6 @@ def replay(program: Program, run: Run, trace: str, threads: int) -> list[Kill]:
 def replays(
     program: Program, name: str, interval: int | None, traces: Traces
 ) -> list[list[Kill] | Fault]:
-    """The kills of each trace."""
+    """Returns the kills in each trace, or why it couldn't be replayed."""
     run = Run("", name, interval=interval or INTERVAL)
     return traces.each(functools.partial(replay, program, run))

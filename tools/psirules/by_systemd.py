@@ -1,4 +1,4 @@
-"""Kills by systemd-oomd, in place of those by a rules file."""
+"""Finds the kills that systemd-oomd would make, in place of psi_oomd's kills by a rules file."""
 import functools
 import json
 
@@ -15,7 +15,8 @@ RULESETS = {"rulesets": [{"name": it, "actions": [{"name": NAME}]} for it in BY]
 
 
 class BySystemd(RulesFile):
-    """What stands for a rules file: a ruleset of memory pressure and one of swap."""
+    """The rules of systemd-oomd, in place of a rules file: a ruleset for memory pressure and one
+    for swap."""
 
     def __init__(self, folder: str) -> None:
         super().__init__(folder, json.dumps(RULESETS).encode())
@@ -27,7 +28,7 @@ class BySystemd(RulesFile):
 def replay(
     program: Program, folder: str, version: int | None, trace: str, threads: int
 ) -> list[Kill]:
-    """The kills of a trace by the settings of a folder."""
+    """Returns the kills in a trace by the settings of a folder."""
     settings = Settings(folder, version)
     with kept_trace(trace) as file:
         engine = replayed(program, file, settings, threads)
@@ -39,7 +40,8 @@ def replay(
 def replays(
     program: Program, folder: str, version: int | None, traces: Traces
 ) -> list[list[Kill] | Fault]:
-    """The kills of each trace. A bad setting is a fault of all."""
+    """Returns the kills in each trace, or why it couldn't be replayed. Raises a Fault at a bad
+    setting."""
     for note in Settings(folder, version).notes:
         complain(note)
     return traces.each(functools.partial(replay, program, folder, version))

@@ -20,7 +20,7 @@ where something couldn't be run: a wrong word, a file that isn't there, a trace 
 
 
 def add_form(command: Parser, has_tap: bool) -> None:
-    """How the answer is written."""
+    """Adds the options that select the form of the output."""
     forms = command.add_mutually_exclusive_group()
     if has_tap:
         forms.add_argument(
@@ -31,13 +31,13 @@ def add_form(command: Parser, has_tap: bool) -> None:
 
 
 def add_pace(command: Parser) -> None:
-    """How often ticks and evaluations come."""
+    """Adds the options for the lengths of ticks and evaluation intervals."""
     add_tick(command)
     add_interval(command)
 
 
 def add_replay(command: Parser) -> None:
-    """How traces are replayed, and their groups shown."""
+    """Adds the options for replays, and for the names of groups."""
     add_pace(command)
     add_names(command)
     jobs = "how many replays run side by side: one a processor if left out"
@@ -46,7 +46,7 @@ def add_replay(command: Parser) -> None:
 
 
 def add_expect(command: Parser) -> None:
-    """What is wanted, for which traces, and which program kills."""
+    """Adds the arguments of `expect`."""
     command.add_argument("want", metavar="WANT", help="the file with what is wanted")
     command.add_argument("traces", metavar="TRACE", nargs="+", help="a trace")
     command.add_argument("--rules", metavar="FILE", help="the rules file")
@@ -60,7 +60,7 @@ def add_expect(command: Parser) -> None:
 
 
 def add_explain(command: Parser) -> None:
-    """Rules, a trace, and who evaluates."""
+    """Adds the arguments of `explain`."""
     command.add_argument("file", metavar="RULES", help="the rules file")
     command.add_argument("trace", metavar="TRACE", help="a trace")
     by = "who evaluates: psi_oomd if left out, or oomd 0.5.0 or systemd-oomd"
@@ -74,7 +74,7 @@ def add_explain(command: Parser) -> None:
 
 
 def add_suggest(command: Parser) -> None:
-    """Rules, traces, and what is wanted of them."""
+    """Adds the arguments of `suggest`."""
     command.add_argument("file", metavar="RULES", help="the rules file")
     command.add_argument("--incidents", metavar="TRACE", nargs="+", required=True, help="traces that the WANT file is for")
     command.add_argument("--quiet", metavar="TRACE", nargs="+", default=[], help="traces in which nobody is to be killed")
@@ -90,7 +90,7 @@ def add_suggest(command: Parser) -> None:
 
 
 def add_conversions(add: Callable[[str, str, str, str], Parser]) -> None:
-    """The commands that convert rules."""
+    """Adds the commands that convert rules."""
     command = add("from-systemd", from_systemd.ABOUT, from_systemd.STATUS, "print the rules that are nearest to systemd-oomd's settings")
     command.add_argument("folder", metavar="FOLDER", help="the settings, as of tools/systemd-oomd")
     command.add_argument("--systemd", type=whole_number(247, 9999), metavar="N", help="by which version of systemd")
@@ -104,7 +104,7 @@ def add_conversions(add: Callable[[str, str, str, str], Parser]) -> None:
 
 
 def parser() -> Parser:
-    """The parser of the command line."""
+    """Returns the parser of the command line."""
     words = Parser(ABOUT, STATUS)
     commands = words.add_subparsers(dest="command", required=True, metavar="COMMAND")
 
@@ -139,7 +139,7 @@ def parser() -> Parser:
 
 
 def rules() -> int:
-    """Runs one of the commands."""
+    """Runs one of the commands, and returns the exit status."""
     options = parser().parse_args()
     if "tick_ms" in options:
         options.pace = Pace(options.tick_ms, options.interval_s)

@@ -1,4 +1,4 @@
-"""tools/rules compare: what other rules change, trace by trace."""
+"""tools/rules compare: reports the kills that change with other rules, trace by trace."""
 import argparse
 import contextlib
 import itertools
@@ -32,9 +32,8 @@ STATUS = (
 
 @dataclass(frozen=True)
 class Difference:
-    """What became of one trace: the word for it, the kills that differ first, by OLD and by NEW,
-    and all of it in words.
-    """
+    """How the kills of a trace differ between OLD and NEW: a word for the kind of difference,
+    the first kill that differs by each of the two, and the difference in a sentence."""
 
     word: str
     old: Kill | None
@@ -45,7 +44,7 @@ class Difference:
 def difference(
     old: list[Kill], new: list[Kill], old_rules: RulesFile, new_rules: RulesFile
 ) -> Difference:
-    """What the first kill that differs says, number by number."""
+    """Describes the first difference between two lists of kills, compared by position."""
     for number, (one, other) in enumerate(itertools.zip_longest(old, new)):
         earlier = f", after {victims(new[:number])} by both" if number else ""
         if one is None:
@@ -74,7 +73,7 @@ def difference(
 
 
 def told_old(old: Kill, new: Kill, old_rules: RulesFile, new_rules: RulesFile) -> str:
-    """The kill by OLD, as far as it isn't that by NEW."""
+    """Describes the kill by OLD, without what it has in common with the kill by NEW."""
     path = "" if old.path == new.path else f"{old.path} "
     killer = "" if old_rules.killer(old) == new_rules.killer(new) else f", {old_rules.killer(old)}"
     return f"{path}at {seconds(old.moment)} s{killer}"
@@ -82,7 +81,7 @@ def told_old(old: Kill, new: Kill, old_rules: RulesFile, new_rules: RulesFile) -
 
 @dataclass(frozen=True)
 class Compared:
-    """A trace, and how its kills differ, or why it couldn't be replayed."""
+    """A trace, and how its kills differ or why it couldn't be replayed."""
 
     trace: str
     found: Difference | Fault
@@ -138,7 +137,7 @@ def run(given: argparse.Namespace) -> int:
 
 
 def tell_lines(outcomes: list[Outcome]) -> None:
-    """A line for each trace; what couldn't be run is reported on standard error."""
+    """Prints a line for each trace. What couldn't be run is reported on standard error."""
     for outcome in outcomes:
         if outcome.is_ok is None:
             complain(outcome.told)

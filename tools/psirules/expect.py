@@ -1,4 +1,4 @@
-"""tools/rules expect: whether the kills of traces are what is wanted."""
+"""tools/rules expect: checks the kills in traces against expectations."""
 import argparse
 import contextlib
 from collections.abc import Iterable
@@ -43,9 +43,7 @@ STATUS = (
 
 
 class Judged:
-    """A trace with its kills, or the fault for which there are none, and what became of each
-    expectation.
-    """
+    """A trace with its kills, or the fault why it has none, and the outcome of each expectation."""
 
     def __init__(
         self,
@@ -84,7 +82,7 @@ class Judged:
 
 
 def tell_lines(judged: Iterable[Judged], is_named: bool) -> None:
-    """A line for each expectation; with the trace's name where there are several traces."""
+    """Prints a line for each expectation, with the trace's name if `is_named`."""
     for trace in judged:
         if isinstance(trace.found, Fault):
             complain(str(trace.found))
@@ -98,7 +96,7 @@ def tell_lines(judged: Iterable[Judged], is_named: bool) -> None:
 
 
 def check_words(given: argparse.Namespace) -> None:
-    """Raises a fault where the words don't fit together."""
+    """Raises a Fault if the arguments don't fit together."""
     if given.traces.count(STANDARD_INPUT) > 1:
         raise Fault("- is given twice, and the standard input is read once")
     if given.by == by_systemd.NAME:
@@ -123,7 +121,7 @@ def check_words(given: argparse.Namespace) -> None:
 
 
 def check(wanted: list[Expectation], name: str, rules: RulesFile) -> None:
-    """Raises a fault where a line of the WANT file can't be judged by these rules."""
+    """Raises a Fault if a line of the WANT file can't be checked with these rules."""
     for it in wanted:
         try:
             it.check(rules)

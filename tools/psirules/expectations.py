@@ -1,4 +1,4 @@
-"""What is wanted of the kills of a replay: the lines of a WANT file, and whether they hold."""
+"""The lines of a WANT file: what is expected of the kills in a replay, and whether it holds."""
 import difflib
 import re
 from abc import ABC, abstractmethod
@@ -26,14 +26,14 @@ MOST_MOMENTS = 10
 
 @dataclass(frozen=True)
 class Verdict:
-    """Whether an expectation holds, and by which kills."""
+    """Whether an expectation holds, and the kills that decide it."""
 
     holds: bool
     told: str
 
 
 def victims(kills: list[Kill]) -> str:
-    """How many kills, and each victim with its moments."""
+    """Returns the number of kills, and each victim with the times of its kills."""
     if not kills:
         return "no kill"
     moments: dict[str, list[str]] = {}
@@ -47,33 +47,33 @@ def victims(kills: list[Kill]) -> str:
 
 
 def killed(kills: list[Kill], rules: RulesFile) -> str:
-    """The first of these kills, and how many more there are."""
+    """Describes the first of these kills, and says how many more there are."""
     return rules.killed(kills[0]) + (f", and {len(kills) - 1} more" if kills[1:] else "")
 
 
 @dataclass(frozen=True)
 class Expectation(ABC):
-    """A line of a WANT file: its number, and what stands there without its comment."""
+    """A line of a WANT file: its number, and its text without the comment."""
 
     line: int
     text: str
 
     @abstractmethod
     def verdict(self, kills: list[Kill], rules: RulesFile) -> Verdict:
-        """Whether these kills, in the order in which they were printed, are what is wanted."""
+        """Decides whether the kills, in the order in which they were printed, meet the
+        expectation."""
 
     def check(self, rules: RulesFile) -> None:
-        """Raises a fault where it can't be judged by these rules."""
+        """Raises a Fault if the expectation can't be checked with these rules."""
 
     def pattern_needed(self) -> str | None:
-        """The path or pattern that some group of each trace has to match: without one the line says
-        nothing of the trace.
-        """
+        """Returns the path or pattern that some group of each trace must match, None if there is
+        none. If no group matches, the expectation can't be checked on that trace."""
         return None
 
     def missing(self, groups: set[str]) -> str | None:
-        """What is wrong if no group of a trace matches, with the groups that were probably meant.
-        """
+        """Says that no group of a trace matches the pattern, with the groups that were probably
+        meant. None if one matches."""
         pattern = self.pattern_needed()
         if pattern is None or any(matches(pattern, path) for path in groups):
             return None
@@ -82,9 +82,8 @@ class Expectation(ABC):
 
 @dataclass(frozen=True)
 class First(Expectation):
-    """The first kill, or one at the same moment, is of this path, and between these moments (ns),
-    both inclusive.
-    """
+    """The first kill, or another at the same time, is of this path, and between two times (ns),
+    both inclusive."""
 
     path: str
     start: int
@@ -111,7 +110,7 @@ class First(Expectation):
 
 @dataclass(frozen=True)
 class KilledBy(Expectation):
-    """Some kill of this path is by a ruleset of this name."""
+    """Some kill of the path is by a ruleset of this name."""
 
     path: str
     ruleset: str
@@ -165,7 +164,7 @@ class NoKillOf(Expectation):
 
 @dataclass(frozen=True)
 class AtMost(Expectation):
-    """There are no more kills than this."""
+    """There are at most `most` kills."""
 
     most: int
 
@@ -175,7 +174,7 @@ class AtMost(Expectation):
 
 @dataclass(frozen=True)
 class NoKillBefore(Expectation):
-    """No kill is before this moment (ns)."""
+    """No kill is before the time `start` (ns)."""
 
     start: int
 
@@ -187,7 +186,7 @@ class NoKillBefore(Expectation):
 
 
 def nearest(word: str, names: list[str]) -> str:
-    """The name that was probably meant, or all that there are."""
+    """Suggests the name that was probably meant, or else all names, as the end of a message."""
     found = difflib.get_close_matches(word, names, 1)
     if found:
         return f": did you mean {quoted(found[0])}?"
@@ -201,7 +200,7 @@ def pattern(word: str) -> str:
 
 
 def read_line(line: int, text: str) -> Expectation:
-    """The expectation of a line, which isn't empty and has no comment."""
+    """Parses a line, which must be neither empty nor have a comment."""
     if found := re.fullmatch(r"first (\S+) from (\S+) to (\S+)", text):
         start, end = nanoseconds(found[2]), nanoseconds(found[3])
         if start > end:
@@ -221,9 +220,8 @@ def read_line(line: int, text: str) -> Expectation:
 
 
 def read(name: str, data: bytes) -> list[Expectation]:
-    """The expectations of a WANT file. A comment goes from a `#`, at the line's start or after a
-    space, to the line's end.
-    """
+    """Parses a WANT file. A comment begins with a `#` at the start of a line or after a space,
+    and ends with the line."""
     wanted = []
     for number, line in enumerate(data.decode("utf-8", "replace").splitlines(), 1):
         text = " ".join(re.sub(r"(^|\s)#.*", "", line).split())

@@ -1,4 +1,4 @@
-"""tools/rules explain: why rules fired on a trace, or didn't, and whom they chose."""
+"""tools/rules explain: prints why rules fired on a trace or didn't, and which groups they chose."""
 import argparse
 import contextlib
 
@@ -38,7 +38,7 @@ KILLERS = (PSI_OOMD, by_oomd.NAME, by_systemd.NAME)
 
 
 def check_words(given: argparse.Namespace) -> None:
-    """Raises a fault if the words don't fit together."""
+    """Raises a Fault if the arguments don't fit together."""
     no_input([given.trace])
     if given.by == by_systemd.NAME and (given.tick_ms or given.interval_s):
         raise Fault(
@@ -53,7 +53,7 @@ def check_words(given: argparse.Namespace) -> None:
 
 
 def by_rules(given: argparse.Namespace) -> list[Part]:
-    """The rulesets of psi_oomd."""
+    """Explains rulesets that psi_oomd evaluates."""
     program = Program()
     program.prepare()
     with contextlib.ExitStack() as files:
@@ -75,7 +75,7 @@ def by_rules(given: argparse.Namespace) -> list[Part]:
 
 
 def parts_of(given: argparse.Namespace) -> list[Part]:
-    """The rulesets, by whoever evaluates them."""
+    """Explains the rulesets, whichever program evaluates them."""
     if given.by == PSI_OOMD:
         return by_rules(given)
     program = Program()

@@ -1,6 +1,5 @@
-"""Replays many traces with one rules file, on this machine or on many, using GNU parallel: see
-`tools/fleet --help`.
-"""
+"""Replays many traces with one rules file on one or many machines, using GNU parallel. See
+`tools/fleet --help`."""
 import argparse
 import collections
 import os
@@ -33,34 +32,32 @@ STATUS = """The status is 0 if each trace was replayed, and 2 if something could
 host needs psi_oomd at the same path as here (or at the path in PSI_OOMD), and reads
 traces and rules by their paths, except with --copy."""
 
-# A line that parallel writes for a job, on either stream: its number, a tab, and a line. It also
-# takes a \r for the end of a line.
+# A line that parallel writes for a job, to standard output or standard error: the job's number, a
+# tab, and a line. A \r also ends the line.
 TAGGED = re.compile(r"([0-9]+)\t([^\r\n]*)(?s:.*)")
-# A line of parallel's log: the job's number, its host, two times, two counts of bytes, and the
+# A line of parallel's log: the job's number, its host, two times, two byte counts, and the exit
 # status.
 LOGGED = re.compile(r"^([0-9]+)\t([^\t]*)(?:\t[0-9. ]*){4}\t(-?[0-9]+)\t", re.MULTILINE)
 
 
 @dataclass
 class Answer:
-    """The result for a trace: the lines of its replay, the other output of its host, and how the
-    job ended.
-    """
+    """The result for a trace: the lines of its replay, other output of its host, and how the job
+    ended."""
 
     lines: list[str] = field(default_factory=list)
     said: list[str] = field(default_factory=list)
     end: str = "gave no answer"
 
     def fault(self) -> str:
-        """The error that is reported for a trace that wasn't replayed."""
+        """Returns the error that is reported for a trace that wasn't replayed."""
         told = "; ".join(filter(None, self.lines + self.said))
         return told if self.lines else ": ".join(filter(None, [f"its host {self.end}", told]))
 
 
 def command(given: argparse.Namespace, options: list[str]) -> list[str]:
-    """The command line of parallel. Each line of its output has a job's number, a tab, and a line
-    with a kill, the end, or an error.
-    """
+    """Returns the command line of parallel. Each line of its output has a job's number, a tab,
+    and a line with a kill, the end, or an error."""
     rules = os.path.abspath(given.rules)
     replay = [
         program_path(),
@@ -91,22 +88,20 @@ def command(given: argparse.Namespace, options: list[str]) -> list[str]:
 
 
 def parted(path: str) -> str:
-    """The path in parallel's notation for a file that is copied to the folder of its job, under its
-    last name.
-    """
+    """Returns the path in parallel's notation for a file that is copied into the folder of its
+    job, under the last component of its path."""
     return os.path.join(os.path.dirname(path), ".", os.path.basename(path))
 
 
 def names_of(given: argparse.Namespace, traces: list[str]) -> bytes:
-    """The traces in the format that parallel reads."""
+    """Returns the paths of the traces in the format that parallel reads."""
     paths = [os.path.abspath(name) for name in traces]
     return b"\0".join(os.fsencode(parted(path) if given.copy else path) for path in paths)
 
 
 def overhear(end: int, found: list[Answer]) -> None:
-    """Stores what parallel's standard error says about jobs. Everything else is passed on at once:
-    `--eta` ends no line.
-    """
+    """Reads parallel's standard error from the file descriptor `end`, and stores lines about
+    jobs. Other text is printed at once, even without a newline, since `--eta` writes none."""
     held = ""
     with os.fdopen(end, "rb", 0) as pipe:
         while piece := pipe.read(65536).decode("utf-8", "replace"):
@@ -120,7 +115,7 @@ def overhear(end: int, found: list[Answer]) -> None:
 
 
 def keep_or_tell(text: str, found: list[Answer]) -> None:
-    """Stores a line about a job, and passes other text on."""
+    """Stores a line about a job, or prints other text on standard error."""
     tagged = TAGGED.fullmatch(text)
     if tagged and 0 < int(tagged[1]) <= len(found):
         found[int(tagged[1]) - 1].said.append(tagged[2])
@@ -137,7 +132,7 @@ def note_ends(log: IO[bytes], found: list[Answer]) -> None:
 
 
 def answers(given: argparse.Namespace, options: list[str], traces: list[str]) -> list[Answer]:
-    """The result for each trace."""
+    """Runs parallel, and returns the result for each trace."""
     found = [Answer() for _ in traces]
     end, other = os.pipe()
     ear = threading.Thread(target=overhear, args=(end, found))
@@ -160,9 +155,8 @@ def answers(given: argparse.Namespace, options: list[str], traces: list[str]) ->
 
 
 def summary(given: argparse.Namespace, traces: list[str], found: list[Answer]) -> dict[str, object]:
-    """The results, counted. Traces made from the same samples count as one, and a kill in the time
-    that two of them share counts once.
-    """
+    """Counts the results. Traces made together from the same samples count as one, and a kill in
+    the time that two of them share counts once."""
     rules = RulesFile(given.rules, bytes_of(given.rules))
     rulesets: collections.Counter[str] = collections.Counter()
     paths: collections.Counter[str] = collections.Counter()
@@ -202,7 +196,7 @@ def summary(given: argparse.Namespace, traces: list[str], found: list[Answer]) -
 
 
 def tell(summed: dict[str, object]) -> None:
-    """Prints the summary."""
+    """Prints the summary for people."""
     without, faults = summed["without_any"], summed["not_run"]
     assert isinstance(without, list) and isinstance(faults, dict)
     print(
@@ -220,7 +214,7 @@ def tell(summed: dict[str, object]) -> None:
 
 
 def fleet() -> int:
-    """Replays the traces, and prints the summary."""
+    """Replays the traces, prints the summary, and returns the exit status."""
     at = sys.argv.index("--") if "--" in sys.argv else len(sys.argv)
     given, options = parser().parse_args(sys.argv[1:at]), sys.argv[at + 1 :]
     traces = given.traces or [
@@ -250,7 +244,7 @@ def fleet() -> int:
 
 
 def parser() -> Parser:
-    """The parser of the command line."""
+    """Returns the parser of the command line."""
     found = Parser(
         ABOUT, STATUS, usage="%(prog)s [OPTION ..] RULES [TRACE ..] [-- OPTION OF PARALLEL ..]"
     )

@@ -1,4 +1,5 @@
-"""Arguments' values: which psi_oomd takes, and what oomd 0.5.0 makes of others that it takes."""
+"""The values of arguments: which ones psi_oomd accepts, and how oomd 0.5.0 reads others that it
+accepts."""
 import re
 from dataclasses import dataclass
 from decimal import Decimal
@@ -29,7 +30,8 @@ class Repair:
 
 
 def spelled(value: object) -> str | None:
-    """The text of an argument's value, as both programs take it; none where it isn't one."""
+    """Returns an argument's value as a string, as both programs read it. None if it is neither a
+    string, a number nor a boolean."""
     if isinstance(value, bool):
         return "true" if value else "false"
     return (
@@ -38,12 +40,12 @@ def spelled(value: object) -> str | None:
 
 
 def is_text(value: object) -> bool:
-    """Whether psi_oomd takes a value of this kind."""
+    """Whether psi_oomd accepts a value of this JSON kind."""
     return isinstance(value, (str, bool)) or isinstance(value, int) and 0 <= value < 1 << 64
 
 
 def is_valid(form: Form, text: str) -> bool:
-    """Whether psi_oomd takes the text as this form."""
+    """Whether psi_oomd accepts `text` as an argument of this form."""
     if form in MOST:
         return bool(re.fullmatch(WHOLE, text)) and int(text) <= MOST[form]
     if form is Form.RATIO:
@@ -64,7 +66,8 @@ def is_valid(form: Form, text: str) -> bool:
 
 
 def size(text: str) -> int | None:
-    """The bytes of a size that isn't a percentage."""
+    """Parses a size that isn't a percentage, and returns bytes. None if it is malformed or too
+    large."""
     found = re.fullmatch(WHOLE + r"(?:(\.[0-9]{1,3})?([KMGTkmgt]))?", text)
     if not found:
         return None
@@ -73,9 +76,8 @@ def size(text: str) -> int | None:
 
 
 def size_text(count: int) -> str:
-    """So many bytes with a letter, since oomd takes a number without one as megabytes. It is at
-    most a byte too much.
-    """
+    """Formats a number of bytes with a letter, since oomd reads a number without a letter as
+    megabytes. The result is rounded up to a thousandth of a KiB, about a byte."""
     for letter, unit in reversed(UNITS.items()):
         if letter and count % unit == 0:
             return f"{count // unit}{letter}" if count else "0"
@@ -84,9 +86,8 @@ def size_text(count: int) -> str:
 
 
 def oomd_size(text: str) -> int | None:
-    """The bytes that oomd reads in a size with several parts, spaces or more decimals, as in `1.5M
-    32K 512`.
-    """
+    """Parses a size as oomd does, with several parts, spaces or more decimals, such as `1.5M 32K
+    512`. Returns bytes, or None if it is malformed."""
     joined = "".join(text.split()).lower().removeprefix("+")
     parts = re.findall(r"([0-9]+\.?[0-9]*|\.[0-9]+)([kmgt]?)", joined)
     if not parts or "".join(number + letter for number, letter in parts) != joined:
@@ -97,9 +98,8 @@ def oomd_size(text: str) -> int | None:
 
 
 def repair(form: Form, text: str) -> Repair | None:
-    """What is to stand for a text that psi_oomd refuses, or takes otherwise than oomd; none where
-    nothing has to or can.
-    """
+    """Returns the replacement for a text that psi_oomd rejects, or reads differently from oomd.
+    None if none is needed or possible."""
     if form is Form.SIZE:
         return repair_size(text)
     if is_valid(form, text):
@@ -114,7 +114,8 @@ def repair(form: Form, text: str) -> Repair | None:
 
 
 def repair_size(text: str) -> Repair | None:
-    """oomd takes a bare number as megabytes, and of a percentage the whole part."""
+    """Returns the replacement for a size: oomd reads a bare number as megabytes, and only the
+    whole part of a percentage."""
     found = LEADING.match(text)
     if text.endswith("%"):
         is_known = is_valid(Form.SIZE, text) or not found or int(found[1]) > 100
@@ -134,7 +135,7 @@ def repair_size(text: str) -> Repair | None:
 
 
 def repair_ratio(text: str) -> Repair | None:
-    """oomd takes any spelling of a float."""
+    """Returns the replacement for a ratio: oomd accepts any spelling of a float."""
     rounded = f"{Decimal(text.strip()):.3f}".rstrip("0").rstrip(".")
     is_lost = Decimal(rounded) != Decimal(text.strip())
     return (
@@ -145,7 +146,8 @@ def repair_ratio(text: str) -> Repair | None:
 
 
 def repair_patterns(text: str) -> Repair | None:
-    """oomd passes over empty patterns and empty components, and its patterns are a shell's."""
+    """Returns the replacement for patterns: oomd ignores empty patterns and empty components,
+    and accepts a shell's wildcards."""
     patterns = []
     for pattern in text.split(","):
         parts = [part for part in pattern.strip().split("/") if part]

@@ -1,4 +1,4 @@
-"""tools/rules from-oomd: the rules of psi_oomd that are nearest to a configuration of oomd."""
+"""tools/rules from-oomd: converts a configuration of oomd to the nearest rules of psi_oomd."""
 import argparse
 import re
 from collections.abc import Callable
@@ -31,7 +31,8 @@ STATUS = (
     " FILE."
 )
 MOST_SECONDS, MOST_PERCENT, MOST_RATIO = 1000000, 100, 1000
-# Totals with which a percentage is read; it is written as a percentage again.
+# The host that a percentage is parsed with. Its sizes don't matter, since the percentage is written
+# as one again.
 TOTALS = Host(0, 0, 0)
 NOTHING = ("continue", "dump_cgroup_overview")
 SECONDS = ("duration", "post_action_delay")
@@ -40,11 +41,11 @@ TRUTHS = ("negate", "recursive", "always_continue")
 
 
 class Gone(Exception):
-    """That a plugin can't be said in rules."""
+    """Raised for a plugin that rules can't express."""
 
 
 class Nearest:
-    """The rules, and what is lost."""
+    """The rules nearest to a configuration of oomd, and notes on what is lost."""
 
     def __init__(self, read: Configuration) -> None:
         self.told: list[tuple[str, bool]] = []
@@ -67,7 +68,8 @@ class Nearest:
         }
 
     def group(self, use: GroupUse) -> list[Any] | None:
-        """None if it can't be said, so that it never fires."""
+        """Converts a group of detectors. None if rules can't express one of them, so that the
+        group never fires."""
         made: list[Any] = [use.name]
         for it in use.detectors:
             if it.name in NOTHING:
@@ -126,7 +128,7 @@ class Nearest:
         return {"name": use.name, "args": made}
 
     def argument(self, place: str, plugin: str, name: str, text: str, value: Any) -> str | None:
-        """An argument as psi_oomd reads it; None if it has no meaning there."""
+        """Returns an argument as psi_oomd reads it, None if it has no meaning there."""
         is_size = name == "threshold" and plugin in ("memory_above", "kill_by_swap_usage")
         for is_it, write in self.writers(name, is_size):
             if is_it:
@@ -165,7 +167,7 @@ class Nearest:
         return self.exact(nearest)
 
     def exact(self, count: int) -> str:
-        """Bytes with a letter if that is exact."""
+        """Formats a number of bytes with a letter if that is exact, else without."""
         found = size_text(count)
         return str(count) if "." in found else found
 
@@ -177,7 +179,8 @@ class Nearest:
         return found
 
     def patterns(self, place: str, text: str) -> str:
-        """Patterns with `*` alone. Those that match nothing in a trace stay as far as they can."""
+        """Returns patterns whose only wildcard is `*`. A pattern with others becomes a wider
+        one; a pattern that can't match any group of a trace is left out."""
         found = []
         for pattern in split(text, ","):
             plain = "/".join(split(without_braces("/".join(split(pattern, "/"))), "/")) or "/"
@@ -206,7 +209,7 @@ class Nearest:
         return ",".join(dict.fromkeys(found[:MOST_PATTERNS])) or "no-such-group"
 
     def losses(self, use: PluginUse, made: dict[str, str]) -> None:
-        """What rules do otherwise by the same words."""
+        """Adds notes on what rules do differently from oomd with the same arguments."""
         if use.name == "kill_by_swap_usage" and made.get("threshold", "").endswith("%"):
             self.tell(use.place, f"rules take the exact percentage, but {SWAP}")
         if use.name == "kill_by_pg_scan":

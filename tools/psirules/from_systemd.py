@@ -1,4 +1,5 @@
-"""tools/rules from-systemd: the rules of oomd's form that are nearest to the settings of systemd-oomd."""
+"""tools/rules from-systemd: converts the settings of systemd-oomd to the nearest rules of
+psi_oomd."""
 import argparse
 import re
 import sys
@@ -30,7 +31,8 @@ SWAP_LIMIT, PRESSURE_LIMIT, LENGTH = "SwapUsedLimit", "DefaultMemoryPressureLimi
 
 @dataclass(frozen=True)
 class Place:
-    """A unit or units whose groups a pattern matches, and whether groups are expected below them."""
+    """A unit, or several units whose groups a pattern matches, and whether these groups are
+    expected to have children."""
 
     name: str
     pattern: str
@@ -38,18 +40,20 @@ class Place:
     unit: Unit
 
     def inner(self) -> str:
-        """Where the choice begins: among the groups below, or at the group alone."""
+        """Returns the pattern of the groups among which a victim is chosen: the children, or the
+        group alone."""
         if self.pattern == ROOT:
             return "*"
         return f"{self.pattern}/*" if self.has_groups else self.pattern
 
     def both(self) -> str:
-        """The group and those below it."""
+        """Returns the patterns of the group and its children."""
         return f"{self.pattern},{self.pattern}/*" if self.has_groups else self.pattern
 
 
 def slices(name: str) -> str:
-    """The pattern of a slice, with the slices in which it stands: a.slice/a-b.slice of a-b.slice."""
+    """Returns the pattern of a slice, which contains the slices above it: a.slice/a-b.slice for
+    a-b.slice."""
     parts = name.removesuffix(".slice").replace("%i", "*").split("-")
     if not any(parts):
         return ROOT
@@ -58,7 +62,8 @@ def slices(name: str) -> str:
 
 
 def pattern_of(name: str, unit: Unit, is_users: bool) -> str | None:
-    """Where the groups of a unit are that files name; none where they don't say it."""
+    """Returns the pattern of the groups of a unit that only unit files name. None if they don't
+    say where its groups are."""
     stem, _, kind = name.rpartition(".")
     if kind == "scope":
         return None
@@ -76,7 +81,7 @@ def pattern_of(name: str, unit: Unit, is_users: bool) -> str | None:
 
 
 class Nearest:
-    """The rules, and what is lost of the settings."""
+    """The rules nearest to the settings of systemd-oomd, and notes on what is lost."""
 
     def __init__(self, settings: Settings) -> None:
         self.settings = settings
@@ -94,14 +99,15 @@ class Nearest:
         self.told.append((what, is_lost))
 
     def shown(self) -> Iterator[Place]:
-        """The units that systemd itself told of."""
+        """Yields the watched units that systemd itself reported."""
         for path, (name, unit) in self.settings.shown.items():
             has_groups = name.endswith(".slice") or bool(BELOW_MANAGER.fullmatch("/" + path.rpartition("/")[2]))
             if unit.swap or unit.pressure:
                 yield Place(name, path if path == ROOT else path[1:], has_groups, unit)
 
     def named(self, is_users: bool) -> Iterator[Place]:
-        """The units that files alone name."""
+        """Yields the watched units that are named only in unit files, and notes the units that
+        no rule can watch."""
         files: UnitFiles = self.settings.files[is_users]
         known = {name for name, _ in self.settings.shown.values()} if not is_users else set()
         known |= {template for name in known if (template := template_of(name))}
@@ -120,21 +126,23 @@ class Nearest:
                 self.tell(f"{places_of(unit)}: every {kind} is watched: no rule says that", True)
 
     def add(self, ruleset: dict[str, Any], place: Place) -> None:
-        """A ruleset more, where there is room."""
+        """Adds a ruleset if the file may have one more, and otherwise a note."""
         if len(self.rulesets) == MOST_RULESETS:
             self.tell(f"{place.name}: more than {MOST_RULESETS} rulesets aren't taken: no rule watches it", True)
         else:
             self.rulesets.append(ruleset)
 
     def whole(self, hundredths: int, place: str) -> int:
-        """A share in whole percent, which is what a threshold can be."""
+        """Rounds a share in hundredths of a percent to a whole percentage, as thresholds must
+        be, and notes the loss."""
         nearest = (hundredths + HUNDREDTHS // 2) // HUNDREDTHS
         if hundredths % HUNDREDTHS:
             self.tell(f"{place}: a limit of {percent(hundredths)}: thresholds are whole, so it is written {nearest} %", True)
         return nearest
 
     def add_swap(self, places: list[Place]) -> None:
-        """All groups that are watched for swap stand in one comparison, as far as patterns have room."""
+        """Adds rulesets for swap. All groups that are watched for it are compared in one
+        ruleset, up to the limit of patterns in an argument."""
         limits = self.settings.limits
         limit = self.whole(limits.swap_used, dict(limits.places).get(SWAP_LIMIT, SWAP_LIMIT)) if places else 0
         for first in range(0, len(places), MOST_PATTERNS):
@@ -151,7 +159,7 @@ class Nearest:
             self.tell(f"{SWAP}=kill of {len(places)} units: rulesets compare {MOST_PATTERNS} of them each, not all with one another", True)
 
     def add_pressure(self, place: Place) -> None:
-        """A ruleset for a unit that is watched for memory pressure."""
+        """Adds a ruleset for a unit that is watched for memory pressure."""
         unit, limits = place.unit, self.settings.limits
         if place.pattern == ROOT:
             self.tell(f"{unit.places[PRESSURE]}: {PRESSURE}=kill of {place.name}: systemd-oomd never kills by it, so there is no rule")
@@ -178,7 +186,7 @@ class Nearest:
         self.add({"name": f"memory pressure of {place.name}", "detectors": [[name, *detectors]], "actions": actions}, place)
 
     def tell_wishes(self) -> None:
-        """What groups and units ask for, as far as rules have no word for it."""
+        """Adds notes on the preferences of groups and units that rules can't express."""
         groups = [(path, it.preference, it.is_whole) for path, it in self.settings.groups.items()]
         units = [(it.name, it.unit.preference, bool(it.unit.is_whole)) for it in self.wishing()]
         for who, wish, is_whole in [*groups, *units]:
@@ -190,7 +198,7 @@ class Nearest:
                 self.tell(f"{who}: memory.oom.group: it is killed as a whole there, and rules choose among the groups in it", True)
 
     def wishing(self) -> Iterator[Place]:
-        """The units that ask for something, which needn't be watched themselves."""
+        """Yields the units that may have preferences, which needn't be watched themselves."""
         recorded = self.settings.groups
         for path, (name, unit) in self.settings.shown.items():
             if path not in recorded:
@@ -200,14 +208,14 @@ class Nearest:
                 yield from (Place(name, "", False, files.unit(name)) for name in files.named())
 
     def tell_pauses(self) -> None:
-        """That rulesets rest alone."""
+        """Adds the note that a ruleset pauses only itself after a kill."""
         pressures = sum(it["name"].startswith("memory pressure") for it in self.rulesets)
         if pressures > 1:
             self.tell(f"after a kill systemd-oomd rests for all groups: each of {pressures} rulesets of memory pressure rests alone", True)
 
 
 def places_of(unit: Unit) -> str:
-    """Where a unit says that it is watched."""
+    """Returns the file and line that say that a unit is watched."""
     return unit.places[PRESSURE if unit.pressure else SWAP]
 
 

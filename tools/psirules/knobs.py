@@ -1,4 +1,5 @@
-"""The thresholds and durations of detectors, and the kills with other values."""
+"""The thresholds and durations of detectors that `suggest` varies, and the kills with other
+values."""
 from __future__ import annotations
 
 import copy
@@ -23,9 +24,10 @@ from psisystemd.settings import Settings
 
 PRESSURE = ("pressure_above", "pressure_rising_beyond")
 MOST_PERCENT = 100
-# A rules file has at most this many rulesets.
+# The most rulesets in a rules file.
 MOST_RULESETS = 64
-# oomd's action that waits for a second look: then an earlier firing may mean a later kill.
+# An action of oomd that waits for a second evaluation. With it, an earlier firing may lead to a
+# later kill.
 WAITS = "kill_by_pg_scan"
 Found = list[list[Kill] | Fault]
 
@@ -51,27 +53,28 @@ Values = Mapping[Knob, int]
 
 
 class Subject(ABC):
-    """Rules whose numbers are varied, and who evaluates them."""
+    """Rules whose numbers are varied, and the program that evaluates them."""
 
     rules: RulesFile
-    # How many values one replay answers for.
+    # The number of sets of values that one replay can evaluate.
     at_once = 1
 
     @abstractmethod
     def knobs(self, longest: int) -> Iterator[Knob]:
-        """The numbers, where durations make sense up to the length (s) of the longest trace."""
+        """Yields the numbers that can be varied. `longest` is the length (s) of the longest
+        trace, up to which durations make sense."""
 
     @abstractmethod
     def kills(self, values: Values, traces: Traces) -> Found:
-        """The kills of each trace with these values."""
+        """Returns the kills in each trace with these values."""
 
     def kills_of_each(self, many: list[Values], traces: Traces) -> list[Found]:
-        """The kills with each of some values."""
+        """Returns the kills with each of several sets of values."""
         return [self.kills(values, traces) for values in many]
 
     @abstractmethod
     def text(self, values: Values) -> bytes:
-        """The file with these values."""
+        """Returns the contents of the file with these values."""
 
     def is_monotone(self) -> bool:
         """Whether a lower threshold or duration never makes a first kill later."""
@@ -79,7 +82,8 @@ class Subject(ABC):
 
 
 def detector_knobs(rulesets: Any, longest: int) -> Iterator[Knob]:
-    """The thresholds in percent, and the durations, of a file's detectors."""
+    """Yields the thresholds in percent, and the durations, of the detectors of pressure and
+    memory."""
     for number, ruleset in enumerate(rulesets):
         for group, items in enumerate(ruleset["detectors"]):
             for item, plugin in enumerate(items):
@@ -102,7 +106,7 @@ def detector_knobs(rulesets: Any, longest: int) -> Iterator[Knob]:
 
 
 def changed(data: Any, values: Values) -> bytes:
-    """A rules file with other values."""
+    """Returns a rules file with other values."""
     data = copy.deepcopy(data)
     for knob, value in values.items():
         at = data["rulesets"]
@@ -114,7 +118,7 @@ def changed(data: Any, values: Values) -> bytes:
 
 
 class OwnRules(Subject):
-    """Rules of psi_oomd."""
+    """Rules that psi_oomd evaluates."""
 
     def __init__(self, program: Program, rules: RulesFile) -> None:
         self.program, self.rules = program, rules
@@ -128,15 +132,14 @@ class OwnRules(Subject):
         return found
 
     def kills_of_each(self, many: list[Values], traces: Traces) -> list[Found]:
-        """One replay has the rulesets of many values side by side, since rulesets don't affect one
-        another, nor do kills.
-        """
+        """Evaluates the rulesets of many sets of values in one replay, since neither rulesets
+        nor kills affect each other in a replay."""
         step = self.at_once
         parts = [many[start : start + step] for start in range(0, len(many), step)]
         return [found for part in parts for found in self.kills_side_by_side(part, traces)]
 
     def kills_side_by_side(self, many: list[Values], traces: Traces) -> list[Found]:
-        """The kills with each of as many values as fit into one rules file."""
+        """Returns the kills with each of as many sets of values as fit into one rules file."""
         rulesets = [it for values in many for it in json.loads(self.text(values))["rulesets"]]
         data = {**self.rules.data, "rulesets": rulesets}
         with kept(json.dumps(data).encode(), self.rules.name) as file:
@@ -151,7 +154,8 @@ class OwnRules(Subject):
 
 
 def own_kills(found: list[Kill] | Fault, number: int, count: int) -> list[Kill] | Fault:
-    """The kills by the rulesets of one of several copies of `count` rulesets each."""
+    """Selects the kills by copy `number` of several copies of `count` rulesets each, with the
+    rulesets' numbers in the original file."""
     if isinstance(found, Fault):
         return found
     return [
@@ -160,7 +164,7 @@ def own_kills(found: list[Kill] | Fault, number: int, count: int) -> list[Kill] 
 
 
 class OomdRules(Subject):
-    """A configuration of oomd."""
+    """A configuration of oomd, which oomd's algorithm evaluates."""
 
     def __init__(self, program: Program, name: str, interval: int | None) -> None:
         self.program, self.interval = program, interval
@@ -218,7 +222,7 @@ class SystemdSettings(Subject):
             )
 
     def settings(self, values: Values) -> Settings:
-        """The settings with other limits."""
+        """Returns the settings with other limits."""
         found = Settings(self.folder, self.version)
         for knob, value in values.items():
             path, field = str(knob.way[0]), str(knob.way[1])
@@ -248,7 +252,7 @@ def subject(
     groups: set[str],
     files: Any,
 ) -> Subject:
-    """The rules of this name, by whoever evaluates them."""
+    """Returns the rules in the file or folder `name`, for the program `by` that evaluates them."""
     if by == by_systemd.NAME:
         return SystemdSettings(program, name, version, groups)
     if by == by_oomd.NAME:

@@ -1,4 +1,4 @@
-"""tools/rules lint: what is wrong in a rules file, and a corrected one."""
+"""tools/rules lint: reports what is wrong in a rules file, and prints a corrected one."""
 import argparse
 import json
 import re
@@ -45,7 +45,8 @@ CAUSES = {
 
 
 def place_told(said: str, data: Any) -> str:
-    """The place of a fault, as the program writes it, with the names that stand there."""
+    """Names the place of an error from the program's message, with the names of the ruleset,
+    group or plugin."""
     lists = {"ruleset": "rulesets", "group": "detectors", "action": "actions"}
     told, at = [], data
     for kind, number in re.findall(r"(ruleset|group|item|action) ([0-9]+)", said):
@@ -60,7 +61,8 @@ def place_told(said: str, data: Any) -> str:
 
 
 def verdict(data: bytes, read: Any) -> Finding | None:
-    """The first fault that the program itself finds in these bytes."""
+    """Returns the first error that psi_oomd itself finds in these bytes, None if it accepts
+    them."""
     with kept(data, "") as file:
         try:
             Program().judge(file)
@@ -75,14 +77,14 @@ def verdict(data: bytes, read: Any) -> Finding | None:
 
 
 def written(data: Any) -> bytes:
-    """The data as a rules file, in lines where these have room in it."""
+    """Formats data as a rules file, on several lines unless it becomes too long by that."""
     lines = (json.dumps(data, indent=1, ensure_ascii=False) + "\n").encode("utf-8", "replace")
     close = json.dumps(data, separators=(",", ":"), ensure_ascii=False).encode("utf-8", "replace")
     return lines if len(lines) <= MOST_BYTES else close
 
 
 class Linted:
-    """A file with what was found in it, and its corrected bytes, where they could be made."""
+    """A rules file with its findings, and its corrected bytes, None if it can't be corrected."""
 
     def __init__(self, data: bytes) -> None:
         self.findings: list[Finding] = []
@@ -115,7 +117,7 @@ class Linted:
 
 
 def told_fix(linted: Linted, name: str) -> int:
-    """Prints the corrected file, and reports what was changed."""
+    """Prints the corrected file, reports the changes, and returns the exit status."""
     for finding in linted.findings:
         complain(finding.told_change() if linted.fixed else finding.told())
     if linted.fixed is None:

@@ -1,6 +1,5 @@
-"""Goes through a rules file's data, and finds what psi_oomd refuses, passes over or takes otherwise
-than oomd. Each finding may be a change of the data.
-"""
+"""Finds what psi_oomd rejects, ignores or reads differently from oomd in the data of a rules
+file, and corrects the data."""
 import difflib
 from dataclasses import dataclass
 from enum import Enum
@@ -13,7 +12,7 @@ from psirules.plugins import ACTIONS, DETECTORS, OF_OOMD, Effect, Form, Plugin
 
 
 class Kind(Enum):
-    """What becomes of the place as it stands."""
+    """What psi_oomd does with the place as it is in the file."""
 
     REFUSED = "refused"
     IGNORED = "passed over"
@@ -23,9 +22,8 @@ class Kind(Enum):
 
 @dataclass(frozen=True)
 class Finding:
-    """Where, what becomes of it, what it is, how it is corrected (none where it can't be), and
-    whether that loses some of what oomd would do.
-    """
+    """A finding: its place, its kind, what it is, how it is corrected (None if it isn't), and
+    whether the correction loses some of what oomd would do."""
 
     place: str
     kind: Kind
@@ -44,13 +42,13 @@ class Finding:
 
 
 def alike(word: str, names: list[str]) -> str | None:
-    """The name that was probably meant."""
+    """Returns the name that was probably meant, None if no name is similar."""
     found = difflib.get_close_matches(word, names, 1, 0.75)
     return found[0] if found else None
 
 
 class Mender:
-    """Findings about data, which is corrected in place on the way."""
+    """The findings about a file's data, which is corrected in place."""
 
     def __init__(self, data: Any) -> None:
         self.data = data
@@ -71,7 +69,7 @@ class Mender:
     def keys(
         self, place: str, at: dict[str, Any], known: tuple[str, ...], of_oomd: tuple[str, ...] = ()
     ) -> None:
-        """Unknown keys that resemble a missing key."""
+        """Finds unknown keys that resemble a missing key, and renames them."""
         for key in [key for key in at if key not in known + of_oomd]:
             meant = alike(key, [it for it in known if it not in at])
             if meant:
@@ -100,7 +98,8 @@ class Mender:
             ruleset["actions"] = self.actions(place, ruleset["actions"])
 
     def group(self, place: str, group: list[Any]) -> bool:
-        """Whether the group stays, with the detectors that do."""
+        """Corrects a group in place, and returns whether it stays. It keeps the detectors that
+        psi_oomd knows."""
         if len(group) == 1:
             self.find(place, Kind.NOTE, "it has no detector, so it always holds; oomd refuses it")
         kept = group[:1]
@@ -126,7 +125,7 @@ class Mender:
         return True
 
     def actions(self, place: str, actions: list[Any]) -> list[Any]:
-        """The actions that stay."""
+        """Corrects a list of actions, and returns those that stay."""
         kept = []
         for number, action in enumerate(actions):
             here = f"{place}, action {number}"
@@ -152,9 +151,8 @@ class Mender:
     def plugin(
         self, place: str, plugin: Any, known: dict[str, Plugin], others: dict[str, Plugin]
     ) -> Effect | None:
-        """What oomd's plugin does where psi_oomd has none of its name; the arguments of one that it
-        has are corrected.
-        """
+        """Corrects a plugin's arguments. If psi_oomd has no such plugin, returns what oomd's
+        does, otherwise None."""
         if not isinstance(plugin, dict) or not isinstance(plugin.get("name"), str):
             return None
         name = plugin["name"]
@@ -178,7 +176,8 @@ class Mender:
         return None
 
     def arguments(self, place: str, args: dict[str, Any], plugin: Plugin) -> Effect | None:
-        """Corrects arguments; says where one of them makes a plugin that can't be said here."""
+        """Corrects arguments. Returns an effect if one of them makes a plugin that psi_oomd
+        can't express, otherwise None."""
         for name in list(args):
             if name in plugin.of_oomd or plugin.form_of(name):
                 continue
@@ -201,7 +200,7 @@ class Mender:
         return None
 
     def of_oomd(self, place: str, args: dict[str, Any], plugin: Plugin) -> None:
-        """What arguments mean in oomd that mean nothing here."""
+        """Reports arguments that have a meaning only in oomd."""
         if spelled(args.get("dry")) in ("true", "True", "1") and "dry" in plugin.of_oomd:
             self.find(
                 place,
@@ -220,7 +219,7 @@ class Mender:
             args["threshold"] = args.pop("threshold_anon")
 
     def value(self, place: str, args: dict[str, Any], name: str, form: Form) -> None:
-        """Corrects one argument's value."""
+        """Corrects the value of one argument."""
         text = spelled(args[name])
         if text is None:
             self.find(
@@ -253,20 +252,20 @@ class Mender:
 
 
 def missing(kind: str, name: str, effect: Effect) -> str:
-    """That there is no such plugin, and what oomd's does."""
+    """Says that psi_oomd has no such plugin, and what oomd's does."""
     if effect is Effect.WAITS_FOR_CPU:
         return f"{quoted(name)} of resource 'cpu': it has to be {Form.RESOURCE.value}"
     return f"no {kind} {quoted(name)}: in oomd it {effect.value}"
 
 
 def items(at: dict[str, Any], key: str) -> list[Any]:
-    """The list at this key, or none."""
+    """Returns the list at `key`, empty if there is none."""
     found = at.get(key)
     return found if isinstance(found, list) else []
 
 
 def rename(at: dict[str, Any], old: str, new: str) -> None:
-    """Gives a key another name, in its place."""
+    """Renames a key without changing the order of keys."""
     pairs = [(new if key == old else key, value) for key, value in at.items()]
     at.clear()
     at.update(pairs)

@@ -1,6 +1,5 @@
-"""What a rules file says that oomd 0.5.0 does otherwise, as far as the file shows it: notes for
-tools/rules lint.
-"""
+"""Notes for tools/rules lint on what oomd 0.5.0 does differently from psi_oomd with the same
+rules, as far as the file shows it."""
 from __future__ import annotations
 
 import re
@@ -27,7 +26,7 @@ SWAP = (
 
 
 def plugins_of(data: Any) -> Iterator[tuple[str, str, dict[str, Any]]]:
-    """Each plugin of a file: its place, its name and its arguments."""
+    """Yields the place, the name and the arguments of each plugin in a file."""
     for number, ruleset in enumerate(items(data, "rulesets") if isinstance(data, dict) else []):
         if not isinstance(ruleset, dict):
             continue
@@ -50,7 +49,7 @@ def named(place: str, plugin: Any) -> Iterator[tuple[str, str, dict[str, Any]]]:
 
 
 def texts_of(name: str, args: dict[str, Any]) -> Iterator[str]:
-    """What is to say about one plugin."""
+    """Yields the notes on one plugin."""
     found = {key: spelled(value) or "" for key, value in args.items()}
     ratio = found.get("min_growth_ratio", "")
     if re.fullmatch(r"[0-9]+\.[0-9]+", ratio):
@@ -72,7 +71,7 @@ def texts_of(name: str, args: dict[str, Any]) -> Iterator[str]:
 
 
 def of_pace(tick_ms: int | None, interval_s: int | None) -> Iterator[Finding]:
-    """Whether ticks divide the interval, if one of them is given."""
+    """Yields a note if a tick or an interval is given and ticks don't divide the interval."""
     if tick_ms is None and interval_s is None:
         return
     tick, interval = tick_ms or DEFAULT_TICK_MS, (interval_s or DEFAULT_INTERVAL_S) * SECOND_MS
@@ -88,7 +87,7 @@ def of_pace(tick_ms: int | None, interval_s: int | None) -> Iterator[Finding]:
 
 
 def notes(data: Any) -> list[Finding]:
-    """All that oomd does otherwise, in the order of the file."""
+    """Returns all notes on a file, in its order."""
     return [
         Finding(place, Kind.NOTE, text)
         for place, name, args in plugins_of(data)

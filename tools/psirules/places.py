@@ -1,6 +1,4 @@
-"""Places in a rules file: an argument of a plugin, by the names or the numbers of what it stands
-in.
-"""
+"""Finds an argument in a rules file by names or numbers, such as `ruleset/plugin.argument`."""
 import copy
 import json
 import re
@@ -19,9 +17,8 @@ DELAY = "post_action_delay"
 
 @dataclass(frozen=True)
 class Place:
-    """A plugin, or a ruleset alone: the way to it through lists and keys, and what it stands in, by
-    numbers and by names.
-    """
+    """A plugin, or a ruleset: the path of keys and indices to it, and the numbers and the names
+    of its ruleset, its group and itself. `plugin` is None for a ruleset."""
 
     way: tuple[str | int, ...]
     numbers: tuple[str, ...]
@@ -35,9 +32,8 @@ class Place:
         return f"{self.spelled()} ({' / '.join(map(quoted, self.names))})"
 
     def is_meant(self, parts: list[str]) -> bool:
-        """Whether these parts name it: ruleset, the detector's group or `actions`, which may be
-        left out, and plugin.
-        """
+        """Whether `parts` name this place: the ruleset, the detector's group or `actions`
+        (optional), and the plugin, each by name or number."""
         own = list(zip(self.names, self.numbers))
         ways = [own] if len(own) != 3 else [own, [own[0], own[2]]]
         return any(
@@ -49,7 +45,7 @@ class Place:
         return self.plugin.arguments() if self.plugin else [DELAY]
 
     def put(self, rules: dict[str, Any], argument: str, value: str) -> None:
-        """Sets the argument in these rules."""
+        """Sets an argument of this place in `rules`."""
         at: Any = rules
         for step in self.way:
             at = at[step]
@@ -57,7 +53,7 @@ class Place:
 
 
 def places(rules: RulesFile) -> Iterator[Place]:
-    """All plugins of the file, and the rulesets."""
+    """Yields the places of all rulesets and plugins of the file."""
     for number, ruleset in enumerate(rules.rulesets):
         way: tuple[str | int, ...] = ("rulesets", number)
         yield Place(way, (str(number),), (ruleset["name"],), None)
@@ -75,7 +71,7 @@ def places(rules: RulesFile) -> Iterator[Place]:
 
 
 def splits(text: str) -> Iterator[list[str]]:
-    """The text cut at none, one or two of its slashes: names may have slashes of their own."""
+    """Yields `text` split at none, one or two of its slashes, since names may contain slashes."""
     pieces = text.split("/")
     yield [text]
     for one in range(1, len(pieces)):
@@ -85,7 +81,8 @@ def splits(text: str) -> Iterator[list[str]]:
 
 
 def find(rules: RulesFile, text: str) -> tuple[Place, str]:
-    """The one place that is meant by `ruleset/plugin.argument`, and the argument."""
+    """Finds the place and the argument that `ruleset/plugin.argument` names. Raises a Fault
+    unless exactly one place matches."""
     name, _, argument = text.rpartition(".")
     if not name:
         raise Fault(f"{quoted(text)} names no argument: write 'ruleset/detector.threshold'")
@@ -105,7 +102,7 @@ def find(rules: RulesFile, text: str) -> tuple[Place, str]:
 
 
 def changed(rules: RulesFile, values: list[tuple[Place, str, str]]) -> bytes:
-    """The file with other values of arguments."""
+    """Returns the file with other values of arguments."""
     data = copy.deepcopy(rules.data)
     for place, argument, value in values:
         place.put(data, argument, value)

@@ -1,12 +1,11 @@
-"""The plugins that psi_oomd knows, as the tables of docs/RULES.md have them, and what oomd 0.5.0
-knows beside them.
-"""
+"""The plugins that psi_oomd knows, as in the tables of docs/RULES.md, and the plugins that only
+oomd 0.5.0 knows."""
 from dataclasses import dataclass, field
 from enum import Enum
 
 
 class Form(Enum):
-    """The forms of arguments, with what they are called in messages."""
+    """The forms of arguments, each with its description in messages."""
 
     PATTERNS = "1 to 16 patterns of groups' paths, with commas between"
     RESOURCE = "io or memory"
@@ -19,9 +18,8 @@ class Form(Enum):
 
 @dataclass(frozen=True)
 class Plugin:
-    """The arguments that a plugin knows, each with its form, and those that only oomd knows: they
-    mean nothing here.
-    """
+    """The arguments of a plugin, each with its form, and the arguments that only oomd knows,
+    which psi_oomd ignores."""
 
     required: dict[str, Form]
     optional: dict[str, Form] = field(default_factory=dict)
@@ -37,7 +35,7 @@ class Plugin:
 def _action(
     required: dict[str, Form], optional: dict[str, Form] | None = None, *of_oomd: str
 ) -> Plugin:
-    """An action, with the arguments that every action knows."""
+    """Returns an action's arguments, including those that all actions share."""
     every = {
         "recursive": Form.TRUTH,
         "always_continue": Form.TRUTH,
@@ -82,7 +80,7 @@ ACTIONS = {
 
 
 class Effect(Enum):
-    """What oomd's own plugin of this name does, as far as its place in a list goes."""
+    """What a plugin that only oomd has does to the list of plugins that contains it."""
 
     CONTINUES = "lets what follows it go on, and does nothing that a replay shows"
     STOPS = "ends its list"

@@ -1,4 +1,4 @@
-"""Runs psi_oomd, and reads what its replay prints of kills."""
+"""Runs psi_oomd, and parses the kills that its replay prints."""
 import os
 import re
 import shlex
@@ -44,9 +44,8 @@ Answer = TypeVar("Answer")
 
 @dataclass(frozen=True)
 class Kill:
-    """A kill that a replay printed: its moment in ns, who did it, both by number from 0, and the
-    victim's path.
-    """
+    """A kill that a replay printed: its time (ns), its ruleset and action by number from 0, and
+    the victim's path."""
 
     moment: int
     ruleset: int
@@ -56,9 +55,7 @@ class Kill:
 
 @dataclass(frozen=True)
 class Pace:
-    """How often ticks and evaluations come, as words of replay; what isn't given is the program's
-    own.
-    """
+    """The lengths of ticks (ms) and of evaluation intervals (s), None for the program's default."""
 
     tick_ms: int | None = None
     interval_s: int | None = None
@@ -70,24 +67,25 @@ class Pace:
 
 @dataclass(frozen=True)
 class RulesAt:
-    """A rules file: where its bytes lie, and its own name, for messages."""
+    """A rules file: the path of its bytes, and its own name for messages."""
 
     path: str
     name: str
 
 
 class Refusal(Fault):
-    """That the program ended without its output: over which file, what it said, and its status."""
+    """The error that the program ended without its output: the file that it rejected, its
+    message and its status."""
 
     def __init__(self, file: str, said: str, status: int, path: str | None = None) -> None:
-        """What the file is instead is looked up at its path."""
+        """`path` is the file whose kind is recognised for the message, if it isn't `file`."""
         advice = ADVICE.get(status, f"the program ended by status {status}").format(
             file=shlex.quote(file)
         )
         told = why_refused(said, file if path is None else path, file)
         name = file
         if status == ProgramStatus.NO_FILE:
-            name = ""  # the program names it
+            name = ""  # the program's message names it
         elif status == ProgramStatus.READ_FAULT and os.path.isdir(file):
             name, told, advice = "", "", folder_told(file)
         elif told != said:
@@ -97,20 +95,19 @@ class Refusal(Fault):
 
 
 def processors() -> int:
-    """How many processors this process may use."""
+    """Returns the number of processors that this process may use."""
     return len(os.sched_getaffinity(0))
 
 
 class Program:
-    """The psi_oomd beside the tools, or the program in the variable PSI_OOMD."""
+    """The psi_oomd next to the tools, or the program in the variable PSI_OOMD."""
 
     def __init__(self) -> None:
         self.path = named_program()
 
     def replay(self, trace: str, rules: RulesAt, pace: Pace, threads: int) -> list[Kill]:
-        """The kills of this trace by these rules, or a fault. The reports, of which one is left,
-        are passed over.
-        """
+        """Returns the kills in a trace by these rules. Raises a Refusal if the program rejects
+        one of them. With `--report-s=0` it prints only the last report, which is ignored."""
         words = [
             "replay",
             f"--rules={rules.path}",
@@ -141,9 +138,8 @@ class Program:
         return kills
 
     def started(self, words: list[str], said: IO[bytes] | None) -> subprocess.Popen[bytes]:
-        """The program, running, with its notes in this file, or on standard error where there is
-        none.
-        """
+        """Starts the program. Its standard error goes into the file `said`, or isn't redirected
+        without one."""
         try:
             return subprocess.Popen([self.path, *words], stdout=subprocess.PIPE, stderr=said)
         except OSError as fault:
@@ -153,10 +149,9 @@ class Program:
             ) from fault
 
     def prepare(self) -> None:
-        """Builds the program beside the tools where it isn't built yet: once, and before many would
-        do it side by side. It is run without the launcher then, which looks for newer sources at
-        each start.
-        """
+        """Builds the program next to the tools if it isn't up to date, once and before several
+        processes would build it at the same time. From then on it is run without the launcher,
+        which looks for newer sources at each start."""
         if not os.environ.get(VARIABLE):
             with self.started(["--build"], None) as child:
                 assert child.stdout is not None
@@ -166,7 +161,7 @@ class Program:
             self.path = built
 
     def judge(self, rules: RulesAt) -> None:
-        """Raises a fault where the program doesn't take this rules file."""
+        """Raises a Refusal if the program rejects this rules file."""
         with tempfile.NamedTemporaryFile() as trace:
             trace.write(EMPTY_TRACE)
             trace.flush()
@@ -174,7 +169,7 @@ class Program:
 
 
 def read_kills(lines: Iterable[str]) -> list[Kill] | None:
-    """The kills of a replay's lines; None where they don't end as a replay does."""
+    """Parses the kills in a replay's lines. None if these don't end like a replay."""
     kills: list[Kill] = []
     end: re.Match[str] | None = None
     for line in lines:
@@ -185,9 +180,8 @@ def read_kills(lines: Iterable[str]) -> list[Kill] | None:
 
 
 def side_by_side(calls: Sequence[Callable[[int], Answer]], jobs: int) -> list[Answer | Fault]:
-    """The answer or the fault of each call, in their order. So many run at a time, and each is told
-    how many threads are left for it.
-    """
+    """Runs `jobs` calls at a time, and returns the answer or the Fault of each, in order. Each
+    call gets the number of threads that it may use."""
     lanes = max(1, min(jobs, len(calls)))
     threads = max(1, processors() // lanes)
 

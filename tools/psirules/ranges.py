@@ -1,12 +1,11 @@
-"""Which values of a number keep what is wanted: ranges, found by bisection if the answer is
-monotone, else on a grid.
-"""
+"""Finds the ranges of a number's values that meet expectations, by bisection if the answer is
+monotone, otherwise on a grid."""
 from __future__ import annotations
 
 from collections.abc import Callable
 from dataclasses import dataclass
 
-# How many values a grid has at most, besides the present one.
+# The most values in a grid, apart from the present one.
 GRID = 21
 EARLY, LATE, OTHER = "early", "late", "other"
 
@@ -55,30 +54,29 @@ class Search:
     step: int
 
     def of(self, value: int) -> Range | None:
-        """The range that has a value."""
+        """Returns the range that contains `value`, None if there is none."""
         return next((it for it in self.ranges if it.low <= value <= it.high), None)
 
     def widest(self) -> Range | None:
-        """The range with the most values, the first one of several."""
+        """Returns the range with the most values, the first if there are several. None without
+        ranges."""
         order = sorted(self.ranges, key=lambda it: (it.low - it.high, it.low))
         return order[0] if order else None
 
 
-# The outcomes of some values. Many are asked for at once, since a replay can answer for many.
+# Returns the outcomes of some values. It gets many at once, since one replay can evaluate many.
 Look = Callable[[list[int]], list[Outcome]]
 
 
 def is_settled(low: Outcome, high: Outcome) -> bool:
-    """Whether the values between two need not be tried: all have the same first kills, all are too
-    early or all are too late.
-    """
+    """Whether the values between two need not be tried: all have the same first kills, all are
+    too early, or all are too late."""
     return low.first == high.first or EARLY in high.faults or LATE in low.faults
 
 
 def bisect(low: int, high: int, at_once: int, look: Look) -> dict[int, Outcome]:
-    """The outcomes between which all others are settled. The first round tries about `at_once`
-    values, and each other one halves all ranges that aren't settled.
-    """
+    """Returns the outcomes of values between which all others are settled. The first round tries
+    about `at_once` values, and each further round halves all ranges that aren't settled."""
     step = max(1, -(-(high - low) // max(1, at_once - 1)))
     values = sorted({*range(low, high, step), high})
     found = dict(zip(values, look(values)))
@@ -96,14 +94,16 @@ def bisect(low: int, high: int, at_once: int, look: Look) -> dict[int, Outcome]:
 
 
 def on_grid(low: int, high: int, present: int, look: Look) -> tuple[dict[int, Outcome], int]:
-    """The outcomes of evenly spaced values, and of the present one; and their distance."""
+    """Returns the outcomes of evenly spaced values and of the present one, and the distance
+    between the values."""
     step = max(1, -(-(high - low) // (GRID - 1)))
     values = sorted({*range(low, high + 1, step), high, min(max(present, low), high)})
     return dict(zip(values, look(values))), step
 
 
 def joined(found: dict[int, Outcome], is_exact: bool) -> list[Range]:
-    """The ranges of values that hold. On a grid, values between two that hold count as holding."""
+    """Joins values that hold into ranges. On a grid, the values between two that hold count as
+    holding."""
     values = sorted(found)
     ranges: list[Range] = []
     for place, value in enumerate(values):
@@ -127,7 +127,8 @@ def joined(found: dict[int, Outcome], is_exact: bool) -> list[Range]:
 def search(
     span: tuple[int, int], present: int, at_once: int, is_monotone: bool, look: Look
 ) -> Search:
-    """The ranges in a span, both ends included. `at_once` values cost little more than one."""
+    """Finds the ranges in a span, both ends included. `at_once` is the number of values that one
+    replay can evaluate."""
     low, high = span
     if is_monotone:
         found = bisect(low, high, at_once, look)

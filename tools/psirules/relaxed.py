@@ -1,4 +1,4 @@
-"""JSON as oomd's reader takes it, JsonCpp with comments: made into JSON as RFC 8259 has it."""
+"""Reads JSON as oomd's reader JsonCpp accepts it, with comments and trailing commas."""
 import json
 import re
 from typing import Any
@@ -13,9 +13,8 @@ TAKEN_OUT = "it is taken out"
 
 
 class Reading:
-    """A rules file's text as data; what of it is no JSON, with what becomes of that; and keys that
-    stand twice.
-    """
+    """The data of a rules file. `changes` lists what isn't JSON by RFC 8259, and how it was
+    changed; `doubles` lists keys that occur twice in an object."""
 
     def __init__(self, data: bytes) -> None:
         self.changes: list[tuple[str, str]] = []
@@ -34,8 +33,8 @@ class Reading:
         return text.removeprefix(BYTE_ORDER_MARK)
 
     def strict(self, text: str) -> str:
-        """The text without comments, and without commas after the last item of a list or an object.
-        """
+        """Returns the text without comments, and without commas after the last item of a list or
+        an object."""
         kept, line = [], 1
         for found in TOKEN.finditer(text):
             token = found[0]
@@ -66,9 +65,8 @@ class Reading:
         return data
 
     def decoded(self, text: str, is_strict: bool) -> tuple[Any, int]:
-        """The data at the text's front, and where it ends. Strict JSON has no control characters in
-        texts.
-        """
+        """Parses the data at the start of the text, and returns it and the offset of its end.
+        With `is_strict`, strings must not contain control characters."""
         self.doubles = []
         words: dict[str, Any] = {
             "parse_int": whole,
@@ -91,7 +89,7 @@ def place_of(fault: json.JSONDecodeError) -> str:
 
 
 def whole(digits: str) -> int | float:
-    """A whole number; -0 isn't one for psi_oomd."""
+    """Parses a whole number. -0 becomes a float, since psi_oomd doesn't count it as whole."""
     return -0.0 if digits == "-0" else int(digits)
 
 

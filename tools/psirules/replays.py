@@ -1,4 +1,4 @@
-"""Traces by rules: each replayed, side by side."""
+"""Replays several traces in parallel."""
 import contextlib
 import functools
 import json
@@ -40,7 +40,7 @@ class Traces:
 
     @staticmethod
     def of(names: list[str], pace: Pace, jobs: int | None) -> "Traces":
-        """The traces of these names."""
+        """Returns the traces `names`, in which those that were made together are one."""
         found = wholes(names)
         return Traces(
             [it.name for it in found],
@@ -50,9 +50,8 @@ class Traces:
         )
 
     def joined(self, trace: str, replay: Callable[[str], list[Kill]]) -> list[Kill]:
-        """The kills of a trace, or of all its parts: one in the time that two parts share counts
-        once.
-        """
+        """Returns the kills in a trace, or in all its parts. A kill in the time that two parts
+        share counts once."""
         if trace not in self.parts:
             return replay(trace)
         kills = []
@@ -62,9 +61,8 @@ class Traces:
         return kills
 
     def groups(self, trace: str) -> set[str] | None:
-        """The groups that a trace, or any of its parts, ever has; None if some part can't be read
-        twice.
-        """
+        """Returns the groups that a trace or any of its parts ever has. None if some part can't
+        be read twice."""
         found: set[str] = set()
         for name, _ in self.parts.get(trace, [(trace, None)]):
             groups = all_groups(name)
@@ -74,12 +72,12 @@ class Traces:
         return found
 
     def replay(self, program: Program, trace: str, file: RulesAt, threads: int) -> list[Kill]:
-        """The kills of one trace by a rules file."""
+        """Returns the kills in one trace by a rules file."""
         must_judge(trace, json.loads(bytes_of(file.path)), file.name)
         return self.joined(trace, lambda name: program.replay(name, file, self.pace, threads))
 
     def replays(self, program: Program, rules: list[RulesAt]) -> list[list[list[Kill] | Fault]]:
-        """For each rules file, the kills of each trace, or why it couldn't be replayed."""
+        """Returns for each rules file the kills in each trace, or why it couldn't be replayed."""
         pairs = [(file, trace) for file in rules for trace in self.names]
         calls = [functools.partial(self.replay, program, trace, file) for file, trace in pairs]
         found = side_by_side(calls, self.jobs or processors())
@@ -88,9 +86,8 @@ class Traces:
         ]
 
     def each(self, replay: Callable[[str, int], list[Kill]]) -> list[list[Kill] | Fault]:
-        """The kills of each trace by another way to replay it, which is told how many threads are
-        left for it.
-        """
+        """Replays each trace by the function `replay`, which gets the number of threads that it
+        may use. Returns the kills in each trace, or why it couldn't be replayed."""
 
         def call(trace: str, threads: int) -> list[Kill]:
             return self.joined(trace, lambda name: replay(name, threads))
@@ -101,9 +98,8 @@ class Traces:
 
 
 def read_again() -> None:
-    """Keeps the standard input in a file, in whose place it is then: so its groups can be looked up
-    after its replay.
-    """
+    """Replaces the standard input by a temporary file with its contents, so that it can be read
+    again."""
     file = tempfile.TemporaryFile()
     shutil.copyfileobj(sys.stdin.buffer, file)
     file.seek(0)
@@ -111,9 +107,8 @@ def read_again() -> None:
 
 
 def all_groups(trace: str) -> set[str] | None:
-    """The groups that a trace ever has, with the root and without that of a mark; None if it can't
-    be read twice, as a pipe can't.
-    """
+    """Returns the groups that a trace ever has, with the root and without the group of a mark.
+    None if the trace can't be read twice, such as a pipe."""
     with contextlib.ExitStack() as files:
         number = 0 if trace == STANDARD_INPUT else None
         if number is None and os.path.isfile(trace):
@@ -130,9 +125,8 @@ def all_groups(trace: str) -> set[str] | None:
 
 
 def note_unmatched(traces: Traces, names: list[str], rules: list[RulesFile]) -> None:
-    """Says which patterns of rules match no group of a trace: such a rule never does anything
-    there. A trace that has the root alone needs no such note.
-    """
+    """Prints a note for each pattern of the rules that matches no group of a trace: such a rule
+    never does anything there. A trace with only the root needs no note."""
     for trace in names:
         groups = traces.groups(trace) or set()
         for file in rules if len(groups) > 1 else ():
@@ -146,14 +140,14 @@ def note_unmatched(traces: Traces, names: list[str], rules: list[RulesFile]) -> 
 
 
 def note_samples(traces: list[str], rules: list[RulesFile]) -> None:
-    """Says what rules can see in traces that were made of samples."""
+    """Prints notes on what rules can detect in traces that were made from samples."""
     for said in dict.fromkeys(promise(trace, file.data) for trace in traces for file in rules):
         if said:
             complain(f"note: {said}")
 
 
 def no_input(names: list[str]) -> None:
-    """Refuses the standard input as a trace that is read more than once."""
+    """Rejects the standard input as a trace, since it would be read more than once."""
     if STANDARD_INPUT in names:
         raise Fault("- is no trace here, since it is read more than once: write it to a file first")
 
@@ -161,9 +155,8 @@ def no_input(names: list[str]) -> None:
 def accepted(
     program: Program, name: str, files: contextlib.ExitStack, order: str = ""
 ) -> tuple[RulesFile, RulesAt]:
-    """A rules file that the program takes, and where it is kept until the stack is closed. If a
-    trace is given in its place, the fault says in which order the words are.
-    """
+    """Returns a rules file that the program accepts, and a copy that exists until `files` is
+    closed. If a trace is given in its place, the Fault says in which `order` the arguments are."""
     data = bytes_of(name)
     rules = files.enter_context(kept(data, name))
     try:

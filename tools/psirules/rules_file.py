@@ -1,4 +1,4 @@
-"""A rules file that the program took: its bytes, and the names in it."""
+"""A rules file that the program accepted: its bytes, and the names in it."""
 import json
 import tempfile
 from collections.abc import Iterator
@@ -12,7 +12,7 @@ from psirules.program import Kill, RulesAt
 
 
 def bytes_of(name: str) -> bytes:
-    """The bytes of a file; `-` is no name here."""
+    """Reads a file. Here `-` isn't the standard input."""
     try:
         with open(name, "rb") as file:
             return file.read()
@@ -24,9 +24,8 @@ def bytes_of(name: str) -> bytes:
 
 @contextmanager
 def kept(data: bytes, name: str) -> Iterator[RulesAt]:
-    """A rules file with these bytes, as long as it is needed. So the rules that are run are those
-    whose names are shown, though the file changes meanwhile or is a pipe.
-    """
+    """Yields a temporary rules file with these bytes. So the replayed rules are those whose
+    names are shown, even if the original file changes meanwhile or is a pipe."""
     with tempfile.NamedTemporaryFile(prefix="psirules-", suffix=".json") as file:
         file.write(data)
         file.flush()
@@ -34,9 +33,7 @@ def kept(data: bytes, name: str) -> Iterator[RulesAt]:
 
 
 class RulesFile:
-    """The names of the rulesets and plugins of a file that the program accepted, which therefore
-    has them all.
-    """
+    """A rules file that the program accepted, so that all required keys exist."""
 
     def __init__(self, name: str, data: bytes) -> None:
         self.name = name
@@ -54,11 +51,11 @@ class RulesFile:
         return f"{ruleset}, action {kill.action} {quoted(self.plugin_name(kill))}"
 
     def killed(self, kill: Kill) -> str:
-        """When and by whom, to follow the victim."""
+        """Says when and by what a group was killed, to follow the group's path."""
         return f"killed at {seconds(kill.moment)} s by {self.killer(kill)}"
 
     def record(self, kill: Kill) -> dict[str, object]:
-        """The kill as JSON has it."""
+        """Returns the kill as a JSON object."""
         return {
             "moment_ns": kill.moment,
             "path": kill.path,
@@ -69,7 +66,8 @@ class RulesFile:
         }
 
     def numbers_of(self, ruleset: str) -> list[int]:
-        """The rulesets of this name, or the one of this number where none has such a name."""
+        """Returns the numbers of the rulesets named `ruleset`, or if there are none, the ruleset
+        with this number."""
         named = [number for number, it in enumerate(self.rulesets) if it["name"] == ruleset]
         if (
             not named
@@ -81,7 +79,8 @@ class RulesFile:
         return named
 
     def patterns(self) -> list[tuple[int, str]]:
-        """The patterns of groups that the rulesets have, each with its ruleset's number, once."""
+        """Returns the groups' patterns of each ruleset without repetitions, each with the
+        ruleset's number."""
         found = []
         for number, ruleset in enumerate(self.rulesets):
             plugins = [it for group in ruleset["detectors"] for it in group[1:]] + ruleset[

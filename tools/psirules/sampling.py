@@ -1,6 +1,5 @@
-"""Traces that were made of samples: which rules they can judge, and what an answer on them rests
-on.
-"""
+"""Traces that were made from samples: which rules can be evaluated on them, and how reliable an
+answer is."""
 from __future__ import annotations
 
 import math
@@ -11,18 +10,17 @@ from psicli.fault import Fault
 from psicli.times import SECOND
 from psireplay.sampled import Sampled, sampled
 
-# Plugins that see nothing without counts of scanned pages.
+# The plugins that need counts of scanned pages.
 OF_SCANS = ("memory_reclaim", "kill_by_pg_scan")
-# After so many seconds of a stall the average over 10 s has 63 percent of it. And the plugins with
-# a threshold of pressure.
+# The time constant (s) of the average over 10 s: after so long a full stall the average is 63
+# percent. `ABOVE` are the plugins with a threshold of pressure.
 PERIOD = 10.0
 ABOVE = ("pressure_above", "pressure_rising_beyond")
 
 
 def must_have_scans(trace: str, plugins: Iterable[str], name: str) -> None:
-    """A plugin that needs counts of scanned pages is a fault if a trace was made from samples
-    without them. `plugins` are those of the rules file `name`.
-    """
+    """Raises a Fault if a plugin needs counts of scanned pages and the trace was made from
+    samples without them. `plugins` are those of the rules file `name`."""
     found = next((it for it in plugins if it in OF_SCANS), None)
     mark = sampled(trace) if found else None
     if mark and not mark.has_scans:
@@ -33,31 +31,30 @@ def must_have_scans(trace: str, plugins: Iterable[str], name: str) -> None:
 
 
 def must_judge(trace: str, rules: Any, name: str) -> None:
-    """Rules about scanned pages are a fault on a trace of samples that have none. `rules` is what
-    the JSON of a rules file says.
-    """
+    """Raises a Fault if rules need scanned pages and the trace was made from samples without
+    them. `rules` is the data of a rules file."""
     for ruleset in rules["rulesets"]:
         plugins = [it for group in ruleset["detectors"] for it in group[1:]] + ruleset["actions"]
         must_have_scans(trace, (it["name"] for it in plugins), name)
 
 
 def note(trace: str) -> str:
-    """What follows an answer on a trace: the interval of its samples, if it was made of some."""
+    """Returns what follows an answer on a trace: the interval of its samples. Empty if it wasn't
+    made from samples."""
     mark = sampled(trace)
     return f" ({mark.interval()})" if mark else ""
 
 
 def least_stall(mark: Sampled, threshold: float, duration: float) -> float:
-    """How long (s) a stall of all of a group must last at least to be seen above a threshold
-    (percent) for a duration (s): until the average over 10 s is above it, then the duration, and
-    two intervals in which samples may show a part of it.
-    """
+    """Returns the shortest full stall (s) that is sure to be seen above a threshold (percent)
+    for a duration (s): the time until the average over 10 s exceeds the threshold, the duration,
+    and two intervals between samples."""
     rise = PERIOD * math.log(100 / (100 - min(threshold, 99.0)))
     return duration + rise + 2 * mark.every / SECOND
 
 
 def thresholds(rules: Any) -> Iterator[tuple[float, float]]:
-    """The threshold (percent) and duration (s) of each detector of pressure in a rules file."""
+    """Yields the threshold (percent) and duration (s) of each pressure detector in a rules file."""
     for ruleset in rules["rulesets"]:
         for group in ruleset["detectors"]:
             for detector in group[1:]:
@@ -66,9 +63,8 @@ def thresholds(rules: Any) -> Iterator[tuple[float, float]]:
 
 
 def promise(trace: str, rules: Any) -> str | None:
-    """What is said of a trace of samples and these rules: from which length on stalls are sure to
-    be seen.
-    """
+    """Says from which length on these rules are sure to see stalls in a trace of samples. None
+    for other traces, or without pressure detectors."""
     mark, found = sampled(trace), list(thresholds(rules))
     if not mark or not found:
         return None

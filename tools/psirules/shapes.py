@@ -1,6 +1,5 @@
-"""Which key of a rules file is missing, and which value has the wrong kind. psi_oomd names the
-place and the cause alone.
-"""
+"""Finds the key of a rules file that is missing, and the value that has the wrong JSON kind.
+psi_oomd itself reports only the place and the cause."""
 from collections.abc import Iterator
 from typing import Any
 
@@ -23,14 +22,13 @@ def kind_of(value: object) -> str:
 
 
 def first_fault(data: Any) -> str | None:
-    """The first key that is missing, or value of a wrong kind, in the order in which psi_oomd
-    looks; None if there is none.
-    """
+    """Returns the first missing key or value of a wrong kind, in the order in which psi_oomd
+    reads. None if there is none."""
     return next(faults(data), None)
 
 
 def faults(data: Any) -> Iterator[str]:
-    """All of them."""
+    """Yields all missing keys and values of a wrong kind."""
     if not isinstance(data, dict):
         yield f"the file is {kind_of(data)}, and has to be an object with the key 'rulesets'"
         return
@@ -85,7 +83,7 @@ def plugin_faults(place: str, plugin: Any) -> Iterator[str]:
 
 
 def key_faults(place: str, at: dict[str, Any], wanted: dict[str, type]) -> Iterator[str]:
-    """Keys that an object has to have, each with a value of a kind."""
+    """Yields the keys of `wanted` that an object lacks, or that have a value of another kind."""
     for key, kind in wanted.items():
         if key not in at:
             yield f"{place} has no key {quoted(key)}"
@@ -97,6 +95,6 @@ def key_faults(place: str, at: dict[str, Any], wanted: dict[str, type]) -> Itera
 
 
 def items(at: dict[str, Any], key: str) -> list[Any]:
-    """The list at this key; empty if there is none."""
+    """Returns the list at `key`, empty if there is none."""
     found = at.get(key)
     return found if isinstance(found, list) else []

@@ -1,4 +1,4 @@
-"""tools/rules suggest: which thresholds and durations catch incidents and spare quiet days."""
+"""tools/rules suggest: finds thresholds and durations that catch incidents and spare quiet days."""
 import argparse
 import contextlib
 from collections.abc import Iterator
@@ -36,7 +36,7 @@ STATUS = "The status is 0 if there are such values, 1 if not, and 2 if something
 
 @dataclass(frozen=True)
 class Task:
-    """What is wanted: the incidents with their expectations, and the quiet traces."""
+    """The incidents with their expectations, and the quiet traces."""
 
     incidents: list[str]
     wanted: list[Expectation]
@@ -48,12 +48,12 @@ class Task:
 
 
 def first_of(kills: list[Kill]) -> tuple[Kill, ...]:
-    """The kills at the time of the first one."""
+    """Returns the kills at the time of the first kill."""
     return tuple(it for it in kills if it.moment == kills[0].moment)
 
 
 def kind_of(wanted: Expectation, kills: list[Kill]) -> str:
-    """Of which kind a broken expectation is."""
+    """Returns the kind of fault of an expectation that doesn't hold."""
     if isinstance(wanted, NoKillBefore):
         return EARLY
     if not isinstance(wanted, First):
@@ -64,14 +64,15 @@ def kind_of(wanted: Expectation, kills: list[Kill]) -> str:
 
 
 class Judge:
-    """Says what values lead to, and remembers it."""
+    """Evaluates sets of values, and stores their outcomes."""
 
     def __init__(self, it: Subject, task: Task) -> None:
         self.subject, self.task = it, task
         self.known: dict[tuple[tuple[Knob, int], ...], Outcome] = {}
 
     def look(self, many: list[Values]) -> list[Outcome]:
-        """The outcomes of values; those that aren't given are the file's own."""
+        """Returns the outcomes of sets of values. A number that isn't in a set has its value in
+        the file."""
         keys = [tuple(sorted(values.items(), key=lambda it: it[0].spelled())) for values in many]
         unknown = {key: values for key, values in zip(keys, many) if key not in self.known}
         found = self.subject.kills_of_each(list(unknown.values()), self.task.traces)
@@ -79,7 +80,7 @@ class Judge:
         return [self.known[key] for key in keys]
 
     def judged(self, found: Found) -> Outcome:
-        """The outcome of the kills in all traces."""
+        """Returns the outcome of the kills in all traces."""
         faults: dict[str, str] = {}
         kills: list[list[Kill]] = []
         for it in found:
@@ -92,7 +93,7 @@ class Judge:
         return Outcome(faults, tuple(map(first_of, kills)))
 
     def faults(self, trace: str, kills: list[Kill]) -> Iterator[tuple[str, str]]:
-        """What is wrong with the kills of a trace, each with its kind."""
+        """Yields what is wrong with the kills in a trace, each with its kind."""
         if trace in self.task.quiet and kills:
             yield EARLY, f"kills {kills[0].path} at {seconds(kills[0].moment)} s"
         for wanted in self.task.wanted if trace in self.task.incidents else ():
@@ -103,7 +104,8 @@ class Judge:
 
 @dataclass(frozen=True)
 class Answer:
-    """The ranges of a number, and of which samples the traces were made, if they were."""
+    """The ranges of a number, and the intervals of the samples that traces were made from, if
+    they were."""
 
     knob: Knob
     search: Search
@@ -137,7 +139,7 @@ class Answer:
 
 
 def searched(judge: Judge, knob: Knob, others: Values) -> Search:
-    """The ranges of a number, with these values of others."""
+    """Finds the ranges of a number while other numbers have the values `others`."""
     is_monotone = judge.subject.is_monotone() and judge.task.is_monotone()
 
     def look(values: list[int]) -> list[Outcome]:
@@ -152,10 +154,9 @@ def middle(found: Range) -> int:
 
 
 def widest(judge: Judge, knobs: list[Knob]) -> dict[Knob, int]:
-    """Values with wide margins: number after number goes to the middle of its widest range, while
-    the others have their new values. All but the last are centered again in the end, since ranges
-    depend on the other numbers.
-    """
+    """Returns values with wide margins. Each number in turn is set to the middle of its widest
+    range, given the values set before. All but the last are set a second time, since ranges
+    depend on the other numbers."""
     chosen: dict[Knob, int] = {}
     for knob in [*knobs, *knobs[:-1]]:
         others = {it: value for it, value in chosen.items() if it != knob}
@@ -166,7 +167,7 @@ def widest(judge: Judge, knobs: list[Knob]) -> dict[Knob, int]:
 
 
 def check_words(given: argparse.Namespace) -> None:
-    """Raises a fault if the words don't fit together."""
+    """Raises a Fault if the arguments don't fit together."""
     no_input([*given.incidents, *given.quiet])
     both = sorted(set(given.incidents) & set(given.quiet))
     if both:
@@ -180,7 +181,8 @@ def check_words(given: argparse.Namespace) -> None:
 
 
 def task_of(given: argparse.Namespace) -> Task:
-    """What is wanted. Each line of WANT must fit the groups of each incident."""
+    """Reads the expectations and traces. Raises a Fault if a line of WANT has a pattern that
+    matches no group of an incident."""
     wanted = expectations.read(given.want, bytes_of(given.want))
     traces = Traces.of([*given.incidents, *given.quiet], given.pace, given.jobs)
     for trace in given.incidents:
@@ -203,7 +205,8 @@ def check_wanted(task: Task, it: Subject, name: str) -> None:
 
 @dataclass(frozen=True)
 class Suggestion:
-    """The ranges of each number, the values with the widest margins and the ranges around these."""
+    """The ranges of each number, the values with the widest margins, and the ranges around
+    these."""
 
     answers: list[Answer]
     chosen: dict[Knob, int]
@@ -212,7 +215,8 @@ class Suggestion:
 
 
 def suggest(given: argparse.Namespace, judge: Judge, knobs: list[Knob]) -> Suggestion:
-    """Searches all ranges, and the values with the widest margins."""
+    """Finds all ranges and the values with the widest margins, and writes the latter to a file
+    if asked to."""
     marks = {mark.interval() for trace in judge.task.traces.names if (mark := sampled(trace))}
     samples = ", ".join(sorted(marks))
     answers = [Answer(knob, searched(judge, knob, {}), samples) for knob in knobs]
@@ -233,7 +237,7 @@ def suggest(given: argparse.Namespace, judge: Judge, knobs: list[Knob]) -> Sugge
 
 
 def suggested_lines(found: Suggestion) -> Iterator[str]:
-    """All ranges, and the values with the widest margins."""
+    """Yields the lines for all ranges, and for the values with the widest margins."""
     for it in found.answers:
         yield from it.lines()
     if not found.holds:

@@ -1,4 +1,4 @@
-"""tools/rules sweep: the kills of traces while an argument of the rules goes through its values."""
+"""tools/rules sweep: lists the kills in traces for each value of an argument."""
 import argparse
 import contextlib
 import functools
@@ -43,7 +43,7 @@ class Axis:
 
 
 def values_of(text: str) -> list[str]:
-    """The values of FROM:TO:STEP, both ends inclusive, or those with commas between."""
+    """Returns the values of FROM:TO:STEP, both ends inclusive, or those separated by commas."""
     if ":" not in text:
         return [value for value in text.split(",") if value]
     found = re.fullmatch(r"([0-9.]+)([KMGTkmgt%]?):([0-9.]+)\2:([0-9.]+)\2", text)
@@ -77,7 +77,8 @@ def axis(rules: RulesFile, text: str) -> Axis:
 
 @dataclass(frozen=True)
 class Row:
-    """A trace, a value of each argument, and the kills by the rules that have these."""
+    """A trace, a value of each argument, and the kills with these values, or why there was no
+    replay."""
 
     trace: str
     values: tuple[str, ...]
@@ -117,7 +118,7 @@ Choice = tuple[str, tuple[str, ...]]
 def replay(
     choice: Choice, axes: list[Axis], rules: RulesFile, given: argparse.Namespace, threads: int
 ) -> list[Kill]:
-    """The kills of a trace with these values of the axes."""
+    """Returns the kills in a trace with these values of the axes."""
     trace, values = choice
     data = places.changed(
         rules, [(one.place, one.argument, value) for one, value in zip(axes, values)]
@@ -134,12 +135,12 @@ def replay(
 
 
 def named(axes: list[Axis], values: tuple[str, ...]) -> str:
-    """The values with their arguments."""
+    """Lists the values with their arguments."""
     return ", ".join(f"{one.argument} {value}" for one, value in zip(axes, values))
 
 
 def tell_table(axes: list[Axis], rows: list[Row]) -> None:
-    """The rows under their heads, in columns."""
+    """Prints the rows as a table with a head."""
     heads = ["value"] if len(axes) == 1 else [one.argument for one in axes]
     table = [["trace", *heads, "kills", "first kill", "victim"], *(row.cells() for row in rows)]
     if len({row.trace for row in rows}) == 1:
@@ -152,7 +153,7 @@ def tell_table(axes: list[Axis], rows: list[Row]) -> None:
 
 
 def rows_of(axes: list[Axis], rules: RulesFile, given: argparse.Namespace) -> list[Row]:
-    """A row for each choice of values, replayed side by side."""
+    """Replays each combination of a trace and values, and returns their rows."""
     pairs = itertools.product(given.traces, itertools.product(*(one.values for one in axes)))
     choices = list(itertools.islice(pairs, MOST_RUNS + 1))
     if len(choices) > MOST_RUNS:

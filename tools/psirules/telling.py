@@ -1,6 +1,4 @@
-"""How outcomes are reported: as lines for people, as TAP (version 13) for harnesses of tests, or as
-JSON.
-"""
+"""Prints outcomes as lines for people, as TAP (version 13) for test harnesses, or as JSON."""
 import json
 import sys
 from collections.abc import Callable
@@ -28,8 +26,8 @@ class Outcome:
 
 
 def status_of(outcomes: list[Outcome]) -> int:
-    """What couldn't be run counts more than what failed: then nobody knows whether more had failed.
-    """
+    """Returns the exit status. A check that couldn't be run counts more than one that failed,
+    since it isn't known whether it would have failed."""
     if any(outcome.is_ok is None for outcome in outcomes):
         return Status.FAILED
     return Status.DONE if all(outcome.is_ok for outcome in outcomes) else Status.FOUND
@@ -41,7 +39,7 @@ def tell_json(value: object) -> None:
 
 
 def tell_tap(outcomes: list[Outcome]) -> None:
-    """A plan, a line for each outcome, and below it in YAML what was found."""
+    """Prints outcomes as TAP: a plan, a line for each outcome, and below it the message in YAML."""
     print(f"TAP version 13\n1..{len(outcomes)}")
     for number, outcome in enumerate(outcomes, 1):
         name = outcome.name.replace("\\", "\\\\").replace("#", "\\#")
@@ -55,9 +53,8 @@ def tell(
     record: Callable[[int], object],
     tell_lines: Callable[[], None],
 ) -> int:
-    """Tells the outcomes in one of the forms: as JSON what is made of the status, and for people
-    what the last one prints. Answers the status.
-    """
+    """Prints the outcomes in one of the forms, and returns the exit status. `record` makes the
+    JSON value from the status, and `tell_lines` prints lines for people."""
     status = status_of(outcomes)
     if form is Form.JSON:
         tell_json(record(status))

@@ -1,4 +1,4 @@
-"""tools/rules to-oomd: rules of psi_oomd as a configuration of oomd."""
+"""tools/rules to-oomd: converts rules of psi_oomd to a configuration of oomd."""
 import argparse
 import json
 import sys
@@ -30,7 +30,8 @@ CONTINUE = {"name": "continue", "args": {}}
 
 
 def oomd_size(text: str) -> str:
-    """A size as oomd reads it: a letter, or a sum, since a bare number counts MiB there."""
+    """Returns a size as oomd reads it: with a letter or as a sum, since oomd counts a bare
+    number in MiB."""
     if text.endswith("%"):
         return text
     count = int(text)
@@ -41,7 +42,7 @@ def oomd_size(text: str) -> str:
 
 
 class Converter:
-    """The configuration that is made, and what is lost."""
+    """The configuration of oomd, and notes on what is lost."""
 
     def __init__(self, data: Any) -> None:
         self.told: list[tuple[str, bool]] = []
@@ -67,7 +68,8 @@ class Converter:
         return {"name": name, "detectors": groups, "actions": actions}
 
     def group(self, place: str, number: int, group: list[Any]) -> list[Any]:
-        """A group without detectors always holds, as `continue` does."""
+        """Converts a group of detectors. A group without detectors always holds, like oomd's
+        `continue`."""
         name, *detectors = group
         made = [self.plugin(f"{place}, item {at}", it) for at, it in enumerate(detectors)]
         return [name or f"group {number}", *(made or [CONTINUE])]
@@ -84,7 +86,7 @@ class Converter:
         return {"name": name, "args": args}
 
     def ratio(self, place: str, args: dict[str, Any]) -> None:
-        """oomd reads whole numbers, and has 1.25 if nothing is said."""
+        """Converts `min_growth_ratio`: oomd reads only its whole part, and its default is 1.25."""
         text = args.pop("min_growth_ratio", None)
         if text is None or text == DEFAULT_RATIO:
             return
@@ -97,7 +99,7 @@ class Converter:
             )
 
     def losses(self, place: str, name: str, args: dict[str, Any]) -> None:
-        """What oomd does otherwise by the same words."""
+        """Adds notes on what oomd does differently with the same arguments."""
         if args.get("growing_size_percentile") == "100":
             args["growing_size_percentile"] = MOST_PERCENTILE
             self.tell(
@@ -119,7 +121,7 @@ class Converter:
 
 
 def canonical(program: Program, name: str) -> Any:
-    """The rules of a file with every argument, as psi_oomd prints them."""
+    """Returns the rules of a file with all arguments, as psi_oomd prints them."""
     with program.started(["rules", "--", name], None) as child:
         assert child.stdout is not None
         said = child.stdout.read()
@@ -129,7 +131,7 @@ def canonical(program: Program, name: str) -> Any:
 
 
 def print_made(data: Any, told: list[tuple[str, bool]]) -> int:
-    """Prints what was made, and on standard error what is said of it. Answers the status."""
+    """Prints the result, and the notes on standard error. Returns the exit status."""
     for what, is_lost in told:
         complain(f"{what}{' (LOST)' if is_lost else ''}")
     sys.stdout.flush()
