@@ -138,8 +138,8 @@ class KilledBy(Expectation):
 
 @dataclass(frozen=True)
 class NoKillOf(Expectation):
-    """No kill is of a group that the pattern matches. It may be absent only where the line says so.
-    """
+    """No kill is of a group that the pattern matches. `may_be_absent` says that a trace may have
+    no such group."""
 
     pattern: str
     may_be_absent: bool

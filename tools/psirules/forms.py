@@ -20,9 +20,8 @@ LEADING = re.compile(r"\s*\+?([0-9]+)")
 
 @dataclass(frozen=True)
 class Repair:
-    """A text that psi_oomd accepts, in place of a text that only oomd accepts; the reason; and
-    whether the meaning changes.
-    """
+    """A text that psi_oomd accepts in place of a text that only oomd accepts, the reason, and
+    whether the meaning changes."""
 
     text: str
     why: str

@@ -34,9 +34,9 @@ Found = list[list[Kill] | Fault]
 
 @dataclass(frozen=True)
 class Knob:
-    """A number of a detector that may be varied: its place for people, its name, the greatest value
-    that makes sense, its value in the file, and its unit. `way` leads to it.
-    """
+    """A number of a detector that may be varied: its place in words, its argument, the greatest
+    sensible value, its value in the file, and its unit. `way` is the path of keys and indices to
+    it."""
 
     place: str
     argument: str

@@ -12,12 +12,11 @@ EARLY, LATE, OTHER = "early", "late", "other"
 
 @dataclass(frozen=True)
 class Outcome:
-    """What a value leads to: what is wrong, as the first fault of each kind by EARLY, LATE and
-    OTHER, and the first kill of each trace.
+    """The result of a value: its faults, the first of each kind EARLY, LATE and OTHER, and the
+    first kills of each trace.
 
-    EARLY faults stay if the value is lowered, and LATE ones if it is raised, if the answer is
-    monotone: then a lower value never makes a first kill later.
-    """
+    In a monotone search a lower value never makes a first kill later. So an EARLY fault remains
+    if the value is lowered, and a LATE fault if it is raised."""
 
     faults: dict[str, str]
     first: tuple[object, ...]
@@ -32,9 +31,8 @@ class Outcome:
 
 @dataclass(frozen=True)
 class Range:
-    """Values in a row that hold, both ends included, and why the next value on each side doesn't;
-    empty if there is no next value.
-    """
+    """Consecutive values that hold, both ends included, and why the next value on each side
+    doesn't; empty if there is no next value."""
 
     low: int
     high: int
@@ -45,8 +43,7 @@ class Range:
 @dataclass(frozen=True)
 class Search:
     """The ranges of a number, how they were found, and how many values were tried. `step` is the
-    distance between the values of a grid, or 1.
-    """
+    distance between the values of a grid, or 1."""
 
     ranges: list[Range]
     way: str

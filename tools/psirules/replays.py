@@ -28,10 +28,9 @@ GROUP = re.compile(rb"^[0-9]+ group (\S+)$", re.MULTILINE)
 
 @dataclass(frozen=True)
 class Traces:
-    """Traces by name, how they are replayed, and how many at a time (as many as there are
-    processors, where it isn't said). Traces that were made together of samples are one, by the name
-    of the first; `parts` has all of them.
-    """
+    """Traces by name, the lengths of ticks and intervals, and how many are replayed at a time
+    (None for the number of processors). Traces that were made together from samples are one,
+    named after the first; `parts` has all of them."""
 
     names: list[str]
     pace: Pace

@@ -16,9 +16,8 @@ class Form(Enum):
 
 @dataclass(frozen=True)
 class Outcome:
-    """One thing that was looked at: what it is called, whether it is as wanted (None where it
-    couldn't be run), and why.
-    """
+    """The outcome of a check: its name, whether it is as expected (None if it couldn't be run),
+    and why."""
 
     name: str
     is_ok: bool | None
