@@ -1,6 +1,6 @@
-"""Which groups the machine didn't account, and since when: from the snapshot, and from the markers
-of the recorder's samples, each of which reports what has changed since the sample before.
-"""
+"""Finds the groups whose pressure the machine didn't account, and when that changed: from the
+snapshot, and from the recorder's markers, each of which reports what has changed since the
+previous sample."""
 from __future__ import annotations
 
 from collections.abc import Sequence
@@ -12,23 +12,23 @@ from psirec.layout import MARK, SNAPSHOT_ENDS, escaped_path
 
 
 class Account(NamedTuple):
-    """A group's path as it is written in a trace, and whether the group was accounted."""
+    """A group's path as in a trace, and whether the group was accounted."""
 
     path: str
     is_on: bool
 
 
 class Accounts(NamedTuple):
-    """The groups that weren't accounted when the recording began, and the changes by the place
-    among its events.
-    """
+    """The groups that weren't accounted when the recording began, and the changes, by the index
+    of the event that reports them."""
 
     off: set[str]
     found: dict[int, list[Account]]
 
 
 def told_by(event: Event) -> Account | None:
-    """A group's accounting according to a marker; None if the marker reports something else."""
+    """Returns a group's accounting according to a marker, None if the event reports something
+    else."""
     text = event.text if isinstance(event, Marker) else b""
     words = (
         text.decode("utf-8", "surrogateescape")[len(MARK) :].split()
@@ -41,18 +41,16 @@ def told_by(event: Event) -> Account | None:
 
 
 def is_end_of(snapshot: Snapshot, event: Event) -> bool:
-    """Whether the whole snapshot was read by then. Groups that a flight recorder adds are read
-    later.
-    """
+    """Whether this event marks the end of the snapshot that was read. A flight recorder reads
+    added groups later."""
     is_end = isinstance(event, Marker) and event.text.startswith((MARK + SNAPSHOT_ENDS).encode())
     return is_end and event.moment >= snapshot.moment
 
 
 def accounts_of(events: Sequence[Event], snapshot: Snapshot) -> Accounts:
-    """The accounting in a recording. The snapshot is later than the start, in a flight recorder up
-    to a minute: if the first report about a group is a marker, the opposite was true at the start.
-    A group that was created during the recording, perhaps again, was accounted at first.
-    """
+    """Returns the accounting in a recording. The snapshot is later than the start, in a flight
+    recorder up to a minute: if the first report about a group is a marker, the opposite was true
+    at the start. A group that was created during the recording was accounted at first."""
     unaccounted, off = set(snapshot.unaccounted), set(snapshot.unaccounted)
     found: dict[int, list[Account]] = {}
     named: set[str] = set()

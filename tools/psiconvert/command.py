@@ -60,13 +60,14 @@ LEVELS = ("some", "full")
 # process of its own.
 LARGE = 16 << 20
 MOST_TRIGGERS = 256
-# The limits of a lead-in, ns.
+# The shortest and the longest lead-in (ns).
 LEAST_PAST, MOST_PAST = 300 * SECOND, 3600 * SECOND
 DEFAULT_PREFERENCES = {"prefer": "prefer", "avoid": "avoid", "omit": "avoid"}
 
 
 class Options(NamedTuple):
-    """The parsed command line. `wall` is when the recording began, if it doesn't say so itself."""
+    """The parsed command line. `wall` is the time at which the recording began, if the user gave
+    it."""
 
     source: str
     output: str | None
@@ -90,7 +91,7 @@ class Options(NamedTuple):
 
 
 def trigger_of(text: str) -> str:
-    """A trigger's words as in a trace."""
+    """Parses a trigger, and returns it as the words of a trace."""
     words = text.split()
     is_whole = len(words) == 5 and words[0].startswith("/") and words[1] in RESOURCES and words[2] in LEVELS
     if not is_whole or not all(re.fullmatch("[1-9][0-9]{0,7}", word) for word in words[3:]):
@@ -101,7 +102,7 @@ def trigger_of(text: str) -> str:
 
 
 def parser() -> Parser:
-    """The parser of the command line."""
+    """Returns the parser of the command line."""
     words = Parser(__doc__)
     words.add_argument("source", metavar="FOLDER|TEXT", help="a folder of tools/record, or a file of ftrace's text")
     words.add_argument("-o", dest="output", metavar="FILE",
@@ -168,9 +169,8 @@ def tell(line: str) -> None:
 
 
 class Reading(NamedTuple):
-    """The input: all of it, or, if it is to be folded, only what is rare in it, with its events in
-    slices and the tasks that never leave a processor.
-    """
+    """The input: the whole recording, or if it is to be folded only its rare events, with all
+    events in slices, and the tasks that never leave a processor."""
 
     source: Source
     slices: Slices
@@ -192,7 +192,7 @@ def reading_of(options: Options) -> Reading:
 
 
 def set_clock(options: Options, source: Source) -> None:
-    """Sets when the recording began, and its zone, as far as the options say so."""
+    """Sets the start of the recording and its time zone if the options give them."""
     if options.wall:
         source.realtime, source.ahead = options.wall.epoch - source.start, options.wall.ahead
     if source.realtime is not None:
@@ -200,14 +200,15 @@ def set_clock(options: Options, source: Source) -> None:
 
 
 def part_of(options: Options, source: Source, whole: Window) -> Window:
-    """The part that the options select."""
+    """Returns the part of the recording that the options select."""
     wall = None if source.realtime is None else WallTime(whole.start + source.realtime, source.ahead)
     span = span_in(options._asdict(), wall, whole.length(), "recording")
     return Window(whole.start + span.start, whole.start + span.end)
 
 
 def method_of(options: Options, source: Source) -> Method:
-    """How waits for IO are recognised: the requested method, if the recording supports it."""
+    """Returns how waits for IO are recognised: by the requested method, if the recording
+    supports it."""
     best = best_method(source.events, source.has_switch_probe)
     kinds = {type(event) for event in source.events} if options.method else set()
     has_probe = source.has_switch_probe or SwitchProbe in kinds
@@ -218,7 +219,8 @@ def method_of(options: Options, source: Source) -> Method:
 
 
 def wakeups_of(options: Options, source: Source) -> Wakeups:
-    """Moves each wakeup to the requested time, if the recording has that."""
+    """Returns what moves each wakeup to the requested time. Raises a Fault if the recording
+    lacks the probe for that."""
     counting = options.counting or (Counting.PROBE if source.has_ready_probe else Counting.EVENT)
     if counting is not Counting.EVENT and not source.has_ready_probe:
         raise Fault(f"--wakeups {counting.value}: the recording has no such probe (record --wakeups)")
@@ -226,13 +228,14 @@ def wakeups_of(options: Options, source: Source) -> Wakeups:
 
 
 def check_interrupts(options: Options, source: Source) -> None:
-    """Rejects interrupts if they are requested and the recording has none."""
+    """Rejects --interrupts if the recording has no such events."""
     if options.has_interrupts and not any(isinstance(event, Interrupts) for event in source.events):
         raise Fault("--interrupts: the recording has no such events: its kernel doesn't account interrupts, or is newer than 6.9")
 
 
 def upon_of(options: Options, source: Source) -> dict[str, list[str]]:
-    """The lines to write once a group exists: its preference, and its triggers."""
+    """Returns the lines to write when a group is created, by path: its preference, and its
+    triggers."""
     upon: dict[str, list[str]] = {}
     for path, preference in sorted(source.snapshot.groups.items()):
         if preference != "none":
@@ -243,9 +246,8 @@ def upon_of(options: Options, source: Source) -> dict[str, list[str]]:
 
 
 def past_of(options: Options, source: Source, window: Window) -> Past | None:
-    """The requested warm-up: the machine's averages at the reading that is nearest to the window's
-    start.
-    """
+    """Returns the requested warm-up, with the machine's averages at the reading nearest to the
+    window's start. None if none is requested."""
     if options.lead_in is None:
         return None
     spans = spans_of(source) if os.path.isdir(options.source) else {}
@@ -257,20 +259,20 @@ def past_of(options: Options, source: Source, window: Window) -> Past | None:
 
 
 def put_in_unwritten(source: Source, window: Window) -> None:
-    """Inserts the unwritten switches, and counts those of the window."""
+    """Inserts the unwritten switches, and counts those within the window."""
     source.events, moments = with_unwritten(source.events, source.gaps)
     source.mended[UNWRITTEN] += sum(window.start <= it <= window.end for it in moments)
 
 
 def losses_of(source: Source, window: Window, whole: Window) -> list[str]:
-    """What was lost in the window; for a whole recording also what was lost before its first event.
-    """
+    """Returns the report of losses in the window; for a whole recording also of those before its
+    first event."""
     gaps = source.gaps if window == whole else overlapping(source.gaps, window)
     return [f"lost: {it}" for it in [*source.losses, *([loss_text(gaps, whole)] if gaps else [])]]
 
 
 def write(options: Options, parts: Iterable[bytes]) -> Written:
-    """Writes the trace."""
+    """Writes the trace, and returns its size and SHA-256."""
     if options.output is None:
         written = Written(*digest_of(passed_on(parts, sys.stdout.buffer)))
         sys.stdout.buffer.flush()
@@ -283,14 +285,14 @@ def write(options: Options, parts: Iterable[bytes]) -> Written:
 
 
 def passed_on(parts: Iterable[bytes], file: IO[bytes]) -> Iterator[bytes]:
-    """Writes each part, and passes it on."""
+    """Writes each part to `file`, and yields it."""
     for part in parts:
         file.write(part)
         yield part
 
 
 def write_companion(options: Options, known: Companion) -> None:
-    """Writes the companion file, beside a trace that has a name."""
+    """Writes the companion next to the trace, if the trace is a regular file."""
     if options.output is None or not os.path.isfile(options.output):
         return
     name = companion_of(options.output)
@@ -301,16 +303,15 @@ def write_companion(options: Options, known: Companion) -> None:
 
 
 def is_large(options: Options) -> bool:
-    """Whether the input is large enough for several processes, by the bytes of the file, or of the
-    folder.
-    """
+    """Whether the input is large enough for several processes, by the size of the file or of the
+    folder's files."""
     path = options.source
     names = [os.path.join(path, name) for name in os.listdir(path)] if os.path.isdir(path) else [path]
     return sum(os.path.getsize(name) for name in names if os.path.isfile(name)) >= LARGE
 
 
 class Made(NamedTuple):
-    """The resulting trace, in parts to be written, and further lines to report."""
+    """A converted trace, in parts to be written, and further lines for the report."""
 
     converted: Converted
     parts: Iterable[bytes]
@@ -319,7 +320,7 @@ class Made(NamedTuple):
 
 
 def converted_of(options: Options, reading: Reading, wanted: Wanted) -> Made:
-    """Converts, and folds if requested."""
+    """Converts the recording, and folds the trace if that is requested."""
     source, wakeups = reading.source, wakeups_of(options, reading.source)
     if options.folding is None:
         source.events = wakeups.put(source.events)
@@ -337,7 +338,7 @@ def converted_of(options: Options, reading: Reading, wanted: Wanted) -> Made:
 
 
 def convert_recording(options: Options) -> int:
-    """Converts, reports and writes; returns the exit status."""
+    """Converts a recording, prints the report and writes the trace; returns the exit status."""
     reading = reading_of(options)
     source = reading.source
     if source.processors > MOST_PROCESSORS:
@@ -375,7 +376,7 @@ def convert_recording(options: Options) -> int:
 
 
 def psitrace(given: Sequence[str] | None) -> int:
-    """Does what the arguments ask for; returns the exit status."""
+    """Does what the arguments ask for, and returns the exit status."""
     try:
         return convert_recording(options_of(given))
     except (Different, NotATrace) as fault:

@@ -1,4 +1,5 @@
-"""What psitrace writes beside a trace: names of its tasks and containers, and its time of day."""
+"""Makes the companion of a converted trace: names of its tasks and containers, and its time of
+day."""
 from __future__ import annotations
 
 from typing import NamedTuple
@@ -13,7 +14,7 @@ from .convert import Converted
 
 
 class Written(NamedTuple):
-    """A trace that was written: its size in bytes, and its SHA-256."""
+    """A trace that was written: its size (bytes) and its SHA-256."""
 
     size: int
     digest: str
@@ -22,7 +23,7 @@ class Written(NamedTuple):
 def companion(
     source: Source, converted: Converted, window: Window, written: Written, has_names: bool
 ) -> Companion:
-    """The companion of a trace, with or without names."""
+    """Makes the companion of a trace, with or without names."""
     length = converted.world.now
     known = Companion(written.size, written.digest, length, begins=converted.begins)
     if source.realtime is not None:
@@ -38,9 +39,8 @@ def companion(
 
 
 def folded_lives(known: Companion) -> list[Life]:
-    """The processes that ran most in some window: a folded trace has no other tasks. Their label is
-    0.
-    """
+    """Returns the processes that ran most in some window, with the label 0. A folded trace has
+    no other tasks."""
     lives: dict[int, Life] = {}
     for busy in known.busy:
         since = busy.window * known.window

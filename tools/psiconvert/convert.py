@@ -1,4 +1,5 @@
-"""Converts a recording to a trace: the state at its start, and then the events."""
+"""Converts a recording to a trace, which begins with the initial state and goes on with the
+events."""
 from __future__ import annotations
 
 from bisect import bisect_left
@@ -24,12 +25,12 @@ from .first import Beginning, First, beginning_of, tells_of_births
 from .lead_in import TICK, Averages, LeadIn
 from .player import Player, Samples
 
-# The length (ns) of the windows in which a companion says who ran most.
+# The length (ns) of the windows for which a companion lists the busiest processes.
 WINDOW = 10**9
 
 
 class Known(NamedTuple):
-    """What is known of a task before the trace begins. Its name is escaped."""
+    """A task as it is known before the trace begins. Its name is escaped."""
 
     path: str
     process: int
@@ -40,10 +41,9 @@ class Known(NamedTuple):
 
 @dataclass
 class Prior:
-    """What is known before the trace begins: groups, which of them aren't accounted, tasks and
-    samples of memory. `is_sound` says whether nothing was lost up to then. A task that no event
-    names up to `settled` (ns) was in the state that is known here.
-    """
+    """The state before the trace begins: groups, the groups that aren't accounted, tasks, and
+    memory samples. `is_sound` says whether nothing was lost up to then. A task that no event
+    names up to `settled` (ns) was in the state that is known here."""
 
     groups: list[str]
     off: set[str]
@@ -55,9 +55,8 @@ class Prior:
 
 
 class Converted(NamedTuple):
-    """A trace's lines, and the figures to report about the conversion. For a folded trace the lines
-    are in `folded`.
-    """
+    """A trace's lines, and the figures for the report. The lines of a folded trace are in
+    `folded`."""
 
     lines: list[str]
     world: World
@@ -72,9 +71,8 @@ class Converted(NamedTuple):
 
 
 class Told(NamedTuple):
-    """What is derived from all events together: the places of the switches that begin a wait for
-    IO, and the accounting over time.
-    """
+    """Facts that are derived from all events together: the indices of the switches that begin a
+    wait for IO, and the changes of accounting."""
 
     waits: set[int]
     accounts: Accounts
@@ -86,9 +84,8 @@ class Told(NamedTuple):
 def snapshot_prior(
     snapshot: Snapshot, events: Sequence[Event], beginning: Beginning, off: set[str]
 ) -> Prior:
-    """What a snapshot says about the recording's start, though it was taken later: what was created
-    since is removed.
-    """
+    """Returns the state at the recording's start by a snapshot. Since the snapshot was taken
+    later, whatever was created in between is removed."""
     first_events: dict[str, type] = {}
     for event in events:
         if isinstance(event, (GroupMade, GroupRemoved)) and not event.hierarchy:
@@ -121,7 +118,7 @@ def snapshot_prior(
 
 
 def world_prior(world: World, samples: Samples, is_sound: bool) -> Prior:
-    """The state of a world that was played up to here."""
+    """Returns the present state of a world as the state before a trace."""
     tasks = {
         number: Known(
             task.group, task.process, First(task.state, task.processor), task.is_stalled,
@@ -137,7 +134,7 @@ def world_prior(world: World, samples: Samples, is_sound: bool) -> Prior:
 
 
 def first_of(number: int, prior: Prior, beginning: Beginning) -> First:
-    """What the task did at the start. Events have priority over what was known before."""
+    """Returns what a task did at the start. Events have priority over what was known before."""
     known, said = prior.tasks.get(number), beginning.tasks.get(number)
     if said is None:
         state, processor, _ = known.first if known else First(State.ASLEEP, 0)
@@ -156,17 +153,17 @@ def first_of(number: int, prior: Prior, beginning: Beginning) -> First:
 
 
 def late_state(known: Known | None) -> State:
-    """The state at the start of a task that runs later without a wakeup: if it wasn't known to run
-    or to be ready, it was woken or created by a task for which the kernel writes no events. If it
-    were taken for ready, it would wait from the start.
-    """
+    """Returns the state at the start of a task that runs later without a wakeup. If it wasn't
+    known to run or to be ready, a task for which the kernel writes no events woke or created it.
+    If it were taken for ready, it would wait from the start."""
     if known is None:
         return State.ASLEEP
     return State.READY if known.first.state is State.RUNNING else known.first.state
 
 
 def begin_task(world: World, number: int, known: Known, first: First, is_stalled: bool) -> None:
-    """Writes a task that exists at the start: turns of no length make it sleep, wait or stall."""
+    """Writes a task that exists at the start. Turns of zero length put it to sleep, into a wait
+    or into a stall."""
     processor = first.processor if 0 <= first.processor < world.processors else 0
     task = world.fork(number, known.path, processor, known.process)
     if known.name:
@@ -192,7 +189,7 @@ def begin_groups(world: World, prior: Prior) -> None:
 
 
 def begin(world: World, prior: Prior, beginning: Beginning) -> None:
-    """Writes the rest of the initial state: samples, and tasks; the running tasks come last."""
+    """Writes the samples and then the tasks of the initial state, the running tasks last."""
     if prior.samples.host:
         world.put(f"host {prior.samples.host}")
     for path, sample in sorted(prior.samples.groups.items()):
@@ -214,9 +211,8 @@ def begin(world: World, prior: Prior, beginning: Beginning) -> None:
 
 
 def chosen(firsts: dict[int, First], prior: Prior, beginning: Beginning) -> list[int]:
-    """The tasks of the start: all, or, if they are too many, those that an event names, and one
-    more of each other group, so that it isn't empty.
-    """
+    """Returns the tasks of the initial state. If there are too many, these are only the tasks
+    that an event names, and one more of each group of the others, so that the group isn't empty."""
     if len(firsts) <= MOST_TASKS // 2:
         return list(firsts)
     named = [number for number in firsts if number in beginning.tasks]
@@ -230,17 +226,17 @@ def chosen(firsts: dict[int, First], prior: Prior, beginning: Beginning) -> list
 
 
 def place_of(events: Sequence[Event], moment: int) -> int:
-    """The place of the first event at or after `moment` (ns)."""
+    """Returns the index of the first event at or after `moment` (ns)."""
     return bisect_left([event.moment for event in events], moment)
 
 
 def player_of(world: World, source: Source, told: Told) -> Player:
-    """A player of the recording's events in this world."""
+    """Returns a player of the recording's events in this world."""
     return Player(world, source.events, told.waits, told.accounts.found, source.snapshot.types)
 
 
 def prior_of(source: Source, until: int, told: Told, deepest: int | None, is_sound: bool) -> Prior:
-    """What is known before the event at the place `until`."""
+    """Returns the state before the event with the index `until`."""
     beginning = beginning_of(source.events, tells_of_births(source.events))
     prior = snapshot_prior(source.snapshot, source.events, beginning, told.accounts.off)
     if not until:
@@ -258,7 +254,7 @@ def prior_of(source: Source, until: int, told: Told, deepest: int | None, is_sou
 
 
 def limit_of(world: World) -> str | None:
-    """The limit of traces that the world exceeds, if any."""
+    """Returns the limit of traces that the world exceeds, None if there is none."""
     if len(world.lines) >= MOST_EVENTS:
         return f"{MOST_EVENTS} events"
     if len(world.tasks) > MOST_TASKS:
@@ -269,7 +265,8 @@ def limit_of(world: World) -> str | None:
 
 
 def play(player: Player, source: Source, places: range, window: Window) -> str | None:
-    """Plays these events up to the window's end, or up to a limit of traces, which it returns."""
+    """Plays the events at the indices `places`, up to the window's end or up to a limit of
+    traces, which it returns."""
     world = player.world
     for place in places:
         event = source.events[place]
@@ -286,22 +283,21 @@ def play(player: Player, source: Source, places: range, window: Window) -> str |
 
 
 class Past(NamedTuple):
-    """The warm-up before a recording: its length in ticks, and the machine's averages at its end.
-    """
+    """The warm-up before a recording: its length in ticks, and the machine's averages at its
+    end."""
 
     ticks: int
     averages: dict[str, Averages]
 
     def length(self) -> int:
-        """The length of the warm-up in ns."""
+        """Returns the length of the warm-up (ns)."""
         return self.ticks * TICK
 
 
 class Wanted(NamedTuple):
-    """What to convert, and how: the window, how waits for IO are recognised, the number of levels
-    of groups, the lines to write once a group exists, whether interrupts are included, and the
-    warm-up.
-    """
+    """The options of a conversion: the window, the method by which waits for IO are recognised,
+    the number of levels of groups, the lines to write when a group is created, whether
+    interrupts are included, and the warm-up."""
 
     window: Window
     method: Method
@@ -312,7 +308,7 @@ class Wanted(NamedTuple):
 
 
 def convert(source: Source, wanted: Wanted) -> Converted:
-    """Converts a recording."""
+    """Converts a recording at once, without folding."""
     window, deepest = wanted.window, wanted.deepest
     told = Told(
         waits_for_io(source.events, wanted.method), accounts_of(source.events, source.snapshot)
@@ -329,7 +325,7 @@ def convert(source: Source, wanted: Wanted) -> Converted:
         lead_in = LeadIn(world, wanted.lead_in.averages, wanted.lead_in.ticks, MOST_PROCESSORS)
         lead_in.play()
         origin -= wanted.lead_in.length()
-        world.lives.clear()  # made-up tasks have no names
+        world.lives.clear()  # artificial tasks have no names
     world.clocks = Clocks(WINDOW)
     begin(
         world, prior,
@@ -353,5 +349,5 @@ def convert(source: Source, wanted: Wanted) -> Converted:
 
 
 def count_in(found: set[int], places: range) -> int:
-    """How many are among the places."""
+    """Returns how many of the indices `found` are in `places`."""
     return sum(it in places for it in found)

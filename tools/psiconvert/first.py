@@ -1,7 +1,6 @@
-"""What each task did when the trace begins. Nothing reports it at that time; it follows from the
-first event that names a task: the task that a switch leaves ran, the task that it switches to was
-ready, and a task that is woken slept.
-"""
+"""Derives what each task did when the trace begins. No event reports that; it follows from the
+first event that names a task: the task that a switch leaves was running, the task that it
+switches to was ready, and a task that is woken was asleep."""
 from __future__ import annotations
 
 from collections.abc import Iterable, Sequence
@@ -21,14 +20,13 @@ from psiread.events import (
 )
 from psiworld.world import State
 
-# Hardly any task is ready for longer than this without running, ns.
+# Hardly any task is ready for longer than this (ns) without running.
 LONGEST_READY = 10**9
 
 
 class First(NamedTuple):
-    """What a task did at the start, and on which processor; and the time (ns) of the event that
-    shows it, 0 if none does.
-    """
+    """What a task did at the start, its processor, and the time (ns) of the event that shows
+    this, 0 if none does."""
 
     state: State
     processor: int
@@ -36,40 +34,37 @@ class First(NamedTuple):
 
 
 class Beginning:
-    """What the events since the start show about the start. If no event reports new tasks, a task
-    that first runs after `latest_ready` (ns) is taken for new, since hardly any is ready for that
-    long.
-    """
+    """The initial state as the events show it. If no event reports new tasks, a task that first
+    runs after `latest_ready` (ns) is taken for new, since hardly any task is ready for that
+    long."""
 
     def __init__(self, latest_ready: int) -> None:
         self.latest_ready = latest_ready
         self.tasks: dict[int, First] = {}
-        # The task that ran on each processor, 0 for none.
+        # The task that ran on each processor at the start, 0 for none.
         self.runs: dict[int, int] = {}
         # Tasks that were created after the start.
         self.born: set[int] = set()
-        # Tasks that waited for IO, according to the statistics.
+        # Tasks that waited for IO at the start, according to the statistics.
         self.waited: set[int] = set()
-        # Whether each task was in a memory stall, if that is known.
+        # Whether each task was in a memory stall at the start, if that is known.
         self.stalled: dict[int, bool] = {}
         self.depths: dict[int, int] = {}
         self.origins: dict[int, int] = {}
 
     def is_new(self, task: int) -> bool:
-        """Whether no earlier event names this task."""
+        """Whether this event is the first that names `task`."""
         return task != 0 and task not in self.tasks and task not in self.born
 
     def name(self, task: int, state: State, processor: int, moment: int) -> None:
-        """An event shows what the task did. If it moved to another processor before, its state
-        refers to the processor it came from.
-        """
+        """Records what a task did at the start, if this is the first event that names it. If the
+        task moved to another processor before, its state refers to the processor it came from."""
         if self.is_new(task):
             self.tasks[task] = First(state, self.origins.get(task, processor), moment)
 
     def take(self, event: Event) -> None:
-        """Takes the next event. It names the task that runs where it is written, whatever else it
-        says.
-        """
+        """Takes the next event. It also names the task that runs on the processor on which it
+        was written."""
         self.runs.setdefault(event.processor, event.current)
         self.name(event.current, State.RUNNING, event.processor, event.moment)
         if isinstance(event, Switch):
@@ -93,10 +88,9 @@ class Beginning:
             self.take_stall(event)
 
     def take_stall(self, event: StallBegins | StallEnds) -> None:
-        """A task enters or leaves a memory stall. If it leaves a stall that it didn't enter, it was
-        in it at the start; so was a task that entered a nested stall, which the flags at the end of
-        that show.
-        """
+        """Takes the begin or end of a memory stall. A task that leaves a stall without having
+        entered it was in the stall at the start. So was a task that entered a nested stall,
+        which the flags at the end of that stall show."""
         task = event.current
         if task in self.stalled or task in self.born:
             return
@@ -115,9 +109,8 @@ def tells_of_births(events: Iterable[Event]) -> bool:
 
 
 def beginning_of(events: Sequence[Event], has_births: bool) -> Beginning:
-    """What these events show about the state before the first of them. `has_births` says whether
-    the recording reports the creation of tasks.
-    """
+    """Returns the state before the first of these events. `has_births` says whether the
+    recording reports the creation of tasks."""
     is_open = has_births or not events
     beginning = Beginning(NEVER if is_open else events[0].moment + LONGEST_READY)
     for event in events:

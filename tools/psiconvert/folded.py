@@ -1,12 +1,11 @@
-"""Converts a recording of any length to a folded trace: slice by slice of its events, and window by
-window of its lines.
+"""Converts a recording of any length to a folded trace, one slice of events and one window of lines
+at a time.
 
-The result is that of `convert`, which takes all events at once, apart from differences that don't
-occur in a short recording. The state of each task at the start follows from the events of the first
-minute, which are read once more for that. An unwritten switch is moved back to where its task was
-last seen, but not beyond the previous slice; and a wait for IO that only its end shows is found if
-the end is in the same slice or the next. A slice is at least 2 s long.
-"""
+The result is that of `convert`, which takes all events at once, apart from differences that
+don't occur in a short recording. The initial state of each task follows from the events of the
+first minute, which are read twice for that. An unwritten switch is moved back to the time at
+which its task was last seen, but at most to the previous slice. A wait for IO that only its end
+shows is found if the end is in the same slice or the next. A slice is at least 2 s long."""
 from __future__ import annotations
 
 import gc
@@ -40,10 +39,10 @@ from .unwritten import UNWRITTEN, Chains
 
 # The number of lines that are folded at once.
 LINES = 5_000
-# The time (ns) of events that are read to know what each task did at the start.
+# The length (ns) of the first part of the events, which is read to find the initial state.
 LOOK_AHEAD = 60 * 10**9
 MOMENT = itemgetter(0)
-# Returns the events in slices, from the first, each time it is called.
+# A function that returns the events in slices, from the first one each time it is called.
 Slices = Callable[[], Iterable[list[Event]]]
 
 
@@ -51,7 +50,7 @@ class Spool:
     """The lines of a folded trace, in a temporary file until the conversion has succeeded."""
 
     def __init__(self) -> None:
-        # Unbuffered, since another process writes it.
+        # The file is unbuffered, since another process writes it.
         self.file = tempfile.TemporaryFile(buffering=0)
         self.header, self.events = "", 0
 
@@ -59,7 +58,7 @@ class Spool:
         return 1 + self.events
 
     def put(self, lines: list[str]) -> None:
-        """Takes lines, as long as there is room for the end line after them."""
+        """Adds lines, unless there would be no room for the end line after them."""
         if self.events + len(lines) >= MOST_EVENTS and not lines[-1].endswith(" end"):
             raise TooMany(f"{MOST_EVENTS} events")
         self.events += len(lines)
@@ -81,7 +80,8 @@ class Spool:
         self.events = events + 1
 
     def parts(self) -> Iterator[bytes]:
-        """The header, and all lines."""
+        """Yields the whole file for writing: the header line, then the rest in pieces of up to 1
+        MiB."""
         yield f"{self.header}\n".encode("ascii")
         self.file.seek(0)
         while part := self.file.read(1 << 20):
@@ -93,7 +93,7 @@ class Spool:
 
 @dataclass
 class Slice:
-    """Consecutive events, including unwritten switches, and those of the next slice."""
+    """Consecutive events, including unwritten switches, and the events of the next slice."""
 
     events: list[Event]
     following: list[Event]
@@ -102,16 +102,17 @@ class Slice:
         self.kinds = {*map(type, self.events), *map(type, self.following)}
 
     def both(self) -> list[Event]:
-        """The events of this slice and the next."""
+        """Returns the events of this slice and the next."""
         return [*self.events, *self.following]
 
     def has(self, *kinds: type) -> bool:
-        """Whether this slice or the next has an event with one of these kinds."""
+        """Whether this slice or the next has an event of one of these kinds."""
         return not self.kinds.isdisjoint(kinds)
 
 
 class Mender:
-    """Inserts the unwritten switches among the events. `moments` has their times (ns)."""
+    """Inserts the unwritten switches among the events. `moments` has the times (ns) of these
+    switches."""
 
     def __init__(self, source: Source, silent: set[int]) -> None:
         self.chains = Chains(source.events, source.gaps)
@@ -119,7 +120,7 @@ class Mender:
         self.moments: list[int] = []
 
     def pairs(self, slices: Iterable[list[Event]]) -> Iterator[Slice]:
-        """Each slice with the next one."""
+        """Yields each slice together with the next one."""
         before: list[Event] | None = None
         for events in slices:
             whole, late = self.mended(events, before)
@@ -132,9 +133,8 @@ class Mender:
             yield Slice(before, [])
 
     def mended(self, events: list[Event], before: list[Event] | None) -> tuple[list[Event], list[Event]]:
-        """The events of a slice with the unwritten switches, and the unwritten switches before its
-        first event.
-        """
+        """Returns a slice's events with the unwritten switches since its first event, and
+        separately the unwritten switches before that."""
         whole, moments = self.chains.mended(events)
         if not moments:
             return events, []
@@ -148,9 +148,8 @@ class Mender:
 
 
 class Ahead:
-    """What each task did when the recording began, and when the window began, according to the next
-    LOOK_AHEAD ns of events.
-    """
+    """What each task did when the recording began and when the window began, according to the
+    next LOOK_AHEAD ns of events."""
 
     def __init__(self, source: Source, window: Window) -> None:
         self.source, self.start, self.end = source, window.start, min(window.end, window.start + LOOK_AHEAD)
@@ -160,11 +159,11 @@ class Ahead:
         self.is_begun = False
 
     def new(self, moment: int) -> Beginning:
-        """What is known before the first event, whose time (ns) is `moment`."""
+        """Returns an empty initial state, for events that begin at `moment` (ns)."""
         return Beginning(NEVER if self.latest_ready is None else moment + self.latest_ready)
 
     def take(self, events: list[Event]) -> bool:
-        """Takes the next events; returns whether more are needed."""
+        """Takes the next events, and returns whether more are needed."""
         for event in events:
             moment = event[0]
             if moment <= self.until:
@@ -176,9 +175,8 @@ class Ahead:
         return not events or events[-1][0] <= max(self.until, self.end)
 
     def take_late(self) -> None:
-        """Takes the first event of each processor that had none so far: it shows which task ran
-        there since the start.
-        """
+        """Takes the first event of each processor that had none up to now: it shows which task
+        ran there since the start."""
         begins_there = self.start <= self.source.start
         for event in self.source.events:
             if event[1] not in self.recording.runs:
@@ -188,7 +186,7 @@ class Ahead:
 
 
 def looked_ahead(source: Source, slices: Iterable[list[Event]], silent: set[int], window: Window) -> Ahead:
-    """Reads as far as necessary to know what each task did at the start."""
+    """Reads as many events as are needed to know what each task did at the start."""
     ahead = Ahead(source, window)
     for part in Mender(source, silent).pairs(slices):
         if not ahead.take(part.events):
@@ -201,9 +199,9 @@ def looked_ahead(source: Source, slices: Iterable[list[Event]], silent: set[int]
 
 
 class Conversion:
-    """Plays the events of a recording, and passes the resulting lines on. `accounts` has the
-    accounting by the markers that report it; `window` is the length (ns) of windows.
-    """
+    """Plays the events of a recording, and passes the resulting lines to `put`. `accounts` has
+    the changes of accounting by the marker that reports them. `window` is the length (ns) of a
+    folded window."""
 
     def __init__(self, source: Source, wanted: Wanted, ahead: Ahead, put: Callable[[list[str]], None], window: int) -> None:
         self.source, self.wanted, self.ahead, self.put = source, wanted, ahead, put
@@ -221,7 +219,7 @@ class Conversion:
         self.early: Counter[int] = Counter()
 
     def waits_in(self, part: Slice) -> set[int]:
-        """The places of a slice's switches that begin a wait for IO."""
+        """Returns the indices of a slice's switches that begin a wait for IO."""
         if self.wanted.method is Method.STATE:
             return by_state(part.events)
         if self.wanted.method is Method.PROBE:
@@ -230,7 +228,7 @@ class Conversion:
         return {place for place in by_statistics(part.both()) if place < len(part.events)}
 
     def tell(self, player: Player, part: Slice, waits: set[int]) -> None:
-        """Passes what is known of a slice to the player: waits, accounting, and renumberings."""
+        """Passes to the player what is known of a slice: waits, accounting, and renumberings."""
         player.waits = waits
         player.accounts.clear()
         player.changes.clear()
@@ -243,14 +241,14 @@ class Conversion:
             del player.changes[task][:count]
 
     def note_early(self, player: Player, part: Slice) -> None:
-        """Counts the renumberings in the next slice that were already noticed in this one."""
+        """Counts the renumberings in the next slice that the player already handled in this one."""
         following = part.following if part.has(Exec) else ()
         told = Counter(event.task for event in following if type(event) is Exec and event.task != event.old)
         left = {task: sum(place >= len(part.events) for place, _ in player.changes.get(task, ())) for task in told}
         self.early = Counter({task: count - left[task] for task, count in told.items() if count > left[task]})
 
     def play(self, part: Slice) -> bool:
-        """Plays a slice; returns whether the window continues after it."""
+        """Plays a slice, and returns whether the window continues after it."""
         events, window = part.events, self.wanted.window
         start, end = (bisect_left(events, moment, key=MOMENT) for moment in (window.start, window.end + 1))
         waits = self.waits_in(part)
@@ -276,14 +274,14 @@ class Conversion:
         return end == len(events)
 
     def new_player(self, world: World, beginning: Beginning) -> Player:
-        """A player that starts in this state of the world."""
+        """Returns a player that starts with the known state before the trace."""
         assert self.prior
         begin_groups(world, self.prior)
         begin(world, self.prior, beginning)
         return Player(world, [], set(), {}, self.source.snapshot.types)
 
     def begin(self) -> None:
-        """Begins the trace."""
+        """Begins the trace, with the present state as its initial state."""
         wanted, source = self.wanted, self.source
         if self.player:
             is_sound = not any(gap.start < wanted.window.start for gap in source.gaps)
@@ -298,9 +296,8 @@ class Conversion:
         self.player, self.is_begun = self.new_player(world, self.ahead.window), True
 
     def play_window(self, player: Player, events: list[Event], places: range) -> None:
-        """Plays these events, and passes the resulting lines on. The commonest kinds are
-        distinguished by type.
-        """
+        """Plays the events at these indices, and passes the resulting lines on. For speed the
+        commonest kinds of events are handled here, by their type."""
         world, start, put, play = player.world, self.wanted.window.start, self.put, player.play
         switch, wake, migrate, lines = player.switch, player.wake, player.migrate, world.lines
         pairs: Iterable[tuple[int, Any]] = zip(places, events[places.start : places.stop])
@@ -326,14 +323,14 @@ class Conversion:
         world.lives.clear()  # a folded trace doesn't have these tasks
 
     def world(self) -> World:
-        """The world of the trace."""
+        """Returns the world of the trace."""
         if not self.is_begun:
             self.begin()
         assert self.player
         return self.player.world
 
     def end(self) -> World:
-        """Ends the trace at the end of its window; returns its world."""
+        """Ends the trace at the end of its window, and returns its world."""
         world = self.world()
         self.put(world.lines)
         world.lines.clear()
@@ -352,9 +349,8 @@ class Conversion:
 
 
 class Folded(NamedTuple):
-    """A folded trace: the figures to report about the conversion; its lines, as they are written;
-    and the outcome of folding.
-    """
+    """A folded trace: the figures for the report, its lines in a file, and the outcome of
+    folding."""
 
     converted: Converted
     spool: Spool
@@ -362,7 +358,7 @@ class Folded(NamedTuple):
 
 
 def convert_folded(source: Source, slices: Slices, ahead: Ahead, silent: set[int], wanted: Wanted, folding: Folding, is_large: bool) -> Folded:
-    """Converts and folds, in a process of its own if the recording is large."""
+    """Converts and folds. If the recording is large, another process folds."""
     # Events form no cycles, and searching them for cycles takes a tenth of the time.
     gc.disable()
     spool = Spool()

@@ -1,12 +1,12 @@
-"""A lead-in: a warm-up before a recording's first event, which makes the averages of its groups
-begin as the machine's did.
+"""A lead-in: a warm-up before a recording's first event, so that the averages of its groups begin
+with the machine's values.
 
-A trace's averages begin at 0. Three stretches of constant pressure bring each average of a pressure
-file to the value in the machine's file: the last 20 s, the 100 s before, and the time before these,
-since there are three averages. Each group has processors of its own for this, in addition to the
-machine's: a few artificial tasks wait, stall and run there for the times that result in its shares,
-less the shares that it has from its descendants. At the end all artificial tasks exit.
-"""
+A trace's averages begin at 0. Three stretches of constant pressure bring each average of a
+pressure file to the value in the machine's file: the last 20 s, the 100 s before, and the time
+before these, one for each of the three averages. Each group has processors of its own for this,
+in addition to the machine's. A few artificial tasks wait, stall and run there for the times that
+result in its shares, less the shares that it has from its descendants. At the end all artificial
+tasks exit."""
 from __future__ import annotations
 
 import re
@@ -19,14 +19,14 @@ from psiworld.groups import ROOT, prefixes_of
 from psiworld.world import How, State, World
 
 TICK = 2 * SECOND
-# The factor of an average after a tick, by its period in s: from kernel/sched/psi.c.
+# The factor by which an average decays in a tick, by its period (s): from kernel/sched/psi.c.
 FACTORS = {10: 1677 / 2048, 60: 1981 / 2048, 300: 2034 / 2048}
-# The last two stretches, in ticks.
+# The lengths of the last two stretches, in ticks.
 LAST, MIDDLE = 10, 50
-# The first number of artificial tasks, larger than those of kernels.
+# The first number of artificial tasks, larger than any pid of a kernel.
 FIRST_NUMBER = 4_000_000_000
 # A group has the fewest processors of its own that bring its shares within NEAR percent of the
-# wanted ones, but at most MOST_OWN; a group with averages below LEAST percent has no lead-in.
+# wanted ones, but at most MOST_OWN. A group whose averages are below LEAST percent has no lead-in.
 NEAR, MOST_OWN, LEAST = 0.5, 48, 0.5
 STRETCHES = 3
 WHOLE = 100.0
@@ -42,9 +42,8 @@ Averages = dict[tuple[str, str], tuple[float, float, float]]
 
 
 class Shares(NamedTuple):
-    """The percent of a tick for which some and all tasks of a group on a processor wait for IO, are
-    short of memory, and wait for the processor.
-    """
+    """The percentages of a tick for which some and all tasks of a group on a processor wait for
+    IO, are in a memory stall, and wait for the processor."""
 
     io_some: float
     io_full: float
@@ -55,7 +54,7 @@ class Shares(NamedTuple):
 
 
 def averages_in(text: str, number: int) -> dict[str, Averages]:
-    """The averages of each group in a reading of the pressure files, by path."""
+    """Returns the averages of each group in reading `number` of the pressure files, by path."""
     found: dict[str, Averages] = {}
     for sample in SAMPLE.finditer(text):
         if int(sample[1]) == number:
@@ -67,9 +66,8 @@ def averages_in(text: str, number: int) -> dict[str, Averages]:
 
 
 def stretches_of(averages: Sequence[float], ticks: int) -> list[float]:
-    """The pressure (0 to 100 percent) of the three stretches, the earliest first, that brings
-    averages from 0 as near as possible to these.
-    """
+    """Returns the pressures (0 to 100 percent) of the three stretches, the earliest first, that
+    bring averages from 0 as near as possible to the given ones."""
     lengths = (ticks - MIDDLE - LAST, MIDDLE, LAST)
     rows = []
     for factor in FACTORS.values():
@@ -89,9 +87,8 @@ def stretches_of(averages: Sequence[float], ticks: int) -> list[float]:
 
 
 def possible(shares: Iterable[float]) -> Shares:
-    """The nearest shares that one processor can have: full is never more than some, and while all
-    tasks wait for IO none is ready.
-    """
+    """Returns the nearest shares that one processor can have: full is at most some, and while
+    all tasks wait for IO none is ready."""
     io_some, io_full, memory_some, memory_full, cpu_some, cpu_full = (
         min(WHOLE, max(0.0, it)) for it in shares
     )
@@ -102,10 +99,9 @@ def possible(shares: Iterable[float]) -> Shares:
 
 
 class Status(NamedTuple):
-    """The state of a group's processor from a percentage of a tick: whether a task waits for IO, is
-    stalled, and all are stalled; whether one is ready, one more waits, and a task from outside
-    runs.
-    """
+    """The state of a group's processor from some percentage of a tick on: whether a task waits
+    for IO, is stalled, and all are stalled; whether a task is ready, another task waits, and a
+    task from outside the group runs."""
 
     waits: bool
     stalls: bool
@@ -116,10 +112,9 @@ class Status(NamedTuple):
 
 
 def timeline(shares: Shares) -> list[tuple[float, Status]]:
-    """The statuses of a tick in order: first no task is ready, so that those that wait for IO are
-    the only ones; then the group's own task runs; then another one waits for the processor; and
-    then both wait for a task from outside.
-    """
+    """Returns the statuses of a tick in order. First no task is ready, so that only waits for IO
+    count; then the group's own task runs; then another task waits for the processor; and then
+    both wait for a task from outside."""
     begins = shares.io_full
     some = max(begins, shares.memory_full)
     ends = some + shares.memory_some - shares.memory_full
@@ -135,8 +130,8 @@ def timeline(shares: Shares) -> list[tuple[float, Status]]:
 
 class Stage:
     """A processor of a group, with its five artificial tasks: one waits for IO, one sleeps in a
-    stall, one runs, one waits for it, and one of the root takes the processor from both.
-    """
+    stall, one runs, one waits for the processor, and one of the root takes the processor from
+    both."""
 
     def __init__(self, world: World, path: str, processor: int, number: int) -> None:
         self.world, self.processor = world, processor
@@ -148,7 +143,7 @@ class Stage:
             world.detour(task, How.SLEEP)
 
     def put(self, task: int, state: State, is_stalled: bool) -> None:
-        """Puts the task in this state, by a turn of no length."""
+        """Puts a task into this state, by a turn of zero length."""
         world, it = self.world, self.world.tasks[task]
         if it.state is state and it.is_stalled == is_stalled:
             return
@@ -164,7 +159,7 @@ class Stage:
             world.leave(self.processor, how)
 
     def show(self, status: Status) -> None:
-        """Puts the tasks in the states of this status."""
+        """Puts the tasks into the states of this status."""
         ready, asleep = State.READY, State.ASLEEP
         stalls_ready = status.all_stall and status.is_ready
         self.put(self.waiter, State.WAITING if status.waits else asleep, False)
@@ -184,7 +179,7 @@ class Stage:
             self.put(self.outsider, State.RUNNING, False)
 
     def end(self) -> None:
-        """All of its tasks exit."""
+        """Ends all tasks of the stage."""
         for task in (self.waiter, self.staller, self.other, self.outsider, self.runner):
             self.put(task, State.ASLEEP, False)
         for task in (self.waiter, self.staller, self.other, self.outsider, self.runner):
@@ -193,16 +188,15 @@ class Stage:
 
 
 class Diffusion:
-    """Whole percentages of ticks whose mean is a share, since the averages are computed from whole
-    percentages.
-    """
+    """Converts shares to whole percentages of ticks with the same mean, since the averages are
+    computed from whole percentages."""
 
     def __init__(self) -> None:
         self.rest: dict[tuple[str, tuple[str, str]], float] = {}
 
     def percent(self, path: str, pressure: tuple[str, str], share: float) -> float:
-        """This tick's share, half a percent above a whole percentage, to which it is rounded down.
-        """
+        """Returns this tick's share: half a percent above the whole percentage to which the
+        kernel rounds it down, or 0."""
         owed = self.rest.get((path, pressure), 0.0) + share
         whole = int(owed)
         self.rest[path, pressure] = owed - whole
@@ -210,9 +204,7 @@ class Diffusion:
 
 
 class LeadIn:
-    """The lead-in of a world in which the groups exist: its stages, and the pressure of each
-    stretch.
-    """
+    """The lead-in of a world whose groups exist: its stages, and the pressures of each stretch."""
 
     def __init__(self, world: World, averages: dict[str, Averages], ticks: int, most: int) -> None:
         self.world, self.ticks = world, ticks
@@ -233,9 +225,8 @@ class LeadIn:
         self.make_stages(world.processors, most)
 
     def make_stages(self, first: int, most: int) -> None:
-        """Assigns processors to each group, numbered from `first` and below `most`: the fewest that
-        come near enough to its shares.
-        """
+        """Assigns processors to each group, numbered from `first` and below `most`: as few as
+        come near enough to its shares."""
         own: list[dict[str, Shares]] = [{} for _ in range(STRETCHES)]
         for path in list(self.paths):
             if first >= most:
@@ -259,16 +250,15 @@ class LeadIn:
         self.world.processors = max(self.world.processors, first)
 
     def wanted(self, path: str, stretch: int) -> list[float]:
-        """The shares of a group in a stretch."""
+        """Returns the wanted shares of a group in a stretch, in percent."""
         return [
             self.shares[path][key][stretch] if key in self.shares[path] else 0.0
             for key in PRESSURES
         ]
 
     def off(self, path: str, count: int, own: list[dict[str, Shares]]) -> float:
-        """The largest error of a group's shares, percent, if it has `count` processors of its own,
-        considering the shares of its descendants.
-        """
+        """Returns the largest error of a group's shares (percent) if it has `count` processors
+        of its own, considering the shares of its descendants."""
         worst = 0.0
         for stretch, shares in enumerate(own):
             rest = self.rest_of(path, count, self.wanted(path, stretch), shares)
@@ -312,9 +302,8 @@ class LeadIn:
     def rest_of(
         self, path: str, count: int, wanted: Sequence[float], own: dict[str, Shares]
     ) -> list[float]:
-        """The shares that each of a group's `count` processors needs so that, with those of its
-        descendants, the group has the wanted shares. The root's full of cpu is always shown as 0.
-        """
+        """Returns the shares that each of a group's `count` processors needs so that the group,
+        including its descendants, has the wanted shares."""
         below = [
             (len(self.stages[it]), seen_from(own[it], path)) for it in own if is_below(it, path)
         ]
@@ -327,14 +316,13 @@ class LeadIn:
 
 
 def is_below(path: str, above: str) -> bool:
-    """Whether a group is a descendant of another."""
+    """Whether `path` is a descendant of `above`."""
     return path != above and (above == ROOT or above in prefixes_of(path))
 
 
 def seen_from(shares: Shares, path: str) -> Shares:
-    """The shares that an ancestor has from a descendant's processor. For the root, the task from
-    outside is its own, and isn't stalled.
-    """
+    """Returns the shares that the ancestor `path` has from a descendant's processor. For the
+    root, the task from outside is one of its own that isn't stalled."""
     if path != ROOT:
         return shares
     hidden = max(0.0, shares.memory_full - (WHOLE - shares.cpu_full))

@@ -1,7 +1,6 @@
-"""Plays a recording's events in the world of a trace. If an event contradicts the known state, it
-is accepted and counted: in a sound recording that is rare, and after lost events the counts measure
-the damage.
-"""
+"""Plays a recording's events in the world of a trace. An event that contradicts the known state
+is accepted and counted. In a sound recording that is rare, and after losses the counts measure
+the damage."""
 from __future__ import annotations
 
 from collections import Counter, defaultdict
@@ -21,12 +20,12 @@ from psiworld.world import How, State, Task, World
 
 from .accounts import Account
 
-# The letter of a task that leaves and stays ready.
+# The letter of a task that leaves the processor and remains ready.
 STAYS = "R"
 
 
 class Samples:
-    """The last samples of memory: the machine's, and those of groups by path, as in a trace."""
+    """The last memory samples of the machine and of groups, as they are written in a trace."""
 
     def __init__(self) -> None:
         self.host = ""
@@ -34,9 +33,8 @@ class Samples:
 
 
 class Player:
-    """Plays events one by one. `waits` has the places of the switches that begin a wait for IO,
-    `accounts` the changes of accounting by place, and `types` the known types of groups.
-    """
+    """Plays events one by one. `waits` has the indices of the switches that begin a wait for IO,
+    `accounts` the changes of accounting by index, and `types` the known types of groups."""
 
     def __init__(
         self,
@@ -49,20 +47,21 @@ class Player:
         self.world, self.waits, self.accounts, self.types = world, waits, accounts, dict(types)
         self.samples = Samples()
         self.victims: list[tuple[int, int]] = []
-        # The probe of each move in progress, by the task that moves others.
+        # The attach probe of each cgroup move in progress, by the pid of the task that does the
+        # move.
         self.moves: dict[int, AttachProbe] = {}
-        # The group that each process created last.
+        # The group that each process created last, by the process's number.
         self.groups_made: dict[int, str] = {}
         self.mended: Counter[str] = world.mended
-        # By exec a thread takes over a number, some time before the event of it: the places of
-        # these events, and the old numbers.
+        # The renumberings by exec that are still to come, by the new number: the index of each exec
+        # event, and the old number. A thread takes over the number some time before that event.
         self.changes: dict[int, list[tuple[int, int]]] = defaultdict(list)
         for place, event in enumerate(events):
             if isinstance(event, Exec) and event.task != event.old and event.task:
                 self.changes[event.task].append((place, event.old))
 
     def play(self, place: int, event: Event) -> None:
-        """Plays the event at this place."""
+        """Plays the event at the index `place`."""
         if isinstance(event, Switch):
             self.switch(place, event)
         elif isinstance(event, Wakeup):
@@ -97,22 +96,21 @@ class Player:
     # ------------------------------------------------------------ who is who
 
     def is_task(self, number: int) -> bool:
-        """Whether this can be a task's number: no event of a sound recording wakes, creates or
-        renames task 0, the idle task.
-        """
+        """Whether `number` can be a task's. No event of a sound recording wakes, creates or
+        renames task 0, the idle task."""
         if not number:
             self.mended["event of the idle task that it can't have, left out"] += 1
         return number != 0
 
     def group_of(self, number: int) -> str:
-        """The group of a task that exists, else the root."""
+        """Returns the group of a task, the root if the task isn't known."""
         task = self.world.tasks.get(number)
         return task.group if task else ROOT
 
     def task_of(self, number: int, place: int, fits: Callable[[Task], bool]) -> Task | None:
-        """The task of this number in the trace. If an exec is about to change a number, it is
-        changed at the first event that only fits the thread that takes it over.
-        """
+        """Returns the task with this number, None if there is none. If an exec is about to
+        change the number, it is changed at the first event that fits only the thread that takes
+        it over."""
         changes, tasks = self.changes.get(number), self.world.tasks
         while changes and changes[0][0] < place:
             changes.pop(0)
@@ -123,25 +121,22 @@ class Player:
         return tasks.get(number)
 
     def change_number(self, number: int, old: int) -> None:
-        """The thread `old` has taken over the number of its process's first thread, which, if it
-        still exists, leaves under the thread's number.
-        """
+        """Gives the thread `old` the number of its process's first thread. If that thread still
+        exists, it gets the number `old`, under which it leaves."""
         self.world.swap_numbers(number, old)
         self.mended["number changed by exec"] += 1
 
     def is_swapped(self, number: int, processor: int) -> bool:
-        """Whether the running task is the first thread of a process, and already has the number of
-        the thread that takes over its own.
-        """
+        """Whether the running task has the number of a process's first thread, which the thread
+        `number` is about to take over."""
         changes = self.changes.get(self.world.running(processor))
         return bool(changes and changes[0][1] == number)
 
     # ------------------------------------------------------------ switches
 
     def switch(self, place: int, event: Switch) -> None:
-        """One task leaves the processor, and another runs. Usually the first is known to run, and
-        the second to be ready.
-        """
+        """Switches to the next task. Usually the leaving task is known to run, and the next one
+        to be ready."""
         world, (_, processor, _, previous, state, number) = self.world, event
         runs, comes = world.runs.get(processor, 0), world.tasks.get(number)
         if (
@@ -156,7 +151,8 @@ class Player:
             world.leave(processor, self.how(place, state), number)
 
     def how(self, place: int, state: str) -> How:
-        """How the task leaves. A task that stays ready doesn't wait, even if its mark says so."""
+        """Returns how the task leaves. A task that remains ready doesn't wait, even if psi's
+        mark says so."""
         if state == STAYS:
             return How.PREEMPT
         if state in GONE:
@@ -164,9 +160,8 @@ class Player:
         return How.WAIT if place in self.waits else How.SLEEP
 
     def leaver(self, place: int, event: Switch) -> None:
-        """Makes the leaving task run, if it isn't known to. The task that was known to run there
-        must have gone to sleep.
-        """
+        """Makes the leaving task run if it isn't known to. The task that was known to run there
+        must have gone to sleep."""
         world, number, processor = self.world, event.previous, event.processor
         running = world.running(processor)
         if running == number:
@@ -186,7 +181,7 @@ class Player:
         world.run(number, processor, How.SLEEP)
 
     def follower(self, place: int, event: Switch) -> None:
-        """Makes the next task ready, if it isn't known to be."""
+        """Makes the next task ready if it isn't known to be."""
         world, number, processor = self.world, event.next, event.processor
         if not number or world.running(processor) == number:
             return
@@ -201,7 +196,7 @@ class Player:
     # ------------------------------------------------------------ tasks come, wake and move about
 
     def wake(self, place: int, event: Wakeup) -> None:
-        """A sleeping task is ready. A task that is woken before it slept continues."""
+        """Makes a sleeping task ready. A wakeup of a task that isn't asleep changes nothing."""
         _, _, _, number, target = event
         task = self.task_of(number, place, Task.is_blocked)
         if task is None and self.is_task(number):
@@ -211,10 +206,9 @@ class Player:
             self.world.wake(task, target)
 
     def migrate(self, event: Migration) -> None:
-        """A ready task moves to another processor. If it waits for IO, the kernel ends the wait
-        there, and not at the wakeup that follows; for what it does then a trace only has the word
-        sleep.
-        """
+        """Moves a ready task to another processor. If the task waits for IO, the kernel ends the
+        wait there and not at the wakeup that follows; after that the trace can only let it
+        sleep."""
         task = self.world.tasks.get(event.task)
         if task and task.state is State.READY:
             self.world.ready(event.task, event.target)
@@ -223,9 +217,8 @@ class Player:
             self.mended["wait for IO ended at a migration"] += 1
 
     def new_task(self, event: NewTask) -> None:
-        """A task is created by its parent, the running task, in the parent's group, and sleeps
-        until its first wakeup.
-        """
+        """Creates a task in the group of its parent, the running task. It sleeps until its first
+        wakeup."""
         if not self.is_task(event.task):
             return
         process = self.process_of(event.current) if event.flags & CLONE_THREAD else event.task
@@ -239,7 +232,7 @@ class Player:
         self.world.detour(event.task, How.SLEEP)
 
     def name(self, event: Named) -> None:
-        """A task has this name from now on."""
+        """Gives a task its name from now on."""
         task, name = self.world.tasks.get(event.task), escaped(event.name)
         if task:
             task.life.rename(self.world.now, name)
@@ -247,14 +240,14 @@ class Player:
             self.world.names[event.task] = name
 
     def process_of(self, number: int) -> int:
-        """The process of a thread, as far as it is known."""
+        """Returns the process of a thread, or `number` itself if the thread isn't known."""
         task = self.world.tasks.get(number)
         return task.process if task else number
 
     def named_group(self, parent: int) -> str | None:
-        """The group that a parent named to clone(2) for a new task, which no event reports. Most
-        likely it is the group that the parent's process created last, if that is empty.
-        """
+        """Returns the likely group of a new task whose group its parent named to clone(2), which
+        no event reports: the group that the parent's process created last, if that is empty.
+        Otherwise None."""
         path = self.groups_made.get(self.process_of(parent))
         is_likely = path in self.world.groups.live and not self.world.groups.tasks[path or ROOT]
         guess = "the group that its parent made last" if is_likely else "its parent's group"
@@ -262,16 +255,15 @@ class Player:
         return path if is_likely else None
 
     def first_wakeup(self, event: FirstWakeup) -> None:
-        """A new task is ready. If only this was recorded, the task is created now, by the running
-        task.
-        """
+        """Makes a new task ready. If its creation wasn't recorded, the running task creates it
+        now."""
         if event.task in self.world.tasks:
             self.world.ready(event.task, event.target)
         elif self.is_task(event.task):
             self.world.fork(event.task, self.group_of(event.current), event.target, event.task)
 
     def exec(self, event: Exec) -> None:
-        """The number of a thread has changed; often that was noticed earlier."""
+        """Gives a thread its new number, unless an earlier event already showed it."""
         if (
             event.task == event.old
             or event.old not in self.world.tasks
@@ -282,7 +274,7 @@ class Player:
             self.change_number(event.task, event.old)
 
     def stall(self, event: StallBegins | StallEnds) -> None:
-        """The running task enters its first memory stall, or leaves its last."""
+        """Lets the running task enter its first memory stall, or leave its last."""
         task = self.world.tasks.get(event.current)
         is_end = isinstance(event, StallEnds)
         if not task or task.is_stalled != is_end or (isinstance(event, StallEnds) and event.flags):
@@ -298,10 +290,9 @@ class Player:
     # ------------------------------------------------------------ groups and memory
 
     def attach(self, event: Attach) -> None:
-        """A process moves to another group with all its threads, or a single thread does. For a
+        """Moves a process with all its threads to another group, or a single thread. For a
         process's first thread the event alone doesn't say which; without a probe all threads are
-        moved.
-        """
+        moved."""
         probe = self.moves.pop(event.current, None)
         if event.hierarchy:
             return
@@ -309,7 +300,7 @@ class Player:
         is_told = probe is not None and probe.task == event.task
         first = self.world.tasks.get(event.task)
         if first and first.process != event.task:
-            self.types.pop(path, None)  # a thread went alone, so the group isn't a plain one
+            self.types.pop(path, None)  # a thread moved alone, so the group's type isn't plain
         others = [
             task for number, task in self.world.tasks.items()
             if task.process == event.task and number != event.task and task.group != path
@@ -324,7 +315,7 @@ class Player:
             self.world.move(task, path)
 
     def group(self, event: GroupMade | GroupRemoved) -> None:
-        """A group is created or removed."""
+        """Creates or removes a group."""
         if event.hierarchy:
             return
         path = escaped_path(event.path)
@@ -340,7 +331,7 @@ class Player:
             self.world.make_group(path)
 
     def mark(self, event: Marker) -> None:
-        """A marker: those of the recorder with memory samples become lines."""
+        """Writes the recorder's markers with memory samples as lines."""
         if not event.text.startswith(MARK.encode()):
             return
         words = event.text.decode("utf-8", "surrogateescape")[len(MARK) :].split()
@@ -359,7 +350,8 @@ class Player:
 
 
 def sample_of(words: Sequence[str]) -> str | None:
-    """The three numbers of a sample as in a trace, or None if the words aren't such numbers."""
+    """Returns the three numbers of a sample as in a trace, None if the words aren't such
+    numbers."""
     if len(words) != 3 or not all(
         word.isascii() and word.isdecimal() and int(word) <= MOST_MEMORY for word in words
     ):

@@ -1,6 +1,5 @@
-"""The report of a conversion on standard error: what was read, how waits for IO are recognised, and
-what was repaired or lost.
-"""
+"""The report of a conversion: what was read, how waits for IO are recognised, and what was
+repaired or lost."""
 from __future__ import annotations
 
 from datetime import datetime, timezone
@@ -14,12 +13,12 @@ from psiworld.world import World
 
 from .convert import Converted
 
-# The time (s) until an average that began at 0 is meaningful: three of its periods.
+# The time (s) after which an average that began at 0 is meaningful: three of its periods.
 SETTLED_10, SETTLED_60 = 30, 180
 
 
 def moment_text(realtime: int) -> str:
-    """A time in ns since 1970, in UTC."""
+    """Formats a time (ns since 1970) in UTC."""
     try:
         whole = datetime.fromtimestamp(realtime // SECOND, timezone.utc)
     except (OverflowError, ValueError, OSError):
@@ -28,7 +27,7 @@ def moment_text(realtime: int) -> str:
 
 
 def waits_text(method: Method, converted: Converted) -> str:
-    """How waits for IO are recognised, and how reliable that is."""
+    """Says how waits for IO are recognised, and how reliable that is."""
     if method is Method.STATE:
         return (
             f"waits for IO by state D alone: all {converted.uninterruptible} such sleeps count, on"
@@ -41,12 +40,12 @@ def waits_text(method: Method, converted: Converted) -> str:
 
 
 def exact_seconds(moment: int) -> str:
-    """A time in seconds, with all nine decimals."""
+    """Formats a time (ns) in seconds with all nine decimals."""
     return f"{moment // SECOND}.{moment % SECOND:09}"
 
 
 def counted(found: dict[str, int]) -> str:
-    """Kinds with their numbers, the largest first."""
+    """Lists kinds with their numbers, the largest first."""
     return ", ".join(
         f"{kind} {count}"
         for kind, count in sorted(found.items(), key=lambda it: (-it[1], it[0]))
@@ -55,7 +54,7 @@ def counted(found: dict[str, int]) -> str:
 
 
 def whole_lines(source: Source, converted: Converted, window: Window, whole: Window) -> list[str]:
-    """The size of the trace."""
+    """Returns the lines about the trace's size and time."""
     groups, count = converted.world.groups.made, len(
         converted.lines if converted.folded is None else converted.folded
     )
@@ -76,7 +75,7 @@ def whole_lines(source: Source, converted: Converted, window: Window, whole: Win
 
 
 def accounting_lines(source: Source, world: World) -> list[str]:
-    """The groups that weren't accounted, if any, and their pressure in the trace."""
+    """Returns the lines about groups that weren't accounted."""
     lines = []
     if ROOT in source.snapshot.unaccounted:
         lines.append("the machine doesn't account the root, a trace does")
@@ -92,7 +91,7 @@ def accounting_lines(source: Source, world: World) -> list[str]:
 
 
 def told_lines(source: Source, converted: Converted) -> list[str]:
-    """What a trace can't express, or expresses differently."""
+    """Returns the lines about what a trace can't express, or expresses differently."""
     lines = list(source.notes)
     omitted = [
         path for path, preference in sorted(source.snapshot.groups.items()) if preference == "omit"
@@ -114,7 +113,7 @@ def told_lines(source: Source, converted: Converted) -> list[str]:
 def summary_of(
     source: Source, converted: Converted, method: Method, window: Window, whole: Window
 ) -> list[str]:
-    """All lines but those about losses. No line about repairs means that there were none."""
+    """Returns the whole report except losses. Without lines about repairs there were none."""
     mended = {**source.mended, **converted.world.mended}
     return [
         *whole_lines(source, converted, window, whole),
@@ -127,7 +126,8 @@ def summary_of(
 
 
 def other_way(converted: Converted) -> str:
-    """A further remedy if a trace has too many events, the limit that is met most often."""
+    """Suggests a further remedy if a trace has too many events, which is the most frequent
+    limit."""
     if not converted.limit or not converted.limit.endswith(" events"):
         return ""
     if converted.folded is not None:
@@ -139,7 +139,7 @@ def other_way(converted: Converted) -> str:
 
 
 def past_lines(converted: Converted) -> list[str]:
-    """The values with which averages begin."""
+    """Returns the lines about the values with which averages begin."""
     if not converted.begins:
         settled = f"avg10 means something from {SETTLED_10} s on, avg60 from {SETTLED_60} s on"
         return [f"averages begin at 0, as the machine's didn't: {settled}"]
@@ -156,7 +156,7 @@ def past_lines(converted: Converted) -> list[str]:
 
 
 def limit_lines(source: Source, converted: Converted) -> list[str]:
-    """The limits of traces that were met."""
+    """Returns the lines about limits of traces that were reached."""
     lines = [
         f"limit: {why}: {len(paths)} folded into the group above, first {paths[0]}; --groups sets"
         " how deep groups go"

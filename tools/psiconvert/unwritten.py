@@ -1,12 +1,11 @@
-"""Switches that a kernel didn't write. Some kernels write no event for certain tasks: in a virtual
-machine of Linux 6.18 for none of the threads of process 1, and for none of the idle tasks but the
-first processor's. No event shows that such a task leaves, and its successor would seem to wait
-until it does something itself.
+"""Finds switches that a kernel didn't write. Some kernels write no event for certain tasks: in a
+virtual machine of Linux 6.18 for none of the threads of process 1, and for none of the idle tasks
+except the first processor's. No event shows that such a task leaves, so its successor would seem to
+wait until it does something itself.
 
-The next event of the processor shows which task runs there. If that task was ready, the switch to
-it is put where the leaving task was last seen. That task may have run for a while longer, but far
-less than its successor, which often runs for many ms before anything is written.
-"""
+The next event of the processor shows which task runs there. If that task was ready, the switch
+to it is put at the time at which the leaving task was last seen. That task may have run a while
+longer, but far less than its successor, which often runs for many ms before anything is written."""
 from __future__ import annotations
 
 from collections.abc import Iterable, Iterator, Sequence
@@ -15,16 +14,15 @@ from operator import itemgetter
 from psiread.events import Event, Exec, FirstWakeup, Gap, Migration, Switch, Wakeup
 from psiread.window import Window, overlapping
 
-# The name of such a switch among the repairs that are counted.
+# The name of such a switch in the report of repairs.
 UNWRITTEN = "switch that wasn't written, put where the task that left was seen last"
-# The letters of tasks that leave and stay ready, and of tasks that sleep.
+# The letter of a task that leaves and remains ready, and that of a task that sleeps.
 STAYS, SLEEPS = "R", "S"
 
 
 def renamed(events: Sequence[Event]) -> set[tuple[int, int]]:
-    """The pairs of numbers that an exec exchanges: the processor goes from one to the other without
-    a switch.
-    """
+    """Returns the pairs of numbers that an exec exchanges: the processor goes from one number to
+    the other without a switch."""
     changes = [
         (event.old, event.task)
         for event in events
@@ -34,28 +32,26 @@ def renamed(events: Sequence[Event]) -> set[tuple[int, int]]:
 
 
 def silent_tasks(events: Sequence[Event]) -> set[int]:
-    """Tasks that ran and, according to the written events, never left."""
+    """Returns the tasks that ran and, according to the written events, never left."""
     switches = [event for event in events if isinstance(event, Switch)]
     return {event.next for event in switches} - {event.previous for event in switches}
 
 
 class Chains:
-    """The running task of each processor, and the tasks that wait for it, according to switches and
-    to the tasks in which events are written.
-    """
+    """The running task of each processor, and the tasks that are ready there, according to
+    switches and to the tasks in which events were written."""
 
     def __init__(self, events: Sequence[Event], gaps: Sequence[Gap]) -> None:
         self.gaps, self.renamed, self.silent = gaps, renamed(events), silent_tasks(events)
         self.running: dict[int, int] = {}
-        # The time of each processor's last event, ns.
+        # The time (ns) of each processor's last event.
         self.moments: dict[int, int] = {}
-        # The processor for which each task waits, and since when that is known (ns).
+        # The processor on which each ready task waits, and the time (ns) since which that is known.
         self.ready: dict[int, tuple[int, int]] = {}
 
     def mended(self, events: Iterable[Event]) -> tuple[list[Event], list[int]]:
-        """The next events with the unwritten switches, each before the event that shows it, and the
-        times (ns) of the latter.
-        """
+        """Returns the next events together with the unwritten switches, each before the event
+        that shows it, and the times (ns) of these switches."""
         whole: list[Event] = []
         moments: list[int] = []
         running = self.running
@@ -71,9 +67,8 @@ class Chains:
         return whole, moments
 
     def missing(self, event: Event, known: int, runs: int) -> list[Switch]:
-        """The switches that must have happened on the event's processor before it, and weren't
-        written: from the task that was known to run there to the one that does.
-        """
+        """Returns the unwritten switches on the event's processor before it, from the task that
+        was known to run there to the one that runs now."""
         if (known, runs) in self.renamed or self.is_gap(event):
             return []
         follows = [runs] if runs in self.ready or not runs else []
@@ -84,9 +79,8 @@ class Chains:
         )
 
     def waiting(self, processor: int, others: set[int]) -> list[int]:
-        """Tasks that write no switch and were ready there, the earliest first: they ran before
-        whatever task follows.
-        """
+        """Returns the tasks that write no switch and were ready there, the earliest first: they
+        ran before the task that follows."""
         waiting = [
             it for it in self.silent - others if it in self.ready and self.ready[it][0] == processor
         ]
@@ -98,7 +92,8 @@ class Chains:
         return any(gap.processor == event.processor for gap in overlapping(self.gaps, since))
 
     def switches(self, processor: int, route: Sequence[int]) -> Iterator[Switch]:
-        """Switches from each task to the next, each at its earliest possible time."""
+        """Yields switches from each task of the route to the next, each at its earliest possible
+        time."""
         moment = self.moments[processor]
         for previous, following in zip(route, route[1:]):
             self.ready.pop(previous, None)
@@ -108,7 +103,7 @@ class Chains:
             )
 
     def take(self, event: Event) -> None:
-        """Takes a written event."""
+        """Updates the state by a written event."""
         moment, processor = event[:2]
         self.moments[processor] = moment
         if isinstance(event, Switch):
@@ -125,9 +120,8 @@ class Chains:
 
 
 def with_unwritten(events: Sequence[Event], gaps: Sequence[Gap]) -> tuple[list[Event], list[int]]:
-    """The events with the unwritten switches, and their times (ns); none after lost events,
-    since it isn't known which tasks ran during the gap.
-    """
+    """Returns the events with the unwritten switches, and the times (ns) of the latter. There
+    are none after lost events, since it isn't known which tasks ran during the gap."""
     whole, moments = Chains(events, gaps).mended(events)
     whole.sort(key=itemgetter(0))
     return whole, moments

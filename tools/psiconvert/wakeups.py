@@ -1,8 +1,7 @@
-"""When the kernel counts a task as ready: in `psi_task_change`, some time before it writes the
-event of the wakeup. If a recording has the probe on this function, a wakeup can be taken at either
-time, or in the middle; in fact the task became ready somewhere in between, so the two bound its
-waits for a processor.
-"""
+"""Moves wakeups to the time at which the kernel counts a task as ready. It does that in
+`psi_task_change`, some time before it writes the event of the wakeup. If a recording has the
+probe on this function, a wakeup can be put at either time or in the middle. In fact the task
+became ready somewhere in between, so the two bound its waits for a processor."""
 from __future__ import annotations
 
 from bisect import bisect_left
@@ -14,7 +13,7 @@ from operator import itemgetter
 from psiread.events import Event, FirstWakeup, ReadyProbe, Switch, Wakeup
 from psiworld.world import LABEL_STEP
 
-# A probe that precedes a wakeup by more than this, ns, belongs to another change.
+# A probe that precedes a wakeup by more than this (ns) belongs to another change.
 LONGEST_LAG = 50_000_000
 MOMENT = itemgetter(0)
 
@@ -28,10 +27,9 @@ class Counting(Enum):
 
 
 def counted_at(events: Sequence[Event], told: dict[int, int] | None = None) -> dict[int, int]:
-    """When psi counted each wakeup, ns, by its place among the events. A task that moves to another
-    processor or group is counted again: a probe without a wakeup after it is no wakeup. If events
-    are read in parts, the caller passes what is known of tasks from part to part.
-    """
+    """Returns the time (ns) at which psi counted each wakeup, by the index of the event. A task
+    that moves to another processor or group is counted again, so a probe without a wakeup after
+    it is ignored. If events are read in parts, pass the same `told` for each part."""
     told = {} if told is None else told
     found: dict[int, int] = {}
     for place, event in enumerate(events):
@@ -47,7 +45,7 @@ def counted_at(events: Sequence[Event], told: dict[int, int] | None = None) -> d
 
 
 def put_at(events: Sequence[Event], counted: dict[int, int], counting: Counting) -> list[Event]:
-    """The events with each wakeup at the requested time, in order of time."""
+    """Returns the events with each wakeup at the requested time, in order of time."""
     if counting is Counting.EVENT or not counted:
         return list(events)
     moved: list[Event] = list(events)
@@ -61,9 +59,8 @@ def put_at(events: Sequence[Event], counted: dict[int, int], counting: Counting)
 
 
 class Wakeups:
-    """Moves the wakeups of a recording to the requested time, and counts how long before their
-    events psi counted them: the number of wakeups by ns, and the number without a probe.
-    """
+    """Moves the wakeups of a recording to the requested time. `lags` counts by how many ns psi
+    counted them before their events, and `untold` is the number of wakeups without a probe."""
 
     def __init__(self, counting: Counting) -> None:
         self.counting = counting
@@ -72,7 +69,7 @@ class Wakeups:
         self.untold = 0
 
     def put(self, events: Sequence[Event]) -> list[Event]:
-        """The next events, with their wakeups at the requested time."""
+        """Returns the next events with their wakeups at the requested time."""
         counted = counted_at(events, self.told)
         self.lags.update(events[place].moment - moment for place, moment in counted.items())
         self.untold += sum(isinstance(event, (Wakeup, FirstWakeup)) for event in events) - len(
@@ -81,9 +78,8 @@ class Wakeups:
         return put_at(events, counted, self.counting)
 
     def slices(self, slices: Iterable[list[Event]]) -> Iterator[list[Event]]:
-        """Does this for events in slices. A wakeup that is moved to before its slice goes into the
-        previous one.
-        """
+        """Yields slices of events with their wakeups moved. A wakeup that moves to before its
+        slice goes into the previous one."""
         before: list[Event] | None = None
         for events in slices:
             moved = self.put(events)
@@ -96,9 +92,8 @@ class Wakeups:
             yield before
 
     def lag_at(self, place: int) -> float:
-        """The distance between the two times, us, of the wakeup with this index, the shortest
-        distance first.
-        """
+        """Returns the distance (us) between the two times of a wakeup. `place` is its index in
+        ascending order of distances."""
         for lag, count in sorted(self.lags.items()):
             if place < count:
                 return lag / 1000
@@ -106,7 +101,7 @@ class Wakeups:
         raise IndexError(place)
 
     def text(self) -> str:
-        """The time at which wakeups are written, and the distance between the two times."""
+        """Says at which time wakeups are written, and how far apart the two times are."""
         count = sum(self.lags.values())
         if not count:
             return (
@@ -129,15 +124,13 @@ class Wakeups:
 
 # ---------------------------------------------------------------- the wakeups of a trace
 
-# The earliest and latest time at which a wakeup may have been counted, ns of the trace, by the
-# task's label and the time of its line.
+# A function from the task's label and the time of its line to the earliest and latest time (ns of
+# the trace) at which a wakeup may have been counted.
 Bounds = Callable[[str, int], tuple[int, int]]
 
 
 def bounds_of(events: Sequence[Event], start: int) -> Bounds:
-    """Bounds from the probes of a recording whose trace begins at `start` (ns): the line of a
-    wakeup may be anywhere between the two.
-    """
+    """Returns bounds by the probes of a recording, whose trace begins at `start` (ns)."""
     pairs: dict[int, list[tuple[int, int]]] = defaultdict(list)
     for place, moment in counted_at(events).items():
         event = events[place]
@@ -153,14 +146,13 @@ def bounds_of(events: Sequence[Event], start: int) -> Bounds:
 
 
 def lag_bounds(lag: int) -> Bounds:
-    """Bounds without probes: up to `lag` ns before the line."""
+    """Returns bounds without probes: up to `lag` ns before the line."""
     return lambda _, moment: (moment - lag, moment)
 
 
 def with_wakeups(lines: Iterable[str], bounds: Bounds, is_first: bool) -> list[str]:
-    """A trace's lines with each wakeup as early or as late as possible, but not before the task's
-    preceding line in the trace.
-    """
+    """Returns a trace's lines with each wakeup as early or as late as possible, but not before
+    the task's previous line."""
     runs: dict[str, str] = {}
     lasts: dict[str, int] = {}
     found: list[tuple[int, str]] = []

@@ -1,1 +1,2 @@
-"""Folds a trace into windows of the same pressure: `tools/fold`, and `tools/psitrace --fold`."""
+"""Folds a trace into windows with the same pressure, for `tools/fold` and `tools/psitrace
+--fold`."""

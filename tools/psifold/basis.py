@@ -2,20 +2,20 @@
 combination of joint states with their times can be replaced by at most as many of them as there are
 independent sums, with other times.
 
-The joint states that are kept are the *basis*. The column of a joint state has a 1 for each sum
-that it takes part in, and the columns of the basis are linearly independent. A further joint state
-is either independent too and is added to the basis, or its column is a combination of columns in
-the basis. In that case its time is distributed among them until the time of one is 0: this one is
-removed, and the new one stays with the rest of its time (a step of the simplex method, called a
-*pivot*). Usually the basis has room for all of the time, and even for many joint states at once: so
-their sums are tried together first, and if that fails, fewer of them, down to one.
+The joint states that remain are the *basis*. The column of a joint state has a 1 for each sum that
+it takes part in, and the columns of the basis are linearly independent. A further joint state is
+either independent too and is added to the basis, or its column is a combination of columns in the
+basis. In that case its time is distributed among them until the time of one is 0. That one is
+removed, and the new one gets the rest of its time (a step of the simplex method, called a *pivot*).
+Usually the basis can absorb all of the time, even of many joint states at once: so their sums are
+tried together first, and if that fails, fewer of them, down to one.
 
-All arithmetic is exact, in integers: the inverse of the basis is stored times its determinant, the
-*divisor* (Edmonds' pivots), and so are the times. The numbers of a column of the inverse are packed
-into one large integer, each in a *field* of its own, so that one operation adds two columns, or
-compares all times with 0. A number is always below half of what its field can hold: an upper bound
-on the inverse says when the numbers must be checked, and fields are widened if necessary.
-"""
+All arithmetic is exact, in integers: the inverse of the basis is stored times its determinant,
+the *divisor* (Edmonds' pivots), and so are the times. The numbers of a column of the inverse are
+packed into one large integer, each in a *field* of its own, so that one operation adds two
+columns, or compares all times with 0. A number is always below half of what its field can hold:
+an upper bound on the inverse says when the numbers must be checked, and fields are widened if
+necessary."""
 from __future__ import annotations
 
 from collections.abc import Sequence
@@ -30,7 +30,7 @@ TOGETHER = 64
 
 
 class Share(NamedTuple):
-    """The number of a joint state of the basis, and its time (ns) times the divisor."""
+    """A joint state of the basis by its number, and its time (ns) times the divisor."""
 
     number: int
     time: int
@@ -46,7 +46,7 @@ class Fields:
         self.signs = sum(self.half << row * bits for row in range(rows))
 
     def numbers(self, packed: int) -> list[int]:
-        """The numbers of a column."""
+        """Returns the numbers of a packed column."""
         size, half = self.bits // 8, self.half
         data = (packed + self.signs).to_bytes(size * self.rows, "little")
         if size == 8:
@@ -57,7 +57,7 @@ class Fields:
         ]
 
     def packed(self, numbers: Sequence[int]) -> int:
-        """The column with these numbers."""
+        """Packs numbers into a column."""
         size, half = self.bits // 8, self.half
         return (
             int.from_bytes(
@@ -67,14 +67,13 @@ class Fields:
         )
 
     def number(self, packed: int, row: int) -> int:
-        """One number of a column."""
+        """Returns one number of a packed column."""
         return (packed + self.signs >> row * self.bits & self.mask) - self.half
 
 
 class Units:
-    """Packs columns that have a bit for each sum, byte by byte. `used` has the bits that occur; the
-    rows are in their order.
-    """
+    """Packs columns that are given with a bit for each sum, byte by byte. `used` has the bits
+    that occur; each of them is a row, in this order."""
 
     def __init__(self, used: int, fields: Fields) -> None:
         self.fields, self.size = fields, (used.bit_length() + 7) // 8
@@ -83,16 +82,15 @@ class Units:
         ]
 
     def packed(self, column: int) -> int:
-        """The packed column, with a 1 in each row whose bit is set."""
+        """Packs a column: it gets a 1 in each row whose bit is set."""
         return int.from_bytes(
             b"".join(map(getitem, self.bytes, column.to_bytes(self.size, "little"))), "little"
         )
 
 
 class ByteFields(dict[int, bytes]):
-    """The fields of a byte's used bits, by the byte's value: `size` bytes per field, 1 if the bit
-    is set.
-    """
+    """The packed fields of a byte's used bits, by the byte's value. Each field has `size` bytes,
+    and is 1 if the bit is set."""
 
     def __init__(self, used: int, size: int) -> None:
         self.places, self.size = list(bits_of(used)), size
@@ -105,9 +103,8 @@ class ByteFields(dict[int, bytes]):
 
 
 class Basis:
-    """The joint states that are kept so far, with columns of `rows` numbers; the sum of their times
-    is at most `longest` (ns).
-    """
+    """The joint states that remain, with columns of `rows` numbers. `longest` (ns) bounds the
+    sum of their times."""
 
     def __init__(self, rows: int, longest: int) -> None:
         self.longest, self.fields = longest, Fields(rows, FIELD_BITS)
@@ -120,9 +117,8 @@ class Basis:
         self.most = 1
 
     def take_all(self, columns: Sequence[int], times: Sequence[int]) -> int:
-        """Takes joint states, which are numbered by their index: columns, packed into fields of
-        FIELD_BITS, and times (ns). Returns the packed sums of all of them.
-        """
+        """Takes joint states, which are numbered by their index, as columns packed into fields
+        of FIELD_BITS, and times (ns). Returns the packed sums of all of them."""
         total = 0
         for start in range(0, len(columns), TOGETHER):
             sums = [0]
@@ -137,10 +133,9 @@ class Basis:
     def take_some(
         self, start: int, columns: Sequence[int], times: Sequence[int], sums: Sequence[int]
     ) -> None:
-        """Takes the joint states from `start`, whose cumulative sums are `sums`: all at once, or
-        half as many as long as there is no room. If there was no room for all, there is none for
-        the rest either after some were taken; only a pivot changes that.
-        """
+        """Takes the joint states from `start`, whose cumulative sums are `sums`. It tries all at
+        once, and then half as many until there is room. If there was no room for all, there is
+        none for the rest after some were taken, until a pivot changes that."""
         end = wanted = len(sums) - 1
         taken, is_full = 0, False
         while taken < end:
@@ -157,15 +152,16 @@ class Basis:
                 taken, wanted = taken + 1, min(taken + 3, end)
 
     def made_of(self, packed: int) -> int:
-        """The packed coefficients by which the basis gives a column of sums, times the divisor."""
+        """Returns the packed coefficients of the basis that give a column of sums, times the
+        divisor."""
         size = FIELD_BITS // 8
         data = packed.to_bytes(size * self.fields.rows, "little")
         numbers = memoryview(data).cast("Q").tolist()
         return sum(number * column for number, column in zip(numbers, self.columns) if number)
 
     def give(self, sums: int) -> bool:
-        """Adds these sums to the times of the basis, and returns true, if there is room for them.
-        """
+        """Adds sums to the times of the basis, if there is room for them. Returns whether there
+        is."""
         parts = self.made_of(sums)
         times = self.times + parts
         signs = self.fields.signs
@@ -175,9 +171,8 @@ class Basis:
         return True
 
     def take(self, number: int, column: int, time: int) -> bool:
-        """Takes a joint state: its number, its column and its time (ns). Returns whether that
-        needed a pivot.
-        """
+        """Takes a joint state by its number, its column and its time (ns). Returns whether that
+        needed a pivot."""
         parts = self.made_of(column)
         times, signs = self.times + time * parts, self.fields.signs
         if (parts + signs ^ signs) & self.free:
@@ -197,9 +192,8 @@ class Basis:
         return True
 
     def pivot(self, row: int, number: int, parts: int, time: int) -> None:
-        """Puts a joint state, whose column is the combination `parts` and whose time is `time`
-        (ns), in the place of the one in this row.
-        """
+        """Replaces the joint state of `row` by a new one, whose column is the combination
+        `parts` and whose time is `time` (ns)."""
         fields, divisor = self.fields, self.divisor
         found, times = fields.numbers(parts), fields.numbers(self.times)
         factor = found[row]
@@ -235,18 +229,16 @@ class Basis:
             self.make_room()
 
     def fits(self) -> bool:
-        """Whether all numbers that are computed in fields next stay below half of a field. If M is
-        the greatest number of the inverse, the parts of a column are at most P = rows * M; the
-        parts of sums at most that times the longest time; and a pivot needs at most P * M, and the
-        divisor times M.
-        """
+        """Whether all numbers that the next step computes in fields are below half of a field.
+        If M is the greatest number of the inverse, the parts of a column are at most P = rows *
+        M, the parts of sums at most P times the longest time, and a pivot needs at most P * M
+        and the divisor times M."""
         parts = max(self.fields.rows * self.most, self.divisor)
         return 3 * parts * max(self.longest, self.most) < self.fields.half
 
     def make_room(self) -> None:
-        """Computes the greatest number of the inverse, and widens the fields if it is too large for
-        them.
-        """
+        """Computes the greatest number of the inverse, and widens the fields if it is too large
+        for them."""
         self.most = max(
             abs(number) for column in self.columns for number in self.fields.numbers(column)
         )
@@ -258,15 +250,14 @@ class Basis:
             self.free = sum(self.fields.mask << row * self.fields.bits for row in rows)
 
     def shares(self) -> list[Share]:
-        """The joint states of the basis, and their times."""
+        """Returns the joint states of the basis with their times."""
         times = zip(self.numbers, self.fields.numbers(self.times))
         return [Share(number, time) for number, time in times if number is not None and time]
 
 
 def first_at_zero(times: list[int], parts: list[int]) -> int:
-    """The row whose time is the first to be 0 when time is distributed among the rows according to
-    `parts`.
-    """
+    """Returns the row whose time reaches 0 first if time is distributed among the rows according
+    to `parts`."""
     row, time, least = -1, 1, 0
     for place, part in enumerate(parts):
         # Compares times[place] / -part with time / -least; the first is accepted if there is none

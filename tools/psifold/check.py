@@ -1,9 +1,8 @@
-"""Checks the lines of a folded window before they are written: replays them by the kernel's way of
+"""Checks the lines of a folded window before they are written: replays them with the kernel's
 accounting, which counts tasks, and compares the resulting sums with those of the original window.
 
-This shares no code with the code that writes the lines: it keeps its own tasks and counts, and
-derives the states of docs/TRACES.md from the counts.
-"""
+This shares no code with the code that writes the lines: it has its own tasks and counts, and
+derives the states of docs/TRACES.md from the counts."""
 from __future__ import annotations
 
 import functools
@@ -14,11 +13,11 @@ from collections.abc import Callable
 from dataclasses import dataclass, field
 from typing import NamedTuple
 
-# A group's counts on a processor: tasks that wait for IO, that are stalled, that are ready or run,
-# and that do so in a stall.
+# The indices of a group's counts on a processor: tasks that wait for IO, that are stalled, that are
+# ready or run, and that are ready or run while stalled.
 WAITING, STALLED, ACTIVE, ACTIVE_STALLED = range(4)
 STATES = 7
-# The number of ns that a sum may be off at any time, by the rounding of all windows up to then.
+# The most ns by which a sum may be off at any time, by the rounding of all windows up to then.
 MOST_OFF = 9
 # The longest time (ns) that one line of interrupts may have.
 MOST_INTERRUPTS = 10**9
@@ -27,13 +26,13 @@ AFTER = {"preempt": READY, "sleep": ASLEEP, "iowait": WAITS}
 
 
 class Different(Exception):
-    """A folded window differs from the original one: the text says where and how."""
+    """The error that a folded window differs from the original one; the message says where and
+    how."""
 
 
 class Key(NamedTuple):
-    """A sum of time: its group, its processor, its state (0 to 6), and the groups without which it
-    is computed.
-    """
+    """A sum of time: its processor, its group, its state (0 to 6), and the groups that it
+    excludes."""
 
     processor: int
     path: str
@@ -43,11 +42,10 @@ class Key(NamedTuple):
 
 @dataclass
 class Window:
-    """An original window, from `start` to `end` (ns): its sums (ns) for the groups that are
-    accounted; the time of interrupts (ns) by processor and group of the running task; which groups
-    had tasks at its end, if that matters; and the lines that are copied unchanged, with their times
-    (ns).
-    """
+    """An original window from `start` to `end` (ns): its sums (ns) for the groups that are
+    accounted; the time of interrupts (ns) by processor and group of the running task; the groups
+    that had tasks at its end, None if that doesn't matter; and the lines that are copied
+    unchanged, with their times (ns)."""
 
     start: int
     end: int
@@ -60,7 +58,7 @@ class Window:
 
 @dataclass
 class Task:
-    """A task: its group's path, its processor, what it does, and whether it is in a stall."""
+    """A task: its group's path, its processor, its state, and whether it is in a stall."""
 
     path: str
     processor: int
@@ -70,15 +68,14 @@ class Task:
 
 @functools.lru_cache(maxsize=4096)
 def chain_of(path: str) -> tuple[str, ...]:
-    """A group and all its ancestors."""
+    """Returns a group's path and those of all its ancestors."""
     parts = path.split("/")[1:] if path != "/" else []
     return ("/", *("/" + "/".join(parts[: count + 1]) for count in range(len(parts))))
 
 
 class Clock:
-    """The counts of a group on a processor, and the time (ns) that it was in each state in this
-    window.
-    """
+    """The counts of a group on a processor, and the time (ns) for which it was in each state in
+    this window."""
 
     def __init__(self, start: int) -> None:
         self.counts = [0, 0, 0, 0]
@@ -87,7 +84,7 @@ class Clock:
         self.times = [0] * STATES
 
     def go_to(self, moment: int) -> None:
-        """Adds the time up to `moment` (ns) to each state that held."""
+        """Adds the time up to `moment` (ns) to each state that holds."""
         length = moment - self.since
         if length:
             for state, is_held in enumerate(self.held()):
@@ -96,9 +93,8 @@ class Clock:
             self.since = moment
 
     def held(self) -> tuple[bool, ...]:
-        """Which states hold, according to the counts and to whether the running task is of the
-        group and in a stall.
-        """
+        """Returns which states hold, according to the counts, and to whether the running task is
+        of the group and in a stall."""
         waiting, stalled, active, active_stalled = self.counts
         return (
             waiting > 0,
@@ -122,9 +118,8 @@ class Clock:
 
 
 class Clocks:
-    """The clocks of all groups on all processors, without the tasks of some groups and their
-    descendants.
-    """
+    """The clocks of all groups on all processors. Tasks of the groups `without`, and of their
+    descendants, don't count."""
 
     def __init__(self, without: tuple[str, ...]) -> None:
         self.without = without
@@ -132,7 +127,7 @@ class Clocks:
         self.clocks: dict[tuple[int, str], Clock] = {}
 
     def change(self, moment: int, task: Task, sign: int) -> None:
-        """Adds the task in its present state (sign 1), or removes it (sign -1)."""
+        """Adds a task in its present state (sign 1), or removes it (sign -1), at `moment` (ns)."""
         chain = chain_of(task.path)
         if any(path in self.without for path in chain):
             return
@@ -144,7 +139,8 @@ class Clocks:
             clock.add(task, sign)
 
     def sums(self, end: int, accounted: set[str]) -> dict[Key, int]:
-        """The sums of the window that ends at `end` (ns); the next window begins there."""
+        """Returns the sums (ns) of the window that ends at `end` (ns), and begins the next
+        window there."""
         found: dict[Key, int] = {}
         for (processor, path), clock in self.clocks.items():
             clock.go_to(end)
@@ -161,7 +157,7 @@ class Clocks:
         return found
 
     def forget(self, path: str) -> None:
-        """Removes the group."""
+        """Removes the clocks of a group."""
         for key in [it for it in self.clocks if it[1] == path]:
             del self.clocks[key]
 
@@ -178,7 +174,7 @@ class Check:
         self.interrupts: Counter[tuple[int, str]] = Counter()
         self.interrupted: dict[int, int] = {}
         self.kept: list[str] = []
-        # The number of ns that each sum lacks, over all windows so far.
+        # The number of ns that each sum lacks, over all windows up to now.
         self.behind: Counter[Key] = Counter()
         # The time (ns) of the last edge, and the groups that must have tasks after all lines of
         # that time.
@@ -209,7 +205,7 @@ class Check:
             raise Different(f"the line '{line}' can't stand there")
 
     def change(self, task: Task, **values: object) -> None:
-        """Changes these values of a task."""
+        """Changes attributes of a task, and the counts with them."""
         for clocks in self.clocks:
             clocks.change(self.now, task, -1)
         for name, value in values.items():
@@ -218,7 +214,7 @@ class Check:
             clocks.change(self.now, task, 1)
 
     def fork(self, line: str, number: str, path: str, processor: str) -> None:
-        """A task is created, ready on a processor."""
+        """Creates a task, ready on a processor."""
         self.must(number not in self.tasks and int(processor) < self.processors, line)
         task = self.tasks[number] = Task(path, int(processor))
         self.most_tasks = max(self.most_tasks, len(self.tasks))
@@ -226,14 +222,14 @@ class Check:
             clocks.change(self.now, task, 1)
 
     def wake(self, line: str, number: str, processor: str) -> None:
-        """A blocked task becomes ready."""
+        """Makes a blocked task ready."""
         task = self.tasks.get(number)
         self.must(task and task.does in (ASLEEP, WAITS) and int(processor) < self.processors, line)
         assert task
         self.change(task, does=READY, processor=int(processor))
 
     def switch(self, line: str, place: str, following: str, how: str) -> None:
-        """The running task leaves the processor; another one runs, or none."""
+        """Switches from the running task to another one, or to none."""
         processor, leaving = int(place), self.runs.pop(int(place), "0")
         coming = self.tasks.get(following)
         self.must((how == "idle") == (leaving == "0"), line)
@@ -253,14 +249,14 @@ class Check:
             self.runs[processor] = following
 
     def stall(self, line: str, number: str) -> None:
-        """The running task goes into a stall, or out of it."""
+        """Lets the running task enter or leave a stall."""
         task, is_stalled = self.tasks.get(number), line.split(" ")[1] == "stall"
         self.must(task and task.does == RUNNING and task.is_stalled != is_stalled, line)
         assert task
         self.change(task, is_stalled=is_stalled)
 
     def irq(self, line: str, place: str, length: str) -> None:
-        """Interrupts took time from the task that runs."""
+        """Takes the time of interrupts from the running task."""
         processor, time = int(place), int(length)
         self.must(
             time <= min(MOST_INTERRUPTS, self.now - self.interrupted.get(processor, 0))
@@ -273,7 +269,7 @@ class Check:
     # ------------------------------------------------------------ windows
 
     def between(self, line: str) -> None:
-        """Replays a line between two windows."""
+        """Takes a line between two windows."""
         moment, verb, *fields = line.split(" ")
         self.pass_edge(int(moment) + (verb == "end"))
         if verb == "rmgroup":
@@ -286,12 +282,12 @@ class Check:
                 del self.behind[key]
 
     def keep_without(self, removals: list[tuple[str, ...]]) -> None:
-        """From the next window, sums are also compared without each set of groups."""
+        """From the next window on, also compares sums without each of these sets of groups."""
         known = {clocks.without: clocks for clocks in self.clocks}
         self.clocks = [known.get(it) or self.new_clocks(it) for it in [(), *removals]]
 
     def new_clocks(self, without: tuple[str, ...]) -> Clocks:
-        """Clocks without some groups, with all other tasks in their present states."""
+        """Returns clocks that exclude some groups, with all other tasks in their present states."""
         clocks = Clocks(without)
         clocks.start = self.now
         for task in self.tasks.values():
@@ -314,9 +310,8 @@ class Check:
         self.kept, self.interrupts = [], Counter()
 
     def pass_edge(self, moment: int) -> None:
-        """Checks the groups at an edge before the first line after it: a tick there sees the effect
-        of all lines of its time.
-        """
+        """Checks the groups that have tasks at an edge, before the first line after it: a tick
+        there sees the effect of all lines of its time."""
         if self.edge and moment > self.edge[0]:
             self.compare_tasks(f"at a tick at {self.edge[0]}", self.edge[1])
             self.edge = None
@@ -328,12 +323,12 @@ class Check:
         )
 
     def compare(self, what: str, where: str, found: object, wanted: object) -> None:
-        """Rejects the window if the two differ."""
+        """Rejects the window if `found` and `wanted` differ."""
         if found != wanted:
             raise Different(f"{what} {where} differs: {found}, not {wanted}")
 
     def compare_sums(self, window: Window, where: str) -> None:
-        """Rejects sums that are off by more than rounding."""
+        """Rejects sums that are off by more than rounding explains."""
         found: dict[Key, int] = {}
         for clocks in self.clocks:
             found.update(clocks.sums(window.end, window.accounted))

@@ -47,8 +47,8 @@ from .world import NotATrace, shortened
 
 HEADER = re.compile("psitrace ([12]) cpus=([1-9][0-9]?)")
 MAKE_FEWER = ", and so does a longer window"
-# The number of lines that are read at once, and of the first lines, which show whether the trace
-# was made from samples.
+# The number of lines that are read at once, and the number of first lines that show whether the
+# trace was made from samples.
 LINES = 10_000
 MARK_LINES = 3
 
@@ -77,7 +77,7 @@ def options_of() -> Options:
 
 
 def opened(name: str) -> IO[str]:
-    """The trace, opened for reading."""
+    """Opens the trace for reading."""
     try:
         return open(
             0 if name == "-" else name,
@@ -92,7 +92,7 @@ def opened(name: str) -> IO[str]:
 
 
 def processors_of(header: str) -> int:
-    """The number of processors in the header of a trace."""
+    """Returns the number of processors in the header of a trace."""
     found = HEADER.fullmatch(header)
     if not found or int(found[2]) > MOST_PROCESSORS:
         kind = kind_of(f"{header}\n".encode("ascii", "surrogateescape")[:HEAD] if header else b"")
@@ -101,7 +101,7 @@ def processors_of(header: str) -> int:
 
 
 def lines_of(file: Iterable[str]) -> Iterator[str]:
-    """The lines after the header."""
+    """Yields the lines after the header, without newlines."""
     for number, line in enumerate(file, 2):
         if not line.isascii():
             raise NotATrace(f"line {number} has bytes that aren't ASCII")
@@ -111,25 +111,26 @@ def lines_of(file: Iterable[str]) -> Iterator[str]:
 
 
 class Output:
-    """The standard output, which takes no more lines than a trace may have."""
+    """The standard output, which rejects more lines than a trace may have."""
 
     def __init__(self) -> None:
         self.events = 0
 
     def put(self, lines: list[str]) -> None:
-        """Writes lines of events."""
+        """Writes and counts lines of events."""
         self.events += len(lines)
         if self.events > MOST_EVENTS:
             raise TooMany(f"{MOST_EVENTS} events")
         self.write(lines)
 
     def write(self, lines: list[str]) -> None:
-        """Writes lines."""
+        """Writes lines without counting them."""
         sys.stdout.write("".join(f"{line}\n" for line in lines))
 
 
 def refuse_victims(options: Options, beginning: list[str]) -> None:
-    """In a trace that was made of samples nobody knows what a victim's end changes for others."""
+    """Rejects victims for a trace that was made from samples: such a trace doesn't show what the
+    victim's end changes for others."""
     found = sampled_in("".join(beginning).encode("ascii", "replace"))
     if found and options.folding.victims:
         raise Fault(
@@ -142,7 +143,7 @@ def refuse_victims(options: Options, beginning: list[str]) -> None:
 
 
 def fold_trace(options: Options) -> int:
-    """Folds; returns the exit status."""
+    """Folds the trace, and returns the exit status."""
     with opened(options.trace) as file:
         beginning = list(islice(file, MARK_LINES))
         refuse_victims(options, beginning)
@@ -166,7 +167,7 @@ def fold_trace(options: Options) -> int:
 
 
 def fold() -> int:
-    """Folds the trace that the arguments name; returns the exit status."""
+    """Folds the trace that the arguments name, and returns the exit status."""
     options = options_of()
     try:
         return fold_trace(options)

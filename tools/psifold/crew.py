@@ -1,7 +1,6 @@
-"""Folds the windows of all processors: in this process, or, as soon as there is much to do, in
-several processes with a share of the processors each. Windows are submitted, and their results
-returned later in the same order.
-"""
+"""Folds the windows of all processors in this process, or once there is much to do, in several
+processes with a share of the processors each. Windows are submitted, and their results are
+returned later in the same order."""
 from __future__ import annotations
 
 import contextlib
@@ -22,15 +21,14 @@ from .processor import FoldedProcessor, Piece, Turn
 from .sums import Plan, Sums
 from .world import Catalog
 
-# The number of joint states of a window from which several processes are used, and the most
+# The number of joint states in a window from which several processes are used, and the most
 # processes.
 MUCH, MOST_WORKERS = 4_000, 8
 
 
 class Work(NamedTuple):
-    """A window: additions to the catalog, the sums to keep if they have changed, and the turns by
-    processor.
-    """
+    """The data of a window to fold: additions to the catalog, the sums to preserve if they have
+    changed, and the turns by processor."""
 
     news: tuple[list[str], list[int | None], list[int]]
     plan: Plan | None
@@ -38,7 +36,7 @@ class Work(NamedTuple):
 
 
 class Share:
-    """Some of the processors, with a catalog of its own."""
+    """Some of the processors, with their own copy of the catalog."""
 
     def __init__(self, processors: Sequence[int], count: int) -> None:
         self.catalog = Catalog()
@@ -46,11 +44,11 @@ class Share:
         self.sums = Sums(self.catalog, [])
 
     def of(self, work: Work) -> Work:
-        """The part of a window that concerns these processors."""
+        """Returns the part of a window that concerns these processors."""
         return work._replace(turns={processor: work.turns[processor] for processor in self.folded})
 
     def fold(self, work: Work) -> dict[int, Piece]:
-        """The pieces of a window, by processor."""
+        """Folds a window, and returns the pieces by processor."""
         self.catalog.add(*work.news)
         if work.plan is not None:
             self.sums = Sums(self.catalog, work.plan)
@@ -60,10 +58,9 @@ class Share:
         }
 
     def serve(self, own: Connection, others: Sequence[Connection]) -> None:
-        """Folds what arrives on a connection, in a process of its own, until the other end closes
-        it. A thread receives everything at once, so that the sender never waits for a reader of
-        results.
-        """
+        """Folds what arrives on a connection, in a process of its own, until the other end is
+        closed. A thread receives everything at once, so that the sender never waits for the
+        reader of results."""
         signal.signal(signal.SIGINT, signal.SIG_IGN)
         for line in others:
             line.close()
@@ -75,7 +72,7 @@ class Share:
 
 
 def take_all(line: Connection, due: Queue[Work | None]) -> None:
-    """Queues what arrives on a connection; None marks the end."""
+    """Queues what arrives on a connection. None marks the end."""
     with contextlib.suppress(EOFError, OSError):
         while True:
             due.put(line.recv())
@@ -84,7 +81,7 @@ def take_all(line: Connection, due: Queue[Work | None]) -> None:
 
 @contextlib.contextmanager
 def answering() -> Iterator[None]:
-    """Reports a process that doesn't answer any more."""
+    """Reports that a process has ended without an answer."""
     try:
         yield
     except (EOFError, BrokenPipeError, ConnectionResetError):
@@ -92,7 +89,7 @@ def answering() -> Iterator[None]:
 
 
 class Crew:
-    """All processors, in shares. At first they are folded in this process."""
+    """All processors, divided into shares. At first they are folded in this process."""
 
     def __init__(self, processors: int, workers: int | None = None) -> None:
         most = max(len(os.sched_getaffinity(0)) - 1, 1) if workers is None else max(workers, 1)
@@ -125,7 +122,8 @@ class Crew:
             )
 
     def take_out(self) -> dict[int, Piece]:
-        """The pieces, by processor, of the first window whose result wasn't returned yet."""
+        """Returns the pieces, by processor, of the first window whose result wasn't returned
+        yet."""
         pieces = self.waiting.popleft()
         if pieces is not None:
             return pieces
@@ -147,7 +145,7 @@ class Crew:
             there.close()
 
     def close(self) -> None:
-        """Ends the processes, after all results were returned."""
+        """Ends the processes. All results must have been returned before."""
         for line in self.lines:
             line.close()
         for process in self.processes:

@@ -1,12 +1,12 @@
 """Folds a trace: replaces the events of a window by few lines that give the same times.
 
-A replay needs only one thing from the interval of a tick: the time that each group was in each
-state on each processor. So within a window, whose length divides a tick's, other events may replace
-the original ones if they give the same times; about as many events as there are groups on the
-processors are always enough. All other lines are unchanged: memory samples, preferences and
-triggers keep their times, and so do the lines that create and remove groups or switch accounting,
-each of which ends a window. The same groups have tasks at the end of a window as in the original.
-"""
+A replay needs only one thing from the interval of a tick: the time for which each group was in
+each state on each processor. So within a window, whose length divides a tick's, other events may
+replace the original ones if they give the same times; about as many events as there are groups
+on the processors are always enough. All other lines are unchanged: memory samples, preferences
+and triggers keep their times, and so do the lines that create and remove groups or switch
+accounting, each of which ends a window. The same groups have tasks at the end of a window as in
+the original."""
 from __future__ import annotations
 
 from collections import deque
@@ -25,21 +25,21 @@ from .sums import Plan, plan_of
 from .victims import Victim, Victims
 from .world import Catalog, Changes, FoldWorld, NotATrace, kept_path, shortened
 
-# The words of lines that don't concern tasks, accounting or the set of groups.
+# The verbs of lines that don't concern tasks, accounting or the set of groups.
 KEPT = ("mem", "host", "prefer", "trigger")
-# The most windows that may be submitted at once.
+# The most windows that are submitted before the results of the first are needed.
 MOST_WAITING = 3
 
 
 class TooMany(Exception):
-    """The folded trace would exceed a limit of traces; the text says which."""
+    """The error that the folded trace would exceed a limit of traces; the message says which."""
 
 
 @dataclass
 class Counts:
-    """The number of lines of a trace (its events and the end) before and after folding; the number
-    of joint states of all windows and processors, before and after; and the number of windows.
-    """
+    """The number of lines of a trace (its events and the end) before and after folding, the
+    number of joint states of all windows and processors before and after, and the number of
+    windows."""
 
     lines: int = 0
     written: int = 0
@@ -50,11 +50,10 @@ class Counts:
 
 @dataclass
 class Outcome:
-    """The result of folding: the counts; the time (ns) up to which the trace is written; the number
-    of kills up to which it is exact, None if for any; how many tasks came to the victims' groups or
-    moved from one of them later, and when the last did (ns); and the victims' patterns that match
-    no group.
-    """
+    """The result of folding: the counts; the time (ns) up to which the trace is written; the
+    number of kills up to which it is exact (None for any number); how many tasks came to the
+    victims' groups or moved from one of them, and when the last did (ns); and the victims'
+    patterns that match no group."""
 
     counts: Counts
     written: int
@@ -64,9 +63,9 @@ class Outcome:
 
 
 class Fold:
-    """Folds the lines of a trace of `processors` processors into windows of `length` (ns); `put`
-    takes the resulting lines. The result has the same times without the groups of `victims`, too.
-    """
+    """Folds the lines of a trace of `processors` processors into windows of `length` ns, and
+    passes the resulting lines to `put`. The result also has the same times without the groups of
+    `victims`."""
 
     def __init__(
         self,
@@ -81,11 +80,11 @@ class Fold:
         self.victims = Victims(victims)
         self.plan: Plan | None = plan_of(self.world, ())
         self.size = Catalog().size()
-        # The time (ns) up to which windows are submitted, the next edge, and the earliest time that
-        # the next line may have.
+        # The time (ns) up to which windows are submitted, the next edge, and the earliest time of
+        # the next line.
         self.start, self.edge, self.first = 0, length, 0
-        # The joint state of each processor at `start`; and if that is an edge, the groups that have
-        # tasks then.
+        # The joint state of each processor at `start`, and the groups that have tasks then, None if
+        # `start` isn't an edge.
         self.states = list(self.world.states)
         self.present: set[str] | None = None
         self.interrupted = [0] * processors
@@ -94,14 +93,15 @@ class Fold:
         self.counts = Counts()
         self.is_ended = False
         self.check = Check(processors)
-        # What is to be written, in order: windows whose lines the crew computes, and lines between
-        # windows, each with the sets of groups without which sums are kept from there.
+        # What remains to be written, in order: windows whose lines the crew computes, and lines
+        # between windows, each with the sets of groups without which sums are preserved from there
+        # on.
         self.due: deque[Window | tuple[str, list[tuple[str, ...]]]] = deque()
         # The time (ns) up to which everything is written.
         self.written = 0
 
     def outcome(self) -> Outcome:
-        """The outcome of the lines so far."""
+        """Returns the outcome of the lines up to now."""
         return Outcome(
             self.counts, self.written, self.victims.whole, self.world.changes,
             self.victims.unmatched(),
@@ -131,7 +131,7 @@ class Fold:
         self.counts.lines = number
 
     def take_other(self, moment: int, words: list[str], line: str) -> None:
-        """Takes a line that isn't an event of a task."""
+        """Takes a line whose verb doesn't concern tasks."""
         verb, world = words[1], self.world
         if self.is_ended:
             raise NotATrace("it stands after the end")
@@ -156,9 +156,7 @@ class Fold:
     def between(
         self, moment: int, line: str, act: Callable[[], object], removed: Iterable[str] = ()
     ) -> None:
-        """Takes a line that ends a window, since it changes the groups or whether they are
-        accounted.
-        """
+        """Takes a line that ends a window because it changes the groups or their accounting."""
         self.flush(moment, False, removed)
         act()
         removals, paths = self.victims.removals(self.world), self.world.paths
@@ -169,8 +167,7 @@ class Fold:
 
     def go_to(self, moment: int) -> None:
         """Ends the windows that end before `moment` (ns). Consecutive windows without events are
-        merged.
-        """
+        merged."""
         if moment > MOST_TIME:
             raise NotATrace(f"its time is beyond {MOST_TIME} ns")
         self.flush(self.edge, True)
@@ -180,10 +177,9 @@ class Fold:
         self.edge = last + self.length
 
     def flush(self, end: int, is_edge: bool, removed: Iterable[str] = ()) -> None:
-        """Submits the window that ends at `end` (ns): at an edge, which may be a tick, or since
-        groups or accounting change. No task is left in removed groups, and at an edge none in
-        groups that have no tasks any more.
-        """
+        """Submits the window that ends at `end` (ns), either at an edge, which may be a tick, or
+        because groups or their accounting change. No task remains in removed groups, and at an
+        edge none in a group that is empty then."""
         world, paths = self.world, self.world.paths
         populated = {paths[slot]: slot for slot, count in world.members.items() if count}
         accounted = {paths[slot] for slot in world.live.values() if slot not in world.off}
@@ -211,10 +207,9 @@ class Fold:
         self.write(MOST_WAITING)
 
     def kept_of(self, slot: int, processor: int) -> int:
-        """The number of representatives that a group with tasks needs on this processor: one on one
-        of the processors; and for a group that might be killed all that may ever be needed, since a
-        task that is created later is there in spite of a kill.
-        """
+        """Returns how many representatives a group with tasks needs on this processor: one on
+        one of the processors. A group that might be killed needs all that may ever be used,
+        since a task that is created after the kill would survive it."""
         return (
             MOST_AT_ONCE
             if slot in self.world.watched
@@ -224,9 +219,8 @@ class Fold:
     # ------------------------------------------------------------ what is written
 
     def write(self, waiting: int) -> None:
-        """Writes what is due, except the last `waiting` windows, which may still be computed, and
-        what follows them.
-        """
+        """Writes what is due, except the last `waiting` windows, which may still be computed,
+        and the lines after them."""
         while self.due and (
             len(self.crew.waiting) > waiting or not isinstance(self.due[0], Window)
         ):
@@ -246,7 +240,7 @@ class Fold:
                 self.written = due.end
 
     def lines_of(self, window: Window, pieces: dict[int, Piece]) -> list[str]:
-        """The lines of a window. Its sums are stored for the check."""
+        """Returns the lines of a window. Its sums are stored in `window` for the check."""
         paths, each = self.world.paths, [window.lines]
         for processor, piece in sorted(pieces.items()):
             each.append(piece.lines)

@@ -1,10 +1,9 @@
-"""Writes trace lines that keep a processor in given joint states for given times.
+"""Writes trace lines that put a processor into given joint states for given times.
 
 Each task of a joint state is played by a *representative*, a task created for this purpose: it
-belongs to the same group, stays on its processor, and sleeps while it isn't needed. The change from
-one joint state to the next takes as few lines as possible: a task whose state changes runs for no
-time, leaves the processor in its new state, and the previous task runs again.
-"""
+belongs to the same group, stays on its processor, and sleeps while it isn't needed. The change
+from one joint state to the next takes as few lines as possible: a task whose state changes runs
+for zero time, leaves the processor in its new state, and the previous task runs again."""
 from __future__ import annotations
 
 from collections.abc import Iterable, Iterator, Sequence
@@ -17,15 +16,13 @@ from .joint import IDLE, LEAVES_TO, STALLED, WAY, Element, JointState, Kind
 # A line of a trace: its time (ns) and the rest of the line.
 Line = tuple[int, str]
 BLOCKED = (Kind.ASLEEP, Kind.WAITING)
-# The number of representatives of a group that may be needed at once: one of each kind, but at most
-# one that runs.
+# The number of representatives that a group may need at once: one of each kind, but at most one
+# that runs.
 MOST_AT_ONCE = 6
 
 
 class Interrupt(NamedTuple):
-    """An interrupt line: its time (ns), its length (ns), and the group of the task that was
-    interrupted.
-    """
+    """An interrupt line: its time (ns), the group of the interrupted task, and its length (ns)."""
 
     moment: int
     path: str
@@ -33,9 +30,8 @@ class Interrupt(NamedTuple):
 
 
 class Move(NamedTuple):
-    """What a representative did, and what it does next: None before it is created, and None after
-    its exit.
-    """
+    """A change of a representative's kind. `before` is None if it is created, and `after` is
+    None if it exits."""
 
     path: str
     task: int
@@ -43,32 +39,32 @@ class Move(NamedTuple):
     after: Kind | None
 
     def wakes(self) -> bool:
-        """Whether it slept or waited, and must be woken first."""
+        """Whether the representative slept or waited, so that it must be woken first."""
         return self.before is not None and self.before & WAY in BLOCKED
 
     def turns(self) -> bool:
-        """Whether it must run for no time, in order to sleep, wait, exit, or begin or end a stall.
-        """
+        """Whether the representative must run for zero time, in order to sleep, wait, exit, or
+        begin or end a stall."""
         is_runner = runs(self.before) or runs(self.after)
         return not is_runner and (
             self.after is None or self.after & WAY in BLOCKED or self.changes_stall()
         )
 
     def changes_stall(self) -> bool:
-        """Whether it enters or leaves a stall."""
+        """Whether the representative enters or leaves a stall."""
         return ((self.before or 0) ^ (self.after or 0)) & STALLED != 0
 
     def stall(self) -> str:
-        """The words of its stall line."""
+        """Returns the words of the representative's stall line."""
         return f"{'stall' if (self.after or 0) & STALLED else 'unstall'} {self.task}"
 
     def how(self) -> str:
-        """The word of the switch by which it leaves the processor."""
+        """Returns the word of the switch by which the representative leaves the processor."""
         return How.EXIT.word if self.after is None else LEAVES_TO[Kind(self.after & WAY)]
 
 
 def is_within(state: JointState, present: set[str] | None) -> bool:
-    """Whether all tasks of a joint state are in these groups. `None` allows every group."""
+    """Whether all tasks of a joint state are in the groups `present`. None allows every group."""
     return present is None or all(element.path in present for element in state)
 
 
@@ -78,7 +74,7 @@ def runs(kind: Kind | None) -> bool:
 
 
 def cost(before: Kind, after: Kind) -> int:
-    """Roughly how many lines a task needs to change from one kind to the other."""
+    """Returns about how many lines a task needs to change from one kind to the other."""
     move = Move("", 0, before, after)
     return move.wakes() + move.turns() + move.changes_stall()
 
@@ -95,7 +91,8 @@ class Writer:
         self.processor, self.processors = processor, processors
         self.made = 0
         self.state: JointState = IDLE
-        # The representatives of each group, by what they do; more than one may sleep.
+        # The representatives of each group by kind, and the sleeping ones, of which there may be
+        # several.
         self.busy: dict[str, dict[Kind, int]] = {}
         self.asleep: dict[str, list[int]] = {}
         # The running task, 0 for none.
@@ -108,13 +105,12 @@ class Writer:
         interrupts: Sequence[Interrupt] = (),
         present: set[str] | None = None,
     ) -> list[Line]:
-        """The lines that keep the processor in each joint state for its duration (ns),
-        beginning at `start`, and the lines of interrupts among them, in order of time. If `present`
-        is given, the first joint state only has tasks in these groups.
-        """
+        """Returns the lines that put the processor into each joint state for its duration (ns),
+        beginning at `start` (ns), and the lines of interrupts among them, in order of time. If
+        `present` is given, the first joint state only has tasks in these groups."""
         lines: list[Line] = []
         moment, due = start, list(interrupts)
-        # The order is the same in each run: it doesn't depend on the order of sets.
+        # The order must not depend on the order of sets, so that each run gives the same lines.
         left = {state: durations[state] for state in sorted(durations, key=sorted)}
         while left:
             fitting = (
@@ -128,11 +124,12 @@ class Writer:
         return lines + [line for it in due for line in self.interrupt(it)]
 
     def distance(self, state: JointState) -> int:
-        """The number of elements by which a joint state differs from the present one."""
+        """Returns the number of elements by which a joint state differs from the present one."""
         return len(self.state ^ state)
 
     def interrupt(self, told: Interrupt) -> list[Line]:
-        """The lines of an interrupt. If no task of its group runs, one runs for no time."""
+        """Returns the lines of an interrupt. If no task of its group runs, one runs for zero
+        time."""
         runs_there = any(it.path == told.path and runs(it.kind) for it in self.state)
         line = f"irq {self.processor} {told.length}"
         if runs_there:
@@ -149,13 +146,13 @@ class Writer:
         return [(told.moment, words) for words in lines]
 
     def groups(self) -> set[str]:
-        """The groups that have representatives."""
+        """Returns the groups that have representatives."""
         return {*self.busy, *self.asleep}
 
     # ------------------------------------------------------------ from one joint state to the next
 
     def change(self, moment: int, state: JointState) -> list[Line]:
-        """The lines that change the present joint state to this one."""
+        """Returns the lines that change the present joint state to `state`."""
         coming: dict[str, list[Kind]] = {}
         for path, kind in sorted(state - self.state):
             coming.setdefault(path, []).append(kind)
@@ -170,9 +167,8 @@ class Writer:
         return [(moment, words) for words in self.perform(moves)]
 
     def moves(self, path: str, leaving: list[Kind], coming: list[Kind]) -> Iterator[Move]:
-        """The moves of a group's representatives, in as few lines as possible: uses those that
-        aren't needed any more, those that sleep, and new ones.
-        """
+        """Yields the moves of a group's representatives. To need few lines, it prefers
+        representatives that are free now, then sleeping ones, and creates new ones last."""
         busy = self.busy.get(path, {})
         pairs = sorted(
             (COSTS[before, after], before, after) for before in leaving for after in coming
@@ -193,12 +189,12 @@ class Writer:
             )
 
     def new_task(self) -> int:
-        """The number of a new task."""
+        """Returns the number of a new task."""
         self.made += 1
         return (self.made - 1) * self.processors + self.processor + 1
 
     def empty(self, moment: int, paths: Iterable[str]) -> list[Line]:
-        """The lines that end all representatives in these groups."""
+        """Returns the lines that end all representatives in these groups."""
         moves = []
         for path in sorted(set(paths) & self.groups()):
             moves += [
@@ -208,9 +204,8 @@ class Writer:
         return [(moment, words) for words in self.perform(moves)]
 
     def keep(self, moment: int, counts: dict[str, int]) -> list[Line]:
-        """The lines that give each group at least this number of representatives: new
-        ones sleep.
-        """
+        """Returns the lines that give each group at least this number of representatives. New
+        ones sleep."""
         moves = []
         for path, count in sorted(counts.items()):
             made = len(self.busy.get(path, ())) + len(self.asleep.get(path, ()))
@@ -218,10 +213,9 @@ class Writer:
         return [(moment, words) for words in self.perform(moves)]
 
     def perform(self, moves: list[Move]) -> list[str]:
-        """The lines for these moves, without their times. All turns of no length are one chain, in
-        which each task hands the processor to the next: a running task that leaves begins it, and
-        the task that runs next ends it.
-        """
+        """Returns the lines for these moves, without times. All turns of zero length form one
+        chain, in which each task hands the processor to the next: a running task that leaves
+        begins it, and the task that runs next ends it."""
         words = [f"fork {it.task} {it.path} {self.processor}" for it in moves if it.before is None]
         words += [f"wake {it.task} {self.processor}" for it in moves if it.wakes()]
         before = self.runner
@@ -244,9 +238,8 @@ class Writer:
         return words
 
     def chain(self, turns: list[Move], following: int, how: str) -> Iterator[str]:
-        """The switches of a chain: in the first one the running task leaves by the word `how`, and
-        the last one switches to `following`.
-        """
+        """Yields the switches of a chain. In the first one the running task leaves by the word
+        `how`, and the last one switches to `following`."""
         for turn in turns:
             yield f"switch {self.processor} {turn.task} {how}"
             if turn.changes_stall():
@@ -255,7 +248,7 @@ class Writer:
         yield f"switch {self.processor} {following} {how}"
 
     def take(self, moves: list[Move], runner: int) -> None:
-        """Stores what the representatives do after the moves."""
+        """Updates the representatives after the moves."""
         for path, task, before, _ in moves:
             if before is Kind.ASLEEP:
                 self.asleep[path].remove(task)

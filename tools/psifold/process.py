@@ -1,6 +1,5 @@
-"""Folds in another process while this one replays a recording's events. Lines are sent in parts,
-and the outcome is returned at the end.
-"""
+"""Folds in another process while this one plays a recording's events. Lines are sent in parts,
+and the outcome is returned at the end."""
 from __future__ import annotations
 
 import contextlib
@@ -26,13 +25,13 @@ class Here:
         self.fold.take(lines)
 
     def end(self) -> None:
-        """Ends the folding after all lines were taken."""
+        """Ends the folding after all lines were taken. There is nothing to do here."""
 
     def stop(self) -> None:
-        """Stops: no more lines follow."""
+        """Stops without an outcome. There is nothing to do here."""
 
     def outcome(self) -> Outcome:
-        """The outcome of the lines so far."""
+        """Returns the outcome of the lines up to now."""
         return self.fold.outcome()
 
 
@@ -52,9 +51,8 @@ class Elsewhere:
         said.close()
 
     def take(self, lines: list[str]) -> None:
-        """Sends these lines, if there are any. If one can't be folded, the other process ends
-        there, which is reported at the end.
-        """
+        """Sends these lines. If one can't be folded, the other process ends there, and the fault
+        is raised here."""
         try:
             if not lines:
                 return
@@ -63,7 +61,7 @@ class Elsewhere:
             self.end()
 
     def end(self) -> None:
-        """Waits for the end, and raises here what went wrong there."""
+        """Waits for the other process, and raises the fault that it met, if any."""
         with contextlib.suppress(BrokenPipeError):
             self.lines.send_bytes(END)
         self.lines.close()
@@ -81,7 +79,7 @@ class Elsewhere:
         self.told.close()
 
     def outcome(self) -> Outcome:
-        """The outcome of all lines."""
+        """Returns the outcome of all lines."""
         assert self.found
         return self.found
 

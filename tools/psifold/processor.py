@@ -18,9 +18,8 @@ from .world import Catalog, Interrupts, bits_of
 
 
 class Few(NamedTuple):
-    """The joint states, with their times (ns), that replace those of a window; the window's sums
-    (ns); and how many joint states it had.
-    """
+    """The joint states that replace those of a window, with their times (ns); the window's sums
+    (ns); and the number of its joint states before."""
 
     times: dict[int, int]
     sums: dict[Sum, int]
@@ -28,9 +27,8 @@ class Few(NamedTuple):
 
 
 def few_of(spent: dict[int, int], sums: Sums, left: Left) -> Few:
-    """Few joint states with the same sums as these. The longest are taken first, since most of the
-    others then fit into their times.
-    """
+    """Returns few joint states with the same sums as those in `spent`. It takes the longest
+    first, since most of the others then fit into their times."""
     columns: dict[int, int] = {}
     states: dict[int, int] = {}
     for state, time in spent.items():
@@ -61,10 +59,9 @@ def few_of(spent: dict[int, int], sums: Sums, left: Left) -> Few:
 def moments_of(
     interrupts: Interrupts, paths: Sequence[str], last: int, first: int
 ) -> list[Interrupt]:
-    """The interrupts of a window with their times (ns). Each line is as early as possible: its
-    whole length fits between the line before it (the first one: `last`) and its own time, which is
-    at least `first`. So the last line isn't later than in the original.
-    """
+    """Returns the interrupts of a window with their times (ns). Each line is as early as
+    possible: its whole length fits between the previous line (for the first one: `last`) and its
+    own time, which is at least `first`. So the last line isn't later than in the original."""
     told: list[Interrupt] = []
     moment = last
     parts = [interrupts.first] if interrupts.first else []
@@ -78,12 +75,12 @@ def moments_of(
 
 
 class Turn(NamedTuple):
-    """The task of folding a processor's window: its start and end (ns), the time (ns) of each joint
-    state, and the time of interrupts. At its end no task may be in `removed`, or, if `populated` is
-    given, in any group but these; and each of `kept` has this number of tasks. `first` is the joint
-    state at its start. If it starts at an edge, which may be a tick, `present` has the groups with
-    tasks at that time: no other group may get one before 1 ns has passed.
-    """
+    """The data for folding a processor's window: its start and end (ns), the time (ns) of each
+    joint state, and the time of interrupts. At its end no task may be in `removed`, nor, if
+    `populated` is given, in any group outside of that, and each group in `kept` has at least
+    this number of tasks. `first` is the joint state at its start. If it starts at an edge, which
+    may be a tick, `present` has the groups with tasks at that time: no other group may get one
+    before 1 ns has passed."""
 
     start: int
     end: int
@@ -97,9 +94,8 @@ class Turn(NamedTuple):
 
 
 class Piece(NamedTuple):
-    """The result for a processor's window: its lines with their times, its original sums (ns), and
-    the number of joint states before and after.
-    """
+    """The result for a processor's window: its lines with their times, its original sums (ns),
+    and the number of joint states before and after."""
 
     lines: list[Line]
     sums: dict[Sum, int]
@@ -108,12 +104,12 @@ class Piece(NamedTuple):
 
 
 def states_of(few: Few, catalog: Catalog) -> dict[JointState, int]:
-    """The joint states with their times (ns)."""
+    """Returns the joint states as sets of elements, with their times (ns)."""
     return {catalog.joint_state(state): time for state, time in few.times.items()}
 
 
 def with_first(turn: Turn, sums: Sums, left: Left) -> Few:
-    """Few joint states for a window, including the one at its start, which keeps the first ns."""
+    """Returns few joint states for a window, including the one at its start for the first ns."""
     spent = dict(turn.spent)
     spent[turn.first] -= 1
     few = few_of({state: time for state, time in spent.items() if time}, sums, left)
@@ -127,14 +123,14 @@ def with_first(turn: Turn, sums: Sums, left: Left) -> Few:
 
 
 class FoldedProcessor:
-    """A processor, and the state of its writer."""
+    """A processor, with its writer and the rounding errors of its sums."""
 
     def __init__(self, processor: int, processors: int) -> None:
         self.writer = Writer(processor, processors)
         self.left: Left = Counter()
 
     def fold(self, turn: Turn, sums: Sums, catalog: Catalog) -> Piece:
-        """The lines of a window."""
+        """Folds a window."""
         before = Counter(self.left)
         few = few_of(turn.spent, sums, self.left)
         durations = states_of(few, catalog)

@@ -1,6 +1,5 @@
 """Rounds fractional times to whole ns. The rounding error of each sum is carried into the next
-window, which rounds in the other direction: so no sum drifts over any number of windows.
-"""
+window, which rounds in the other direction, so that no sum drifts over any number of windows."""
 from __future__ import annotations
 
 from collections import Counter
@@ -12,16 +11,15 @@ from .world import bits_of
 
 # The number of ns that each sum lacks.
 Left = Counter[Sum]
-# If a sum lacks more ns than this, 1 ns moves from one joint state to another, even if their times
-# are whole; at most MOST_STEPS times.
+# If a sum lacks more ns than MOST_LEFT, 1 ns moves from one joint state to another, even if their
+# times are whole, at most MOST_STEPS times.
 MOST_LEFT = 2
 MOST_STEPS = 20
 
 
 class Rounding:
-    """The times of joint states with these columns, by number. A time is a multiple of 1/`divisor`
-    ns.
-    """
+    """The times of joint states by number. `columns` are the sums of each. A time in `shares` is
+    a multiple of 1/`divisor` ns."""
 
     def __init__(
         self, shares: list[Share], divisor: int, columns: list[int], behind: dict[int, int]
@@ -29,22 +27,20 @@ class Rounding:
         self.divisor, self.columns = divisor, columns
         self.times = {number: time // divisor for number, time in shares}
         self.rests = {number: time % divisor for number, time in shares if time % divisor}
-        # What each sum lacks, by its bit in a column, in units of 1/`divisor` ns.
+        # The shortfall of each sum, by its bit in a column, in units of 1/`divisor` ns.
         self.behind = Counter({bit: left * divisor for bit, left in behind.items()})
         for number, rest in self.rests.items():
             for bit in bits_of(columns[number]):
                 self.behind[bit] += rest
-        # What the sums of each joint state lack in total, by its number, in units of 1/`divisor`
-        # ns.
+        # The total shortfall of each joint state's sums, by its number, in units of 1/`divisor` ns.
         self.lags = {
             number: sum(self.behind[bit] for bit in bits_of(columns[number]))
             for number in self.times
         }
 
     def round(self) -> None:
-        """Distributes the remainder, a number of whole ns, to joint states whose times aren't
-        whole, so that the sum of the squared errors is least.
-        """
+        """Distributes the remainder, a whole number of ns, to joint states whose times aren't
+        whole, so that the sum of squared errors is small."""
         short = set(self.rests)
         for _ in range(sum(self.rests.values()) // self.divisor):
             number = min(sorted(short), key=self.growth)
@@ -60,9 +56,8 @@ class Rounding:
         return any(abs(left) > MOST_LEFT * self.divisor for left in self.behind.values())
 
     def growth(self, number: int) -> int:
-        """How much the sum of squared errors grows, in divisors, if this joint state gets another
-        ns.
-        """
+        """Returns by how much the sum of squared errors grows, in units of 1/`divisor`, if this
+        joint state gets another ns."""
         return self.divisor * self.columns[number].bit_count() - 2 * self.lags[number]
 
     def give(self, number: int, length: int) -> None:
@@ -75,10 +70,9 @@ class Rounding:
             self.lags[other] -= given * (sums & self.columns[other]).bit_count()
 
     def improve(self, givers: Iterable[int], takers: Iterable[int]) -> None:
-        """Moves single ns from givers to takers as long as the sum of squared errors falls. It
-        grows by each sum that only one of the two takes part in, and by the difference between what
-        the giver's and the taker's sums lack.
-        """
+        """Moves single ns from givers to takers as long as the sum of squared errors falls. A
+        move adds to it for each sum that only one of the two takes part in, and for the
+        difference between the giver's and the taker's shortfall."""
         lags, sums, takers = self.lags, self.columns, sorted(takers)
         pairs = [
             (self.divisor * (sums[giver] ^ sums[taker]).bit_count(), giver, taker)
@@ -99,8 +93,8 @@ class Rounding:
 def whole_times(
     shares: list[Share], divisor: int, columns: list[int], sum_of: Callable[[int], Sum], left: Left
 ) -> dict[int, int]:
-    """The times in whole ns, by number of the joint state. `left` is carried from window to window.
-    """
+    """Returns the times in whole ns, by the number of the joint state. Updates `left`, which is
+    carried from window to window."""
     if divisor == 1 and not any(left.values()):
         return {number: time for number, time in shares}
     used = 0

@@ -1,10 +1,9 @@
-"""The sums of time that a joint state takes part in: for each group and each of its seven states
-the time in it, also as it would be without groups that might be killed.
+"""The sums of time that a joint state takes part in: for each group the time in each of its seven
+states, also without groups that might be killed.
 
 The states are those of docs/TRACES.md. A set of groups is an integer with a bit for each, and so
-are the sums of a joint state: a query about thousands of joint states takes few operations for
-each.
-"""
+are the sums of a joint state, so that each of thousands of joint states takes only a few
+operations."""
 from __future__ import annotations
 
 from collections.abc import Sequence
@@ -14,8 +13,8 @@ from .joint import KINDS, STALLED, WAY, Kind
 from .world import Catalog, FoldWorld, bits_of
 
 STATES = 7
-# The sets of groups that a joint state has: groups with a task that waits for IO, is stalled, is
-# ready, is ready or runs and isn't stalled, runs, and runs while stalled.
+# The sets of groups of a joint state: groups with a task that waits for IO, is stalled, is ready,
+# is ready or runs and isn't stalled, runs, and runs while stalled.
 WAITS, STALLS, IS_READY, UNSTALLED, RUNS, RUNS_STALLED = range(6)
 BY_WAY = {
     int(Kind.WAITING): (WAITS,),
@@ -26,7 +25,7 @@ BY_WAY = {
 
 
 def sets_of(kind: int) -> tuple[int, ...]:
-    """The sets to which a task of this kind adds its own group and all ancestors."""
+    """Returns the sets to which a task of this kind adds its own group and all ancestors."""
     way = kind & WAY
     if kind & STALLED:
         return (*BY_WAY[way], STALLS, *((RUNS_STALLED,) if way == Kind.RUNNING else ()))
@@ -34,9 +33,7 @@ def sets_of(kind: int) -> tuple[int, ...]:
 
 
 class Sum(NamedTuple):
-    """A sum of time: its group's number, its state (0 to 6), and the groups without which it is
-    computed.
-    """
+    """A sum of time: its group's number, its state (0 to 6), and the groups that it excludes."""
 
     slot: int
     state: int
@@ -44,27 +41,25 @@ class Sum(NamedTuple):
 
 
 class View:
-    """The sums of some groups, without other groups and their descendants. Bit STATE * len(groups)
-    + PLACE of a joint state's sums is for this state and the group at this place.
-    """
+    """The sums of some groups, without other groups and their descendants. Bit STATE *
+    len(groups) + PLACE of a joint state's sums is for this state and the group with this index."""
 
     def __init__(self, catalog: Catalog, groups: Sequence[int], without: tuple[int, ...]) -> None:
         self.catalog, self.groups, self.without = catalog, groups, without
         self.size = STATES * len(groups)
         self.place = {slot: place for place, slot in enumerate(groups)}
-        # What each byte of a joint state's number adds to the sets of groups, by its place and
+        # The sets of groups that each byte of a joint state's number adds, by the byte's index and
         # value.
         self.bytes: list[dict[int, int]] = []
 
     def sum_of(self, bit: int) -> Sum:
-        """The sum of this bit."""
+        """Returns the sum of this bit."""
         state, place = divmod(bit, len(self.groups))
         return Sum(self.groups[place], state, self.without)
 
     def chain(self, slot: int) -> int:
-        """The group and its ancestors, as far as their sums are kept; empty for a group that is
-        excluded.
-        """
+        """Returns the set of a group and its ancestors whose sums are computed; empty for an
+        excluded group."""
         chain = 0
         at: int | None = slot
         while at is not None:
@@ -76,7 +71,7 @@ class View:
         return chain
 
     def sets_of_byte(self, place: int, value: int) -> int:
-        """The sets of groups of a byte's elements, packed side by side."""
+        """Returns the sets of groups of a byte's elements, packed side by side."""
         sets, keys = 0, self.catalog.keys
         for bit in range(8):
             if value >> bit & 1:
@@ -88,7 +83,7 @@ class View:
         return sets
 
     def sums(self, state: int) -> int:
-        """The sums in which a joint state takes part."""
+        """Returns the sums in which a joint state takes part."""
         sets, tables = 0, self.bytes
         data = state.to_bytes((state.bit_length() + 7) // 8, "little")
         while len(tables) < len(data):
@@ -126,9 +121,8 @@ Plan = list[tuple[list[int], tuple[int, ...]]]
 
 
 def plan_of(world: FoldWorld, removals: Sequence[tuple[int, ...]]) -> Plan:
-    """The sums to be kept: those of all accounted groups; and for each removal, a set of groups to
-    exclude together, those of the common ancestors.
-    """
+    """Returns the sums to preserve: those of all accounted groups, and for each removal (a set
+    of groups to exclude together) those of their common ancestors."""
     accounted = [slot for slot in sorted(world.live.values()) if slot not in world.off]
     plan: Plan = [(accounted, ())]
     for removal in removals:
@@ -138,9 +132,8 @@ def plan_of(world: FoldWorld, removals: Sequence[tuple[int, ...]]) -> Plan:
 
 
 class Sums:
-    """All sums that are kept: each has a bit. `total` is an extra sum that each joint state takes
-    part in.
-    """
+    """All sums that are preserved; each has a bit. `total` is the bit of an extra sum that each
+    joint state takes part in."""
 
     def __init__(self, catalog: Catalog, plan: Plan) -> None:
         self.views = [View(catalog, groups, without) for groups, without in plan]
@@ -148,7 +141,7 @@ class Sums:
         self.total = 1 << self.size
 
     def of(self, state: int) -> int:
-        """The sums in which a joint state takes part."""
+        """Returns the sums in which a joint state takes part."""
         found, at = 0, 0
         for view in self.views:
             found |= view.sums(state) << at
@@ -156,7 +149,7 @@ class Sums:
         return found
 
     def sum_of(self, bit: int) -> Sum:
-        """The sum of this bit."""
+        """Returns the sum of this bit."""
         for view in self.views:
             if bit < view.size:
                 return view.sum_of(bit)
@@ -164,7 +157,7 @@ class Sums:
         raise IndexError(bit)
 
     def least(self, state: int, column: int) -> int:
-        """The joint state without the elements that affect none of its sums."""
+        """Returns the joint state without the elements that affect none of its sums."""
         for bit in bits_of(state):
             fewer = state ^ 1 << bit
             if self.of(fewer) == column:

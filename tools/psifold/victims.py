@@ -1,6 +1,5 @@
-"""The groups that might be killed, without which a folded trace is exact too: they are selected by
-patterns, like those of rules.
-"""
+"""Selects the groups that might be killed, by patterns like those of rules. A folded trace is
+exact without these groups too."""
 from __future__ import annotations
 
 import json
@@ -14,7 +13,7 @@ from psirules.patterns import is_pattern, matches
 
 from .world import FoldWorld
 
-# The most sets of groups that are excluded at a time; each costs about as much as all sums.
+# The most sets of groups that are excluded; each costs about as much time as all sums.
 MOST_REMOVALS = 64
 TRUE = ("true", "True", "1", "TRUE")
 
@@ -27,7 +26,7 @@ class Victim(NamedTuple):
     is_recursive: bool = False
 
     def matches(self, path: str) -> bool:
-        """Whether the group of this path may be killed."""
+        """Whether the group at `path` may be killed."""
         if not self.is_recursive:
             return matches(self.pattern, path)
         parts = path.split("/")
@@ -38,7 +37,7 @@ class Victim(NamedTuple):
 
 
 def victims_of(text: str) -> list[Victim]:
-    """The patterns of a comma-separated text."""
+    """Parses comma-separated patterns."""
     patterns = text.split(",")
     wrong = next((it for it in patterns if not is_pattern(it)), None)
     if wrong is not None:
@@ -47,7 +46,7 @@ def victims_of(text: str) -> list[Victim]:
 
 
 def victims_of_rules(name: str) -> list[Victim]:
-    """The groups that the actions of a rules file may kill."""
+    """Returns the groups that the actions of a rules file may kill."""
     try:
         with open(name, "rb") as file:
             return list(victims_in(json.loads(file.read())))
@@ -58,7 +57,7 @@ def victims_of_rules(name: str) -> list[Victim]:
 
 
 def victims_in(rules: dict[str, Any]) -> Iterator[Victim]:
-    """The victims of each action."""
+    """Yields the victims of each action."""
     for ruleset in rules["rulesets"]:
         for action in ruleset["actions"]:
             is_recursive = str(action["args"].get("recursive", "false")) in TRUE
@@ -69,30 +68,29 @@ def victims_in(rules: dict[str, Any]) -> Iterator[Victim]:
 
 
 class Victims:
-    """The groups that might be killed as groups are created and removed. `whole` is the number of
-    kills up to which all remaining times of a trace are kept; None if no victims were named.
-    """
+    """The groups that might be killed, as groups are created and removed. `whole` is the number
+    of kills up to which the times of the remaining groups are exact, None if there is no such
+    limit."""
 
     def __init__(self, wanted: Sequence[Victim]) -> None:
         self.wanted, self.known = wanted, dict[str, bool]()
         self.whole: int | None = None
 
     def matches(self, path: str) -> bool:
-        """Whether the group of this path may be killed."""
+        """Whether the group at `path` may be killed."""
         if path not in self.known:
             self.known[path] = any(victim.matches(path) for victim in self.wanted)
         return self.known[path]
 
     def unmatched(self) -> list[str]:
-        """The patterns that matched no group so far."""
+        """Returns the patterns that matched no group up to now."""
         paths = {"/", *self.known}
         return [it.pattern for it in self.wanted if not any(map(it.matches, paths))]
 
     def removals(self, world: FoldWorld) -> list[tuple[int, ...]]:
-        """The sets of groups to exclude: each group alone, then sets of two, of three and so on, as
-        long as all sets of one size fit. A set doesn't contain a group and its ancestor: the
-        ancestor suffices.
-        """
+        """Returns the sets of groups to exclude: each group alone, then sets of two, of three
+        and so on, as long as all sets of one size fit. No set contains both a group and its
+        ancestor, since the ancestor suffices."""
         slots = (
             sorted(slot for path, slot in world.live.items() if self.matches(path))
             if self.wanted

@@ -1,6 +1,4 @@
-"""What the command lines of tools that fold share: the length of a window, and the report about the
-folded trace.
-"""
+"""The options of tools that fold, and the report about the folded trace."""
 from __future__ import annotations
 
 import argparse
@@ -19,12 +17,13 @@ ROUNDING = (
     "but times are rounded to whole ns: totals may differ by 1 us, and so may a signal exactly at"
     " its threshold, and an average of a tick whose share is exactly a whole percent"
 )
-# A tick is a whole number of ms, at most 60 s.
+# The unit of ticks (ns), and the longest tick (ns).
 MILLISECOND, LONGEST_TICK = 10**6, 60 * SECOND
 
 
 def window_of(text: str) -> int:
-    """The length of a window in ns: whole ms, at most the longest tick."""
+    """Parses the length of a window, and returns ns: a whole number of ms, at most the longest
+    tick."""
     length = nanoseconds(text)
     if not 0 < length <= LONGEST_TICK or length % MILLISECOND:
         raise Malformed(f"{text} is no window: it has 0.001 to 60 s, of whole ms, as ticks have")
@@ -53,7 +52,8 @@ class Folding(NamedTuple):
 
 
 def folding_of(found: dict[str, Any]) -> Folding | None:
-    """Takes the options of folding out of the parsed ones; None if nothing is to be folded."""
+    """Removes the options of folding from the parsed ones and returns them, None if nothing is
+    to be folded."""
     length, patterns, rules = found.pop("fold"), found.pop("victims"), found.pop("rules")
     if length is None and (patterns or rules):
         raise Fault("--victims and --rules say how to fold: --fold")
@@ -66,7 +66,7 @@ def folding_of(found: dict[str, Any]) -> Folding | None:
 
 
 def folding_lines(folding: Folding, outcome: Outcome) -> list[str]:
-    """The report: sizes before and after, and how far the folded trace is exact."""
+    """Returns the report: sizes before and after, and how far the folded trace is exact."""
     counts, length = outcome.counts, folding.length
     tick = f"{length // MILLISECOND} ms" if length % SECOND else f"{length // SECOND} s"
     return [
@@ -91,7 +91,7 @@ def is_longer(counts: Counts) -> bool:
 
 
 def longer_lines(counts: Counts) -> list[str]:
-    """Advice about a folded trace that is longer than the original."""
+    """Returns advice if the folded trace is longer than the original."""
     if not is_longer(counts):
         return []
     return [
@@ -101,7 +101,7 @@ def longer_lines(counts: Counts) -> list[str]:
 
 
 def whatif_line(folding: Folding, outcome: Outcome) -> str:
-    """How far `whatif` is exact."""
+    """Says how far `whatif` is exact."""
     if len(outcome.unmatched) == len(folding.victims):
         return (
             "after the first kill `whatif` is near, and not exact: --victims or --rules say who"
@@ -125,21 +125,20 @@ def whatif_line(folding: Folding, outcome: Outcome) -> str:
 
 
 class Progress:
-    """Shows progress on standard error if that is a terminal: the seconds done, and the total if it
-    is known (ns).
-    """
+    """Shows progress on standard error if that is a terminal: the seconds done, and the total
+    (ns) if it is known."""
 
     def __init__(self, name: str, total: int | None = None) -> None:
         self.name, self.total, self.is_shown, self.due = name, total, sys.stderr.isatty(), 0.0
 
     def show(self, moment: int) -> None:
-        """Shows that all up to `moment` (ns) is done, at most twice a second."""
+        """Shows that everything up to `moment` (ns) is done, at most twice a second."""
         if self.is_shown and time.monotonic() >= self.due:
             self.due = time.monotonic() + 0.5
             of = f" of {self.total // SECOND}" if self.total is not None else ""
             print(f"\r{self.name}: {moment // SECOND}{of} s", end="", file=sys.stderr, flush=True)
 
     def end(self) -> None:
-        """Erases the line."""
+        """Erases the progress from the terminal."""
         if self.is_shown and self.due:
             print("\r\033[K", end="", file=sys.stderr, flush=True)

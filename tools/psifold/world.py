@@ -1,9 +1,8 @@
 """Replays a trace's lines, and adds up the time that each processor was in each joint state. Unlike
-psireplay/world.py it rejects lines that it can't follow, since nothing has checked them.
+psireplay/world.py it rejects lines that it can't follow, since nothing has checked them before.
 
-Here a joint state is an integer with a bit for each element that occurs in some window: so a task's
-change is an exclusive or, and the time of a joint state is looked up by the integer.
-"""
+Here a joint state is an integer with a bit for each element that occurs in some window. So a
+change of a task is an exclusive or, and the time of a joint state is looked up by the integer."""
 from __future__ import annotations
 
 import re
@@ -15,14 +14,15 @@ from psiworld.limits import LEAST_WINDOW, MOST_INTERRUPTS, MOST_LABEL, MOST_MEMO
 
 from .joint import KINDS, LEFT_BY, STALLED, WAY, Element, JointState, Kind
 
-# As plain integers, since they are used at each line.
+# The kinds as plain integers, which are faster: they are used at each line.
 READY, RUNNING = int(Kind.READY), int(Kind.RUNNING)
 
-# The number of characters of a line that are shown.
+# The number of characters of a line that a message shows.
 SHOWN = 100
 NUMBER = r"(?:0|[1-9][0-9]{0,18})"
 PATH = r"(?:/|(?:/(?!\.{1,2}(?:/|$))[A-Za-z0-9_.@:\\-]+){1,32}(?= |$))"
-# Lines that are copied unchanged, without their times. Numbers are checked below.
+# The forms of lines that are copied unchanged, without their times. Numbers are checked in
+# `kept_path`.
 GROUP = re.compile(PATH)
 SAMPLE = re.compile(rf"mem ({PATH}) {NUMBER} {NUMBER} {NUMBER}|host {NUMBER} {NUMBER} {NUMBER}")
 PREFERENCE = re.compile(rf"prefer ({PATH}) (?:prefer|avoid|none)")
@@ -32,17 +32,17 @@ TRIGGER = re.compile(
 
 
 class NotATrace(Exception):
-    """A malformed line, or one that isn't allowed at this place of a trace."""
+    """The error that a line is malformed, or not allowed at this place of a trace."""
 
 
 def shortened(line: str) -> str:
-    """The line, or its first characters if it is long."""
+    """Returns the line, or its first characters if it is long."""
     return line if len(line) <= SHOWN else f"{line[:SHOWN]} .."
 
 
 def kept_path(line: str) -> str:
-    """The group of a line that is copied unchanged (given without its time): `/` if it names none.
-    """
+    """Returns the group of a line that is copied unchanged, `/` if it names none. `line` has no
+    time. Raises NotATrace if it is malformed."""
     found = SAMPLE.fullmatch(line) or PREFERENCE.fullmatch(line)
     if found and all(int(word) <= MOST_MEMORY for word in line.split(" ") if word.isdigit()):
         return found[1] or "/"
@@ -53,7 +53,7 @@ def kept_path(line: str) -> str:
 
 
 class Task:
-    """A task: `place` is KINDS times the number of its group."""
+    """A task. `place` is KINDS times the number of its group."""
 
     __slots__ = ("place", "processor", "kind")
 
@@ -62,10 +62,9 @@ class Task:
 
 
 class Interrupts:
-    """The time (ns) that interrupts took from the groups whose tasks ran: the first line of a
-    window is separate, with its group's number, since it may include time before the window; all
-    others are added up by group.
-    """
+    """The time (ns) that interrupts took from the groups whose tasks ran. The first line of a
+    window is separate, with its group's number, since it may include time before the window. The
+    others are added up by group."""
 
     def __init__(self) -> None:
         self.first: tuple[int, int] | None = None
@@ -80,26 +79,23 @@ class Interrupts:
 
 
 class Changes:
-    """The number of tasks that came into groups that might be killed, and the number that moved out
-    of them or between them; and the time (ns) of the last such event.
-    """
+    """The number of tasks that came into groups that might be killed, the number that moved out
+    of them or between them, and the time (ns) of the last such event."""
 
     def __init__(self) -> None:
         self.came, self.moved, self.last = 0, 0, 0
 
     def note(self, moment: int, came: bool, moved: bool) -> None:
-        """Counts a task that came, moved or did both. Lines at 0 are skipped: they are the trace's
-        initial state.
-        """
+        """Counts a task that came, moved or did both. Lines at time 0 are skipped, because they
+        are the trace's initial state."""
         if moment and (came or moved):
             self.came, self.moved, self.last = self.came + came, self.moved + moved, moment
 
 
 class Catalog:
-    """The groups and the bits of joint states, by number. It only grows: for each group its path
-    and its parent, and for each bit the element's key, which consists of the group's number and the
-    kind.
-    """
+    """The groups and the bits of joint states, by number: for each group its path and its
+    parent, and for each bit the element's key, which consists of the group's number and the
+    kind. Nothing is ever removed."""
 
     def __init__(self) -> None:
         self.paths = ["/"]
@@ -107,7 +103,7 @@ class Catalog:
         self.keys: list[int] = []
 
     def above(self, slot: int) -> set[int]:
-        """The ancestors of a group."""
+        """Returns the ancestors of a group."""
         found, at = set[int](), self.parents[slot]
         while at is not None:
             found.add(at)
@@ -115,16 +111,16 @@ class Catalog:
         return found
 
     def joint_state(self, state: int) -> JointState:
-        """The elements of a joint state."""
+        """Returns the elements of a joint state."""
         keys = (divmod(self.keys[number], KINDS) for number in bits_of(state))
         return frozenset(Element(self.paths[slot], Kind(kind)) for slot, kind in keys)
 
     def size(self) -> tuple[int, int]:
-        """The number of groups, and of bits."""
+        """Returns the numbers of groups and of bits."""
         return len(self.paths), len(self.keys)
 
     def since(self, size: tuple[int, int]) -> tuple[list[str], list[int | None], list[int]]:
-        """The additions since it had this size."""
+        """Returns the additions since the catalog had this size."""
         return self.paths[size[0] :], self.parents[size[0] :], self.keys[size[1] :]
 
     def add(self, paths: list[str], parents: list[int | None], keys: list[int]) -> None:
@@ -136,8 +132,7 @@ class Catalog:
 
 class FoldWorld:
     """The machine at the present line of a trace. Groups are numbered in the order of their
-    creation; the root is 0.
-    """
+    creation; the root is 0."""
 
     def __init__(self, processors: int) -> None:
         self.processors = processors
@@ -152,8 +147,8 @@ class FoldWorld:
         self.off: set[int] = set()
         self.members: Counter[int] = Counter()
         # For each processor: the number of tasks of each element, by its key (the group's number
-        # and the kind); the joint state and its start; the ns of each joint state; and the time of
-        # interrupts.
+        # and the kind); the joint state and the time (ns) since which it holds; the ns of each
+        # joint state; and the time of interrupts.
         self.counts: list[dict[int, int]] = [defaultdict(int) for _ in range(processors)]
         self.states = [0] * processors
         self.since = [0] * processors
@@ -161,8 +156,8 @@ class FoldWorld:
         self.interrupts = [Interrupts() for _ in range(processors)]
         # The bit of each element, by its key.
         self.bits: dict[int, int] = {}
-        # For each group the watched groups that it is in; and what their tasks did that a folded
-        # trace can't keep.
+        # The watched groups among each group and its ancestors, and the changes in them that a
+        # folded trace can't preserve.
         self.watched: dict[int, set[int]] = {}
         self.changes = Changes()
         self.verbs: dict[str, Callable[[int, list[str]], None]] = {
@@ -174,9 +169,8 @@ class FoldWorld:
     # ------------------------------------------------------------ tasks
 
     def change(self, processor: int, moment: int, before: int, after: int) -> None:
-        """Moves a task of this processor from one element to another, by their keys. ASLEEP isn't
-        counted.
-        """
+        """Moves a task of this processor from one element to another, by their keys. ASLEEP
+        isn't counted."""
         counts, bits = self.counts[processor], 0
         if before & 7:
             counts[before] = left = counts[before] - 1
@@ -202,7 +196,7 @@ class FoldWorld:
         return bit
 
     def fork(self, moment: int, words: list[str]) -> None:
-        """A task is created, ready on a processor."""
+        """Creates a task, ready on a processor."""
         _, _, text, path, processor = words
         number, place = int(text), self.live[path] * KINDS
         if number in self.tasks:
@@ -216,7 +210,7 @@ class FoldWorld:
         self.change(task.processor, moment, 0, place + READY)
 
     def ready(self, moment: int, words: list[str]) -> None:
-        """A task becomes ready, possibly on a different processor than before."""
+        """Makes a task ready, possibly on another processor than before."""
         _, verb, number, processor = words
         task, target, kind = self.tasks[int(number)], self.places[processor], 0
         if (verb == "wake") == (task.kind & READY):
@@ -231,7 +225,7 @@ class FoldWorld:
             self.change(target, moment, 0, task.place + kind)
 
     def switch(self, moment: int, words: list[str]) -> None:
-        """The running task leaves the processor; another one runs, or none."""
+        """Switches from the running task to another one, or to none."""
         _, _, text, following, how = words
         processor, tasks = self.places[text], self.tasks
         number = self.runs[processor]
@@ -257,7 +251,7 @@ class FoldWorld:
             self.change(processor, moment, before, task.place + task.kind)
 
     def stall(self, moment: int, words: list[str]) -> None:
-        """The running task goes into a stall, or out of it."""
+        """Lets the running task enter or leave a stall."""
         _, verb, number = words
         task = self.tasks[int(number)]
         if task.kind != (RUNNING if verb == "stall" else RUNNING | STALLED):
@@ -267,7 +261,7 @@ class FoldWorld:
         self.change(task.processor, moment, before, task.place + task.kind)
 
     def move(self, moment: int, words: list[str]) -> None:
-        """A task moves to another group."""
+        """Moves a task to another group."""
         _, _, number, path = words
         task = self.tasks[int(number)]
         before = task.place + task.kind
@@ -279,7 +273,7 @@ class FoldWorld:
         self.change(task.processor, moment, before, task.place + task.kind)
 
     def interrupt(self, moment: int, words: list[str]) -> None:
-        """Interrupts took time from the running task, or from none."""
+        """Takes the time of interrupts from the running task, if there is one."""
         processor, length = self.places[words[2]], int(words[3])
         if not 0 <= length <= MOST_INTERRUPTS or len(words) != 4:
             raise NotATrace("a line of interrupts has at most a second")
@@ -290,7 +284,7 @@ class FoldWorld:
     # ------------------------------------------------------------ groups
 
     def group(self, path: str) -> int:
-        """A group is created; returns its number."""
+        """Creates a group, and returns its number."""
         parent = path.rpartition("/")[0] or "/"
         if (
             path in self.live
@@ -305,7 +299,7 @@ class FoldWorld:
         return slot
 
     def rmgroup(self, path: str) -> None:
-        """An empty group is removed."""
+        """Removes an empty group."""
         slot = self.live[path]
         if self.members[slot] or any(self.parents[it] == slot for it in self.live.values()):
             raise NotATrace(f"{path} isn't empty")
@@ -314,13 +308,13 @@ class FoldWorld:
         self.members.pop(slot, None)
 
     def pressure(self, path: str, switched: str) -> None:
-        """The accounting of a group is switched."""
+        """Switches the accounting of a group."""
         if path == "/" or switched not in ("on", "off"):
             raise NotATrace("it is malformed")
         (self.off.discard if switched == "on" else self.off.add)(self.live[path])
 
     def watch(self, slots: Sequence[int]) -> None:
-        """Watches for tasks that come to these groups, or to their descendants."""
+        """Watches for tasks that come to these groups or to their descendants."""
         each = (
             (
                 (slot, {slot, *self.catalog.above(slot)}.intersection(slots))
@@ -332,15 +326,15 @@ class FoldWorld:
         self.watched = {slot: found for slot, found in each if found}
 
     def note_move(self, moment: int, source: int, target: int) -> None:
-        """A task goes from one group to another."""
+        """Counts a task that moves from one group to another."""
         before, after = self.watched.get(source, set()), self.watched.get(target, set())
         self.changes.note(moment, not after <= before, bool(before) and source != target)
 
     # ------------------------------------------------------------ windows
 
     def close(self, moment: int) -> list[dict[int, int]]:
-        """Ends a window: returns the ns of each joint state since the previous end, by processor.
-        """
+        """Ends a window, and returns the ns of each joint state since the previous end, by
+        processor."""
         closed = self.spent
         for processor, spent in enumerate(closed):
             if moment != self.since[processor]:
@@ -351,13 +345,13 @@ class FoldWorld:
         return closed
 
     def close_interrupts(self) -> list[Interrupts]:
-        """The time of interrupts since the last window ended, by processor."""
+        """Returns the time of interrupts since the last window ended, by processor."""
         closed, self.interrupts = self.interrupts, [Interrupts() for _ in range(self.processors)]
         return closed
 
 
 def bits_of(number: int) -> Iterator[int]:
-    """The numbers of the bits that are set, ascending."""
+    """Yields the numbers of the bits that are set, in ascending order."""
     while number:
         lowest = number & -number
         yield lowest.bit_length() - 1
