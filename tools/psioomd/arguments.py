@@ -1,4 +1,4 @@
-"""The arguments of oomd's plugins: which each takes, and how it reads them."""
+"""The arguments of oomd's plugins, and how oomd parses them."""
 from __future__ import annotations
 
 from collections.abc import Callable
@@ -17,7 +17,7 @@ KIB = 1 << 10
 
 @dataclass(frozen=True)
 class Argument:
-    """How an argument's text is read, and whether the plugin requires it."""
+    """How an argument's text is parsed, and whether the plugin requires the argument."""
 
     read: Callable[[str, Host], Any]
     is_required: bool = False
@@ -38,17 +38,17 @@ def resource(text: str, _: Host) -> str:
 
 
 def memory_size(text: str, host: Host) -> int:
-    """A percentage refers to MemTotal."""
+    """Parses a size in bytes. A percentage refers to MemTotal."""
     return size(text, host.memory // KIB * KIB)
 
 
 def swap_size(text: str, host: Host) -> int:
-    """A percentage refers to SwapTotal, which oomd stores in 32 bits."""
+    """Parses a size in bytes. A percentage refers to SwapTotal, which oomd stores in 32 bits."""
     return size(text, signed32(host.swap // KIB * KIB))
 
 
 def plain(read: Callable[[str], Any]) -> Callable[[str, Host], Any]:
-    """A reader that needs no total."""
+    """Returns a parser of an argument from one that needs no totals of the host."""
     return lambda text, _: read(text)
 
 
@@ -85,7 +85,7 @@ ANON = "threshold_anon"
 
 
 def known(use: PluginUse) -> tuple[dict[str, Argument], dict[str, str]]:
-    """The arguments that the plugin accepts here, and those that the configuration has."""
+    """Returns the arguments that the plugin accepts, and those that the configuration has."""
     table, args = dict(ARGUMENTS[use.name]), dict(use.args)
     if use.name in WITH_MEMINFO:
         args.pop("meminfo_location", None)
@@ -96,9 +96,8 @@ def known(use: PluginUse) -> tuple[dict[str, Argument], dict[str, str]]:
 
 
 def values(use: PluginUse, host: Host) -> dict[str, Any]:
-    """The values of a plugin's arguments; raises an error if oomd rejects them. `host` has the
-    totals at its start.
-    """
+    """Parses the values of a plugin's arguments. `host` has the totals at oomd's start. Raises
+    Refused if oomd rejects an argument."""
     table, args = known(use)
     for name, argument in table.items():
         if argument.is_required and name not in args:

@@ -1,6 +1,5 @@
-"""Runs oomd itself on a trace: its files show each time of the trace in turn, and all its kills are
-dry.
-"""
+"""Runs oomd itself on a trace. Its files show each time of the trace in turn, and all its kills
+are dry."""
 from __future__ import annotations
 
 import contextlib
@@ -41,9 +40,8 @@ MEMORY = "/dev/shm"
 
 @dataclass
 class BinaryRun:
-    """The run of oomd itself: its file and version, its sandbox, and how often it looked. `fault`
-    says how it ended, if it did.
-    """
+    """The run of oomd itself: its file and version, its sandbox, and the number of its looks.
+    `fault` says how it ended, if it ended early."""
 
     path: str
     version: str
@@ -56,7 +54,7 @@ class BinaryRun:
     fault: str = ""
 
     def who(self, kill: Kill) -> str:
-        """The ruleset and the action of a kill."""
+        """Names the ruleset and the action of a kill."""
         plugin = quoted(self.plugins[self.kills.index(kill)])
         if kill.ruleset < 0:
             return plugin
@@ -64,11 +62,11 @@ class BinaryRun:
         return f"ruleset {kill.ruleset} {quoted(self.names[kill.ruleset])}, {action}"
 
     def line(self, kill: Kill) -> str:
-        """A kill, for people."""
+        """Returns the line for a kill."""
         return f"{seconds(kill.moment)} s  by {self.path}: would kill {kill.path}, {self.who(kill)}"
 
     def record(self) -> dict[str, object]:
-        """The run for JSON."""
+        """Returns the run as a JSON object."""
         kills = [
             {"moment_ns": it.moment, "ruleset": it.ruleset, "action": it.action, "victim": it.path}
             for it in self.kills
@@ -82,7 +80,7 @@ class BinaryRun:
 
 @contextlib.contextmanager
 def room() -> Iterator[str]:
-    """A temporary folder, in memory if there is room for one."""
+    """Yields a temporary folder, in memory if /dev/shm is writable."""
     where = MEMORY if os.access(MEMORY, os.W_OK) else None
     with tempfile.TemporaryDirectory(
         prefix="psioomd-", dir=where, ignore_cleanup_errors=True
@@ -91,7 +89,7 @@ def room() -> Iterator[str]:
 
 
 def program_at(name: str) -> str:
-    """The path of a program, which is given as a path or found in PATH."""
+    """Returns the absolute path of a program, given by its path or by its name in PATH."""
     found = shutil.which(name)
     if not found:
         advice = "give its path, or install Debian's package oomd"
@@ -101,7 +99,7 @@ def program_at(name: str) -> str:
 
 @functools.lru_cache(maxsize=None)
 def version_of(kind: str, path: str) -> str:
-    """The version of the program, which has to be oomd."""
+    """Returns the version of the program. Raises a Fault if it isn't oomd."""
     with room() as folder:
         shut = Sandbox(kind, folder, path)
         status, plugins = answer(shut, [path, "--list-plugins"])
@@ -122,7 +120,7 @@ def store(folder: str, name: str, data: bytes) -> str:
 
 
 def check_config(shut: Sandbox, path: str, name: str) -> None:
-    """Raises oomd's own reason to reject a configuration."""
+    """Raises a Fault with oomd's own reason if it rejects a configuration."""
     kmsg = os.path.join(shut.folder, "machine/dev/kmsg")
     words = [shut.binary, "-f", MOUNT, "--kmsg-override", kmsg, "--check-config", path]
     status, said = answer(shut, words)
@@ -133,7 +131,7 @@ def check_config(shut: Sandbox, path: str, name: str) -> None:
 def prepare_words(
     shut: Sandbox, run: Run, base: Configuration, parts: list[Configuration]
 ) -> list[str]:
-    """Stores the dry copies, and returns the words that run oomd on them."""
+    """Stores dry copies of the configurations, and returns the command that runs oomd on them."""
     check_config(shut, store(shut.folder, "given.json", bytes_of(run.config)), run.config)
     copy = store(shut.folder, "oomd.json", dry.copy(base))
     check_config(shut, copy, f"{run.config} with `dry` in each kill")
@@ -149,7 +147,7 @@ def prepare_words(
 
 
 class Looks:
-    """Brings the files of a machine to the time of each look."""
+    """Updates the files of a machine to the time of each look."""
 
     def __init__(self, run: Run, files: Files, printed: Iterator[bytes]) -> None:
         self.run, self.files = run, files
@@ -163,12 +161,12 @@ class Looks:
         files.update()
 
     def take(self, moment: int) -> None:
-        """Takes the trace's events up to a time (ns)."""
+        """Applies the trace's events up to `moment` (ns)."""
         for event in self.events.until(moment):
             self.files.machine.world.take(*event)
 
     def times(self) -> Iterator[int]:
-        """The times (ns) of the looks; when one is returned, its files are written."""
+        """Yields the times (ns) of the looks. When one is yielded, its files are written."""
         for number in range(1, self.warm + 1):
             yield (number - self.warm) * self.run.interval * SECOND
         for tick in self.ticks:
@@ -180,7 +178,7 @@ class Looks:
 
 @dataclass
 class Follower:
-    """Lets oomd look at each time, and reads what it writes."""
+    """Lets oomd look at each time, and parses its log."""
 
     daemon: Daemon
     found: BinaryRun
@@ -188,7 +186,8 @@ class Follower:
     log: IO[str] | None
 
     def has_looked(self, moment: int | None) -> bool:
-        """Waits until it sleeps again after a look, or its start. False if it has ended."""
+        """Waits until oomd sleeps again after its start or a look. Returns False if oomd has
+        ended."""
         end = self.daemon.sleep_end()
         said = self.daemon.new_log()
         when = "start" if moment is None else f"{seconds(moment)} s"
@@ -227,7 +226,7 @@ def run_binary(
     log: str | None = None,
     patience: float = PATIENCE,
 ) -> BinaryRun:
-    """What oomd itself would have done in a trace, or an error."""
+    """Runs oomd itself on a trace, and returns its kills."""
     base, parts = run.configurations()
     path = program_at(name)
     machine = Machine(run.extras, first_host(run.trace))
@@ -258,6 +257,6 @@ def run_binary(
 
 
 def terminate(daemon: Daemon) -> None:
-    """Ends a daemon that is still running after a fault."""
+    """Ends a daemon that still runs after a fault."""
     if daemon.process.poll() is None:
         daemon.end(0)

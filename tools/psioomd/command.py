@@ -1,4 +1,4 @@
-"""The options of tools/oomd, and what it prints."""
+"""The options and the output of tools/oomd."""
 from __future__ import annotations
 
 import argparse
@@ -48,7 +48,7 @@ refuses, a trace that psi_oomd refuses, a program that isn't oomd."""
 
 
 def given_number(word: str) -> tuple[tuple[str, str], int]:
-    """The value of a group's file: /batch/memory.low=1073741824."""
+    """Parses a number for a group's file, such as /batch/memory.low=1073741824."""
     found = re.fullmatch(r"(/(?:\S*/)?)([a-z_.]+)=([0-9]{1,18}|max)", word)
     if not found or found[2] not in FILES:
         raise Malformed(f"{word}: write /GROUP/FILE=NUMBER, FILE one of {', '.join(FILES)}")
@@ -57,7 +57,7 @@ def given_number(word: str) -> tuple[tuple[str, str], int]:
 
 
 def parser() -> Parser:
-    """The parser of the command line."""
+    """Returns the parser of the command line."""
     words = Parser(ABOUT, STATUS)
     add = words.add_argument
     add("trace", metavar="TRACE", help="a trace, or - for the standard input")
@@ -91,7 +91,7 @@ def parser() -> Parser:
 
 
 class Comparison:
-    """The kills by psi_oomd's own rules."""
+    """The kills by psi_oomd's own rules, for comparison."""
 
     def __init__(self, name: str, rules: RulesFile, kills: list[Kill]) -> None:
         self.name, self.rules, self.kills = name, rules, kills
@@ -102,7 +102,7 @@ class Comparison:
 
 
 def verdict(own: list[Kill], other: list[Kill], names: tuple[str, str]) -> str:
-    """How the first kills of two differ."""
+    """Says how the first kills by two programs differ."""
     if not own or not other:
         who = names[0] if own else names[1]
         return f"first kill: by {who} alone" if own or other else "no kill by either"
@@ -124,9 +124,8 @@ def compare(program: Program, name: str, trace: str, interval_s: int) -> Compari
 
 @dataclass(frozen=True)
 class Answers:
-    """All results: of the emulation (None if it rejects a configuration that oomd itself accepts),
-    of oomd itself, and the kills by rules.
-    """
+    """All results: of the emulation (None if it rejects a configuration that oomd itself
+    accepts), of oomd itself, and of the rules."""
 
     run: Run
     own: Engine | None
@@ -143,9 +142,8 @@ class Answers:
 
 
 def agreement(own: Engine, ran: binary.BinaryRun) -> str:
-    """Whether a program's kills are those of the emulation, apart from the choice among equal
-    candidates.
-    """
+    """Says whether the kills of oomd itself are those of the emulation, apart from the choice
+    among equal candidates."""
     for decision, other in zip(own.decisions, ran.kills):
         found = decision.kill()
         is_same = (found.moment, found.ruleset, found.action) == (
@@ -165,7 +163,7 @@ def agreement(own: Engine, ran: binary.BinaryRun) -> str:
 
 
 def binary_lines(answers: Answers, ran: binary.BinaryRun) -> list[str]:
-    """What the program did, for people."""
+    """Returns the lines about the run of oomd itself."""
     did = f"{counted(ran.looks, 'look')}, {counted(len(ran.kills), 'kill')}"
     head = f"{ran.path}: oomd {ran.version} in {ran.sandbox}: {did}"
     lines = [f"{head}; {answers.agreement()}"]
@@ -174,7 +172,7 @@ def binary_lines(answers: Answers, ran: binary.BinaryRun) -> list[str]:
 
 
 def kill_lines(answers: Answers, is_all: bool) -> list[str]:
-    """The kills of all, in order of time."""
+    """Returns the lines about the kills of all, in order of time."""
     rows = [(it.moment, 0, it.lines(is_all)) for it in answers.decisions()]
     if answers.other:
         rows += [(it.moment, 1, [answers.other.line(it)]) for it in answers.other.kills]
@@ -184,7 +182,7 @@ def kill_lines(answers: Answers, is_all: bool) -> list[str]:
 
 
 def print_lines(answers: Answers, is_all: bool) -> None:
-    """Prints for people: the kills in order of time, and how near each detector came."""
+    """Prints text for people: the kills in order of time, and how near each detector came."""
     own, other, ran = answers.own, answers.other, answers.ran
     lines = kill_lines(answers, is_all)
     if own and not own.decisions:
@@ -205,7 +203,7 @@ def print_lines(answers: Answers, is_all: bool) -> None:
 
 
 def print_json(answers: Answers, name: str) -> None:
-    """Prints JSON for programs."""
+    """Prints the results as JSON."""
     own, other, ran = answers.own, answers.other, answers.ran
     record: dict[str, object] = {
         "trace": name,
@@ -239,8 +237,8 @@ def run_of(given: argparse.Namespace, trace: str) -> Run:
 
 
 def try_emulation(program: Program, run: Run, has_binary: bool) -> Engine | None:
-    """Runs the emulation. If oomd itself is run too, its own verdict on the configuration is final.
-    """
+    """Runs the emulation. If oomd itself runs too, its own verdict on the configuration counts,
+    so a rejection by the emulation is only reported."""
     try:
         return emulate(program, run, processors())
     except Refused as refused:
@@ -266,7 +264,7 @@ def collect_answers(given: argparse.Namespace) -> Answers:
 
 
 def work(given: argparse.Namespace) -> int:
-    """Prints what oomd would have done."""
+    """Prints what oomd would have done, and returns the exit status."""
     if not given.is_json:
         show_containers([given.trace], vars(given))
     if not given.binary and (given.sandbox or given.log):

@@ -1,6 +1,5 @@
-"""A configuration of oomd, parsed like oomd does: by JsonCpp with comments, and then by its own
-rules.
-"""
+"""Parses a configuration as oomd does: first by JsonCpp's rules with comments, and then by
+oomd's own."""
 from __future__ import annotations
 
 from collections.abc import Iterable, Iterator
@@ -15,7 +14,7 @@ from psirules.relaxed import Reading
 
 @dataclass
 class PluginUse:
-    """A plugin in a configuration: its arguments as texts, and its place for messages."""
+    """A plugin in a configuration: its arguments as strings, and its place for messages."""
 
     name: str
     args: dict[str, str]
@@ -33,7 +32,7 @@ class GroupUse:
 
 @dataclass
 class RulesetUse:
-    """A ruleset. Delays are the texts of the file, empty if left out."""
+    """A ruleset. Delays are the strings of the file, empty if missing."""
 
     name: str
     place: str
@@ -49,7 +48,8 @@ class RulesetUse:
 
 @dataclass
 class Configuration:
-    """All of a file: its name, its rulesets, the names of its prekill hooks, and its data."""
+    """The contents of a configuration: its file name, its rulesets, the names of its prekill
+    hooks, and its JSON data."""
 
     name: str
     rulesets: list[RulesetUse]
@@ -57,7 +57,7 @@ class Configuration:
     data: Any
 
     def plugins(self) -> Iterator[str]:
-        """The names of all detectors and actions."""
+        """Yields the names of all detectors and actions."""
         for ruleset in self.rulesets:
             for group in ruleset.groups:
                 yield from (it.name for it in group.detectors)
@@ -65,7 +65,7 @@ class Configuration:
 
 
 def text_of(value: Any, place: str) -> str:
-    """JsonCpp's asString."""
+    """Converts a JSON value like JsonCpp's asString."""
     if value is None:
         return ""
     if isinstance(value, bool):
@@ -79,29 +79,30 @@ def text_of(value: Any, place: str) -> str:
 
 
 def truth_of(value: Any, place: str) -> bool:
-    """JsonCpp's asBool."""
+    """Converts a JSON value like JsonCpp's asBool."""
     if value is None or isinstance(value, (bool, int, float)):
         return bool(value)
     raise Refused(place, "Value is not convertible to bool. (it aborts)")
 
 
 def items(value: Any) -> Iterable[Any]:
-    """What oomd iterates over: a list, or the values of an object by their keys."""
+    """Returns the values over which oomd iterates: a list, or an object's values in order of
+    keys."""
     if isinstance(value, dict):
         return [value[key] for key in sorted(value)]
     return value if isinstance(value, list) else []
 
 
 def object_at(value: Any, place: str) -> dict[str, Any]:
-    """An object; empty for null. oomd aborts at any other value."""
+    """Returns an object, empty for null. oomd aborts at any other value."""
     if value is None or isinstance(value, dict):
         return value or {}
     raise Refused(place, "requires objectValue or nullValue (it aborts)")
 
 
 def plugin_use(value: Any, place: str) -> PluginUse:
-    """A plugin. oomd stops reading arguments at the first that isn't a string, number or boolean.
-    """
+    """Converts a plugin. oomd stops reading arguments at the first one that isn't a string,
+    number or boolean."""
     if not isinstance(value, dict) or not isinstance(value.get("name"), str):
         return PluginUse("", {}, place)
     name, args = value["name"], {}
@@ -115,7 +116,7 @@ def plugin_use(value: Any, place: str) -> PluginUse:
 
 
 def group_use(value: Any, place: str) -> GroupUse:
-    """A group: its name may come first."""
+    """Converts a group of detectors. Its first item may be its name."""
     found = list(value) if isinstance(value, list) else []
     name = str(found.pop(0)) if found and isinstance(found[0], str) else ""
     here = f"{place} {quoted(name)}"
@@ -147,7 +148,7 @@ def ruleset_use(value: Any, number: int, file: str) -> RulesetUse:
 
 
 def configuration(name: str, data: bytes) -> Configuration:
-    """The configuration in these bytes. Its plugins' arguments aren't checked yet."""
+    """Parses a configuration. Arguments of plugins aren't checked yet."""
     try:
         read = Reading(data).data
     except Fault as fault:

@@ -1,4 +1,4 @@
-"""oomd as a process with a stopped clock: each of its sleeps waits for the driver."""
+"""Runs oomd as a process with a controlled clock: each of its sleeps waits for the driver."""
 from __future__ import annotations
 
 import functools
@@ -25,7 +25,7 @@ GRACE = 20
 
 @functools.lru_cache(maxsize=None)
 def clock_library() -> bytes:
-    """The preloaded library, compiled once per run of this tool."""
+    """Returns the preloaded library, which is compiled once per run of this tool."""
     with tempfile.TemporaryDirectory(prefix="psioomd-") as folder:
         made = os.path.join(folder, LIBRARY)
         words = ["cc", "-O2", "-shared", "-fPIC", "-o", made, SOURCE, "-ldl"]
@@ -46,7 +46,7 @@ def clock_library() -> bytes:
 
 
 class Daemon:
-    """A process in a sandbox, with the clock preloaded."""
+    """A process in a sandbox with the clock library preloaded."""
 
     def __init__(self, sandbox: Sandbox, words: list[str], uptime: int, patience: float) -> None:
         self.sandbox, self.patience = sandbox, patience
@@ -81,7 +81,7 @@ class Daemon:
         os.close(hears)
 
     def message(self) -> tuple[str, int] | None:
-        """The next message; None if the process has ended."""
+        """Returns the next message of the library, None if the process has ended."""
         data, until = b"", time.monotonic() + self.patience
         while len(data) < MESSAGE.size:
             ready, _, _ = select.select([self.of], [], [], max(0, until - time.monotonic()))
@@ -99,12 +99,12 @@ class Daemon:
         return kind.decode("latin-1"), value
 
     def is_preloaded(self) -> bool:
-        """Whether the library was loaded: this is impossible in a statically linked program."""
+        """Whether the library was loaded, which is impossible in a statically linked program."""
         found = self.message()
         return found is not None and found[0] == HELLO
 
     def sleep_end(self) -> int | None:
-        """The time (ns) until which it sleeps; None if it has ended."""
+        """Returns the time (ns) until which the process sleeps, None if it has ended."""
         while True:
             found = self.message()
             if found is None:
@@ -116,14 +116,14 @@ class Daemon:
                 raise Fault(f"{what}, which was refused, and it was terminated")
 
     def wake(self, now: int) -> None:
-        """Ends its sleep at a time (ns)."""
+        """Ends the process's sleep, at the time `now` (ns) of its clock."""
         try:
             os.write(self.to, struct.pack("<q", now))
         except BrokenPipeError:
             pass
 
     def new_log(self) -> str:
-        """The log since the last call."""
+        """Returns the log since the last call."""
         size = os.fstat(self.log.fileno()).st_size
         text = os.pread(self.log.fileno(), min(size, MOST_LOG), 0) if size else b""
         if size:
@@ -132,7 +132,8 @@ class Daemon:
         return text.decode(errors="replace")
 
     def end(self, grace: float = GRACE) -> str:
-        """Ends it, by a signal if it doesn't end by itself in time (s). Returns how it ended."""
+        """Ends the process, by a signal if it doesn't end within `grace` seconds. Says how it
+        ended."""
         for fd in (self.to, self.of):
             os.close(fd)
         try:
@@ -145,7 +146,7 @@ class Daemon:
 
 
 def status_text(status: int) -> str:
-    """How a process ended. A sandbox returns 128 plus the number of a signal."""
+    """Says how a process ended. A sandbox returns 128 plus the number of a signal."""
     number = -status if status < 0 else status - 128 if status > 128 else 0
     try:
         return f"by {signal.Signals(number).name}" if number else f"with status {status}"
@@ -154,7 +155,7 @@ def status_text(status: int) -> str:
 
 
 def answer(sandbox: Sandbox, words: list[str], patience: float = PATIENCE) -> tuple[int, str]:
-    """The status and the output of a run of oomd without looks, such as --version."""
+    """Returns the status and the output of a run of oomd without looks, such as --version."""
     daemon = Daemon(sandbox, words, 0, patience)
     ended = False
     try:

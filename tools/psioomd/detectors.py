@@ -1,4 +1,4 @@
-"""oomd's detectors."""
+"""Emulates oomd's detectors."""
 from __future__ import annotations
 
 from typing import Any
@@ -17,20 +17,19 @@ BITS = 1 << 64
 
 
 def average(hundredths: int) -> float:
-    """A printed average as oomd reads it: two decimals in a 32-bit float."""
+    """Converts a printed average (hundredths of a percent) as oomd reads it: to a 32-bit float."""
     return float32(hundredths / HUNDREDTHS)
 
 
 def weight(averages: Averages) -> float:
-    """The number that decides which group oomd picks: three times avg10, plus twice avg60, plus
-    avg300.
-    """
+    """Returns the weight by which oomd picks a group: three times avg10, plus twice avg60, plus
+    avg300."""
     short, middle, long = map(average, (averages.avg10, averages.avg60, averages.avg300))
     return float32(float32(float32(short * 3) + float32(middle * 2)) + long)
 
 
 class Nearest:
-    """The value that came nearest to a limit, and when (ns)."""
+    """The value that came nearest to a limit, and when it did (ns)."""
 
     def __init__(self, is_least: bool = False) -> None:
         self.sign = -1 if is_least else 1
@@ -49,7 +48,8 @@ class Nearest:
 
 
 class Above(Plugin):
-    """`pressure_above`: avg10 of the weightiest group is above the threshold for the duration."""
+    """`pressure_above`: avg10 of the group with the greatest weight is above the threshold for
+    the duration."""
 
     def __init__(self, use: PluginUse, args: dict[str, Any]) -> None:
         super().__init__(use, args)
@@ -68,7 +68,7 @@ class Above(Plugin):
         self.most.take(look.now, self.watched(), self.path)
 
     def watched(self) -> int:
-        """The average that must be above the threshold, in hundredths of a percent."""
+        """Returns the average that must be above the threshold, in hundredths of a percent."""
         return self.best.avg10
 
     def is_above(self, hundredths: int) -> bool:
@@ -92,8 +92,7 @@ class Above(Plugin):
 
 class Rising(Above):
     """`pressure_rising_beyond`: avg60 is above the threshold for the duration, avg10 is above it
-    too, and isn't much lower than at the previous look.
-    """
+    now, and has not fallen much since the previous look."""
 
     def __init__(self, use: PluginUse, args: dict[str, Any]) -> None:
         super().__init__(use, args)
@@ -112,7 +111,8 @@ class Rising(Above):
 
 
 class MemoryAbove(Plugin):
-    """`memory_above`: the greatest use of memory is above the threshold for the duration."""
+    """`memory_above`: the greatest memory use of a group is above the threshold for the
+    duration."""
 
     def __init__(self, use: PluginUse, args: dict[str, Any]) -> None:
         super().__init__(use, args)
@@ -141,9 +141,8 @@ class MemoryAbove(Plugin):
 
 
 class Reclaim(Plugin):
-    """`memory_reclaim`: the sum of scanned pages rose within the duration. Like in oomd, it begins
-    at 0 pages when the machine starts.
-    """
+    """`memory_reclaim`: the sum of scanned pages rose within the duration. As in oomd, the sum
+    is 0 pages when the machine starts."""
 
     def __init__(self, use: PluginUse, args: dict[str, Any], uptime: int) -> None:
         super().__init__(use, args)
@@ -164,7 +163,8 @@ class Reclaim(Plugin):
 
 
 class SwapFree(Plugin):
-    """`swap_free`: less than a percentage of the swap is free. oomd uses unsigned numbers."""
+    """`swap_free`: less than a percentage of the swap is free. oomd computes with unsigned
+    numbers."""
 
     def __init__(self, use: PluginUse, args: dict[str, Any]) -> None:
         super().__init__(use, args)
@@ -187,7 +187,7 @@ class SwapFree(Plugin):
 
 
 class Exists(Plugin):
-    """`exists`: some group matches, or none with `negate`."""
+    """`exists`: some group matches, or with `negate` none does."""
 
     def run(self, look: Look) -> Result:
         return result(
@@ -200,7 +200,7 @@ class Exists(Plugin):
 
 
 class Dying(Plugin):
-    """`nr_dying_descendants`: a group has at most, or more than, a number of dying groups."""
+    """`nr_dying_descendants`: a group has at most a number of dying groups, or more than that."""
 
     def run(self, look: Look) -> Result:
         machine, count = look.machine, self.args["count"]
@@ -213,9 +213,8 @@ class Dying(Plugin):
 
 
 class Constant(Plugin):
-    """A plugin that always returns the same result: `continue`, `stop`, `dump_cgroup_overview`, and
-    those that aren't emulated.
-    """
+    """A plugin that always returns the same result: `continue`, `stop`, `dump_cgroup_overview`,
+    and the plugins that aren't emulated."""
 
     def __init__(self, use: PluginUse, args: dict[str, Any], always: Result) -> None:
         super().__init__(use, args)

@@ -1,4 +1,4 @@
-"""A copy of a configuration in which every kill is dry, and every ruleset has its number."""
+"""Copies a configuration such that every kill is dry and every ruleset's name has its number."""
 from __future__ import annotations
 
 import json
@@ -19,7 +19,7 @@ def numbered(number: int, name: object) -> str:
 
 
 def make_dry(plugin: Any) -> Any:
-    """The plugin with `dry`, unless it does nothing."""
+    """Returns the plugin with the argument `dry`, unless it is harmless."""
     if not isinstance(plugin, dict) or plugin.get("name") in HARMLESS:
         return plugin
     args = plugin.get("args")
@@ -33,7 +33,8 @@ def dry_group(number: int, group: Any) -> Any:
 
 
 def dry_ruleset(ruleset: Any, name: str) -> Any:
-    """The ruleset under this name. Its logs aren't silenced: the kills are read from them."""
+    """Returns the ruleset with this name. Its logs aren't silenced, since the kills are read
+    from them."""
     if not isinstance(ruleset, dict):
         return ruleset
     found = {key: value for key, value in ruleset.items() if key != SILENCES}
@@ -47,7 +48,7 @@ def dry_ruleset(ruleset: Any, name: str) -> Any:
 
 
 def copy(base: Configuration) -> bytes:
-    """The dry copy of a configuration, without prekill hooks."""
+    """Returns the dry copy of a configuration, without prekill hooks."""
     data = base.data if isinstance(base.data, dict) else {}
     names = [numbered(at, it.name) for at, it in enumerate(base.rulesets)]
     rulesets = [dry_ruleset(it, name) for it, name in zip(items(data.get("rulesets")), names)]
@@ -55,7 +56,7 @@ def copy(base: Configuration) -> bytes:
 
 
 def drop_in_copy(base: Configuration, part: Configuration) -> bytes:
-    """The dry copy of a drop-in file, for rulesets that were renamed."""
+    """Returns the dry copy of a drop-in file, with the rulesets' new names."""
     names: dict[str, str] = {}
     for at, it in enumerate(base.rulesets):
         names.setdefault(it.name, numbered(at, it.name))

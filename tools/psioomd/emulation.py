@@ -1,5 +1,5 @@
-"""Applies oomd's algorithm to a trace: psi_oomd replays it, and prints the pressure at each look.
-"""
+"""Applies oomd's algorithm to a trace, with the pressure that a replay by psi_oomd prints at
+each look."""
 from __future__ import annotations
 
 import itertools
@@ -30,9 +30,9 @@ UPTIME = 10**6 * SECOND
 
 @dataclass(frozen=True)
 class Run:
-    """The input: the trace, the configuration and its drop-in files by name, the seconds between
-    looks, values that no trace has, the seconds of looks before the trace, and the uptime (ns).
-    """
+    """The input of an emulation: the trace, the configuration and its drop-in files by name, the
+    interval between looks (s), values that no trace has, the time of looks before the trace (s),
+    and the uptime (ns)."""
 
     trace: str
     config: str
@@ -43,14 +43,14 @@ class Run:
     uptime: int = UPTIME
 
     def configurations(self) -> tuple[Configuration, list[Configuration]]:
-        """The configuration and the drop-in files, in the order in which oomd adds them."""
+        """Reads the configuration and the drop-in files, in the order in which oomd adds them."""
         parts = sorted(self.drop_ins, key=lambda it: it.rpartition("/")[2])
         return read_configuration(self.config), [read_configuration(it) for it in parts]
 
 
 @dataclass(frozen=True)
 class Tick:
-    """A look: its time (ns), and the pressure of each group."""
+    """A look of oomd: its time (ns), and the pressure of each group."""
 
     moment: int
     reports: dict[str, Pressure]
@@ -61,7 +61,7 @@ def read_configuration(name: str) -> Configuration:
 
 
 def needed_lines(printed: Iterable[bytes]) -> Iterator[bytes]:
-    """The lines without the reports that oomd doesn't read."""
+    """Yields the lines without the reports that oomd doesn't read."""
     is_kept = True
     for line in printed:
         if line[:5] not in (b"some ", b"full "):
@@ -72,7 +72,7 @@ def needed_lines(printed: Iterable[bytes]) -> Iterator[bytes]:
 
 
 def ticks_of(printed: Iterable[bytes], interval: int) -> Iterator[Tick]:
-    """The looks of a replay."""
+    """Yields the looks of a replay."""
     reports = (it for it in read(needed_lines(printed)) if isinstance(it, Report))
     for moment, of_moment in itertools.groupby(reports, key=lambda it: it.moment):
         found: dict[str, Pressure] = {}
@@ -84,7 +84,7 @@ def ticks_of(printed: Iterable[bytes], interval: int) -> Iterator[Tick]:
 
 
 def first_host(trace: str) -> Host:
-    """The first sample of the host, which is taken as its state from the start."""
+    """Returns the host's first sample, which counts as its state from the start."""
     groups = Groups()
     for event in events_of(trace):
         groups.take(*event)
@@ -94,7 +94,7 @@ def first_host(trace: str) -> Host:
 
 
 def first_samples(trace: str) -> Iterator[Event]:
-    """The first `mem` event of each group that is live at the start."""
+    """Yields the first `mem` event of each group that is live at the start."""
     live, seen = {"/"}, set()
     for moment, verb, fields in events_of(trace):
         if verb == "group" and moment == 0:
@@ -105,7 +105,7 @@ def first_samples(trace: str) -> Iterator[Event]:
 
 
 def warm_up(it: Engine, run: Run, world: World[Task]) -> None:
-    """Lets oomd look before the trace begins, at the machine of its first samples."""
+    """Lets oomd look before the trace begins, at a machine with the trace's first samples."""
     for event in first_samples(run.trace):
         world.take(*event)
     count = run.warm // run.interval
@@ -114,7 +114,7 @@ def warm_up(it: Engine, run: Run, world: World[Task]) -> None:
 
 
 def decide(it: Engine, run: Run, ticks: Iterator[Tick]) -> None:
-    """Takes the trace's events and the looks in order of time."""
+    """Passes the trace's events and the looks to the engine, in order of time."""
     world, events = it.machine.world, Events(run.trace)
     for event in events.until(0):
         world.take(*event)
@@ -128,9 +128,8 @@ def decide(it: Engine, run: Run, ticks: Iterator[Tick]) -> None:
 
 
 def prepare_engine(run: Run) -> Engine:
-    """The engine before its first look. An error if oomd rejects the configuration, or if the trace
-    lacks what a plugin needs.
-    """
+    """Returns the engine before its first look. Raises a Fault if oomd rejects the
+    configuration, or if the trace lacks what a plugin needs."""
     base, parts = run.configurations()
     for it in (base, *parts):
         must_have_scans(run.trace, it.plugins(), it.name)
@@ -138,7 +137,7 @@ def prepare_engine(run: Run) -> Engine:
 
 
 def replay_words(run: Run, threads: int) -> list[str]:
-    """The arguments with which psi_oomd prints the pressure at each look."""
+    """Returns the arguments with which psi_oomd prints the pressure at each look."""
     pace = [f"--tick-ms={TICK_MS}", f"--report-s={run.interval}"]
     return ["replay", *pace, f"--workers={min(threads, 64)}", "--", run.trace]
 
@@ -159,7 +158,7 @@ def raise_refusal(status: int | None, trace: str, said: IO[bytes]) -> None:
 
 
 def emulate(program: Program, run: Run, threads: int) -> Engine:
-    """What oomd would have done in a trace, or an error."""
+    """Returns the engine with what oomd would have done in a trace."""
     check_trace(program, run.trace)
     it = prepare_engine(run)
     with tempfile.TemporaryFile() as said:

@@ -1,4 +1,4 @@
-"""oomd's engine: rulesets with their detectors, chains of actions and pauses."""
+"""Emulates oomd's engine: rulesets with their detectors, chains of actions, and pauses."""
 from __future__ import annotations
 
 from collections.abc import Callable, Sequence
@@ -55,14 +55,15 @@ LEFT_OUT = {
 
 @dataclass(frozen=True)
 class Start:
-    """What oomd reads once, when it starts: the totals of the machine, and its uptime (ns)."""
+    """The values that oomd reads once at its start: the totals of the machine, and its uptime
+    (ns)."""
 
     totals: Host
     uptime: int
 
 
 class Notes:
-    """The parts of a configuration that can't be emulated, and what that may change."""
+    """Notes on the parts of a configuration that can't be emulated, and on the consequences."""
 
     def __init__(self) -> None:
         self.texts: list[str] = []
@@ -74,7 +75,7 @@ class Notes:
 
 
 def plugin(use: PluginUse, start: Start, notes: Notes) -> Plugin:
-    """The plugin for this part of a configuration; raises an error if oomd rejects it."""
+    """Returns the plugin for this part of a configuration. Raises Refused if oomd rejects it."""
     if not use.name:
         raise Refused(use.place, "Plugin is missing name")
     if use.name in LEFT_OUT:
@@ -97,7 +98,7 @@ def plugin(use: PluginUse, start: Start, notes: Notes) -> Plugin:
 
 
 def delay_of(text: str, what: str, place: str, default: int) -> int:
-    """A delay in seconds. oomd aborts if it isn't a number."""
+    """Parses a delay in seconds. oomd aborts if it isn't a number."""
     if not text:
         return default
     try:
@@ -110,7 +111,7 @@ def delay_of(text: str, what: str, place: str, default: int) -> int:
 
 
 def check_head(use: RulesetUse, is_drop_in: bool) -> None:
-    """The checks of a ruleset that oomd makes before those of its plugins."""
+    """Makes the checks of a ruleset that oomd makes before those of its plugins."""
     if not use.name:
         raise Refused(use.place, "Ruleset is missing name")
     for part in filter(None, use.silenced.strip().split(",")):
@@ -121,7 +122,7 @@ def check_head(use: RulesetUse, is_drop_in: bool) -> None:
 
 
 def act_of(it: Plugin, number: int, result: Result, decisions: list[Decision]) -> Act:
-    """What an action did, with the kill that it decided on."""
+    """Describes what an action did, with its kill if it made one."""
     victim = decisions[0].victim if decisions else None
     if victim:
         return Act(number, it.name, victim, "", victim.candidates)
@@ -133,7 +134,7 @@ def act_of(it: Plugin, number: int, result: Result, decisions: list[Decision]) -
 
 
 class Ruleset(Pauses):
-    """A ruleset, and the drop-in file that contains it."""
+    """A ruleset, and the name of the drop-in file that it comes from, empty if there is none."""
 
     def __init__(
         self, use: RulesetUse, number: int, start: Start, notes: Notes, drop_in: str = ""
@@ -163,7 +164,7 @@ class Ruleset(Pauses):
         self.is_paused_by_action = True
 
     def run(self, look: Look) -> None:
-        """Runs every detector, and the actions if a group is true and the ruleset isn't paused."""
+        """Runs all detectors, and the actions if a group is true and the ruleset isn't paused."""
         if not self.is_enabled:
             return
         self.now, look.ruleset = look.now, None
@@ -185,7 +186,7 @@ class Ruleset(Pauses):
             self.chain(0, fired, look)
 
     def step(self, it: Plugin, action: int | None, why: list[str], look: Look) -> Result:
-        """Runs a plugin, and stores its kill."""
+        """Runs a plugin, and stores its kills."""
         result = it.run(look)
         source = Source(self.number, self.name, action, it.name, self.drop_in)
         self.decisions += [Decision(look.now, source, victim, why) for victim in look.victims]
@@ -193,7 +194,8 @@ class Ruleset(Pauses):
         return result
 
     def chain(self, first: int, why: list[str], look: Look) -> None:
-        """Runs the actions from this index, until one stops or waits for the next look."""
+        """Runs the actions from the index `first` on, until one stops or waits for the next
+        look."""
         acts: list[Act] = []
         self.fired.append(Fired(look.now, why, None, acts))
         for number in range(first, len(self.actions)):
@@ -212,7 +214,7 @@ class Ruleset(Pauses):
 
 @dataclass
 class Course:
-    """How near a detector came to its limit, for people."""
+    """How near a detector came to its limit, as text."""
 
     place: str
     text: str
@@ -220,9 +222,8 @@ class Course:
 
 @dataclass
 class Engine:
-    """All rulesets, in the order in which they run, and what oomd remembers about groups between
-    looks.
-    """
+    """All rulesets in the order in which they run, and what oomd remembers about groups between
+    looks."""
 
     machine: Machine
     rulesets: list[Ruleset]
@@ -235,7 +236,7 @@ class Engine:
     scanned: dict[Group, int] = field(default_factory=dict)
 
     def look(self, now: int) -> None:
-        """Looks at a time (ns). After a crash nothing happens any more."""
+        """Looks at the machine at the time `now` (ns). Nothing happens after a crash."""
         if self.crash:
             return
         self.looks, self.last = self.looks + 1, now
@@ -258,7 +259,7 @@ class Engine:
         self.scanned = {group: self.machine.scanned(path) for path, group in groups}
 
     def courses(self) -> list[Course]:
-        """How near each measuring detector came to its limit."""
+        """Says how near each detector with a limit came to it."""
         found = []
         for ruleset in self.rulesets:
             plugins = [it for _, detectors in ruleset.groups for it in detectors]
@@ -267,7 +268,7 @@ class Engine:
 
 
 def merge(base: RulesetUse, part: RulesetUse, place: str) -> RulesetUse:
-    """A ruleset whose detectors or actions are replaced by a drop-in's."""
+    """Returns a ruleset whose detectors or actions are replaced by a drop-in file's."""
     for is_given, may_replace, what in (
         (part.groups, base.may_replace_detectors, "DetectorGroup"),
         (part.actions, base.may_replace_actions, "Action"),
@@ -291,7 +292,7 @@ def check_hooks(configuration: Configuration, notes: Notes) -> None:
 def drop_in_rulesets(
     base: Configuration, part: Configuration, start: Start, notes: Notes
 ) -> list[Ruleset]:
-    """The additional rulesets of a drop-in file; raises an error if oomd rejects it."""
+    """Returns the rulesets that a drop-in file adds. Raises Refused if oomd rejects it."""
     found = []
     for use in part.rulesets:
         targets = [(at, it) for at, it in enumerate(base.rulesets) if it.name == use.name]
@@ -308,9 +309,8 @@ def drop_in_rulesets(
 def engine(
     base: Configuration, parts: Sequence[Configuration], machine: Machine, uptime: int
 ) -> Engine:
-    """The engine of a configuration and drop-in files; raises an error if oomd rejects the
-    configuration. A rejected drop-in file is noted, since oomd continues without it.
-    """
+    """Returns the engine for a configuration and drop-in files. Raises Refused if oomd rejects
+    the configuration. A rejected drop-in file is noted, since oomd continues without it."""
     notes, start = Notes(), Start(machine.totals, uptime)
     rulesets = [Ruleset(it, at, start, notes) for at, it in enumerate(base.rulesets)]
     check_hooks(base, notes)

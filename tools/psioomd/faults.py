@@ -1,11 +1,11 @@
-"""Why oomd rejects a configuration."""
+"""The errors of oomd: rejected configurations, and crashes."""
 from __future__ import annotations
 
 from psicli.fault import Fault
 
 
 class Refused(Fault):
-    """A place in a configuration, and oomd's reason for rejecting it."""
+    """The error that oomd rejects a configuration, with the place and oomd's reason."""
 
     def __init__(self, place: str, reason: str) -> None:
         super().__init__(f"{place}: oomd refuses this: {reason}")
@@ -13,4 +13,4 @@ class Refused(Fault):
 
 
 class Crash(Exception):
-    """An input that makes oomd 0.5.0 crash."""
+    """The error that an input makes oomd 0.5.0 crash."""

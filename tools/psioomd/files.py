@@ -1,4 +1,4 @@
-"""The files of a machine that oomd reads, below a temporary folder."""
+"""Writes the files of a machine that oomd reads, below a temporary folder."""
 from __future__ import annotations
 
 import os
@@ -30,7 +30,8 @@ def text_of(hundredths: int) -> str:
 
 
 def pressure_text(averages: Averages) -> str:
-    """A pressure file. oomd doesn't read its line `some`, so that is the same as `full`."""
+    """Formats a pressure file. oomd doesn't read its line `some`, so that has the values of
+    `full`."""
     shares = (averages.avg10, averages.avg60, averages.avg300)
     names = zip(("avg10", "avg60", "avg300"), map(text_of, shares))
     line = " ".join(f"{name}={share}" for name, share in names) + " total=0\n"
@@ -68,7 +69,7 @@ class Files:
         return self.tree if path == ROOT else self.tree + path
 
     def update(self) -> None:
-        """Writes what changed since the last time."""
+        """Writes the files that changed since the last call."""
         live = self.machine.world.live
         gone = [path for path, it in self.groups.items() if live.get(path) is not it]
         for path in sorted(gone, key=len, reverse=True):
@@ -96,7 +97,7 @@ class Files:
             self.write(os.path.join(folder, name), text)
 
     def fixed(self, path: str) -> dict[str, str]:
-        """The files of a group that never change. Its list of processes is empty."""
+        """Returns the files of a group that never change. The list of processes is empty."""
         given = self.machine.extras
         dying = given.of(path, "nr_dying_descendants")
         found = {"cgroup.stat": f"nr_descendants 0\nnr_dying_descendants {dying}\n"}
@@ -105,7 +106,7 @@ class Files:
         return {**found, **FIXED, **{name: f"{given.of(path, name)}\n" for name in NUMBERS}}
 
     def update_group(self, path: str) -> None:
-        """The files of a group that change."""
+        """Writes the files of a group that change."""
         folder, sample = self.folder(path), self.machine.sample(path)
         stat = f"anon {sample.memory}\nfile 0\npgscan {sample.scanned}\npgsteal 0\n"
         self.write(os.path.join(folder, "memory.stat"), stat)

@@ -1,4 +1,4 @@
-"""oomd's actions that kill, and how each chooses its victim."""
+"""Emulates oomd's actions that kill, and their choice of a victim."""
 from __future__ import annotations
 
 import itertools
@@ -18,14 +18,14 @@ from psisystemd.values import percent
 
 DEFAULT_SIZE, DEFAULT_PERCENTILE, DEFAULT_RATIO = 50, 80, 1.25
 WHOLE = 100
-# The values by which candidates are compared, the greater first.
+# The values by which candidates are compared. The greatest is ranked first.
 Key = tuple[float, ...]
-# The keys of the candidates that an action may choose, and the reason for each rank in words.
+# The candidates that an action may choose, by path: the key of each, and its rank in words.
 Ranked = dict[str, tuple[Key, str]]
 
 
 class Killer(Plugin):
-    """An action that kills the best candidate in which a task is live."""
+    """An action that kills the highest-ranked candidate with a live task."""
 
     def __init__(self, use: PluginUse, args: dict[str, Any]) -> None:
         super().__init__(use, args)
@@ -54,9 +54,8 @@ class Killer(Plugin):
         return Result.STOP
 
     def victims(self, look: Look, paths: list[str]) -> list[tuple[str, list[Candidate]]]:
-        """The groups that may be killed, which are equal in rank, each with its sibling candidates.
-        It is undefined which of them oomd takes.
-        """
+        """Returns the groups that may be killed, which are equal in rank, each with its sibling
+        candidates. It is undefined which of them oomd kills."""
         order, candidates = self.ranked(look, paths)
         best = [it.path for it in candidates]
         for _, equals in itertools.groupby(best, key=lambda it: order[it]):
@@ -66,14 +65,14 @@ class Killer(Plugin):
         return []
 
     def ranked(self, look: Look, paths: list[str]) -> tuple[dict[str, Key], list[Candidate]]:
-        """The keys of sibling candidates, and the candidates by rank."""
+        """Returns the keys of sibling candidates, and the candidates in order of rank."""
         ranked = self.ranks(look, paths)
         order = {path: (look.machine.rank(path), *ranked[path][0]) for path in sorted(ranked)}
         best = sorted(order, key=lambda it: order[it], reverse=True)
         return order, [self.candidate(look.machine, it, ranked[it][1]) for it in best]
 
     def nobody(self) -> str:
-        """Why it found no victim at its last look."""
+        """Says why there was no victim at the last look."""
         if not self.paths:
             return f"no live group matches {self.args['cgroup'].text}"
         if self.seen and all(it.passed_over for it in self.seen):
@@ -83,9 +82,8 @@ class Killer(Plugin):
     def at(
         self, look: Look, path: str, candidates: list[Candidate]
     ) -> list[tuple[str, list[Candidate]]]:
-        """The groups that may be killed after this one was chosen: itself, or some of its
-        descendants.
-        """
+        """Returns the groups that may be killed after the group at `path` was chosen: the group
+        itself, or some of its descendants. Empty if none has a task."""
         machine = look.machine
         if self.is_recursive and not machine.ends_as_a_whole(path):
             children = machine.children(path)
@@ -99,7 +97,7 @@ class Killer(Plugin):
 
 
 class BySwap(Killer):
-    """`kill_by_swap_usage`"""
+    """`kill_by_swap_usage`: ranks by swap, from the threshold on."""
 
     def ranks(self, look: Look, paths: list[str]) -> Ranked:
         least = self.args.get("threshold", 1)
@@ -108,7 +106,7 @@ class BySwap(Killer):
 
 
 class ByPressure(Killer):
-    """`kill_by_pressure`: by whole percents, and at 0 too."""
+    """`kill_by_pressure`: ranks by whole percents, including 0."""
 
     def ranks(self, look: Look, paths: list[str]) -> Ranked:
         ranked: Ranked = {}
@@ -121,9 +119,8 @@ class ByPressure(Killer):
 
 
 class ByScans(Killer):
-    """`kill_by_pg_scan`: by the pages scanned since the previous look, even if there are none. It
-    waits for a second consecutive look.
-    """
+    """`kill_by_pg_scan`: ranks by the pages scanned since the previous look, even if there are
+    none. It waits for a second consecutive look."""
 
     def __init__(self, use: PluginUse, args: dict[str, Any]) -> None:
         super().__init__(use, args)
@@ -143,7 +140,7 @@ class ByScans(Killer):
 
 
 class BySize(Killer):
-    """`kill_by_memory_size_or_growth`"""
+    """`kill_by_memory_size_or_growth`: ranks large groups by size, and others by growth."""
 
     def __init__(self, use: PluginUse, args: dict[str, Any]) -> None:
         super().__init__(use, args)
@@ -152,7 +149,7 @@ class BySize(Killer):
         self.ratio = float32(args.get("min_growth_ratio", DEFAULT_RATIO))
 
     def least_to_grow(self, machine: Machine, paths: list[str]) -> int:
-        """The effective usage (bytes) from which growth counts."""
+        """Returns the effective memory use (bytes) from which growth counts."""
         place = math.ceil(len(paths) * (WHOLE - float(self.percentile)) / WHOLE) - 1
         if place < 0:
             raise Crash(

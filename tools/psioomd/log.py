@@ -1,4 +1,4 @@
-"""Parses oomd's log: its kills, and which action of which ruleset caused each."""
+"""Parses oomd's log: its kills, and the ruleset and action of each."""
 from __future__ import annotations
 
 import re
@@ -26,7 +26,7 @@ class Restart:
 
 
 class LogReader:
-    """Reads the log look by look. `actions` is the number of actions of each ruleset."""
+    """Parses the log look by look. `actions` has the number of actions of each ruleset."""
 
     def __init__(self, actions: list[int]) -> None:
         self.actions = actions
@@ -36,7 +36,7 @@ class LogReader:
         self.plugins: list[str] = []
 
     def take(self, moment: int, text: str) -> None:
-        """Takes the log of a look at a time (ns)."""
+        """Parses the log of the look at `moment` (ns)."""
         waiting, self.waiting = self.waiting, {}
         following: tuple[int, int] | None = None
         running: tuple[int, int] | None = None
@@ -58,7 +58,7 @@ class LogReader:
                 self.restarts.append(Restart(moment, restart[1]))
 
     def after(self, running: tuple[int, int], returned: str) -> tuple[int, int] | None:
-        """The next action in the chain, if any."""
+        """Returns the next action of the chain, None if it has ended."""
         ruleset, action = running
         if returned == "ASYNC":
             self.waiting[ruleset] = action
@@ -72,7 +72,7 @@ class LogReader:
 
 
 def reason(log: str) -> str:
-    """The last message of oomd, without source locations and the copy of the rules."""
+    """Returns the last messages of oomd, without source locations and the copy of the rules."""
     said = [PLACE.sub("", it).strip() for it in log.splitlines()]
     kept = [
         line

@@ -1,6 +1,5 @@
-"""The machine as oomd sees it at a look: the trace's last samples, and the pressure of the last
-tick.
-"""
+"""The machine as oomd sees it at a look: the trace's last samples, and the pressure at the last
+tick."""
 from __future__ import annotations
 
 from dataclasses import dataclass, field
@@ -25,14 +24,14 @@ class Averages:
 
 
 NO_PRESSURE = Averages()
-# The averages of a group by resource.
+# The averages of a group, by resource.
 Pressure = dict[str, Averages]
 
 
 @dataclass(eq=False)
 class Extras:
-    """Values that no trace has: numbers by a group's path and the file's name, such as memory.low.
-    """
+    """Values that no trace has: numbers by a group's path and the name of a file such as
+    memory.low."""
 
     numbers: dict[tuple[str, str], int] = field(default_factory=dict)
 
@@ -41,7 +40,7 @@ class Extras:
 
 
 class Machine:
-    """The groups and the memory at one time. `totals` is the host at oomd's start."""
+    """The groups and the memory at one time. `totals` are the host's sizes at oomd's start."""
 
     def __init__(self, extras: Extras, totals: Host) -> None:
         self.world = World(Task)
@@ -51,13 +50,13 @@ class Machine:
         self.paths: list[str] = []
 
     def refresh(self) -> None:
-        """Discards what was computed for the previous look."""
+        """Updates the list of groups, and discards what patterns matched if it has changed."""
         paths = sorted(self.world.live)
         if paths != self.paths:
             self.paths, self.matched = paths, {}
 
     def take_pressure(self, reports: dict[str, Pressure]) -> None:
-        """Stores the pressure at a tick, for groups that are live."""
+        """Stores the pressure at a tick, for live groups."""
         for path, pressure in reports.items():
             group = self.world.live.get(path)
             if group:
@@ -67,7 +66,7 @@ class Machine:
         return self.world.host or self.totals
 
     def among(self, patterns: Patterns) -> list[str]:
-        """The live groups that the patterns match, in the order of their paths."""
+        """Returns the live groups that the patterns match, in order of paths."""
         if patterns not in self.matched:
             self.matched[patterns] = patterns.among(self.paths)
         return self.matched[patterns]
@@ -79,14 +78,16 @@ class Machine:
         return self.group(path).sample or NO_SAMPLE
 
     def pressure(self, path: str, resource: str) -> Averages:
-        """The averages; 0 if the group's accounting is off, since it has no pressure files then."""
+        """Returns the group's averages. They are 0 if its accounting is off, since it has no
+        pressure files then."""
         group = self.group(path)
         if not group.is_accounted:
             return NO_PRESSURE
         return self.pressures.get(group, {}).get(resource, NO_PRESSURE)
 
     def current(self, path: str) -> int:
-        """Bytes of memory. For the root this is MemTotal less MemFree, both in KiB."""
+        """Returns the memory in use (bytes). For the root this is MemTotal less MemFree, both in
+        KiB."""
         used = self.sample(path).memory
         if path != ROOT:
             return used
@@ -94,18 +95,18 @@ class Machine:
         return (total - max(0, total - used // KIB)) * KIB
 
     def swap(self, path: str) -> int:
-        """Bytes of swap; the root has no file for it."""
+        """Returns the swap in use (bytes), 0 for the root, which has no file for it."""
         return 0 if path == ROOT else self.sample(path).swap
 
     def scanned(self, path: str) -> int:
-        """Pages scanned so far."""
+        """Returns the pages scanned up to the last sample."""
         return self.sample(path).scanned
 
     def preference(self, path: str) -> str:
         return self.group(path).preference
 
     def rank(self, path: str) -> int:
-        """The order of preferences: prefer, none, avoid."""
+        """Returns the rank of the group's preference: prefer before none before avoid."""
         return RANKS[self.preference(path)]
 
     def is_populated(self, path: str) -> bool:
@@ -115,7 +116,7 @@ class Machine:
         return self.extras.of(path, "memory.oom.group") == 1
 
     def children(self, path: str) -> list[str]:
-        """The children, without names that begin with a dot."""
+        """Returns the paths of the children, without names that begin with a dot."""
         front = "" if path == ROOT else path
         names = sorted(it.rpartition("/")[2] for it in self.group(path).children)
         return [f"{front}/{it}" for it in names if it[0] != "."]
@@ -125,7 +126,7 @@ class Machine:
         return min(self.current(path), max(low, least))
 
     def protection(self, path: str) -> int:
-        """Bytes that memory.low and memory.min protect, shared among siblings."""
+        """Returns the bytes that memory.low and memory.min protect, shared among siblings."""
         if path == ROOT:
             return self.current(path)
         if not self.extras.numbers:
@@ -138,5 +139,5 @@ class Machine:
         return int(raw * min(1.0, self.protection(above) / total)) if total else 0
 
     def effective(self, path: str) -> int:
-        """Bytes of memory that aren't protected."""
+        """Returns the memory in use (bytes) that isn't protected."""
         return self.current(path) - self.protection(path)

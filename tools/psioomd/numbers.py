@@ -1,4 +1,4 @@
-"""Numbers as oomd parses and computes them: C++'s stoi and stof, sizes, and 32-bit floats."""
+"""Parses and computes numbers as oomd does: C++'s stoi and stof, sizes, and 32-bit floats."""
 from __future__ import annotations
 
 import math
@@ -20,11 +20,11 @@ UNITS = {"": 1, "k": 1 << 10, "m": 1 << 20, "g": 1 << 30, "t": 1 << 40}
 
 
 class BadNumber(ValueError):
-    """A text that oomd doesn't accept as this kind of number."""
+    """The error that oomd doesn't accept a text as this kind of number."""
 
 
 def float32(value: float) -> float:
-    """The nearest 32-bit float."""
+    """Returns the nearest 32-bit float."""
     try:
         return float(struct.unpack("f", struct.pack("f", value))[0])
     except OverflowError:
@@ -32,7 +32,7 @@ def float32(value: float) -> float:
 
 
 def stoi(text: str) -> int:
-    """The number at the start of a text. What follows it is ignored."""
+    """Parses the integer at the start of a text like C++'s stoi, which ignores the rest."""
     found = WHOLE.match(text)
     if not found or not INT_MIN <= int(found[1]) <= INT_MAX:
         raise BadNumber("stoi")
@@ -51,7 +51,7 @@ def real(word: str) -> float:
 
 
 def stof(text: str) -> float:
-    """The 32-bit float at the start of a text."""
+    """Parses the 32-bit float at the start of a text like C++'s stof."""
     found = FLOAT.match(text)
     if not found:
         raise BadNumber("stof")
@@ -64,13 +64,13 @@ def stof(text: str) -> float:
 
 
 def quotient(number: int, divisor: int) -> int:
-    """C's division, which rounds towards 0."""
+    """Divides like C, rounding towards 0."""
     whole = abs(number) // divisor
     return whole if number >= 0 else -whole
 
 
 def parts_sum(text: str) -> int | None:
-    """The bytes of a sum of sizes such as `1.5M 32K 512`, or None."""
+    """Parses a sum of sizes such as `1.5M 32K 512`, and returns bytes. None if it is malformed."""
     joined = "".join(it for it in text if it not in SPACES).lower()
     is_negative = joined[:1] == "-"
     rest = joined[1:] if joined[:1] in ("+", "-") else joined
@@ -81,13 +81,14 @@ def parts_sum(text: str) -> int | None:
         found = FLOAT.match(number)
         if not found or found.end() != len(number) or not 0 <= real(found[1]) < math.inf:
             return None
-        # oomd adds in 64-bit floats, and stores a whole number after each part.
+        # oomd adds in 64-bit floats, and stores an integer after each part.
         total = int(float(total) + real(found[1]) * UNITS[unit])
     return -total if is_negative else total
 
 
 def size(text: str, total: int) -> int:
-    """The bytes of a size or a percentage of `total` bytes. A bare number counts MiB."""
+    """Parses a size, or a percentage of `total` bytes, and returns bytes. A bare number is in
+    MiB."""
     fault = BadNumber(f"Failed to parse threshold: {text}")
     if text.endswith("%"):
         try:
@@ -109,5 +110,5 @@ def size(text: str, total: int) -> int:
 
 
 def signed32(number: int) -> int:
-    """The low 32 bits of a number, as a signed number."""
+    """Returns the low 32 bits of a number as a signed number."""
     return (number - INT_MIN) % (1 << 32) + INT_MIN

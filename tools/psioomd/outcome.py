@@ -1,4 +1,4 @@
-"""The result of a look: kills, with the reason and the other candidates."""
+"""The results of looks: kills, each with its reason and the other candidates."""
 from __future__ import annotations
 
 from dataclasses import dataclass, field
@@ -12,9 +12,8 @@ MOST_CANDIDATES = 4
 
 @dataclass(frozen=True)
 class Candidate:
-    """A group that could be chosen: the values of its rank, and its preference. `passed_over` says
-    why it couldn't be chosen, if it couldn't.
-    """
+    """A group that could be chosen: the values of its rank in words, and its preference.
+    `passed_over` says why the group was skipped, and is empty if it wasn't."""
 
     path: str
     rank: str
@@ -28,7 +27,8 @@ class Candidate:
 
 @dataclass(frozen=True)
 class Victim:
-    """The victim of an action, the groups that were equal in rank, and all candidates by rank."""
+    """The victim of an action, the groups that were equal in rank, and all candidates in order
+    of rank."""
 
     path: str
     equals: list[str]
@@ -38,9 +38,8 @@ class Victim:
 
 @dataclass(frozen=True)
 class Act:
-    """What an action did at a look: its number and plugin, its victim, or why there is none, and
-    its candidates.
-    """
+    """The outcome of an action at a look: its number and plugin, its victim or why there is
+    none, and its candidates."""
 
     action: int
     plugin: str
@@ -51,9 +50,8 @@ class Act:
 
 @dataclass(frozen=True)
 class Fired:
-    """A look (ns) at which a ruleset fired: what the detectors of the group that fired found, and
-    what its actions did; or until when (ns) the ruleset was paused.
-    """
+    """A look (ns) at which a ruleset fired: what the detectors of the group that fired found,
+    and what the actions did, or the time (ns) until which the ruleset was paused."""
 
     moment: int
     why: list[str]
@@ -91,16 +89,16 @@ class Decision:
     why: list[str] = field(default_factory=list)
 
     def kill(self) -> Kill:
-        """The kill in the form of replays."""
+        """Returns the kill in the form of a replay's kills."""
         action = -1 if self.source.action is None else self.source.action
         return Kill(self.moment, self.source.ruleset, action, self.victim.path)
 
     def may_kill(self, path: str) -> bool:
-        """Whether oomd may choose this group: it is the victim, or equal in rank."""
+        """Whether oomd may choose the group at `path`: it is the victim, or equal in rank."""
         return path == self.victim.path or path in self.victim.equals
 
     def lines(self, is_all: bool) -> list[str]:
-        """The kill as text lines."""
+        """Returns the kill as lines of text."""
         when = f"{seconds(self.moment)} s"
         gap = " " * (len(when) + 2)
         path = self.victim.path
@@ -124,7 +122,7 @@ class Decision:
         return lines
 
     def record(self) -> dict[str, object]:
-        """The kill for JSON."""
+        """Returns the kill as a JSON object."""
         candidates = [
             {"path": it.path, "rank": it.rank, "preference": it.preference,
              "passed_over": it.passed_over or None}

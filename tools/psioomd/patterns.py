@@ -1,5 +1,5 @@
-"""Patterns of control groups, which oomd passes to glob(3) with GLOB_BRACE below its mount point.
-"""
+"""Matches patterns of control groups, which oomd passes to glob(3) with GLOB_BRACE below its
+mount point."""
 from __future__ import annotations
 
 import re
@@ -11,12 +11,13 @@ NOTHING = re.compile("(?!)")
 
 
 def split(text: str, mark: str) -> list[str]:
-    """The non-empty parts between separators."""
+    """Splits a text at `mark`, and returns the non-empty parts."""
     return [it for it in text.split(mark) if it]
 
 
 def closing_brace(text: str, start: int) -> int | None:
-    """The index of the brace that closes the one before `start`."""
+    """Returns the index of the brace that closes the brace before `start`, None if there is
+    none."""
     depth, at = 0, start
     while at < len(text):
         if text[at] == "\\":
@@ -33,7 +34,8 @@ def closing_brace(text: str, start: int) -> int | None:
 
 
 def without_braces(text: str) -> str:
-    """The pattern without its braces. oomd splits at commas first, so each has one alternative."""
+    """Returns the pattern without braces. Since oomd splits at commas first, each pair of braces
+    has one alternative."""
     found = re.match(r"(?:[^\\{]|\\.)*", text, re.DOTALL)
     start = found.end() if found else 0
     if start >= len(text) or text[start] != "{":
@@ -45,7 +47,8 @@ def without_braces(text: str) -> str:
 
 
 def bracket(text: str, at: int) -> tuple[str, int] | None:
-    """The regular expression of the set that begins at this index, and the index after it."""
+    """Returns the regular expression of the set that begins at `at`, and the index after the
+    set. None if the set isn't closed."""
     start = at + 1
     is_negated = text[start : start + 1] in ("!", "^")
     first = start + is_negated
@@ -58,9 +61,8 @@ def bracket(text: str, at: int) -> tuple[str, int] | None:
 
 
 def component(text: str) -> re.Pattern[str]:
-    """The regular expression of a component. Only a dot in the pattern matches a name's leading
-    dot.
-    """
+    """Returns the regular expression of a component. Only a dot in the pattern matches a name's
+    leading dot."""
     at, parts = 0, []
     while at < len(text):
         mark = text[at]
@@ -99,5 +101,5 @@ class Patterns:
         )
 
     def among(self, paths: Iterable[str]) -> list[str]:
-        """The paths that match, in their order."""
+        """Returns the paths that match, in the given order."""
         return [it for it in paths if self.matches(it)]

@@ -16,7 +16,7 @@ if TYPE_CHECKING:
 
 
 class Result(Enum):
-    """What a plugin returns. A detector is true if it returns CONTINUE or PAUSED."""
+    """The result of a plugin. A detector is true if it returns CONTINUE or PAUSED."""
 
     CONTINUE = "CONTINUE"
     STOP = "STOP"
@@ -24,18 +24,17 @@ class Result(Enum):
 
 
 class Pauses(ABC):
-    """A ruleset, as its actions see it."""
+    """The part of a ruleset that its actions can change."""
 
     @abstractmethod
     def pause(self, seconds: int) -> None:
-        """Sets the pause after this chain, in place of the ruleset's own."""
+        """Sets the pause (s) after this chain, in place of the ruleset's own."""
 
 
 @dataclass
 class Look:
-    """A look at the machine: its time (ns), its number from 1, and what oomd remembers between
-    looks.
-    """
+    """A look at the machine: its time (ns), its number from 1, and what oomd remembers from
+    earlier looks."""
 
     now: int
     number: int
@@ -58,14 +57,14 @@ class Plugin(ABC):
 
     @abstractmethod
     def run(self, look: Look) -> Result:
-        """Runs the detector or the action."""
+        """Runs the detector or the action at a look."""
 
     def why(self) -> str:
-        """What it found at its last look, for people."""
+        """Says what the plugin found at its last look."""
         return self.name
 
     def nearest(self) -> str:
-        """How near it came to its limit in all looks, for people; empty if it measures nothing."""
+        """Says how near the plugin came to its limit in all looks. Empty if it has no limit."""
         return ""
 
 
@@ -74,16 +73,17 @@ def result(is_true: bool) -> Result:
 
 
 class Duration:
-    """Whether a condition holds for a number of whole seconds."""
+    """A condition that must hold for a number of whole seconds."""
 
     def __init__(self, seconds: int) -> None:
         self.seconds = seconds
         self.since: int | None = None
-        # The longest time (ns) for which it held.
+        # The longest time (ns) for which the condition held.
         self.longest = 0
 
     def holds(self, now: int, is_true: bool) -> bool:
-        """Takes the condition at a time (ns), and returns whether it has held long enough."""
+        """Updates the condition at the time `now` (ns), and returns whether it has held long
+        enough."""
         if not is_true:
             self.since = None
             return False

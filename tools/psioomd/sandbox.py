@@ -1,4 +1,4 @@
-"""The sandboxes in which oomd runs: bwrap, or unshare with a root of its own, or none."""
+"""The sandboxes in which oomd can run: bwrap, unshare with a new root, or none."""
 from __future__ import annotations
 
 import functools
@@ -19,8 +19,8 @@ NAMES = {
     "unshare": "unshare (no network, nothing of the machine but /usr, read-only)",
     "none": "no sandbox (the preloaded clock alone refuses kills, sockets and writes)",
 }
-# Runs in a mount namespace of its own: makes a new root with only /usr, read-only, and the folder;
-# then removes the old root and all capabilities.
+# A script that runs in its own mount namespace: it makes a new root with only /usr, read-only, and
+# the folder, and then removes the old root and all capabilities.
 ENTER = """set -e
 new=$1 folder=$2 binary=$3; shift 3
 mount -t tmpfs tmpfs "$new"
@@ -49,7 +49,8 @@ exec setpriv --no-new-privs --inh-caps=-all --bounding-set=-all -- "$@"
 
 @dataclass(frozen=True)
 class Sandbox:
-    """A way to run oomd: the folder that it may write, and its program."""
+    """A way to run oomd: the kind of sandbox, the folder that oomd may write, and oomd's
+    program."""
 
     kind: str
     folder: str
@@ -59,7 +60,7 @@ class Sandbox:
         return NAMES[self.kind]
 
     def words(self, inside: list[str]) -> list[str]:
-        """The command that runs these words inside."""
+        """Returns the command that runs `inside` in the sandbox."""
         if self.kind == "bwrap":
             return [*self.bwrap(), *inside]
         if self.kind == "unshare":
@@ -90,7 +91,7 @@ class Sandbox:
         return [*words, "--bind", self.folder, self.folder, "--"]
 
     def fault(self) -> str:
-        """Why it doesn't work here; empty if it does."""
+        """Says why the sandbox doesn't work on this machine. Empty if it does."""
         try:
             done = subprocess.run(
                 self.words(["/usr/bin/env", "true"]),
@@ -107,13 +108,13 @@ class Sandbox:
 
 @functools.lru_cache(maxsize=None)
 def fault_of(kind: str, binary: str) -> str:
-    """Why a kind of sandbox doesn't work here for a program; empty if it does."""
+    """Says why a kind of sandbox doesn't work on this machine for a program. Empty if it does."""
     with tempfile.TemporaryDirectory(prefix="psioomd-") as folder:
         return Sandbox(kind, os.path.realpath(folder), binary).fault()
 
 
 def sandbox(kind: str | None, folder: str, binary: str) -> Sandbox:
-    """The requested sandbox, or the first that works."""
+    """Returns the requested sandbox, or the first that works."""
     faults = []
     for it in (kind,) if kind else SANDBOXES[:-1]:
         if it != "none" and not shutil.which(it):
