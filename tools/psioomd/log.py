@@ -19,7 +19,7 @@ UNKNOWN = -1
 
 @dataclass(frozen=True)
 class Restart:
-    """A service that oomd would have restarted, and when (ns)."""
+    """A service that oomd would have restarted, and the time of that (ns)."""
 
     moment: int
     service: str
