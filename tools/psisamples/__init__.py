@@ -1,3 +1,2 @@
-"""Makes a trace of totals that were sampled: scheduler events with the pressure that a machine
-reported.
-"""
+"""Makes a trace from sampled totals: scheduler events that give the pressure that a machine
+reported."""

@@ -1,4 +1,4 @@
-"""A block: a stretch of one processor in which tasks of one group produce six wanted times.
+"""A block: a stretch of time on one processor in which tasks of one group produce six wanted times.
 
 The times (ns) are in the order of LEVELS. A block needs at most four tasks, by their kinds: `w`
 waits for IO, `s` sleeps in a memory stall, `o` is ready, and `r` runs. A block has three parts. In
@@ -6,8 +6,7 @@ the first no task is ready. In the second `o` is ready and no task runs. In the 
 the end of the block, so that the block has a whole number of ms of weight.
 
 A task's state is one letter: `w` waits for IO, `s` sleeps in a stall, `r` and `R` are ready, `x`
-and `X` run; those in capitals are in a stall. `z` sleeps.
-"""
+and `X` run; those in capitals are in a stall. `z` sleeps."""
 from __future__ import annotations
 
 from typing import NamedTuple
@@ -23,7 +22,7 @@ NONE: Times = (0,) * len(LEVELS)
 
 
 class Span(NamedTuple):
-    """A task of this kind is in a state from `begin` to `end`, ns since the start of its block."""
+    """A task of this kind is in a state from `begin` to `end` (ns since the start of its block)."""
 
     begin: int
     end: int
@@ -32,7 +31,7 @@ class Span(NamedTuple):
 
 
 def possible(times: Times) -> Times:
-    """The nearest times that a group on one processor can have within a tick."""
+    """Returns the nearest times that a group on one processor can have within a tick."""
     io_some, io_full, mem_some, mem_full, cpu_some, cpu_full = (
         min(TICK, max(0, it)) for it in times
     )
@@ -43,7 +42,7 @@ def possible(times: Times) -> Times:
 
 
 def fitted(times: Times, room: int) -> Times:
-    """The times as far as they fit into a block of `room` ns."""
+    """Returns the nearest times that fit into a block of `room` ns."""
     io_some, io_full, mem_some, mem_full, cpu_some, cpu_full = (
         min(room, max(0, it)) for it in times
     )
@@ -54,16 +53,15 @@ def fitted(times: Times, room: int) -> Times:
 
 
 def least_length(times: Times) -> int:
-    """The least length (ns) of a block with these times."""
+    """Returns the shortest length (ns) of a block with these times."""
     io_some, io_full, mem_some, mem_full, cpu_some, _ = times
     busy = max(cpu_some, io_some - io_full, mem_some - mem_full)
     return busy + max(io_full, mem_full - busy)
 
 
 def easy_length(times: Times) -> int:
-    """The length (ns) in which all of memory full is asleep, if a tick has that much room: fewer
-    turns are needed then.
-    """
+    """Returns the length (ns) of a block in which tasks sleep during all of memory full, which
+    needs fewer turns. If a tick hasn't that much room, returns the shortest length."""
     io_some, io_full, mem_some, mem_full, cpu_some, _ = times
     busy = max(cpu_some, io_some - io_full, mem_some - mem_full)
     easy = busy + max(io_full, mem_full)
@@ -71,13 +69,13 @@ def easy_length(times: Times) -> int:
 
 
 def spans_of(times: Times, length: int) -> list[Span]:
-    """The states of the tasks of a block of `length` ns."""
+    """Returns the states of the tasks in a block of `length` ns."""
     io_some, io_full, mem_some, mem_full, cpu_some, cpu_full = times
     busy = max(cpu_some, io_some - io_full, mem_some - mem_full)
     idle = max(io_full, min(mem_full, length - busy))
     asleep = min(mem_full, idle)
-    # From `idle` on the task on the processor is itself in the stall until `stalled`; then `s` is,
-    # until `lacking`.
+    # From `idle` to `stalled` the task on the processor is itself in the stall; then `s` is in the
+    # stall until `lacking`.
     stalled = idle + mem_full - asleep
     lacking = stalled + mem_some - mem_full
     found = [

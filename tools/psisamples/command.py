@@ -1,4 +1,4 @@
-"""The command tools/samples: its words, and what it says of the traces that it made."""
+"""The options and the report of the command tools/samples."""
 from __future__ import annotations
 
 import argparse
@@ -45,14 +45,14 @@ HELP = {
     "trigger": "add a trigger, as '/web io some 500000 2000000': a group, a resource, a level, and the threshold and the window in us",
     "lines": "write at most N lines to a trace (4000000)",
 }
-# How long a pretended past is, ns.
+# The shortest and the longest lead-in (ns).
 LEAST_PAST, MOST_PAST = 120 * SECOND, 3600 * SECOND
 SHOWN = 8
 TRIGGER = re.compile(r"(/\S*) (io|memory|cpu) (some|full) ([1-9][0-9]*) ([1-9][0-9]*)")
 
 
 def parser() -> Parser:
-    """The parser of the command line."""
+    """Returns the parser of the command line."""
     words = Parser(ABOUT, STATUS)
     option = words.add_argument
     option("files", metavar="FILE", nargs="+",
@@ -97,7 +97,7 @@ def trigger(word: str) -> Trigger:
 
 
 def read(given: argparse.Namespace) -> Data:
-    """All samples."""
+    """Reads all samples."""
     labels: tuple[str, ...] = tuple(filter(None, given.labels.split(",")))
     averages = True if given.lead is not None else {"yes": True, "no": False, None: None}[given.averages]
     inputs = Inputs(Naming(dict(given.rename), given.groups, labels), averages)
@@ -107,7 +107,7 @@ def read(given: argparse.Namespace) -> Data:
 
 
 def span_of(given: argparse.Namespace, data: Data) -> tuple[int, int]:
-    """From when to when the trace is, ns since 1970."""
+    """Returns the start and the end of the trace (ns since 1970)."""
     length, wall = data.end - data.start, WallTime(data.start, 0)
     ends = []
     for option, value, default in (("--from", given.start, 0), ("--to", given.end, length)):
@@ -120,7 +120,7 @@ def span_of(given: argparse.Namespace, data: Data) -> tuple[int, int]:
 
 
 def must_see(triggers: list[Trigger], data: Data) -> None:
-    """A trigger whose window samples can't judge, or whose group has none, is a fault."""
+    """Rejects a trigger whose window is too short for the samples, or whose group has none."""
     for it in triggers:
         window = int(it.fields.split()[-1]) * 1000
         if window < 2 * data.every:
@@ -132,20 +132,20 @@ def must_see(triggers: list[Trigger], data: Data) -> None:
 
 
 class Progress:
-    """How far the work is, on a terminal."""
+    """Shows on a terminal how much of the work is done."""
 
     def __init__(self, whole: int) -> None:
         self.whole, self.shown, self.is_shown = whole, time.monotonic(), sys.stderr.isatty()
 
     def show(self, done: int) -> None:
-        """So many ns are done."""
+        """Shows that `done` ns are converted, at most twice a second."""
         if self.is_shown and time.monotonic() > self.shown + 0.5:
             self.shown = time.monotonic()
             print(f"\rsamples: {min(100, 100 * done // max(1, self.whole))} %", end="", file=sys.stderr, flush=True)
 
 
 def report(data: Data, made: Made, span: int) -> list[str]:
-    """What is said of the traces."""
+    """Returns the lines of the report on the traces."""
     longest = f", the longest {seconds(data.gap)} s" if data.gap > data.every else ""
     several = f", in {len(made.names)} traces that overlap by 15 min" if len(made.names) > 1 else ""
     lines = [
@@ -170,7 +170,7 @@ def report(data: Data, made: Made, span: int) -> list[str]:
 
 
 def work(given: argparse.Namespace) -> int:
-    """Makes the traces; the status."""
+    """Makes the traces, and returns the exit status."""
     must_be_writable(given.output)
     data = read(given)
     must_see(given.trigger, data)

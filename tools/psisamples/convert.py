@@ -1,4 +1,4 @@
-"""Rows of samples as a trace: tick after tick, each group gets what its totals grew by."""
+"""Converts rows of samples to a trace, tick by tick: each group gets the growth of its totals."""
 from __future__ import annotations
 
 from collections import deque
@@ -16,50 +16,54 @@ from .writer import Event, Key, Processor, Task
 
 US = 1000
 TIME = itemgetter(0)
-# Made-up tasks have numbers from here on, beyond those of kernels.
+# The first number of artificial tasks, beyond those of kernels.
 FIRST_NUMBER = 4_000_000_000
-# Below this growth (ns) a group without others at work below it waits for its next sample: averages know whole percents only.
+# A group with less growth than this (ns) waits for its next sample, unless a group below it is
+# active: averages are computed from whole percents only.
 LEAST = TICK // 100
-# What is owed and is less than this (ns) is left, so that ticks between two samples are alike.
+# A difference from the target below this (ns) is ignored, so that the ticks between two samples are
+# equal.
 SMALL = 500
-# How near (us) totals are to the samples unless it is reported.
+# How near (us) totals are to the samples without being reported as off.
 NEAR = 2
-# Sizes that changed by less than a twentieth wait for the next sample.
+# A change of a size by less than a twentieth waits for the next sample.
 PARTS = 20
 NEVER = 2**62
-# Where the tasks of a group come, among lines of changes.
+# The marker, among lines about groups, of the place at which a group's tasks are created.
 TASKS = "tasks"
 
 
 class Off(NamedTuple):
-    """How often a total of a group differed from the samples by more than NEAR, and by how much at most (us)."""
+    """How often a total of a group differed from the samples by more than NEAR, and the greatest
+    difference (us)."""
 
     times: int
     most: int
 
 
 class Trigger(NamedTuple):
-    """A trigger of --trigger: a group, and the rest of its line."""
+    """A trigger of --trigger: a group, and the other words of its line."""
 
     path: str
     fields: str
 
 
 class Options(NamedTuple):
-    """What is asked for: triggers, for how many ticks a past is pretended before the first sample, and whether totals grow between two
-    samples as avg10 says."""
+    """The options of a conversion: triggers, the length of the lead-in (ticks), and whether
+    totals grow between two samples as avg10 says."""
 
     triggers: tuple[Trigger, ...] = ()
     lead: int = 0
     is_shaped: bool = False
 
     def later(self) -> Options:
-        """For a part that isn't the first one."""
+        """Returns the options for a part that isn't the first one: they have no lead-in."""
         return self._replace(lead=0)
 
 
 class Conversion:
-    """A trace that grows by a tick at a time. `checks` gets each tick's lines of totals that must come, by the samples."""
+    """A trace that is made tick by tick. `checks` gets the lines of the totals that a replay
+    must print at each tick, according to the samples."""
 
     def __init__(self, lives: Lives, options: Options) -> None:
         self.lives, self.triggers, self.lead = lives, options.triggers, options.lead
@@ -86,13 +90,14 @@ class Conversion:
         self.new: set[int] = set()
         self.ended: set[int] = set()
         self.seen: set[str] = set()
-        # The resources (by number) of groups that have a sample in the current tick.
+        # The groups that have a sample in the current tick, each with the number of the resource.
         self.sampled: list[tuple[Life, int]] = []
 
     # ---------------------------------------------------------------- groups
 
     def change_groups(self) -> list[str]:
-        """Removes and makes groups after the tick before; the lines of that, without times."""
+        """Removes and creates groups after the previous tick, and returns the lines for that,
+        without times."""
         self.lives.read_until((self.tick + 1) * TICK)
         ends = [it for it in self.order if it.gone is not None and it.gone <= self.tick]
         begins = [it for it in self.lives.born if it.tick <= self.tick]
@@ -109,7 +114,8 @@ class Conversion:
         return lines
 
     def remove(self, ends: list[Life], lines: list[str]) -> list[Life]:
-        """Removes groups and all below them; returns new lives for those below that go on."""
+        """Removes groups and their descendants, and returns new lives for the descendants that
+        continue."""
         gone = {it.path for it in ends}
         again: list[Life] = []
         for life in sorted(self.order, key=lambda it: -it.path.count("/")):
@@ -125,11 +131,11 @@ class Conversion:
         return again
 
     def has_below(self, path: str) -> bool:
-        """Whether a live group is below this one, or it is the root."""
+        """Whether the group at `path` has a live descendant, or is the root."""
         return path == ROOT or any(it.startswith(path + "/") for it in self.live)
 
     def leave(self, life: Life, lines: list[str]) -> None:
-        """The tasks of a group, which sleep, end, and it is removed."""
+        """Ends the tasks of a group, which are asleep, and removes the group."""
         del self.live[life.path]
         numbers = self.tasks.pop(life.number).numbers
         self.ended.add(life.number)
@@ -140,14 +146,14 @@ class Conversion:
         self.written.pop(life.path, None)
 
     def make(self, life: Life, lines: list[str]) -> None:
-        """Makes a group, and those above it that aren't there."""
+        """Creates a group, and its ancestors that don't exist."""
         for path in prefixes(life.path):
             if path not in self.live:
                 self.make(Life(path, self.tick, False), lines)
         known = self.live.get(life.path)
         self.live[life.path] = life
         if known is not None:
-            # A group without samples gets some.
+            # A group that had no samples gets some now.
             life.number = known.number
         else:
             life.number = next(self.groups)
@@ -164,7 +170,7 @@ class Conversion:
         life.start()
 
     def arrange(self) -> None:
-        """The groups from the deepest up, and their chains."""
+        """Sorts the groups from the deepest up, and computes the chains of their ancestors."""
         self.order = sorted(self.live.values(), key=lambda it: (it.path == ROOT, -it.path.count("/"), it.path))
         chains = {}
         for life in self.order:
@@ -176,7 +182,8 @@ class Conversion:
     # ---------------------------------------------------------------- a tick
 
     def step(self) -> None:
-        """Takes the trace to the next tick. Groups come and go 1 ns after the tick before, when what they had until then counts."""
+        """Converts the next tick. Groups are created and removed 1 ns after the previous tick,
+        which therefore counts what they had until then."""
         changes = self.change_groups()
         start = self.tick * TICK
         events = self.events_of(start)
@@ -196,13 +203,14 @@ class Conversion:
         self.compare()
 
     def end(self) -> None:
-        """Writes the samples of memory at the last tick."""
+        """Writes the memory samples at the last tick."""
         out: list[str] = []
         self.put_memory(self.tick * TICK, out)
         self.file.write(out)
 
     def put_changes(self, lines: list[str], time: int) -> None:
-        """Writes the lines of groups that come and go, and where the tasks of a group come."""
+        """Writes the lines about created and removed groups, and marks the places at which the
+        tasks of a group are created."""
         for line in lines:
             verb, _, number = line.partition(" ")
             if verb == TASKS:
@@ -211,7 +219,8 @@ class Conversion:
                 self.file.write([f"{time} {line}\n"])
 
     def events_of(self, start: int) -> list[Event]:
-        """The events of the tick: those of the tick before, if all groups want the same again."""
+        """Returns the events of the tick. They are those of the previous tick if all groups want
+        the same shares again."""
         wanted = self.wants(start)
         if wanted == self.wanted and self.plan is not None:
             self.repeats += 1
@@ -226,7 +235,7 @@ class Conversion:
         return self.lines
 
     def planned(self, wanted: list[tuple[int, tuple[int, ...]]]) -> Plan:
-        """The blocks by which groups have these shares."""
+        """Plans the blocks that give groups these shares."""
         plan = Plan(self.tree, self.before, self.new if self.tick else set())
         for number, times in wanted:
             plan.give(number, times)
@@ -235,7 +244,7 @@ class Conversion:
         return plan
 
     def played(self, plan: Plan) -> list[Event]:
-        """The events of the blocks, by time."""
+        """Returns the events of the blocks, in order of time."""
         while len(self.processors) < len(plan.used):
             self.processors.append(Processor(FIRST + 1 + len(self.processors), self.task_of, self.put_back))
             self.file.processors = max(self.file.processors, len(self.processors))
@@ -246,7 +255,7 @@ class Conversion:
         return events
 
     def task_of(self, key: Key) -> Task:
-        """A sleeping task: a task that was put back, or a new task."""
+        """Returns a sleeping task for a group and kind: one that was put back, or a new one."""
         free = self.free.get(key)
         if free:
             return free.pop()
@@ -256,14 +265,15 @@ class Conversion:
         return task
 
     def put_back(self, key: Key, task: Task) -> None:
-        """A task that isn't used any more."""
+        """Stores a task that isn't used now, for later use."""
         self.free.setdefault(key, []).append(task)
 
     # ---------------------------------------------------------------- what groups want
 
     def wants(self, start: int) -> list[tuple[int, tuple[int, ...]]]:
-        """What each group is to have in the tick from `start` on, from the deepest group up. Groups that want nothing are left out
-        unless some below them have something."""
+        """Returns the shares (ns) that each group is to have in the tick that begins at `start`
+        (ns), from the deepest group up. A group without a share is left out, unless a descendant
+        has one."""
         end, active, found = start + TICK, set[int](), []
         chains = self.tree.chains
         for life in self.order:
@@ -277,7 +287,7 @@ class Conversion:
         return found
 
     def wanted_of(self, life: Life, start: int, end: int, is_active: bool) -> tuple[int, ...]:
-        """The shares (ns) that one group is to have."""
+        """Returns the shares (ns) that one group is to have in a tick."""
         if not life.is_sampled:
             return NONE
         if self.tick < self.lead:
@@ -311,7 +321,8 @@ class Conversion:
     # ---------------------------------------------------------------- memory
 
     def put_memory(self, time: int, out: list[str]) -> None:
-        """The samples of memory at a tick: at each reading, and between two of them if a size changed much."""
+        """Writes the memory samples at a tick: at each reading, and between two readings if a
+        size changed much."""
         host = self.lives.host
         at = self.tick * TICK
         is_first = self.tick == 0
@@ -325,7 +336,7 @@ class Conversion:
                 self.put_sample(life, at, time, out)
 
     def put_sample(self, life: Life, at: int, time: int, out: list[str]) -> None:
-        """The sample of one group, if it is due."""
+        """Writes the memory sample of one group, if it is due."""
         found, is_reading = between_samples(life.memory, at)
         last = self.written.get(life.path)
         is_same = last is not None and (found.current, found.swap, found.scans) == (last.current, last.swap, last.scans)
@@ -338,7 +349,8 @@ class Conversion:
     # ---------------------------------------------------------------- comparing
 
     def compare(self) -> None:
-        """Notes the totals that must come at this tick, at which samples are compared, and those that don't."""
+        """Stores the totals that a replay must print at this tick, and counts those that are
+        off."""
         at = self.tick * TICK
         for life, number in self.sampled:
             for level in (2 * number, 2 * number + 1):
@@ -354,8 +366,8 @@ class Conversion:
 
 
 def next_due(samples: deque[Memory], last: Memory) -> int:
-    """Until when (ns) no sample of memory is due after the last one: until the next sample, if the sizes up to it hardly change and no
-    page is scanned."""
+    """Returns the time (ns) until which no memory sample is due after the last one: that of the
+    next sample, if the sizes hardly change up to it and no page is scanned."""
     if len(samples) < 2:
         return NEVER
     is_near = all(it.scans == last.scans and abs(it.current - last.current) * PARTS <= last.current for it in (samples[0], samples[1]))
@@ -363,8 +375,9 @@ def next_due(samples: deque[Memory], last: Memory) -> int:
 
 
 def bounded(growth: int, owed: int) -> int:
-    """What is wanted of a level: its growth, and what is owed or was too much (ns). What was too much is taken back by at most half of
-    the growth, since a group above would have to weigh more and more for it."""
+    """Returns the share (ns) of a level in a tick: its growth, corrected by `owed` (ns), which
+    is negative if earlier ticks had too much. At most half of the growth is taken back, since
+    otherwise a group above would need more and more weight."""
     if -SMALL < owed < SMALL:
         return growth
     if owed < 0:
@@ -373,14 +386,14 @@ def bounded(growth: int, owed: int) -> int:
 
 
 def prefixes(path: str) -> list[str]:
-    """The groups above a path, from the root down."""
+    """Returns the ancestors of a group, from the root down."""
     if path == ROOT:
         return []
     return [ROOT, *(path[:place] for place, letter in enumerate(path) if letter == "/" and place)]
 
 
 def goes_on(life: Life, tick: int) -> Life:
-    """A life that goes on as a new one, since a group above it was made again."""
+    """Returns a new life that continues another, because a group above it was created again."""
     again = Life(life.path, tick, life.is_sampled)
     again.knots, again.memory, again.last, again.shift, again.gone = life.knots, life.memory, life.last, life.shift, life.gone
     return again

@@ -1,6 +1,4 @@
-"""What all samples amount to: from when to when they are, how often they were taken, and which
-groups they have.
-"""
+"""Summarises all samples: the time that they cover, their interval, and their groups."""
 from __future__ import annotations
 
 from collections import Counter
@@ -15,7 +13,7 @@ from .metrics import SECOND_ROOT
 from .rows import AVERAGES, HOST, MEMORY, ROOT, SCANS
 from .store import Plain
 
-# Intervals are counted by tenths of a second.
+# The unit (ns) in which intervals are counted.
 GRAIN = SECOND // 10
 MOST_INTERVAL = 600 * SECOND
 
@@ -39,11 +37,11 @@ class Data:
     rows: int = 0
 
     def since(self, time: int) -> Iterator[Plain]:
-        """The rows from a time on."""
+        """Yields the rows from `time` on."""
         return self.only(self.inputs.store.since(time))
 
     def only(self, rows: Iterator[Plain]) -> Iterator[Plain]:
-        """The rows, with the root by the one source that has it."""
+        """Yields the rows, with the root's from one source only."""
         for row in rows:
             if row[1] != SECOND_ROOT:
                 yield row
@@ -52,7 +50,7 @@ class Data:
 
 
 def counted(inputs: Inputs) -> Data:
-    """Sorts the samples, and looks at all of them once."""
+    """Sorts the samples, and summarises them in one pass."""
     data = Data(inputs)
     data.has_node_root = ROOT in inputs.paths.values() and any(
         it.group == ROOT and it.field < MEMORY for it in inputs.metrics.series
@@ -82,7 +80,7 @@ def counted(inputs: Inputs) -> Data:
 
 
 def interval_of(gaps: Counter[int]) -> int:
-    """The median of the intervals."""
+    """Returns the median of the intervals."""
     place, total = sum(gaps.values()) // 2, 0
     for gap in sorted(gaps):
         total += gaps[gap]
@@ -92,7 +90,7 @@ def interval_of(gaps: Counter[int]) -> int:
 
 
 def must_be_usable(data: Data) -> None:
-    """Data that can't become a trace is a fault."""
+    """Rejects samples from which no trace can be made."""
     names = ", ".join(data.inputs.files)
     if not data.every:
         raise Fault(f"{names}: no group has two samples")

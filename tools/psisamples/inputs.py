@@ -1,4 +1,4 @@
-"""What is read: files of any format, into a store of rows."""
+"""Reads files of samples in any format into a store of rows."""
 from __future__ import annotations
 
 import gzip
@@ -21,16 +21,15 @@ from .texts import read_csv, read_json_lines, read_loop
 
 BEGINNING = 4096
 SAMPLES = "samples"
-# From this interval on (ns) avg10 says more of a total's growth than a line does; below, it is too
-# old.
+# The interval of samples (ns) from which avg10 describes the growth of a total better than a
+# straight line. For shorter intervals it covers too much of the time before.
 LONG = 14 * SECOND
 PRESSURE = "pressure"
 
 
 def other_kind(name: str, beginning: str) -> str:
-    """What a file is in place of samples, which may be compressed by gzip; empty if that isn't
-    known. JSON may be samples: only that of rules isn't.
-    """
+    """Says what a file is instead of samples; it may be compressed by gzip. Empty if that isn't
+    known. JSON may have samples, except for a rules file."""
     kind = kind_of(beginning.encode("utf-8", "surrogateescape"))
     if kind and kind.what == JSON:
         return f"it is {RULES}, not {SAMPLES}" if '"rulesets"' in beginning else ""
@@ -38,7 +37,7 @@ def other_kind(name: str, beginning: str) -> str:
 
 
 def open_text(name: str) -> TextIO:
-    """A file to read, which may be compressed."""
+    """Opens a text file, which may be compressed by gzip."""
     with open(name, "rb") as file:
         is_packed = file.read(2) == b"\x1f\x8b"
     if is_packed:
@@ -47,16 +46,15 @@ def open_text(name: str) -> TextIO:
 
 
 class Naming(NamedTuple):
-    """How groups are named: paths that take the place of others, with all below them; of how many
-    components a path may be; and the labels whose values are a path if series have no label `id`.
-    """
+    """The names of groups: paths that replace others and their descendants; the most components
+    of a path; and the labels whose values form the path of a series without a label `id`."""
 
     renamed: dict[str, str]
     depth: int | None
     labels: tuple[str, ...]
 
     def path_of(self, name: str) -> str | None:
-        """A group's path; none if it is too deep."""
+        """Returns a group's path, None if it is too deep."""
         for old in sorted(self.renamed, key=len, reverse=True) if self.renamed else ():
             if name == old or name.startswith(old.rstrip("/") + "/"):
                 name = self.renamed[old].rstrip("/") + name[len(old.rstrip("/")) :]
@@ -68,11 +66,10 @@ class Naming(NamedTuple):
 
 
 class Inputs:
-    """Takes the samples of files. Faults name a file and a line."""
+    """Reads the samples of files. Error messages name a file and a line."""
 
     def __init__(self, naming: Naming, averages: bool | None) -> None:
-        # Whether averages are kept; if that isn't said, they are once intervals are seen to be
-        # long.
+        # Whether averages are stored. None means: once intervals turn out to be long.
         self.naming, self.averages = naming, averages
         self.store = Store()
         self.files: list[str] = []
@@ -82,22 +79,21 @@ class Inputs:
         self.count = self.line = 0
 
     def place(self, where: tuple[int, int]) -> Place:
-        """The file and line of a row."""
+        """Returns the file and line of a row."""
         return Place(self.files[where[0]], where[1])
 
     def here(self) -> Place:
-        """The line that is read."""
+        """Returns the file and line that is being read."""
         return Place(self.files[-1], self.line)
 
     def refused(self, beginning: str, why: str) -> Fault:
-        """What is wrong with the line that is read; at the first one, what the file is instead of
-        samples, if that is known.
-        """
+        """Returns the error for the current line. At the first line it says what the file is
+        instead of samples, if that is known."""
         other = other_kind(self.files[-1], beginning) if self.line == 1 else ""
         return Fault(f"{self.files[-1]}: {other}" if other else f"{self.here()}: {why}")
 
     def put(self, time: int, group: str, field: int, values: tuple[int, ...], line: int) -> None:
-        """Takes values of a group at a time (ns)."""
+        """Stores values of a group at a time (ns)."""
         self.line = line
         if field >= AVERAGES and self.averages is False:
             return
@@ -114,7 +110,7 @@ class Inputs:
     def put_in_order(
         self, time: int, group: str, field: int, values: tuple[int, ...], line: int
     ) -> None:
-        """The same for a format whose lines are in the order of time."""
+        """Stores values like `put`, for a format whose lines must be in order of time."""
         if time < self.newest.get((group, field), time):
             self.line = line
             raise Fault(f"{self.here()}: the time goes back: {group} was read later before")
@@ -124,7 +120,7 @@ class Inputs:
         self.put(time, group, field, values, line)
 
     def read(self, name: str) -> None:
-        """Reads a file or a recording's folder."""
+        """Reads a file, or the folder of a recording."""
         before, self.line = self.count, 1
         self.newest.clear()
         self.files.append(name)
@@ -139,7 +135,7 @@ class Inputs:
             raise Fault(f"{name}: there are no samples of pressure in it{self.metrics.others()}")
 
     def read_file(self, name: str) -> None:
-        """Reads a file in the format that its beginning shows."""
+        """Reads a file in the format that its first bytes show."""
         beginning = ""
         try:
             with open_text(name) as file:
@@ -179,7 +175,7 @@ class Inputs:
             raise self.refused(beginning, "this is none of the formats of docs/SAMPLES.md")
 
     def numbered(self, file: TextIO) -> Iterator[tuple[int, str]]:
-        """The lines with their numbers."""
+        """Yields the lines with their numbers."""
         for number, line in enumerate(file, 1):
             self.line = number
             yield number, line.rstrip("\n")

@@ -1,9 +1,8 @@
-"""The lives of groups by their readings: from when to when each group was there, and its totals at
-any time between.
+"""Derives the lives of groups from their readings: when each group existed, and its totals at any
+time.
 
-A total between two readings lies on the line between them. A group that has no reading in three
-rounds of the others is gone; one whose totals fall was removed and made again.
-"""
+Between two readings a total grows linearly. A group without a reading in three rounds of other
+groups' readings is gone, and one whose totals fall was removed and created again."""
 from __future__ import annotations
 
 import bisect
@@ -19,22 +18,22 @@ from .shape import knots_between
 from .store import Plain
 
 US = 1000
-# So many rounds of other groups without a reading of it say that a group is gone.
+# The most consecutive rounds without a reading of a group that still exists.
 MOST_MISSED = 2
-# How much faster than time a total may seem to grow, and how much (ns) is always possible: readings
-# aren't taken at once.
+# The greatest growth of a total relative to time, and the growth (ns) that is always possible: the
+# files of a round aren't read at once.
 FASTEST, SLACK = 1.5, 2 * 10**9
-# Times of rounds that are kept before old ones are dropped.
+# The number of rounds whose times are stored before old ones are dropped.
 MOST_ROUNDS = 4096
 
 
-# A time (ns since the trace's start), the totals (ns) of some and full of a resource then, and 1 if
-# it is a sample.
+# A time (ns since the trace's start), the totals (ns) of some and full of a resource at that time,
+# and 1 if it is a sample.
 Knot = tuple[int, int, int, int]
 
 
 def between(one: Knot, other: Knot, time: int) -> tuple[int, int]:
-    """The totals at a time between two knots."""
+    """Returns the totals (ns) at `time` (ns), interpolated between two knots."""
     if time >= other[0]:
         return other[1], other[2]
     if time <= one[0]:
@@ -46,7 +45,8 @@ def between(one: Knot, other: Knot, time: int) -> tuple[int, int]:
 
 
 class Memory(NamedTuple):
-    """A sample of memory: its time, and bytes, bytes, and a count that is missing if it is -1."""
+    """A memory sample: its time (ns), the memory and swap in use (bytes), and the pages scanned,
+    -1 if unknown."""
 
     time: int
     current: int
@@ -55,16 +55,15 @@ class Memory(NamedTuple):
 
 
 class Reading:
-    """All values of a group at a time, by field."""
+    """The values of a group at one time, by field."""
 
     def __init__(self, time: int, path: str, place: tuple[int, int], is_shaped: bool) -> None:
         self.time, self.path, self.place, self.is_shaped = time, path, place, is_shaped
         self.values: dict[int, int] = {}
 
     def totals(self) -> dict[int, tuple[int, int]]:
-        """The totals (ns) of some and full by resource. Without some there are none; without full
-        it is 0.
-        """
+        """Returns the totals (ns) of some and full, by resource. A resource without some is left
+        out; a missing full is 0."""
         get = self.values.get
         return {
             it // 2: (self.values[it] * US, get(it + 1, 0) * US)
@@ -73,7 +72,8 @@ class Reading:
         }
 
     def shares(self, number: int) -> Optional[tuple[float, float]]:
-        """avg10 of some and full of a resource, percent, if they are to shape its total."""
+        """Returns avg10 of some and full of a resource (percent), None if averages don't shape
+        totals."""
         place = AVERAGES + 6 * number
         if not self.is_shaped or place not in self.values:
             return None
@@ -81,10 +81,8 @@ class Reading:
 
 
 class Life:
-    """A group from when it was made until it was removed. `tick` is the tick after which it is
-    made, and `gone` the one after which it is removed. `base` has the totals (ns) that it began
-    with: its trace begins at 0.
-    """
+    """A group from its creation to its removal. It is created after the tick `tick`, and removed
+    after the tick `gone`. `base` has the totals (ns) at its start, which are 0 in the trace."""
 
     def __init__(self, path: str, tick: int, is_sampled: bool) -> None:
         self.path, self.tick, self.is_sampled = path, tick, is_sampled
@@ -92,27 +90,26 @@ class Life:
         self.gone: Optional[int] = None
         self.last = -1
         self.knots: list[deque[Knot]] = [deque() for _ in RESOURCES]
-        # The totals that it begins with; what it is to have at the last tick; and what it has (ns,
-        # by level).
+        # The totals at the start; the wanted totals at the last tick; and the totals that the trace
+        # has (all ns, by level).
         self.base, self.target, self.achieved = [0] * 6, [0] * 6, [0] * 6
         self.memory: deque[Memory] = deque()
-        # Before this time (ns) no sample of memory is written.
+        # No memory sample is written before this time (ns).
         self.memory_due = 0
-        # What a root that began anew had before; whether the group was made between two rounds;
-        # until when no total grows.
+        # The totals that a root had before they were reset; whether the group was created between
+        # two rounds; and the time (ns) until which no total grows.
         self.shift = [0] * 6
         self.is_new = False
         self.quiet_until = -1
-        # The averages that its first reading had, hundredths of a percent: three for each level.
+        # The averages of the first reading (hundredths of a percent), three for each level.
         self.averages: list[int] = []
-        # avg10 of some and full (percent) at the last reading, by resource, if a total is to grow
-        # as they say.
+        # avg10 of some and full (percent) at the last reading, by resource, if totals grow as they
+        # say.
         self.shares: dict[int, tuple[float, float]] = {}
 
     def add(self, reading: Reading) -> None:
-        """Takes a reading of this life. Totals that it is the first to have begin with it, or at 0
-        in a new group.
-        """
+        """Adds a reading. A resource that occurs for the first time begins with the reading's
+        totals, or at 0 in a new group."""
         totals = reading.totals()
         for number, (some, full) in totals.items():
             knots = self.knots[number]
@@ -142,13 +139,13 @@ class Life:
             self.last = reading.time
 
     def start(self) -> None:
-        """Sets the totals with which it begins."""
+        """Sets the totals at the start of this life."""
         for number, knots in enumerate(self.knots):
             if knots:
                 self.base[2 * number : 2 * number + 2] = self.totals_at(number, self.tick * TICK)
 
     def totals_at(self, number: int, time: int) -> tuple[int, int]:
-        """The absolute totals (ns) of a resource at a time."""
+        """Returns the absolute totals (ns) of a resource at a time (ns)."""
         knots = self.knots[number]
         last = knots[0]
         for knot in knots:
@@ -158,9 +155,8 @@ class Life:
         return last[1], last[2]
 
     def grown(self, number: int, one: Knot, other: Knot, start: int, end: int) -> tuple[int, int]:
-        """By how much (ns) a resource's totals grow in the tick from `start` to `end`, of which
-        both knots are the first that matter; `target` becomes what they are at its end.
-        """
+        """Returns the growth (ns) of a resource's totals in the tick from `start` to `end`, and
+        updates `target`. `one` and `other` are the first two knots that matter for the tick."""
         target, base, level = self.target, self.base, 2 * number
         if one[0] <= start and end <= other[0]:
             part, whole, some, full = (
@@ -176,17 +172,17 @@ class Life:
         return target[level] - before[0], target[level + 1] - before[1]
 
     def is_known_until(self, time: int) -> bool:
-        """Whether there is a reading at this time or later."""
+        """Whether there is a reading at `time` (ns) or later."""
         return self.last >= time
 
 
 def limit_text(elapsed: int) -> str:
-    """How long a total had to grow, and what may be wrong if it grew by more."""
+    """Says for how long a total could grow, and which unit may be wrong if it grew by more."""
     return f"{elapsed // US} us: totals are us, or seconds in metrics"
 
 
 class Lives:
-    """All lives, from rows in the order of time."""
+    """All lives of groups, from rows in order of time."""
 
     def __init__(
         self, rows: Iterator[Plain], origin: int, every: int,
@@ -205,7 +201,7 @@ class Lives:
     # ---------------------------------------------------------------- reading
 
     def reading(self) -> Optional[Reading]:
-        """The next reading: all rows of one group and time."""
+        """Returns the next reading: all rows with the same group and time. None at the end."""
         if self.row is None:
             return None
         time, path, _, _, place = self.row
@@ -217,7 +213,7 @@ class Lives:
         return found
 
     def put(self, reading: Reading, field: int, value: int, place: tuple[int, int]) -> None:
-        """Sets a value of a reading. It may come twice if it is the same."""
+        """Sets a value of a reading. Raises a Fault if the value is there already and differs."""
         if reading.values.setdefault(field, value) != value:
             raise Fault(
                 f"{self.places(place)}: {reading.path} has another value at the same time at"
@@ -225,9 +221,8 @@ class Lives:
             )
 
     def read_until(self, time: int) -> None:
-        """Reads all readings up to a time (ns), and those after it by which it is known who is
-        gone.
-        """
+        """Reads all readings up to `time` (ns), and as many after it as are needed to know which
+        groups are gone."""
         while self.row is not None and (self.time < time + self.every or self.is_open(time)):
             self.read_round()
         if self.row is None:
@@ -242,7 +237,7 @@ class Lives:
                 self.end(life)
 
     def read_round(self) -> None:
-        """Reads on until half of a round is over."""
+        """Reads on for half of a round."""
         end = self.row[0] - self.origin + self.every // 2 if self.row else 0
         while self.row is not None and self.row[0] - self.origin <= end:
             reading = self.reading()
@@ -257,9 +252,8 @@ class Lives:
             del self.rounds[1 : bisect.bisect_left(self.rounds, oldest) - 1]
 
     def is_open(self, time: int) -> bool:
-        """Whether some group has no reading at this time or later, and it isn't known whether it is
-        gone.
-        """
+        """Whether for some group without a reading at `time` (ns) or later it isn't known yet
+        whether it is gone."""
         return any(
             not life.is_known_until(time)
             and life.gone is None
@@ -269,14 +263,13 @@ class Lives:
         )
 
     def is_absent(self, life: Life, time: int) -> bool:
-        """Whether more rounds than may be missed came between the life's last reading and this
-        time.
-        """
+        """Whether more rounds than may be missed lie between the life's last reading and `time`
+        (ns)."""
         first = bisect.bisect_right(self.rounds, life.last + self.every // 2)
         return bisect.bisect_left(self.rounds, time - self.every // 2) - first > MOST_MISSED
 
     def take(self, reading: Reading) -> None:
-        """Takes a reading: it goes on with a life, or begins one."""
+        """Adds a reading to the life that it continues, or begins a life with it."""
         if HOST in reading.values:
             self.host.append(
                 (reading.time, tuple(reading.values.get(HOST + it, 0) for it in range(3)))
@@ -309,10 +302,9 @@ class Lives:
         life.add(reading)
 
     def has_fallen(self, life: Life, reading: Reading) -> bool:
-        """Whether the group was made again since the life's last reading. Totals of which one
-        falls, though another can't have begun at 0 since then, are a fault, and so are those that
-        grow faster than time.
-        """
+        """Whether the group was created again since the life's last reading, so that a total has
+        fallen. Raises a Fault if another total is too great to have begun at 0 since then, or if
+        a total grows faster than time."""
         has_fallen = False
         slower: tuple[int, int] | None = None
         for number, new in reading.totals().items():
@@ -341,11 +333,11 @@ class Lives:
         return has_fallen
 
     def named(self, reading: Reading, level: int) -> str:
-        """A total of a reading, with its place."""
+        """Names a total of a reading, with its file and line."""
         return f"{self.places(reading.place)}: {reading.path} {' '.join(LEVELS[level])}"
 
     def begin(self, reading: Reading, before: Optional[Life]) -> Life:
-        """A new life, which begins with this reading."""
+        """Returns a new life that begins with this reading."""
         tick = max(0, -(-(reading.time - self.every) // TICK))
         if before is not None and before.gone is not None:
             tick = max(tick, before.gone)
@@ -361,22 +353,20 @@ class Lives:
         return life
 
     def has_begun(self) -> bool:
-        """Whether a whole round of groups was over before this reading."""
+        """Whether a whole round of readings had ended before this one."""
         return bool(self.rounds) and self.rounds[-1] - self.rounds[0] > self.every // 2
 
     def end(self, life: Life) -> None:
-        """The life ends after the first tick that isn't before its last reading. One that ended
-        before the trace begins was none.
-        """
+        """Ends a life after the first tick that isn't before its last reading. A life that ended
+        before the trace begins is dropped."""
         life.gone = max(life.tick + 1, -(-life.last // TICK))
         if life.last <= 0 and life in self.born:
             self.born.remove(life)
 
 
 def between_samples(samples: deque[Memory], time: int) -> tuple[Memory, bool]:
-    """The memory at a time, on the line between two samples; and whether a sample came since it was
-    asked for the last time.
-    """
+    """Returns the memory at `time` (ns), interpolated between two samples, and whether a new
+    sample was reached since the last call."""
     is_new = False
     while len(samples) > 1 and samples[1].time <= time:
         samples.popleft()

@@ -54,11 +54,11 @@ FAILED = 2
 
 
 class Stopped(Exception):
-    """A signal came."""
+    """Raised when a signal ends the loop."""
 
 
 def text_of(path: str) -> str:
-    """A file's text; empty if the file doesn't exist or has disappeared."""
+    """Returns a file's text, empty if the file can't be read."""
     try:
         with open(path, encoding="utf-8", errors="replace") as file:
             return file.read()
@@ -67,9 +67,8 @@ def text_of(path: str) -> str:
 
 
 def spelled(path: str) -> str:
-    """A group's path as traces have it: other bytes than theirs become \\xHH, as systemd writes
-    them.
-    """
+    """Returns a group's path as in traces: a byte that traces don't allow becomes \\xHH, as
+    systemd writes it."""
     parts = [it for it in os.fsencode(path).split(b"/") if it]
     return "/" + "/".join(
         "".join(chr(byte) if byte in PLAIN else f"\\x{byte:02x}" for byte in it) for it in parts
@@ -77,9 +76,8 @@ def spelled(path: str) -> str:
 
 
 def pressure_line(head: str, resource: str, text: str) -> str:
-    """The line of a pressure file: both totals (us) and six averages. An old kernel's file of cpu
-    has no line `full`.
-    """
+    """Returns the line for a pressure file: both totals (us) and six averages. Empty if the file
+    has no line `some`. An old kernel's file for cpu has no line `full`."""
     found = {it[1]: it for it in LINE.finditer(text)}
     if "some" not in found:
         return ""
@@ -89,7 +87,8 @@ def pressure_line(head: str, resource: str, text: str) -> str:
 
 
 def memory_line(head: str, folder: str) -> str:
-    """The line of a group's memory: bytes, bytes of swap, and scanned pages."""
+    """Returns the line for a group's memory: memory and swap (bytes), and scanned pages. Empty
+    if the group has no memory controller."""
     current = text_of(f"{folder}/memory.current").strip()
     if not current.isdigit():
         return ""
@@ -101,7 +100,7 @@ def memory_line(head: str, folder: str) -> str:
 
 
 def folders(root: str) -> Iterator[str]:
-    """All groups' folders, a parent before its children."""
+    """Yields the folders of all groups, a parent before its children."""
     pending = [root]
     while pending:
         folder = pending.pop()
@@ -116,7 +115,7 @@ def folders(root: str) -> Iterator[str]:
 
 
 class Machine:
-    """The files of a machine, below a folder if `top` is one."""
+    """The pressure and memory files of a machine, below the folder `top` if it isn't empty."""
 
     def __init__(self, top: str) -> None:
         self.proc, self.groups = f"{top}/proc", f"{top}/sys/fs/cgroup"
@@ -126,7 +125,7 @@ class Machine:
             self.groups = f"{self.groups}/unified"
 
     def round(self, now: float) -> str:
-        """All lines of one round, at this time (s since 1970)."""
+        """Returns all lines of a round. `now` is its time (s since 1970)."""
         head = f"{now:.3f}"
         lines = [
             pressure_line(f"{head},/", it, text_of(f"{self.proc}/pressure/{it}"))
@@ -160,7 +159,7 @@ class Machine:
 
 
 class Output:
-    """The file that is written, with the older ones beside it; or standard output."""
+    """The file that is written, with older files next to it, or standard output."""
 
     def __init__(self, name: str | None, most: int, older: int) -> None:
         self.name, self.most, self.older = name, most, older
@@ -169,7 +168,7 @@ class Output:
             self.put(HEAD)
 
     def put(self, text: str) -> None:
-        """Writes the lines of a round. A file that would be too long is begun anew."""
+        """Writes the lines of a round. A file that would become too long is begun anew."""
         data = text.encode()
         if self.name is None:
             sys.stdout.buffer.write(data)
@@ -183,7 +182,7 @@ class Output:
         self.size += len(data)
 
     def rotate(self, name: str) -> None:
-        """The file becomes the newest of the older ones, of which the oldest goes."""
+        """Makes the file the newest of the older files, and removes the oldest."""
         for number in range(self.older, 0, -1):
             before = f"{name}.{number - 1}.gz" if number > 1 else f"{name}.part"
             if number == 1 and self.older:
@@ -195,7 +194,7 @@ class Output:
 
 
 def number(least: float, most: float) -> Callable[[str], float]:
-    """What reads a number in a range."""
+    """Returns a parser of numbers from `least` to `most`."""
 
     def read(word: str) -> float:
         if not re.fullmatch(r"[0-9]{1,9}(\.[0-9]{1,3})?", word) or not least <= float(word) <= most:
@@ -206,7 +205,7 @@ def number(least: float, most: float) -> Callable[[str], float]:
 
 
 class Words(argparse.ArgumentParser):
-    """Reads the words, and ends with a status of the tool's own if they are wrong."""
+    """A parser that ends the tool with its own status if the arguments are wrong."""
 
     def error(self, message: str) -> NoReturn:
         self.exit(
@@ -238,7 +237,7 @@ def stop(_number: int, _frame: FrameType | None) -> None:
 
 
 def run(given: argparse.Namespace) -> int:
-    """Rounds until the end; the status."""
+    """Writes rounds until the end, and returns the exit status."""
     machine = Machine(given.root)
     if not machine.round(0.0).count(",/,io,"):
         print(
@@ -270,7 +269,7 @@ def run(given: argparse.Namespace) -> int:
 
 
 def main() -> int:
-    """Runs the command; the status."""
+    """Runs the command, and returns the exit status."""
     try:
         return run(parser().parse_args())
     except OSError as fault:

@@ -1,6 +1,5 @@
-"""Samples as metrics: the JSON of a query of Prometheus, `promtool tsdb dump`, and OpenMetrics text
-with timestamps.
-"""
+"""Reads samples from metrics: JSON answers of Prometheus, `promtool tsdb dump`, and OpenMetrics
+text with timestamps."""
 from __future__ import annotations
 
 import json
@@ -13,7 +12,7 @@ from typing import NamedTuple, Optional, Protocol, TextIO
 from .block import LEVELS, MS
 from .rows import HOST, MEMORY, ROOT, SWAP, Put, ns_of, us_of, whole
 
-# The root by cAdvisor, which counts only if node_exporter has no series of it.
+# The root by cAdvisor. Its series count only if node_exporter has none of the root.
 SECOND_ROOT = "/\0"
 PIECE = 1 << 16
 KINDS = {"some": "waiting", "full": "stalled"}
@@ -29,22 +28,22 @@ SIZES = {
 LABEL = re.compile(r'\s*([a-zA-Z_][a-zA-Z0-9_]*)\s*=\s*"((?:[^"\\]|\\.)*)"\s*,?')
 LINE = re.compile(r"([a-zA-Z_:][a-zA-Z0-9_:]*)?\s*(?:\{(.*)\})?\s+(\S+)\s+([0-9.eE+-]+)(?:\s+#.*)?")
 POINT = re.compile(r'\s*,?\s*\[\s*([0-9.eE+]+)\s*,\s*"([^"]*)"\s*\]')
-# How a dump writes the marker after which a series has no value.
+# A stale marker of a dump: the series has no value from here on.
 STALE = "NaN"
-# Timestamps of so many digits are ms.
+# Timestamps with this number of digits are in ms.
 MILLISECONDS = re.compile("[0-9]{12,14}")
 
 
 class Column(NamedTuple):
-    """Where values of a series go: a group and a field; totals are seconds."""
+    """The group and the field that a series belongs to. Totals are in seconds."""
 
     group: str
     field: int
 
 
 class Metrics:
-    """Which series are samples. Each field of a group has one series: two are of several machines.
-    """
+    """Finds the series that are samples. Each field of a group has one series, since two are of
+    different machines."""
 
     def __init__(self, labels: tuple[str, ...]) -> None:
         self.labels = labels
@@ -52,7 +51,7 @@ class Metrics:
         self.unknown: Counter[str] = Counter()
 
     def column(self, name: str, labels: dict[str, str]) -> Optional[Column]:
-        """Where the values of a series go, if the series is read."""
+        """Returns the column of a series, None if the series isn't read."""
         field = PRESSURE.get(name, SIZES.get(name))
         if field is None:
             if len(self.unknown) < 1000:
@@ -78,7 +77,8 @@ class Metrics:
         return found
 
     def group_of(self, name: str, labels: dict[str, str]) -> Optional[str]:
-        """The group of a series: by cAdvisor's label `id`, or by the labels that were named."""
+        """Returns the group of a series, by cAdvisor's label `id`, or by the labels that
+        --labels names."""
         if name.startswith("node_"):
             return ROOT
         if self.labels and all(labels.get(it) for it in self.labels):
@@ -90,7 +90,7 @@ class Metrics:
         return labels["id"]
 
     def others(self) -> str:
-        """Which other metrics came, for a message."""
+        """Names other metrics in the input, for a message."""
         names = ", ".join(name for name, _ in self.unknown.most_common(3))
         return (
             f": it has {names}, and container_pressure_.. or node_pressure_.. are needed"
@@ -100,7 +100,7 @@ class Metrics:
 
 
 def put_value(put: Put, column: Column, time: int, text: str, line: int) -> None:
-    """A value of a series. NaN, which ends a series after a scrape without it, is no sample."""
+    """Stores a value of a series. NaN, which ends a series after a scrape without it, is no sample."""
     if text == STALE:
         return
     put(
@@ -113,7 +113,7 @@ def put_value(put: Put, column: Column, time: int, text: str, line: int) -> None
 
 
 def labels_of(text: str) -> dict[str, str]:
-    """The labels between braces."""
+    """Parses the labels between braces."""
     found, at = {}, 0
     while at < len(text):
         label = LABEL.match(text, at)
@@ -127,9 +127,8 @@ def labels_of(text: str) -> dict[str, str]:
 
 
 def read_dump(lines: Iterable[tuple[int, str]], metrics: Metrics, put: Put) -> None:
-    """`NAME{LABELS} VALUE TIME`, as OpenMetrics writes it (s), or `{__name__="NAME", ..} VALUE
-    TIME` as promtool does (ms).
-    """
+    """Reads lines `NAME{LABELS} VALUE TIME`, as OpenMetrics writes them (time in s), or
+    `{__name__="NAME", ..} VALUE TIME` as promtool does (ms)."""
     known: dict[str, Optional[Column]] = {}
     for number, line in lines:
         if not line or line.startswith("#"):
@@ -159,27 +158,28 @@ def read_dump(lines: Iterable[tuple[int, str]], metrics: Metrics, put: Put) -> N
 
 
 class Lined(Protocol):
-    """What knows the line that is read, for messages."""
+    """An object that has the number of the current line, for messages."""
 
     line: int
 
 
 class Text:
-    """A text that is only partly in memory."""
+    """A text that is read piece by piece."""
 
     def __init__(self, file: TextIO, lined: Lined) -> None:
         self.file, self.lined, self.text, self.at = file, lined, "", 0
         self.lined.line = 1
 
     def more(self) -> bool:
-        """Reads on; whether there was more."""
+        """Reads another piece, and returns whether there was one."""
         piece = self.file.read(PIECE)
         self.lined.line += self.text.count("\n", 0, self.at)
         self.text, self.at = self.text[self.at :] + piece, 0
         return bool(piece)
 
     def find(self, pattern: re.Pattern[str]) -> Optional[re.Match[str]]:
-        """The next place of a short pattern, after which the text goes on."""
+        """Moves to the end of the next match of a short pattern, and returns the match. None if
+        there is none."""
         while True:
             found = pattern.search(self.text, self.at)
             if found and (found.end() < len(self.text) or not self.more()):
@@ -192,7 +192,7 @@ class Text:
                 return None
 
     def value(self) -> object:
-        """The JSON value here."""
+        """Parses the JSON value at the current position."""
         while True:
             try:
                 found, end = json.JSONDecoder().raw_decode(self.text, self.at)
@@ -204,7 +204,7 @@ class Text:
             return found
 
     def points(self, put: Put, column: Optional[Column]) -> None:
-        """The points of a series."""
+        """Reads the points of a series."""
         line = self.lined.line
         while True:
             found = POINT.match(self.text, self.at)
@@ -225,7 +225,8 @@ VALUES = re.compile(r'"values"\s*:\s*\[|"value"\s*:')
 
 
 def read_json(file: TextIO, metrics: Metrics, put: Put, lined: Lined) -> None:
-    """The answer of Prometheus' API: of a query with a range, as `name[6h]`, or of query_range."""
+    """Reads the answer of Prometheus' API to a query with a range, such as `name[6h]`, or to
+    query_range."""
     text = Text(file, lined)
     while found := text.find(METRIC):
         if "error" in found[0]:

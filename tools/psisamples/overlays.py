@@ -1,17 +1,16 @@
-"""What a block's time looks like to the groups above it, and how a group above changes that by
-tasks of its own.
+"""Computes how a block looks to the groups above it, and how such a group changes that by tasks of
+its own.
 
-Such a task lies over the block: it takes no time of its own, so it adds no weight to the group, and
-no group below sees it.
-"""
+Such a task lies over the block: it takes no time of its own, so it adds no weight to the group,
+and no group below sees it."""
 from __future__ import annotations
 
 from typing import NamedTuple
 
 from .block import Span
 
-# What is the case in a segment of a block: a task waits for IO, one is in a memory stall, all are,
-# one is ready, one runs.
+# The bits of a status, the state of a segment of a block: a task waits for IO, a task is in a
+# memory stall, all are, a task is ready, a task runs.
 WAITS, STALLS, ALL_STALL, READY, RUNS = 1, 2, 4, 8, 16
 BUSY = READY | RUNS
 STATUSES = 32
@@ -19,7 +18,7 @@ IN_STALL = frozenset("sRX")
 
 
 def levels_of(status: int) -> tuple[int, ...]:
-    """Which of the six levels a status has, as 0 or 1 in the order of LEVELS."""
+    """Returns which of the six levels a status has, as 0 or 1 in the order of LEVELS."""
     io, stalls, all_stall = status & WAITS, status & STALLS, status & ALL_STALL
     found = (
         io,
@@ -33,7 +32,7 @@ def levels_of(status: int) -> tuple[int, ...]:
 
 
 def status_of(states: str) -> int:
-    """The status of a time in which tasks are in these states."""
+    """Returns the status while tasks are in these states."""
     is_stalled = any(it in IN_STALL for it in states)
     is_all = is_stalled and ("X" in states or not any(it in "rx" for it in states))
     status = WAITS * ("w" in states) + STALLS * is_stalled + ALL_STALL * is_all
@@ -51,21 +50,20 @@ STATUS_OF = [
 
 
 class Overlay(NamedTuple):
-    """A task of this kind, in this state. By each status: the status with it, or none if the task
-    changes something else there.
-    """
+    """A task of this kind in this state, laid over a block. `after` has for each status the
+    status with the task, None if the task would change something else there."""
 
     kind: str
     state: str
     after: tuple[int | None, ...]
-    # The levels that change by status: pairs of a level and 1 or -1.
+    # The changed levels for each status, as pairs of a level and 1 or -1.
     changes: tuple[tuple[tuple[int, int], ...], ...]
-    # A bit for each status over which it can lie.
+    # A bit for each status over which the task can be laid.
     takes: int
 
 
 def overlay(kind: str, state: str, has: int, lacks: int, adds: int, takes: int = 0) -> Overlay:
-    """An overlay for each status that has all bits of `has` and none of `lacks`."""
+    """Returns an overlay for each status that has all bits of `has` and none of `lacks`."""
     after = [
         (it | adds) & ~takes if it & has == has and not it & lacks else None
         for it in range(STATUSES)
@@ -90,9 +88,9 @@ LESS_CPU_FULL = (
     overlay("r", "x", READY, RUNS | ALL_STALL, RUNS),
     overlay("r", "X", READY | ALL_STALL, RUNS, RUNS),
 )
-# By the level of `full`.
+# Overlays that reduce a level of `full`, by that level.
 LESS_FULL = {1: LESS_IO_FULL, 3: LESS_MEMORY_FULL, 5: LESS_CPU_FULL}
-# By the level of `some`: more of some and full, and more of some alone.
+# Overlays by a level of `some`: for more of some and full, and for more of some alone.
 MORE_OF_BOTH = {
     0: overlay("w", "w", 0, WAITS | BUSY, WAITS),
     2: overlay("s", "s", 0, STALLS | BUSY, STALLS | ALL_STALL),
@@ -105,7 +103,7 @@ MORE_SOME = {
 
 
 def segments_of(spans: list[Span], length: int) -> list[list[int]]:
-    """The segments of a block, each as [begin, end, status]."""
+    """Returns the segments of a block, each as [begin, end, status]."""
     if len(spans) == 1 and spans[0].begin == 0 and spans[0].end == length:
         return [[0, length, STATUS_OF[BITS[spans[0].state]]]]
     states = [(begin, end, BITS[state]) for begin, end, _, state in spans]

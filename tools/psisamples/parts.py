@@ -1,4 +1,4 @@
-"""The traces that are made: one, or several that overlap where one would be too long."""
+"""Makes the traces: one, or several that overlap if one would be too long."""
 from __future__ import annotations
 
 import os
@@ -18,22 +18,21 @@ from .data import Data
 from .lives import Lives
 from .verify import Checked, check
 
-# By how much two parts overlap: averages begin at 0, and those over 300 s are right after that
-# long.
+# The overlap of two parts, in ticks: averages begin at 0, and those over 300 s are right after this
+# time.
 OVERLAP = 450
-# More than these end a part: groups that are made in it, and tasks. A trace has at most 1,024 and
-# 65,536; one group is the mark's.
+# The numbers of groups and of tasks above which a part ends, and the most groups. A trace has at
+# most 1,024 groups and 65,536 tasks; one group is the mark's.
 MOST_GROUPS, MOST_TASKS, MOST_OF_ALL = 980, 60_000, 1023
-# Lines that the next tick may need.
+# The number of lines that the next tick may need.
 SPARE = 40_000
 Progress = Callable[[int], None]
 
 
 @dataclass
 class Made:
-    """What came of all parts: their names, lines, processors and groups, totals that are off, and
-    how many were compared.
-    """
+    """The result of all parts: their names, lines, processors and groups, the totals that are
+    off, and the number of compared totals."""
 
     names: list[str] = field(default_factory=list)
     lines: list[int] = field(default_factory=list)
@@ -44,7 +43,7 @@ class Made:
     wrong: list[tuple[int, str, int, int, int | None]] = field(default_factory=list)
 
     def add(self, name: str, conversion: Conversion, checked: Checked) -> None:
-        """Takes a part."""
+        """Adds a part."""
         self.names.append(name)
         self.lines.append(conversion.file.count())
         self.processors = max(self.processors, conversion.file.processors + 1)
@@ -57,14 +56,14 @@ class Made:
 
 
 def part_name(output: str, part: int) -> str:
-    """The file of a part: the output itself, and with a number before its ending for further parts.
-    """
+    """Returns the file name of a part: the output itself for the first one, and a number before
+    its ending for the others."""
     root, ending = os.path.splitext(output)
     return output if part == 1 else f"{root}.{part}{ending}"
 
 
 def number_of(data: Data, start: int, end: int) -> int:
-    """A number of a set of traces, by which its parts are known as such."""
+    """Returns a number for a set of traces, by which its parts are recognised."""
     return zlib.crc32(
         " ".join([str(start), str(end), str(data.every), *sorted(data.groups)]).encode(
             "utf-8", "surrogateescape"
@@ -73,9 +72,8 @@ def number_of(data: Data, start: int, end: int) -> int:
 
 
 class Maker:
-    """Makes the traces of samples from `start` to `end`, ns since 1970, of at most `most` lines
-    each.
-    """
+    """Makes traces from the samples between `start` and `end` (ns since 1970), of at most `most`
+    lines each."""
 
     def __init__(
         self, data: Data, start: int, end: int, options: Options, most: int, progress: Progress
@@ -92,7 +90,7 @@ class Maker:
         self.whole = number_of(data, start, end)
 
     def make(self, output: str) -> Made:
-        """Makes all parts beside the output, under names of their own until all are there."""
+        """Makes all parts next to the output, under temporary names until all are complete."""
         begin: int | None = self.start
         part = 0
         try:
@@ -110,13 +108,14 @@ class Maker:
         return self.made
 
     def drop(self) -> None:
-        """Removes what was written."""
+        """Removes the parts that were written."""
         for name in self.made.names:
             if os.path.exists(f"{name}.part"):
                 os.remove(f"{name}.part")
 
     def make_part(self, name: str, begin: int, part: int) -> int | None:
-        """Makes one part, and says when the next one begins."""
+        """Makes one part, and returns the time (ns) at which the next one begins, None after the
+        last."""
         every = self.data.every
         options = self.options if part == 1 else self.options.later()
         origin = begin - options.lead * TICK
@@ -160,7 +159,7 @@ class Maker:
         )
 
     def write(self, name: str, conversion: Conversion, part: int, begin: int) -> None:
-        """Writes a part's file."""
+        """Writes the file of a part."""
         if conversion.made_groups > MOST_OF_ALL:
             raise Fault(
                 f"there are {conversion.made_groups} groups at once: at most {MOST_OF_ALL}, see"

@@ -1,4 +1,4 @@
-"""A pretended past before the first samples, by which averages begin as the machine's were."""
+"""A lead-in before the first samples, so that averages begin with the machine's values."""
 from __future__ import annotations
 
 from psiconvert.lead_in import LAST, MIDDLE, WHOLE, Diffusion, stretches_of
@@ -10,9 +10,8 @@ HUNDRED = 100
 
 
 class Past:
-    """The pressure of groups in the ticks before their first samples, by the averages that these
-    had.
-    """
+    """The pressure of groups in the ticks before their first samples, computed from the samples'
+    averages."""
 
     def __init__(self, ticks: int) -> None:
         self.ticks = ticks
@@ -20,7 +19,7 @@ class Past:
         self.stretches: dict[str, list[list[float]]] = {}
 
     def wanted(self, life: Life, tick: int) -> Times:
-        """The shares (ns) of a group in a tick."""
+        """Returns the shares (ns) of a group in a tick of the lead-in."""
         if life.path not in self.stretches:
             averages = [it / HUNDRED for it in life.averages] or [0.0] * 18
             triples = [averages[3 * level : 3 * level + 3] for level in range(len(LEVELS))]
@@ -38,8 +37,7 @@ class Past:
 
 
 def end_past(life: Life) -> None:
-    """The totals of a group begin anew where its past ends: what it has by then is what it is to
-    have.
-    """
+    """Resets the totals of a group at the end of its lead-in: what it has by then is what it is
+    to have."""
     life.target = list(life.achieved)
     life.base = [base - achieved for base, achieved in zip(life.base, life.achieved)]

@@ -1,11 +1,10 @@
-"""Where the blocks of a tick are, such that each group and those above it have their shares.
+"""Places the blocks of a tick such that each group has its wanted shares.
 
-A group's share is sum(weight * time) // sum(weight) over processors. A group without blocks below
-it needs one block: the share is then the block's time. A group above others adds what is missing,
-and dilutes what is too much: overlays, which weigh nothing; a block of its own; and ballast, a
-block in which only its own task runs. Groups are done from the deepest up, so each sees all of the
-blocks below it.
-"""
+A group's share is sum(weight * time) // sum(weight) over processors. A group without blocks
+below it needs one block: the share is then the block's time. A group above others adds what is
+missing, and dilutes what is too much: overlays, which weigh nothing; a block of its own; and
+ballast, a block in which only its own task runs. Groups are handled from the deepest up, so each
+sees all of the blocks below it."""
 from __future__ import annotations
 
 from collections.abc import Iterator
@@ -28,23 +27,22 @@ from .block import (
 )
 from .overlays import LESS_FULL, LESS_OF_BOTH, MORE_OF_BOTH, MORE_SOME, Overlay, segments_of
 
-# The ms of a tick; how many processors tasks run on, one of 64 being for tasks that are made and
-# end; over how many processors groups without others below are spread; how many blocks of its own a
-# group may have; and which levels there are.
+# The length of a tick (ms); the number of processors on which tasks run (a 64th is for creating and
+# ending tasks); the number of processors over which groups without others below are spread; the
+# most blocks of its own that a group may have; and the levels.
 ROOM = TICK // MS
 MOST_PROCESSORS = 63
 SPREAD = 24
 MOST_OWN = 24
 SIX = range(6)
-# CPU full of the root isn't shown.
+# The levels of the root, whose CPU full isn't shown.
 ROOT_LEVELS = range(5)
 ROUNDS = 12
 
 
 class Block:
-    """A block of a group on a processor: where it starts there, its length and its tasks' states,
-    in ns; and its segments.
-    """
+    """A block of a group on a processor: its start there, its length and its tasks' states (ns),
+    and its segments."""
 
     __slots__ = ("group", "start", "length", "spans", "others", "segments", "has")
 
@@ -60,9 +58,9 @@ class Block:
 
 
 class Offer(NamedTuple):
-    """`blocks` blocks of `length` ms each with these times, on this processor or on empty ones.
-    With it the group weighs `heavy` ms in all, and `off` ns of its shares are missing or too much.
-    """
+    """An offer of `blocks` blocks of `length` ms each with these times, on this processor or, if
+    that is None, on empty ones. With it the group weighs `heavy` ms in total, and its shares are
+    off by `off` ns."""
 
     off: int
     heavy: int
@@ -73,9 +71,7 @@ class Offer(NamedTuple):
 
 
 class Tree(NamedTuple):
-    """The groups by number: each one's chain from itself up to the root, and the groups that are
-    above it or itself, as a set.
-    """
+    """The groups by number: each one's chain from itself up to the root, and the same as a set."""
 
     chains: dict[int, tuple[int, ...]]
     above: dict[int, frozenset[int]]
@@ -83,9 +79,8 @@ class Tree(NamedTuple):
 
 class Plan:
     """The blocks of one tick. `before` has the processors on which each group had blocks in the
-    tick before. Groups in `late` are made just after the tick begins, so their blocks begin 1 ms
-    after it.
-    """
+    previous tick. Groups in `late` are created just after the tick begins, so their blocks begin
+    1 ms later."""
 
     def __init__(
         self, tree: Tree, before: dict[int, list[int]], late: AbstractSet[int] = frozenset()
@@ -93,19 +88,19 @@ class Plan:
         self.tree, self.before, self.late = tree, before, late
         self.blocks: list[list[Block]] = []
         self.used: list[int] = []
-        # By group and processor: the weight, and the six times.
+        # The weight (ms) and the six times (ns), by group and processor.
         self.has: dict[int, dict[int, list[int]]] = {}
         self.where: dict[int, list[int]] = {}
 
     # ---------------------------------------------------------------- blocks
 
     def room(self, processor: int, group: int) -> int:
-        """The ms that are left on a processor for a block of the group."""
+        """Returns the ms that remain on a processor for a block of the group."""
         used = self.used[processor] if processor < len(self.used) else 0
         return ROOM - (used or int(group in self.late))
 
     def place(self, group: int, processor: int, length: int, times: Times) -> None:
-        """Puts a block of `length` ms after the last one of the processor."""
+        """Puts a block of `length` ms after the last block of a processor."""
         while processor >= len(self.used):
             self.used.append(0)
             self.blocks.append([])
@@ -121,14 +116,14 @@ class Plan:
             places[processor] = list(map(add, before, added)) if before else list(added)
 
     def empty_places(self, group: int) -> Iterator[int]:
-        """The processors without blocks of the group or below it: those of the tick before first.
-        """
+        """Yields the processors without blocks of the group or its descendants, those of the
+        previous tick first."""
         known, last = self.has.get(group, {}), self.before.get(group, ())
         yield from (it for it in last if it not in known)
         yield from (it for it in range(MOST_PROCESSORS) if it not in known and it not in last)
 
     def free_rooms(self, group: int) -> list[int]:
-        """The ms that are left on these processors, the most first."""
+        """Returns the ms that remain on these processors, the greatest first."""
         known = self.has.get(group, {})
         late = int(group in self.late)
         found = [
@@ -137,9 +132,9 @@ class Plan:
         return [ROOM - late] * (MOST_PROCESSORS - len(self.used)) + sorted(found, reverse=True)
 
     def place_alone(self, group: int, times: Times) -> None:
-        """The block of a group that has none below it: where the group above has least, since that
-        sees two blocks of a processor as one that is longer and heavier by the other.
-        """
+        """Places the block of a group that has none below it, on the processor on which the
+        group above has the least weight: that group sees two blocks of a processor as a longer
+        and heavier one."""
         if group in self.late:
             times = fitted(times, (ROOM - 1) * MS)
         length = max(1, -(-easy_length(times) // MS))
@@ -164,7 +159,8 @@ class Plan:
             self.place(group, found, length, times)
 
     def put_ballast(self, group: int, weight: int) -> None:
-        """`weight` ms in which a task of the group runs, on processors where it has nothing yet."""
+        """Adds `weight` ms in which a task of the group runs, on processors on which the group
+        has nothing yet."""
         for processor in list(self.empty_places(group)) if weight > 0 else ():
             if weight <= 0:
                 return
@@ -176,9 +172,8 @@ class Plan:
     # ---------------------------------------------------------------- overlays
 
     def lay(self, group: int, over: Overlay, amount: int) -> int:
-        """Lays tasks of the group over blocks below it, for `amount` ns times ms of weight; returns
-        for how much there was room.
-        """
+        """Lays tasks of the group over blocks below it, for `amount` ns times ms of weight.
+        Returns the amount for which there was room."""
         done, known = 0, self.has[group]
         for processor in sorted(known, key=lambda it: -known[it][0]):
             weight = known[processor][0]
@@ -192,7 +187,7 @@ class Plan:
         return done
 
     def lay_over(self, group: int, processor: int, block: Block, over: Overlay, most: int) -> int:
-        """Does it for one block, for at most so many ns; returns for how many."""
+        """Lays a task over one block for at most `most` ns, and returns for how many."""
         done, place = 0, 0
         while place < len(block.segments) and done < most:
             segment = block.segments[place]
@@ -217,7 +212,7 @@ class Plan:
     # ---------------------------------------------------------------- a group above others
 
     def sums(self, group: int) -> tuple[int, list[int]]:
-        """The group's weight, and by level its sum of weight * time."""
+        """Returns the group's weight (ms), and for each level its sum of weight * time."""
         weight = io_some = io_full = memory_some = memory_full = cpu_some = cpu_full = 0
         for heavy, *times in self.has.get(group, {}).values():
             weight += heavy
@@ -230,12 +225,12 @@ class Plan:
         return weight, [io_some, io_full, memory_some, memory_full, cpu_some, cpu_full]
 
     def shares(self, group: int) -> list[int]:
-        """The group's shares (ns), as the program will compute them."""
+        """Returns the group's shares (ns), as psi_oomd will compute them."""
         weight, found = self.sums(group)
         return [it // max(1, weight) for it in found]
 
     def give(self, group: int, wanted: Sequence[int]) -> None:
-        """Gives the group these shares (ns), as near as that can be."""
+        """Gives the group these shares (ns), as nearly as possible."""
         times = possible(tuple(wanted))
         if group not in self.has:
             if any(times):
@@ -262,9 +257,8 @@ class Plan:
     def least_weight(
         self, group: int, times: Times, weight: int, sums: list[int], levels: Sequence[int]
     ) -> int:
-        """The least weight (ms) by which none of these levels is too much, of what there is room
-        for.
-        """
+        """Returns the least weight (ms) by which none of these levels is too high, as far as
+        there is room."""
         found = weight
         for level in levels:
             if times[level] and sums[level] > times[level] * found:
@@ -274,7 +268,7 @@ class Plan:
         return found
 
     def lower(self, group: int, times: Times, heavy: int, levels: Sequence[int]) -> None:
-        """Overlays by which there is less of full."""
+        """Lays overlays that reduce full."""
         sums = self.sums(group)[1]
         io, memory = sums[1] - times[1] * heavy, sums[3] - times[3] * heavy
         if io > heavy and memory > heavy and self.lay(group, LESS_OF_BOTH, min(io, memory)):
@@ -286,7 +280,7 @@ class Plan:
                     sums = self.sums(group)[1]
 
     def lift(self, group: int, times: Times, heavy: int, levels: Sequence[int]) -> None:
-        """Overlays by which there is more of some, and of full with it."""
+        """Lays overlays that increase some, and full with it."""
         sums = self.sums(group)[1]
         for level, overlays in MORE_SOME.items():
             some = times[level] * heavy - sums[level]
@@ -306,9 +300,8 @@ class Plan:
     def best_offer(
         self, group: int, times: Times, heavy: int, levels: Sequence[int]
     ) -> Optional[Offer]:
-        """The lightest blocks of its own by which the group has its shares; else those by which it
-        comes nearest.
-        """
+        """Returns the lightest own blocks by which the group has its shares, or else those by
+        which it comes nearest. None if none comes nearer than now."""
         known = self.has[group]
         weight, sums = self.sums(group)
         now = sum(abs(times[it] * weight - sums[it]) for it in levels) // max(1, weight)
@@ -330,7 +323,7 @@ class Plan:
         return found if found is not None and found.off < now else None
 
     def take(self, group: int, it: Offer) -> None:
-        """Puts the blocks of an offer."""
+        """Places the blocks of an offer."""
         places = [it.processor] if it.processor is not None else self.empty_places(group)
         found = islice(
             (place for place in places if self.room(place, group) >= it.length), it.blocks
@@ -340,7 +333,8 @@ class Plan:
 
 
 class Need(NamedTuple):
-    """What a group wants, and what a processor has already: its weight (ms) and six times (ns)."""
+    """The wanted times of a group, and what a processor has already: its weight (ms) and six
+    times (ns)."""
 
     wanted: Times
     levels: Sequence[int]
@@ -353,10 +347,9 @@ class Need(NamedTuple):
     processor: Optional[int]
 
     def at(self, length: int, count: int) -> tuple[int, int, list[int], Times]:
-        """For `count` blocks of a length (ms): the group's weight with ballast, by how much a ns of
-        their times counts, what they have to add, and their times. A block adds (base weight +
-        length) * times + length * base times to what the group has.
-        """
+        """Returns for `count` blocks of `length` ms: the group's weight with ballast, the factor
+        of a ns of their times, what they have to add, and their times. A block adds (base weight
+        + length) * times + length * base times to what the group has."""
         wanted, added = self.wanted, count * length
         heavy = least = max(self.least, self.weight + added)
         more = [self.sums[it] + added * self.base[it + 1] for it in self.levels]
@@ -375,9 +368,8 @@ class Need(NamedTuple):
         )
 
     def offer(self, count: int) -> Offer:
-        """The shortest blocks by which the group has its shares, or the longest that there is room
-        for.
-        """
+        """Returns the shortest blocks by which the group has its shares, or the longest that
+        there is room for."""
         length, base = 1 if count == 1 else self.room, self.base[0]
         for turn in range(ROUNDS):
             heavy, share, rest, times = self.at(length, count)
@@ -385,7 +377,7 @@ class Need(NamedTuple):
             if lack <= 0 or length >= self.room:
                 break
             # The length at which a block is as long as its times need, if what they have to add
-            # stays what it is now; and more and more than that, since it grows with the length.
+            # stays the same. Later rounds add more and more, since that grows with the length.
             better = (isqrt(base * base + 4 * (length + lack) * (base + length)) - base) // 2
             length = min(
                 self.room, max(better + 1, length + 1 + turn * lack) if turn else better + 1

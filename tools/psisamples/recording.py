@@ -1,4 +1,5 @@
-"""The samples of a recording's folder: its pressure files, and the memory that its markers have."""
+"""Reads the samples of a recording's folder: its pressure files, and the memory samples in its
+markers."""
 from __future__ import annotations
 
 from psicli.fault import Fault
@@ -13,15 +14,14 @@ from psireplay.lines import LEVELS
 
 from .rows import AVERAGES, HOST, MEMORY, ROOT, Put
 
-# The distance of readings, ns, if markers say of one only when it was.
+# The interval of readings (ns) if no marker shows it.
 EVERY = 2 * 10**9
 
 
 def times_of(source: Source, most: int) -> list[int]:
-    """When each reading of the pressure files was (ns), by its number from 0 to `most`. Readings
-    whose markers were lost lie on the line between those that have some, and go on as these do at
-    both ends; without any marker they are EVERY apart.
-    """
+    """Returns the time (ns) of each reading of the pressure files, by number from 0 to `most`. A
+    reading whose markers were lost gets an interpolated time, or one extrapolated at both ends;
+    without any marker readings are EVERY apart."""
     begins = {
         number: marker.moment for marker, number, is_begin in reading_markers(source) if is_begin
     }
@@ -43,9 +43,8 @@ def times_of(source: Source, most: int) -> list[int]:
 
 
 def read_folder(folder: str, put: Put) -> None:
-    """Puts all samples of a recording. A line is that of its pressure file; samples of memory have
-    none.
-    """
+    """Stores all samples of a recording. The line of a row is that of the pressure file, 0 for
+    memory samples."""
     try:
         source, text = read_recording(folder, True), text_of(folder, PRESSURE)
     except Fault as fault:
@@ -80,7 +79,7 @@ def read_folder(folder: str, put: Put) -> None:
 
 
 def put_memory(event: Marker, offset: int, put: Put) -> None:
-    """Puts a marker's sample of memory, if it is one."""
+    """Stores a marker's memory sample, if it has one."""
     words = event.text.decode("utf-8", "surrogateescape")[len(MARK) :].split()
     if words[:1] == ["host"] and len(words) == 4:
         put(event.moment + offset, ROOT, HOST, tuple(map(int, words[1:])), 0)

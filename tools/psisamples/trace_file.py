@@ -1,6 +1,5 @@
-"""A trace that is written: events go to a temporary file, and what must come before them is known
-at its end.
-"""
+"""Writes a trace: events go to a temporary file, since what must precede them is known only at
+the end."""
 from __future__ import annotations
 
 import shutil
@@ -10,22 +9,22 @@ from typing import IO
 
 from .plan import MOST_PROCESSORS
 
-# The processor on which tasks are made and end; blocks are on those after it.
+# The processor on which tasks are created and end. Blocks are on the processors after it.
 FIRST = 0
 PIECE = 1 << 20
 
 
 class Tasks:
-    """The tasks of a group's life, which are made with the group: `at` is where in the file of
-    events, and `time` when (ns).
-    """
+    """The tasks of a group's life, which are created with the group. `at` is their place in the
+    file of events (bytes), and `time` the time (ns)."""
 
     def __init__(self, path: str) -> None:
         self.path, self.at, self.time = path, 0, 0
         self.numbers: list[int] = []
 
     def lines(self) -> Iterable[str]:
-        """They come on a processor of their own and fall asleep, one after the other."""
+        """Yields the lines that create the tasks on a processor of their own, where they fall
+        asleep one after the other."""
         yield from (f"{self.time} fork {it} {self.path} {FIRST}\n" for it in self.numbers)
         how = "idle"
         for number in self.numbers:
@@ -35,7 +34,7 @@ class Tasks:
             yield f"{self.time} switch {FIRST} 0 sleep\n"
 
     def count(self) -> int:
-        """How many lines that is."""
+        """Returns the number of these lines."""
         return 2 * len(self.numbers) + 1 if self.numbers else 0
 
 
@@ -49,23 +48,23 @@ class TraceFile:
         self.lives: list[Tasks] = []
 
     def write(self, lines: list[str]) -> None:
-        """Writes lines, each with its newline."""
+        """Writes lines, each of which ends in a newline."""
         data = "".join(lines).encode("ascii")
         self.events.write(data)
         self.position += len(data)
         self.lines += len(lines)
 
     def put_tasks(self, tasks: Tasks, time: int) -> None:
-        """Here and at this time they come."""
+        """Marks the place at which the tasks of a group are created, at `time` (ns)."""
         tasks.at, tasks.time = self.position, time
         self.lives.append(tasks)
 
     def count(self) -> int:
-        """How many lines the trace will have, with those of tasks."""
+        """Returns the number of lines of the trace, with those for tasks."""
         return self.lines + self.task_lines
 
     def finish(self, head: list[str], end: int, file: IO[bytes]) -> None:
-        """Writes the whole trace. `head` are lines after the first one."""
+        """Writes the whole trace. `head` are the lines after the header."""
         cpus = self.processors + 1
         file.write(f"psitrace 1 cpus={cpus}\n".encode())
         file.writelines(it.encode("ascii") for it in head)
@@ -81,7 +80,7 @@ class TraceFile:
 
 
 def copy(source: IO[bytes], target: IO[bytes], count: int) -> None:
-    """Copies so many bytes."""
+    """Copies `count` bytes."""
     while count > 0:
         data = source.read(min(count, PIECE))
         target.write(data)

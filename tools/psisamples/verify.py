@@ -1,5 +1,4 @@
-"""Compares what the program prints of a trace with the samples: the tool's own proof of its output.
-"""
+"""Replays a trace, and compares the totals that psi_oomd prints with the samples."""
 from __future__ import annotations
 
 import re
@@ -25,17 +24,16 @@ NO_TOTALS: Totals = {}
 
 
 class Checked(NamedTuple):
-    """How many totals were compared; and those that differ by more than was reported: the time
-    (ns), the group, the level, the total by the samples, and the program's (us), which is none if
-    it printed none.
-    """
+    """The number of compared totals, and those that differ by more than was reported: the time
+    (ns), the group, the level, the total by the samples (us), and the program's (us), None if it
+    printed none."""
 
     compared: int
     wrong: list[tuple[int, str, int, int, int | None]]
 
 
 def reports(output: IO[bytes]) -> Iterator[tuple[int, Totals]]:
-    """The totals of each tick."""
+    """Yields the printed totals of each tick."""
     time, rest = -1, b""
     totals: Totals = {}
     while piece := output.read(PIECE):
@@ -62,7 +60,7 @@ def reports(output: IO[bytes]) -> Iterator[tuple[int, Totals]]:
 
 
 def wanted(checks: IO[bytes]) -> Iterator[tuple[int, Totals]]:
-    """The totals that must come at each tick."""
+    """Yields the totals that must be printed at each tick."""
     time = -1
     totals: Totals = {}
     checks.seek(0)
@@ -78,9 +76,8 @@ def wanted(checks: IO[bytes]) -> Iterator[tuple[int, Totals]]:
 
 
 def check(trace: str, checks: IO[bytes], off: dict[tuple[str, int], Off]) -> Checked:
-    """Replays a trace and compares all totals at the ticks of samples. A total may be off by NEAR,
-    or by what was reported of it.
-    """
+    """Replays a trace, and compares all totals at the ticks of samples. A total may be off by
+    NEAR, or by what was reported."""
     count, wrong = 0, []
     with tempfile.TemporaryFile() as notes:
         run = start(["replay", "--report-s=2", "--", trace], notes)

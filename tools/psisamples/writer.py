@@ -1,4 +1,5 @@
-"""The event lines of blocks: tasks change their states by turns of no length on their processor."""
+"""Writes the event lines of blocks: tasks change their states by turns of zero length on their
+processor."""
 from __future__ import annotations
 
 from collections.abc import Callable, Iterable
@@ -8,18 +9,18 @@ from .block import TICK
 from .overlays import IN_STALL
 from .plan import Block
 
-# How a task leaves its processor for a state.
+# The word of the switch by which a task leaves its processor, by its next state.
 HOW = {"w": "iowait", "s": "sleep", "z": "sleep", "r": "preempt", "R": "preempt"}
 ASLEEP, RUNNING = "wsz", "xX"
 
-# A task of a block: its group, and its kind.
+# A task of a block by its group and its kind.
 Key = tuple[int, str]
-# The ns since the start of a tick, and an event without its time.
+# The time (ns since the start of a tick) and the words of an event.
 Event = tuple[int, str]
 
 
 class Task:
-    """A task: its number, the letter of its state, and that of the state to which it changes."""
+    """A task: its number, the letter of its state, and the letter of its next state."""
 
     __slots__ = ("number", "state", "next")
 
@@ -36,7 +37,8 @@ class Processor:
         self.runs: Task | None = None
 
     def changes_of(self, blocks: Iterable[Block]) -> dict[int, dict[Key, str]]:
-        """The states that begin, by the ns since the start of the tick; tasks of the tick before sleep unless they go on."""
+        """Returns the states that begin in a tick, by the ns since its start. Tasks of the
+        previous tick fall asleep unless they continue."""
         found: dict[int, dict[Key, str]] = {}
         begins: dict[int, dict[Key, str]] = {}
         asleep = {key: "z" for key, task in self.tasks.items() if task.state != "z"}
@@ -58,7 +60,8 @@ class Processor:
         return found
 
     def play(self, blocks: Iterable[Block], out: list[Event]) -> None:
-        """The events of a tick. Tasks that it doesn't use go back to where other processors take them."""
+        """Appends the events of a tick to `out`. Tasks that it doesn't use become available to
+        other processors."""
         changes = self.changes_of(blocks)
         used = {key for states in changes.values() for key in states}
         for time in sorted(changes):
@@ -67,12 +70,13 @@ class Processor:
             self.put_back(key, self.tasks.pop(key))
 
     def forget(self, groups: set[int]) -> None:
-        """The tasks of these groups, which sleep, are no more."""
+        """Forgets the tasks of these groups, which are asleep."""
         for key in [it for it in self.tasks if it[0] in groups]:
             del self.tasks[key]
 
     def change(self, time: int, wanted: dict[Key, str], out: list[Event]) -> None:
-        """Brings tasks into these states. A task that falls asleep, or enters or leaves a stall, runs for no time."""
+        """Brings tasks into these states. A task that falls asleep, or enters or leaves a stall,
+        runs for zero time."""
         cpu, tasks, runs = self.number, self.tasks, self.runs
         changed, turns, last = list[Task](), list[Task](), None
         for key, state in wanted.items():
