@@ -20,9 +20,8 @@ MOST_INTERVAL = 600 * SECOND
 
 @dataclass
 class Data:
-    """Times are ns since 1970; `every` is the usual interval of a group's samples, `gap` the
-    longest, both ns.
-    """
+    """A summary of all samples. Times are in ns since 1970. `every` is the usual interval
+    between a group's samples, and `gap` the longest (both ns)."""
 
     inputs: Inputs
     start: int = 0

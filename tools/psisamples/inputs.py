@@ -152,7 +152,7 @@ class Inputs:
             raise Fault(f"{name}: {fault.strerror}") from None
 
     def read_text(self, file: TextIO, beginning: str) -> None:
-        """Reads a text whose beginning is known."""
+        """Reads a text whose first characters are `beginning`."""
         first = beginning.lstrip()
         if "\0" in beginning:
             raise self.refused(beginning, "this is no text: is it compressed?")
