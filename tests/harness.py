@@ -3,16 +3,19 @@
 A check is a function whose name begins with `check_`; it raises Wrong if what it finds isn't what
 is expected. `run_checks` runs checks at the same time, each in a process and in an empty folder of
 its own. It prints a line when a check ends: ok or FAILED, its seconds and its name. A failure is
-followed by what differs and by the command that repeats this check. The last line lists the checks
-that failed. Each test takes -j N (checks at the same time) and the names of checks.
+followed by what differs and by the command that repeats this check. A check that doesn't end in
+time fails too, with its stack and the commands that still run. The last line lists the checks that
+failed. Each test takes -j N (checks at the same time) and the names of checks.
 """
 from __future__ import annotations
 
 import contextlib
 import difflib
+import glob
 import inspect
 import multiprocessing
 import os
+import pathlib
 import shlex
 import signal
 import sys
@@ -27,8 +30,14 @@ from typing import IO, NamedTuple
 from shared.difference import difference
 from shared.program import TOP, USED, program_of
 
+# A check may take this long (s), far longer than any needs, times the processes that share each
+# processor. If it takes longer, it is interrupted, and again after each AGAIN_S seconds.
+LIMIT_S, AGAIN_S = 300.0, 10.0
 # The most characters of a failure that are shown: the rest is cut in the middle.
 MOST_SHOWN = 20_000
+
+# The folder of Python's own modules, whose part of a stack isn't shown.
+PYTHON = os.path.dirname(os.__file__) + os.sep
 
 Check = Callable[..., object]
 # Calls a check; the text is the path of its empty folder.
@@ -38,6 +47,16 @@ Source = ModuleType | Mapping[str, object]
 
 class Wrong(Exception):
     """A failed check: what differs from what is expected."""
+
+
+class Overdue(BaseException):
+    """A check that didn't end in time, with the commands that it had started and that still run. It
+    is no Exception, so that no check handles it.
+    """
+
+    def __init__(self, seconds: float, commands: Sequence[str]) -> None:
+        super().__init__()
+        self.seconds, self.commands = seconds, commands
 
 
 def must(is_right: object, what: str) -> None:
@@ -91,15 +110,74 @@ def captured(file: IO[bytes]) -> Iterator[None]:
         os.close(output)
 
 
+def children() -> dict[int, str]:
+    """The running children of this process, by number, and their commands."""
+    numbers: list[str] = []
+    found: dict[int, str] = {}
+    for path in glob.glob("/proc/self/task/*/children"):
+        with contextlib.suppress(OSError):  # a thread may end meanwhile, and a child too
+            numbers += pathlib.Path(path).read_text(encoding="ascii").split()
+    for number in numbers:
+        with contextlib.suppress(OSError):
+            words = pathlib.Path(f"/proc/{number}/cmdline").read_bytes().split(b"\0")[:-1]
+            found[int(number)] = shlex.join(map(os.fsdecode, words))
+    return {number: command for number, command in found.items() if command}
+
+
+def allowed_seconds() -> float:
+    """How long (s) a check may take at the machine's load."""
+    return LIMIT_S * max(1.0, max(os.getloadavg()) / len(os.sched_getaffinity(0)))
+
+
+@contextlib.contextmanager
+def limited() -> Iterator[None]:
+    """Raises Overdue in what it contains if that doesn't end in time."""
+    began = time.monotonic()
+
+    def end(*_: object) -> None:
+        seconds = time.monotonic() - began
+        if seconds >= allowed_seconds():
+            raise Overdue(seconds, list(children().values()))
+
+    signal.signal(signal.SIGALRM, end)
+    signal.setitimer(signal.ITIMER_REAL, LIMIT_S, AGAIN_S)
+    try:
+        yield
+    finally:
+        signal.setitimer(signal.ITIMER_REAL, 0)
+
+
+def overdue_fault(overdue: Overdue) -> str:
+    """The failure of a check that didn't end: the commands that it had started and that still ran,
+    and its stack at the limit. Ends its commands.
+    """
+    for child in children():
+        with contextlib.suppress(ProcessLookupError):
+            os.kill(child, signal.SIGKILL)
+    while isinstance(overdue.__context__, Overdue):
+        overdue = overdue.__context__
+    frames = [
+        frame
+        for frame in traceback.extract_tb(overdue.__traceback__)
+        if frame.filename != __file__ and not frame.filename.startswith(PYTHON)
+    ]
+    stack = "".join(traceback.format_list(frames))
+    running = "".join(f"still running: {it}\n" for it in overdue.commands)
+    return f"didn't end within {overdue.seconds:.0f} s\n{running}{stack}"
+
+
 def outcome_of(name: str, check: Check, call: Call) -> Outcome:
     """Runs a check in a new folder. An exception of any other kind is a failure with its place."""
     fault, began = "", time.monotonic()
     with tempfile.TemporaryDirectory() as folder, tempfile.TemporaryFile() as printed:
         with captured(printed):
             try:
-                call(check, os.path.realpath(folder))
+                with limited():
+                    call(check, os.path.realpath(folder))
             except Wrong as wrong:
                 fault = str(wrong)
+            except Overdue as overdue:
+                fault = overdue_fault(overdue)
             except Exception:  # a check must not end the test
                 fault = traceback.format_exc()
         printed.seek(0)
