@@ -7,7 +7,7 @@ import signal
 import time
 
 from record import machine_folder as folder
-from record.runs import Run, must, must_be, read
+from record.runs import WAIT_S, Run, must, must_be, read
 
 
 UNTIL = ("--ring", "--until", "memory full 100000 1000000")
@@ -58,7 +58,9 @@ def check_ring_where_the_buffers_begin(top: str) -> None:
     folder.make_machine(top)
     run = Run(top, *UNTIL)
     instance = run.instance()
+    waited = time.monotonic() + WAIT_S
     while "snapshot end" not in read(f"{top}.markers"):
+        must(time.monotonic() < waited, f"no 'snapshot end': {read(f'{top}.markers')[:200]!r} ..")
         time.sleep(0.02)
     time.sleep(0.1)
     begin = f"{time.monotonic():.6f}"

@@ -3,9 +3,12 @@ from __future__ import annotations
 
 import contextlib
 import os
+import shlex
 import signal
 import subprocess
+import threading
 import time
+from collections.abc import Iterator
 
 from harness import Wrong, must, must_be
 from record import machine_folder as folder
@@ -20,6 +23,10 @@ RECORD = os.path.join(os.environ.get("RECORD_TOOLS", os.path.join(TOP, "tools"))
 # Under nohup, tests would inherit that a hangup is ignored, and a recorder keeps that; nohup has
 # its own case.
 signal.signal(signal.SIGHUP, signal.SIG_DFL)
+
+# How long (s) a recorder may take to begin, to print a line or to end: long, since other programs
+# may use the machine.
+WAIT_S = 120
 
 # The recorders that were started, by folder of the recording.
 STARTED: dict[str, subprocess.Popen[str]] = {}
@@ -39,9 +46,11 @@ class Run:
 
     def __init__(self, top: str, *words: str, name: str = "out", prefix: tuple[str, ...] = ()) -> None:
         self.top, self.out, self.before, self.said = top, f"{top}.{name}", folder.listing(top), ""
-        command = [*prefix, RECORD, "--root", top, self.out, *words]
+        self.command = [*prefix, RECORD, "--root", top, self.out, *words]
         nothing, pipe = subprocess.DEVNULL, subprocess.PIPE
-        self.child = subprocess.Popen(command, stdin=nothing, stdout=pipe, stderr=pipe, text=True)
+        self.child = subprocess.Popen(
+            self.command, stdin=nothing, stdout=pipe, stderr=pipe, text=True
+        )
         STARTED[self.out] = self.child
 
     def ended(self, status: int, is_same: bool = True) -> Run:
@@ -49,10 +58,9 @@ class Run:
         has changed it.
         """
         try:
-            printed, self.said = self.child.communicate(timeout=20)
+            printed, self.said = self.child.communicate(timeout=WAIT_S)
         except subprocess.TimeoutExpired:
-            self.child.kill()
-            raise Wrong(f"it doesn't end: {self.child.communicate()}") from None
+            raise self.killed(f"doesn't end in {WAIT_S} s") from None
         must_be(f"the status, after {self.said!r}", self.child.returncode, status)
         must_be("standard output", printed, "")
         if is_same:
@@ -60,6 +68,12 @@ class Run:
             changed = [it for it in sorted({*self.before, *after}) if self.before.get(it) != after.get(it)]
             must_be("what isn't as before", changed, [])
         return self
+
+    def killed(self, fault: str) -> Wrong:
+        """Ends the recorder: the failure with its command, this fault and what it printed."""
+        self.child.kill()
+        _, said = self.child.communicate()
+        return Wrong(f"`{shlex.join(self.command)}` {fault}; it printed {said!r}")
 
     def says(self, *words: str) -> Run:
         """Standard error contains these words."""
@@ -80,13 +94,24 @@ class Run:
 
     def instance(self) -> str:
         """The folder of its tracing instance, as soon as it records."""
-        waited = time.monotonic() + 30
+        waited = time.monotonic() + WAIT_S
         while time.monotonic() < waited and self.child.poll() is None:
             for name in os.listdir(f"{self.top}/tracing/instances"):
                 if read(f"{self.top}/tracing/instances/{name}/tracing_on").startswith("1") and read(f"{self.top}.markers"):
                     return f"{self.top}/tracing/instances/{name}"
             time.sleep(0.02)
-        raise Wrong(f"it never records: {self.child.communicate()}")
+        raise self.killed(f"ended before it recorded, or doesn't record in {WAIT_S} s")
+
+
+@contextlib.contextmanager
+def awaited(child: subprocess.Popen[str]) -> Iterator[None]:
+    """Kills a recorder that prints too late, so that reading what it prints ends."""
+    timer = threading.Timer(WAIT_S, child.kill)
+    timer.start()
+    try:
+        yield
+    finally:
+        timer.cancel()
 
 
 def read(path: str) -> str:

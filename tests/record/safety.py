@@ -17,7 +17,7 @@ from typing import Any
 
 from record import machine_folder as folder
 from record.oomd_settings import make_booted
-from record.runs import RECORD, STARTED, Run, Wrong, must, must_be, read
+from record.runs import RECORD, STARTED, WAIT_S, Run, Wrong, awaited, must, must_be, read
 
 DAY = 86400
 
@@ -158,7 +158,7 @@ def check_a_ring_whose_markers_end(top: str) -> None:
     os.mkfifo(pressure)
     os.set_blocking(reader, False)
     run = Run(top, "--ring", "--seconds", "5", "--pressure-s", "0.3")
-    waited = time.monotonic() + 20
+    waited = time.monotonic() + WAIT_S
     while not run_has_begun(reader) and time.monotonic() < waited:
         time.sleep(0.01)
     os.close(reader)
@@ -196,9 +196,9 @@ def limited(top: str, limit: int) -> tuple[subprocess.Popen[str], str]:
 def ended(child: subprocess.Popen[str]) -> str:
     """Its messages up to its end."""
     try:
-        return child.communicate(timeout=20)[1]
+        return child.communicate(timeout=WAIT_S)[1]
     except subprocess.TimeoutExpired:
-        raise Wrong("it doesn't end") from None
+        raise Wrong(f"it doesn't end in {WAIT_S} s") from None
 
 
 def check_recordings_of_a_day(top: str) -> None:
@@ -228,7 +228,8 @@ def check_a_signal_while_it_waits(top: str) -> None:
     before = folder.listing(top)
     make_recordings(top, (50,))
     child, out = limited(top, 1)
-    must(child.stderr is not None and "24 hours" in child.stderr.readline(), "it waits")
+    with awaited(child):
+        must(child.stderr is not None and "24 hours" in child.stderr.readline(), "it waits")
     child.send_signal(signal.SIGTERM)
     said = ended(child)
     must_be(f"the status, after {said!r}", child.returncode, -signal.SIGTERM)

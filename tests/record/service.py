@@ -10,7 +10,7 @@ import subprocess
 import time
 
 from record import machine_folder as folder
-from record.runs import RECORD, Run, must, must_be, read, whole
+from record.runs import RECORD, WAIT_S, Run, awaited, must, must_be, read, whole
 
 MEGABYTE = 10**6
 GROUP = "system.slice/web.service"
@@ -96,7 +96,7 @@ def check_keep_spares_one_that_is_written(top: str) -> None:
     told = state(above)
     must(re.search(r"^recording now: written, since 20\S+ \S+ UTC; waits for memory full 100000 1000000$", told.stdout, re.M), told.stdout)
     run.child.terminate()
-    run.child.wait(20)
+    run.child.wait(WAIT_S)
     must("killed" not in state(above).stdout, "it ended by itself")
 
 
@@ -133,12 +133,12 @@ def check_textfile(top: str) -> None:
     folder.make_machine(top)
     command = [RECORD, "--root", top, f"{above}/new", "--textfile", file]
     with subprocess.Popen(command, stdin=subprocess.DEVNULL, stderr=subprocess.PIPE) as child:
-        waited = time.monotonic() + 20
+        waited = time.monotonic() + WAIT_S
         while not os.path.exists(file) and time.monotonic() < waited:
             time.sleep(0.02)
         during = values(read(file))
         child.terminate()
-        child.communicate(timeout=20)
+        child.communicate(timeout=WAIT_S)
     must_be("while it records", [during[it] for it in ("recordings", "active", "lost_events")], [1, 1, 7])
     after = values(read(file))
     must_be("afterwards", [after[it] for it in ("recordings", "active", "incomplete_recordings")], [2, 0, 1])
@@ -181,14 +181,14 @@ def check_hook_that_others_write(top: str) -> None:
 def check_hook_and_a_signal(top: str) -> None:
     """A signal ends a hook that doesn't end by itself."""
     folder.make_machine(top)
-    hook = make_hook(top, f'echo >"{top}.began"; exec sleep 60')
+    hook = make_hook(top, f'echo >"{top}.began"; exec sleep 600')
     command = [RECORD, "--root", top, f"{top}.out", "--seconds", "0.3", "--hook", hook]
     with subprocess.Popen(command, stdin=subprocess.DEVNULL, stderr=subprocess.PIPE, text=True) as child:
-        waited = time.monotonic() + 20
+        waited = time.monotonic() + WAIT_S
         while not os.path.exists(f"{top}.began") and time.monotonic() < waited:
             time.sleep(0.02)
         child.terminate()
-        _, said = child.communicate(timeout=20)
+        _, said = child.communicate(timeout=WAIT_S)
     must(f"the hook {hook} was terminated: a signal came" in said, said)
     must_be("the status is that of the recording", child.returncode, 0)
 
@@ -211,10 +211,13 @@ def fire(top: str) -> None:
 def wait_for(run: Run, text: str) -> None:
     """Reads standard error up to a line with this text."""
     assert run.child.stderr
-    for line in run.child.stderr:
-        if text in line:
-            return
-    must(False, f"it says {text!r}")
+    with awaited(run.child):
+        printed: list[str] = []
+        for line in run.child.stderr:
+            printed.append(line)
+            if text in line:
+                return
+    must(False, f"it prints {text!r}:\n" + "".join(printed))
 
 
 def check_trigger_of_a_group_that_comes_later(top: str) -> None:
