@@ -100,7 +100,7 @@ class Metrics:
 
 
 def put_value(put: Put, column: Column, time: int, text: str, line: int) -> None:
-    """Stores a value of a series. NaN, which ends a series after a scrape without it, is no sample."""
+    """Stores a value of a series. NaN, which ends the series, is no sample."""
     if text == STALE:
         return
     put(
