@@ -42,7 +42,7 @@ def check_is_right() -> None:
 
 
 if __name__ == "__main__":
-    harness.LIMIT_S, harness.AGAIN_S = 0.5, 0.5
+    harness.LIMIT_S, harness.AGAIN_S = 2.0, 2.0
     sys.exit(
         harness.run_checks(harness.checks_of(globals()), lambda check, _: check(), sys.argv[1:])
     )
