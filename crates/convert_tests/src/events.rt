@@ -171,7 +171,8 @@ fn losses(rt: HostRuntime) {
     let mut records = Vec::new(rt.alloc());
     put(&rt, &mut records, head(PADDING, 0), 48);
     let page = page_with(&rt, 1000, LOST + STORED, &records, 9);
-    assert_prints(&rt, &page[..64], "1000 0 lost 0\n");
+    let whole = page.get(..64).expect(&rt, "a page");
+    assert_prints(&rt, whole, "1000 0 lost 0\n");
 }
 
 #[test]
@@ -182,13 +183,15 @@ fn files(rt: HostRuntime) {
         .expect(&rt, "memory");
     // A file without pages, and bytes after the last whole page.
     assert_prints(&rt, b"", "");
-    assert_prints(&rt, &page[..63], "");
-    assert_prints(&rt, &two[..127], ONE_NOTE);
+    let cut = page.get(..63).expect(&rt, "a page");
+    assert_prints(&rt, cut, "");
+    let cut = two.get(..127).expect(&rt, "two pages");
+    assert_prints(&rt, cut, ONE_NOTE);
     assert_prints(&rt, &two, "1005 0 note -1 ab\n505 0 note -1 ab\n");
     // One processor after another.
     let files = Files {
         table: TABLE.as_bytes(),
-        first: &two[..64],
+        first: two.get(..64).expect(&rt, "two pages"),
         second: &page,
     };
     let lines = "1005 0 note -1 ab\n1005 1 note -1 ab\n";
