@@ -1,5 +1,6 @@
 pub mod LookLaws
 pub mod ReadyLaws
+pub mod SettleLaws
 pub mod StartLaws
 pub mod EndLaws
 pub mod TakenLaws

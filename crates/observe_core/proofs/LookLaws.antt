@@ -19,7 +19,7 @@ at_push (z ∷ xs) x zero y e = inl e
 at_push (z ∷ xs) x (suc k) y e = ⊎_elim (λ a. inl a) (λ (a : (k ≡ length xs) × (x ≡ y)). inr (ap suc a.0, a.1)) (at_push xs x k y e)
 
 -- the index of an existing entry is below the length
-at_below : (xs : List Entry) (k : ℕ) (y : Entry) → slice_get xs k ≡ Some y → k < length xs
+pub at_below : (xs : List Entry) (k : ℕ) (y : Entry) → slice_get xs k ≡ Some y → k < length xs
 at_below [] k y e = absurd (cc)
 at_below (x ∷ xs) zero y e = omega arith
 at_below (x ∷ xs) (suc k) y e = let below = at_below xs k y e in omega (arith, below)

@@ -14,7 +14,8 @@ use Rattle.observer_log.specs.declared.entry.Entry.{Entry}
 use Rattle.observer_log.specs.Entries.{AreBy}
 use Rattle.observer_log.specs.Watch.{IsTakenBy, WatcherView, reader_at}
 use Rattle.observe_core.specs.Observing.{HaveLooked, last_at}
-use Rattle.observe_core.specs.Driving.{AreLasts, AreOn, HasTaken, ArePreparedChanges, Setting, due_in, due_until, look_of, looks_of, slot_in}
+use Rattle.observe_core.specs.Driving.{AreLasts, AreOn, AreWithin, HasTaken, ArePreparedChanges, Setting, due_in, due_until, look_of, looks_of, slot_in}
+use Rattle.observe_core.proofs.LookLaws.{at_below}
 
 -- ---- lists
 
@@ -23,7 +24,7 @@ done_append : (dues more : List Due) (looks others : List Look) → AreDone dues
 done_append [] more [] others first rest = rest
 done_append [] more (look ∷ looks) others first rest = absurd first
 done_append (due ∷ dues) more [] others first rest = absurd first
-done_append (due ∷ dues) more (look ∷ looks) others first rest = (first.0, first.1, first.2, done_append dues more looks others first.3 rest)
+done_append (due ∷ dues) more (look ∷ looks) others first rest = (first.0, first.1, first.2, first.3, done_append dues more looks others first.4 rest)
 
 rise_lower : (low mid high : ℕ) (more : List ℕ) → low ≤ mid → RiseWithin mid more high → RiseWithin low more high
 rise_lower low mid high [] below rise = omega (arith, below, rise)
@@ -104,15 +105,23 @@ from_on observer plans slot lasts k (entry ∷ taken) from within =
     )
 
 -- these entries are the samples that are due
-from_done : (observer : ℕ) (plans : PlansView) (slot : ℕ) (lasts : List Sample) (least : ℕ → ℕ) (k : ℕ) (taken : List Entry) → AreFrom observer plans slot lasts k taken
+from_done : (observer : ℕ) (plans : PlansView) (slot : ℕ) (lasts : List Sample) (least most : ℕ → ℕ) (k : ℕ) (taken : List Entry) → AreFrom observer plans slot lasts k taken
     → ((cpu : ℕ) → cpu < k + length taken → least cpu ≤ (last_at lasts cpu).count)
-    → AreDone (map (λ cpu. record { cpu = cpu; slot = slot; least = least cpu }) (range_with_len k (length taken))) (looks_of taken)
-from_done observer plans slot lasts least k [] from low = tt
-from_done observer plans slot lasts least k (entry ∷ taken) from low =
+    → ((j : ℕ) (entry : Entry) → slice_get taken j ≡ Some entry → entry.count ≤ most (k + j))
+    → AreDone (map (λ cpu. record { cpu = cpu; slot = slot; least = least cpu; most = most cpu }) (range_with_len k (length taken))) (looks_of taken)
+from_done observer plans slot lasts least most k [] from low high = tt
+from_done observer plans slot lasts least most k (entry ∷ taken) from low high =
     let first = from_first observer plans slot lasts k entry taken from in
     let least_here = low k (omega arith) in
     let later = first.later in
-    (first.cpu_is, first.slot_is, omega (arith, least_here, later), from_done observer plans slot lasts least (k + 1) taken (from_rest observer plans slot lasts k entry taken from) (λ cpu below. low cpu (omega (arith, below))))
+    let here : k + 0 ≡ k = omega arith in
+    let most_here : entry.count ≤ most k = subst (λ (n : ℕ). entry.count ≤ most n) here (high 0 entry refl) in
+    let rest = from_done observer plans slot lasts least most (k + 1) taken (from_rest observer plans slot lasts k entry taken from)
+    (λ cpu below. low cpu (omega (arith, below)))
+    (λ j other at.
+    let next : k + suc j ≡ k + 1 + j = omega arith in
+    subst (λ (n : ℕ). other.count ≤ most n) next (high (suc j) other at)) in
+    (first.cpu_is, first.slot_is, omega (arith, least_here, later), most_here, rest)
 
 -- a look that `is_of` accepts for a processor is from that processor
 of_cpu : (observer cpu : ℕ) (look : Look) → is_of observer cpu look ≡ true → look.cpu ≡ cpu
@@ -162,18 +171,20 @@ from_one observer plans slot lasts cpu k (entry ∷ taken) found from (suc j) pl
         ∙ rest
 
 -- The samples that a watcher took in an interval, between two of its states: it was prepared for
--- the processors of the setting, and sampled all of them.
-pub record Took (set : Setting) (slot number : ℕ) (made : ℕ → ℕ) (lasts : List Sample) (old mid new : WatcherView) : Type 0 where
+-- the processors of the setting, and sampled all of them. Then its readers had seen at most the
+-- changes made after the interval.
+pub record Took (set : Setting) (slot number : ℕ) (made after : ℕ → ℕ) (lasts : List Sample) (old mid new : WatcherView) : Type 0 where
   pub number_is : old.observer ≡ number
   pub plans_are : old.plans ≡ set.plans
   pub many : length lasts ≡ length set.plans.plans
   pub prepared_changes : ArePreparedChanges made (length lasts) old mid
   pub lasts_are : AreLasts set.plans slot made (length lasts) lasts
   pub looked : HaveLooked slot lasts (length lasts) mid new
+  pub within : AreWithin after (length lasts) new
 
 -- the entries that the watcher took in the interval
-took_from : (set : Setting) (slot number : ℕ) (made : ℕ → ℕ) (lasts : List Sample) (old mid new : WatcherView) (took : Took set slot number made lasts old mid new) → AreFrom number set.plans slot lasts 0 took.looked.taken
-took_from set slot number made lasts old mid new took = λ j entry at.
+took_from : (set : Setting) (slot number : ℕ) (made after : ℕ → ℕ) (lasts : List Sample) (old mid new : WatcherView) (took : Took set slot number made after lasts old mid new) → AreFrom number set.plans slot lasts 0 took.looked.taken
+took_from set slot number made after lasts old mid new took = λ j entry at.
     let same : j ≡ 0 + j = omega arith in
     let plans : mid.plans ≡ set.plans = took.prepared_changes.plans_are ∙ took.plans_are in
     let observer : mid.observer ≡ number = took.prepared_changes.observer_is ∙ took.number_is in
@@ -181,12 +192,12 @@ took_from set slot number made lasts old mid new took = λ j entry at.
     (subst (λ (p : ℕ × PlansView). IsTakenBy p.0 p.1 j slot (last_at lasts j).count entry) (λ x. (observer x, plans x)) (took.looked.taken_are.each j entry at))
 
 -- the counts on a processor continue to rise
-rise_more : (set : Setting) (i slot number : ℕ) (made : ℕ → ℕ) (lasts : List Sample) (old mid new : WatcherView) (took : Took set slot number made lasts old mid new) (cpu : ℕ)
+rise_more : (set : Setting) (i slot number : ℕ) (made after : ℕ → ℕ) (lasts : List Sample) (old mid new : WatcherView) (took : Took set slot number made after lasts old mid new) (cpu : ℕ)
     → RiseWithin 0 (counts_by number cpu (looks_of old.own)) (reader_at old.readers cpu).knows.seen
     → RiseWithin 0 (counts_by number cpu (looks_of old.own) ++ counts_by number cpu (looks_of took.looked.taken)) (reader_at new.readers cpu).knows.seen
-rise_more set i slot number made lasts old mid new took cpu rise =
+rise_more set i slot number made after lasts old mid new took cpu rise =
     let taken = took.looked.taken in
-    let from = took_from set slot number made lasts old mid new took in
+    let from = took_from set slot number made after lasts old mid new took in
     let many : length taken ≡ length lasts = took.looked.taken_are.many in
     ⊎_elim
     (λ (below : cpu < length lasts).
@@ -210,31 +221,42 @@ rise_more set i slot number made lasts old mid new took cpu rise =
     (let case : (cpu < length lasts) ⊎ (length lasts ≤ cpu) = grind arith in case)
 
 -- the samples that were due at the tick have been taken
-done_more : (set : Setting) (i slot number : ℕ) (made : ℕ → ℕ) (lasts : List Sample) (old mid new : WatcherView) (took : Took set slot number made lasts old mid new)
+done_more : (set : Setting) (i slot number : ℕ) (made after : ℕ → ℕ) (lasts : List Sample) (old mid new : WatcherView) (took : Took set slot number made after lasts old mid new)
     → slot_in set (i + 1) ≡ Some slot → length set.plans.plans ≡ set.trace.cpus → ((cpu : ℕ) → cpu < set.trace.cpus → made cpu ≡ changes_until set.trace set.timing.length cpu i)
+    → ((cpu : ℕ) → cpu < set.trace.cpus → after cpu ≡ changes_until set.trace set.timing.length cpu (i + 1))
     → AreDone (due_in set (i + 1)) (looks_of took.looked.taken)
-done_more set i slot number made lasts old mid new took here cpus reached =
+done_more set i slot number made after lasts old mid new took here cpus reached ended =
     let taken = took.looked.taken in
-    let from = took_from set slot number made lasts old mid new took in
+    let from = took_from set slot number made after lasts old mid new took in
     let many : length taken ≡ length lasts = took.looked.taken_are.many in
     let all : length taken ≡ set.trace.cpus = many ∙ took.many ∙ cpus in
     let back : i ≡ i + 1 - 1 = omega arith in
-    let due = from_done number set.plans slot lasts (λ cpu. changes_until set.trace set.timing.length cpu (i + 1 - 1)) 0 taken from
+    let due = from_done number set.plans slot lasts (λ cpu. changes_until set.trace set.timing.length cpu (i + 1 - 1))
+    (λ cpu. changes_until set.trace set.timing.length cpu (i + 1)) 0 taken from
     (λ cpu below.
     let inside : cpu < set.trace.cpus = omega (arith, below, all) in
     let count = took.lasts_are.counts cpu (omega (arith, below, many)) in
     let made_is = reached cpu inside ∙ ap (changes_until set.trace set.timing.length cpu) back in
-    omega (arith, count, made_is)) in
+    omega (arith, count, made_is))
+    (λ j entry at.
+    let inside : j < length taken = at_below taken j entry at in
+    let seen = took.looked.seen j entry at in
+    let within = took.within j (omega (arith, inside, many)) in
+    let most_is = ended j (omega (arith, inside, all)) in
+    let most : entry.count ≤ changes_until set.trace set.timing.length j (i + 1) = omega (arith, seen, within, most_is) in
+    let same : j ≡ 0 + j = omega arith in
+    subst (λ (n : ℕ). entry.count ≤ changes_until set.trace set.timing.length n (i + 1)) same most) in
     subst (λ (s : Option ℕ). AreDone (due_at set.trace set.timing.length (i + 1) s) (looks_of taken)) (sym here)
-    (subst (λ (n : ℕ). AreDone (map (λ cpu. record { cpu = cpu; slot = slot; least = changes_until set.trace set.timing.length cpu (i + 1 - 1) }) (range_with_len 0 n)) (looks_of taken)) all due)
+    (subst (λ (n : ℕ). AreDone (map (λ cpu. record { cpu = cpu; slot = slot; least = changes_until set.trace set.timing.length cpu (i + 1 - 1); most = changes_until set.trace set.timing.length cpu (i + 1) }) (range_with_len 0 n)) (looks_of taken)) all due)
 
 -- the samples of an observer after one more tick at which it watched a slot
-pub taken_more : (set : Setting) (i slot number : ℕ) (made : ℕ → ℕ) (lasts : List Sample) (old mid new : WatcherView) → Took set slot number made lasts old mid new
+pub taken_more : (set : Setting) (i slot number : ℕ) (made after : ℕ → ℕ) (lasts : List Sample) (old mid new : WatcherView) → Took set slot number made after lasts old mid new
     → slot_in set (i + 1) ≡ Some slot → length set.plans.plans ≡ set.trace.cpus → ((cpu : ℕ) → cpu < set.trace.cpus → made cpu ≡ changes_until set.trace set.timing.length cpu i)
+    → ((cpu : ℕ) → cpu < set.trace.cpus → after cpu ≡ changes_until set.trace set.timing.length cpu (i + 1))
     → HasTaken set i number old.readers old.own → HasTaken set (i + 1) number new.readers new.own
-taken_more set i slot number made lasts old mid new took here cpus reached was =
+taken_more set i slot number made after lasts old mid new took here cpus reached ended was =
     let taken = took.looked.taken in
-    let from = took_from set slot number made lasts old mid new took in
+    let from = took_from set slot number made after lasts old mid new took in
     let many : length taken ≡ length lasts = took.looked.taken_are.many in
     let own : new.own ≡ old.own ++ taken = took.looked.own_is ∙ ap (λ (l : List Entry). l ++ taken) took.prepared_changes.own_is in
     let looks : looks_of new.own ≡ looks_of old.own ++ looks_of taken = ap looks_of own ∙ map-append look_of old.own taken in
@@ -243,9 +265,9 @@ taken_more set i slot number made lasts old mid new took here cpus reached was =
       by = subst (AreBy number) (sym own) (by_append number old.own taken was.by (from_by number set.plans slot lasts 0 taken from));
       on = subst (AreOn set.plans) (sym own) (on_append set.plans old.own taken was.on (from_on number set.plans slot lasts 0 taken from (omega (arith, many, room))));
       done = subst (AreDone (due_until set (i + 1))) (sym looks) (subst (λ (dues : List Due). AreDone dues (looks_of old.own ++ looks_of taken)) (sym (due_more set i))
-          (done_append (due_until set i) (due_in set (i + 1)) (looks_of old.own) (looks_of taken) was.done (done_more set i slot number made lasts old mid new took here cpus reached)));
+          (done_append (due_until set i) (due_in set (i + 1)) (looks_of old.own) (looks_of taken) was.done (done_more set i slot number made after lasts old mid new took here cpus reached ended)));
       rise = λ cpu. subst (λ (numbers : List ℕ). RiseWithin 0 numbers (reader_at new.readers cpu).knows.seen) (sym (ap (counts_by number cpu) looks ∙ counts_append number cpu (looks_of old.own) (looks_of taken)))
-          (rise_more set i slot number made lasts old mid new took cpu (was.rise cpu));
+          (rise_more set i slot number made after lasts old mid new took cpu (was.rise cpu));
     }
 
 -- a tick at which the path isn't live adds no sample

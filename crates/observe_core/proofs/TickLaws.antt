@@ -21,7 +21,7 @@ use Rattle.observer_log.specs.declared.board.BoardState.{BoardState}
 use Rattle.observer_log.specs.Board.{BoardEnd, first_state}
 use Rattle.observer_log.specs.Watch.{AreReaders, WatcherView, named_by, reader_at}
 use Rattle.observe_core.specs.Observing.{CanLook, CanWatch, HasWatched, HaveAllWatched, ObserverView, last_at}
-use Rattle.observe_core.specs.Driving.{AreLasts, AreReady, AreShown, AreWhole, HasObserved, HasPassed, HaveObserved, IsCounted, IsNew, IsObserved, IsPlaced, IsReached, ArePreparedChanges, IsReady, MayReady, Setting, made_by, slot_in, state_at}
+use Rattle.observe_core.specs.Driving.{AreLasts, AreReady, AreShown, AreWhole, HasObserved, HasPassed, HaveObserved, IsCounted, IsNew, IsObserved, IsPlaced, IsReached, ArePreparedChanges, AreSettled, AreWithin, IsReady, MayReady, MaySettle, Setting, made_by, slot_in, state_at}
 use Rattle.observe_core.proofs.ReadyLaws.{either_next}
 use Rattle.observe_core.proofs.TakenLaws.{Took, taken_more, taken_none, taken_still}
 
@@ -123,15 +123,16 @@ can_watch set i number slot replay old mid is placed inside ready =
     }
 
 -- the samples that the observer took in the interval
-took : (set : Setting) (i number slot : ℕ) (replay : ReplayView) (old mid new : ObserverView) → IsReached set replay i → IsPlaced set number old → IsReady replay.plans slot (made_by replay.crew) old mid
-    → HasWatched slot mid new → new.failed ≡ false → Took set slot number (made_by replay.crew) mid.lasts old.watcher mid.watcher new.watcher
-took set i number slot replay old mid new is placed ready watched whole = record {
+took : (set : Setting) (i number slot : ℕ) (replay : ReplayView) (after : ℕ → ℕ) (old mid new : ObserverView) → IsReached set replay i → IsPlaced set number old → IsReady replay.plans slot (made_by replay.crew) old mid
+    → HasWatched slot mid new → new.failed ≡ false → AreWithin after (length new.lasts) new.watcher → Took set slot number (made_by replay.crew) after mid.lasts old.watcher mid.watcher new.watcher
+took set i number slot replay after old mid new is placed ready watched whole within = record {
   number_is = placed.number_is;
   plans_are = placed.plans_are;
   many = ready.many ∙ placed.lasts_are;
   prepared_changes = subst (λ (n : ℕ). ArePreparedChanges (made_by replay.crew) n old.watcher mid.watcher) (sym ready.many) ready.prepared_changes;
   lasts_are = subst (λ (n : ℕ). AreLasts set.plans slot (made_by replay.crew) n mid.lasts) (sym ready.many) (subst (λ (plans : PlansView). AreLasts plans slot (made_by replay.crew) (length old.lasts) mid.lasts) is.plans_are ready.lasts_are);
   looked = watched.looked whole;
+  within = subst (λ (n : ℕ). AreWithin after n new.watcher) (ap length watched.lasts_are) within;
 }
 
 -- the constant properties of the observer still hold
@@ -152,6 +153,21 @@ placed_next set number slot replay old mid new placed ready watched whole =
       whole = whole;
     }
 
+-- the replay may learn what the observer has seen
+may_settle : (set : Setting) (i number : ℕ) (replay : ReplayView) (observer : ObserverView) → IsReached set replay i → IsPlaced set number observer → MaySettle replay observer.watcher (length observer.lasts)
+may_settle set i number replay observer is placed =
+    let plans : set.plans ≡ replay.plans = sym is.plans_are in
+    let many : length set.plans.plans ≡ length replay.plans.plans = ap (λ (p : PlansView). length p.plans) plans in
+    let few = few_plans set i replay is in
+    record {
+      some = some_replay set i replay is;
+      few = omega (arith, many, few);
+      all = placed.lasts_are ∙ many;
+      plans_are = placed.plans_are ∙ plans;
+      readers_are = placed.readers_are.many ∙ many;
+      rows_are = λ cpu below. placed.rows_are cpu (omega (arith, below, many)) ∙ ap (λ rows. row_at rows cpu) (sym is.rows_are);
+    }
+
 -- the observer's share still counts its entries
 counted_next : (slot : ℕ) (plans : PlansView) (made : ℕ → ℕ) (old mid new : ObserverView) → IsReady plans slot made old mid → HasWatched slot mid new → new.failed ≡ false → IsCounted old → IsCounted new
 counted_next slot plans made old mid new ready watched whole was = λ stood.
@@ -165,12 +181,12 @@ counted_next slot plans made old mid new ready watched whole was = λ stood.
     omega (arith, before, added, amount, same, own, taken)
 
 -- the observer has taken the samples due at one more tick, at which it watched
-observed_next : (set : Setting) (i number slot : ℕ) (replay : ReplayView) (old mid new : ObserverView) → IsReached set replay i → slot_in set (i + 1) ≡ Some slot → HasObserved set i number old
-    → IsReady replay.plans slot (made_by replay.crew) old mid → HasWatched slot mid new → new.failed ≡ false → HasObserved set (i + 1) number new
-observed_next set i number slot replay old mid new is here was ready watched whole = record {
+observed_next : (set : Setting) (i number slot : ℕ) (replay passed : ReplayView) (old mid new : ObserverView) → IsReached set replay i → IsReached set passed (i + 1) → slot_in set (i + 1) ≡ Some slot → HasObserved set i number old
+    → IsReady replay.plans slot (made_by replay.crew) old mid → HasWatched slot mid new → new.failed ≡ false → AreWithin (made_by passed.crew) (length new.lasts) new.watcher → HasObserved set (i + 1) number new
+observed_next set i number slot replay passed old mid new is next here was ready watched whole within = record {
   placed = placed_next set number slot replay old mid new was.placed ready watched whole;
-  taken = taken_more set i slot number (made_by replay.crew) mid.lasts old.watcher mid.watcher new.watcher (took set i number slot replay old mid new is was.placed ready watched whole)
-      here (as_many set i replay is) (made_until set i replay is) was.taken;
+  taken = taken_more set i slot number (made_by replay.crew) (made_by passed.crew) mid.lasts old.watcher mid.watcher new.watcher (took set i number slot replay (made_by passed.crew) old mid new is was.placed ready watched whole within)
+      here (as_many set i replay is) (made_until set i replay is) (made_until set (i + 1) passed next) was.taken;
   counted = counted_next slot replay.plans (made_by replay.crew) old mid new ready watched whole was.counted;
 }
 
@@ -193,18 +209,38 @@ all_can_watch set i slot replay old mid is inside ready = λ k d below.
     let before : k < length old = omega (arith, below, many) in
     can_watch set i k slot replay (get_or old k d) (get_or mid k d) is.reached (is.observed k d before).placed inside (ready.each k d before)
 
+-- after an interval, the replay may learn what each observer has seen, unless it ran out of memory
+pub all_may_settle : (set : Setting) (i slot : ℕ) (replay passed : ReplayView) (old mid new : List ObserverView) → IsObserved set replay old i → i < tick_count set.trace set.timing
+    → AreReady replay.plans slot (made_by replay.crew) old mid → HasPassed replay passed → HaveAllWatched slot mid new
+    → All (λ (observer : ObserverView). observer.failed ≡ false → MaySettle passed observer.watcher (length observer.lasts)) new
+all_may_settle set i slot replay passed old mid new is left ready has all = λ k d below whole.
+    let many = ready.many in
+    let as_many = all.many in
+    let before : k < length old = omega (arith, below, many, as_many) in
+    let between : k < length mid = omega (arith, below, as_many) in
+    let placed = placed_next set k slot replay (get_or old k d) (get_or mid k d) (get_or new k d) (is.observed k d before).placed (ready.each k d before) (all.each k d between) whole in
+    may_settle set (i + 1) k passed (get_or new k d) (reached_next set i replay passed is.reached left has) placed
+
 -- all observers have taken the samples due at one more tick, at which they watched
-pub watched_next : (set : Setting) (i slot : ℕ) (replay passed : ReplayView) (old mid new : List ObserverView) → IsObserved set replay old i → i < tick_count set.trace set.timing → slot_in set (i + 1) ≡ Some slot
-    → AreReady replay.plans slot (made_by replay.crew) old mid → HasPassed replay passed → HaveAllWatched slot mid new → AreWhole new → IsObserved set passed new (i + 1)
-watched_next set i slot replay passed old mid new is left here ready has all whole = record {
-  reached = reached_next set i replay passed is.reached left has;
-  observed = λ k d below.
-      let many = ready.many in
-      let as_many = all.many in
-      let before : k < length old = omega (arith, below, many, as_many) in
-      let between : k < length mid = omega (arith, below, as_many) in
-      observed_next set i k slot replay (get_or old k d) (get_or mid k d) (get_or new k d) is.reached here (is.observed k d before) (ready.each k d before) (all.each k d between) (whole k d below);
-}
+pub watched_next : (set : Setting) (i slot : ℕ) (replay passed : ReplayView) (old mid new last : List ObserverView) → IsObserved set replay old i → i < tick_count set.trace set.timing → slot_in set (i + 1) ≡ Some slot
+    → AreReady replay.plans slot (made_by replay.crew) old mid → HasPassed replay passed → HaveAllWatched slot mid new → AreSettled (made_by passed.crew) new last → AreWhole last → IsObserved set passed last (i + 1)
+watched_next set i slot replay passed old mid new last is left here ready has all settled whole =
+    let next = reached_next set i replay passed is.reached left has in
+    record {
+      reached = next;
+      observed = λ k d below.
+          let many = ready.many in
+          let as_many = all.many in
+          let still = settled.many in
+          let before : k < length old = omega (arith, below, many, as_many, still) in
+          let between : k < length mid = omega (arith, below, as_many, still) in
+          let after : k < length new = omega (arith, below, still) in
+          let same : get_or last k d ≡ get_or new k d = (settled.each k d after).same in
+          let well : (get_or new k d).failed ≡ false = ap (λ (observer : ObserverView). observer.failed) (sym same) ∙ whole k d below in
+          let within = (settled.each k d after).within well in
+          subst (HasObserved set (i + 1) k) (sym same)
+          (observed_next set i k slot replay passed (get_or old k d) (get_or mid k d) (get_or new k d) is.reached next here (is.observed k d before) (ready.each k d before) (all.each k d between) well within);
+    }
 
 -- all observers have taken the samples due at one more tick, at which the path isn't live
 pub passed_next : (set : Setting) (i : ℕ) (replay passed : ReplayView) (observers : List ObserverView) → IsObserved set replay observers i → i < tick_count set.trace set.timing → slot_in set (i + 1) ≡ None → HasPassed replay passed → IsObserved set passed observers (i + 1)

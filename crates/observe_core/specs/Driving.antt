@@ -101,6 +101,41 @@ pub record AreReady (plans : PlansView) (slot : ℕ) (made : ℕ → ℕ) (old n
   pub each : (number : ℕ) (d : ObserverView) → number < length old
       → IsReady plans slot made (slice_index_or old number d) (slice_index_or new number d)
 
+-- ---- after an interval
+
+-- A replay may learn how many changes a watcher's readers of `cpus` processors have seen: these are
+-- all processors, and the readers belong to the rows of the replay's clocks.
+pub record MaySettle (replay : ReplayView) (watcher : WatcherView) (cpus : ℕ) : Type 0 where
+  pub some : IsSomeReplay replay
+  pub few : length replay.plans.plans ≤ 64
+  pub all : cpus ≡ length replay.plans.plans
+  pub plans_are : watcher.plans ≡ replay.plans
+  pub readers_are : length watcher.readers ≡ length replay.plans.plans
+  pub rows_are : (cpu : ℕ) → cpu < length replay.plans.plans → Some (reader_at watcher.readers cpu).row ≡ row_at replay.crew.rows cpu
+
+-- The watcher's reader of a processor has seen at most the changes that were made. It is unchanged.
+pub record HasSettled (cpu made : ℕ) (old new : WatcherView) : Type 0 where
+  pub reader : ReaderEnd
+  pub are : new ≡ with_reader old cpu reader
+  pub same : reader ≡ reader_at old.readers cpu
+  pub within : (reader_at old.readers cpu).knows.seen ≤ made
+
+-- the same for the readers of the first `cpus` processors
+abbrev pub AreWithin : (ℕ → ℕ) → ℕ → WatcherView → Type 0
+AreWithin made cpus watcher = (cpu : ℕ) → cpu < cpus → (reader_at watcher.readers cpu).knows.seen ≤ made cpu
+
+-- An observer's readers have seen at most the changes that were made, unless it ran out of memory.
+-- It is unchanged.
+pub record IsSettled (made : ℕ → ℕ) (old new : ObserverView) : Type 0 where
+  pub same : new ≡ old
+  pub within : old.failed ≡ false → AreWithin made (length old.lasts) old.watcher
+
+-- the same for all observers
+pub record AreSettled (made : ℕ → ℕ) (old new : List ObserverView) : Type 0 where
+  pub many : length new ≡ length old
+  pub each : (number : ℕ) (d : ObserverView) → number < length old
+      → IsSettled made (slice_index_or old number d) (slice_index_or new number d)
+
 -- ---- after some ticks
 
 -- the sample of an entry, without its times

@@ -53,7 +53,8 @@ pub fn observe<R: Threads + Wait + Sync, S: Shelf, K: Sink, N: Sink, G: Gate>(
         (K.has out.old) (K.has out.new) result }
 
     // If the run is done, exactly a text was appended to the output that this number of observers
-    // of the path may print for the trace.
+    // of the path may print for the trace. Each sample has at least its processor's changes up to
+    // the tick before its interval, and at most those up to the tick that ends it.
     ensures observed { (request : Request) (bytes : List ℕ) →
         request_of (map string_bytes words.now) ≡ Some request →
         content_of (S.holds shelf.old) request.trace ≡ Some bytes →

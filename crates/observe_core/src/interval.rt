@@ -10,6 +10,7 @@ ghost use Rattle.observe_core.specs.Observing.{CanWatch, HaveAllWatched};
 use crate::all::watch_all;
 use crate::observer::Observer;
 use crate::ready::ready_all;
+use crate::settle::settle_all;
 use observer_log::Board;
 use outside::Gate;
 use psi_base::Slot;
@@ -49,7 +50,7 @@ fn interval<'j, 'a, L: Ledger + Send + Sync, R: Threads + Wait + Sync, G: Gate>(
 }
 
 /// Runs the next tick of a replay. If the path is live at the tick, each observer watches its slot
-/// during the changes up to it.
+/// during the changes up to it, and has seen no later change.
 pub(crate) fn tick<'j, 'a, L: Ledger + Send + Sync, R: Threads + Wait + Sync, G: Gate>(
     rt: &R,
     mut replay: Replay<'a>,
@@ -67,7 +68,9 @@ pub(crate) fn tick<'j, 'a, L: Ledger + Send + Sync, R: Threads + Wait + Sync, G:
     match replay.next_slot() {
         Some(slot) => {
             ready_all(&mut replay, &mut observers, slot);
-            interval(rt, replay, observers, board, slot, gate)
+            let (mut replay, mut observers) = interval(rt, replay, observers, board, slot, gate);
+            settle_all(&mut replay, &mut observers);
+            (replay, observers)
         }
         None => {
             replay.pass_unwatched(rt, gate);

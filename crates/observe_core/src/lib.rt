@@ -17,6 +17,7 @@ mod observed;
 mod observer;
 mod ready;
 mod request;
+mod settle;
 mod start;
 mod ticks;
 mod words;

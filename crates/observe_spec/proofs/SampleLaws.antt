@@ -40,7 +40,7 @@ done_all : (dues : List Due) (looks : List Look) → AreDone dues looks → leng
 done_all [] [] done = refl
 done_all [] (look ∷ looks) done = absurd done
 done_all (due ∷ dues) [] done = absurd done
-done_all (due ∷ dues) (look ∷ looks) done = ap suc (done_all dues looks done.3)
+done_all (due ∷ dues) (look ∷ looks) done = ap suc (done_all dues looks done.4)
 
 pub each_takes_its_share : EachTakesItsShare
 each_takes_its_share trace timing path observers looks all observer there = done_all _ _ (all.done observer there)

@@ -30,20 +30,21 @@ counts_by observer cpu looks = map (λ (look : Look). look.count) (filter (is_of
 
 -- ---- samples that are due
 
--- a sample that each observer must take: its processor, its slot, and a lower bound on its change
--- count
+-- a sample that each observer must take: its processor, its slot, and bounds on its change count
 pub record Due : Type 0 where
   pub cpu : ℕ
   pub slot : ℕ
   pub least : ℕ
+  pub most : ℕ
 
 -- The samples that are due in the interval that ends with tick `i` (`tick` is the length of a tick
--- in ns): one on each processor, after at least the changes up to the previous tick. None are due
--- if the path has no slot at the tick.
+-- in ns): one on each processor, after at least the changes up to the previous tick, and at most
+-- the changes up to tick `i`. None are due if the path has no slot at the tick.
 abbrev pub due_at : Trace → ℕ → ℕ → Option ℕ → List Due
 due_at trace tick i None = []
 due_at trace tick i (Some slot) =
-    map (λ cpu. record { cpu = cpu; slot = slot; least = changes_until trace tick cpu (i - 1) }) (range_with_len 0 trace.cpus)
+    map (λ cpu. record { cpu = cpu; slot = slot; least = changes_until trace tick cpu (i - 1); most = changes_until trace tick cpu i })
+    (range_with_len 0 trace.cpus)
 
 -- all samples that are due for each observer, in order: the samples of all ticks at which the path
 -- is live
@@ -58,12 +59,12 @@ AreDone [] [] = Unit {0}
 AreDone [] (look ∷ looks) = ⊥
 AreDone (due ∷ dues) [] = ⊥
 AreDone (due ∷ dues) (look ∷ looks) =
-    (look.cpu ≡ due.cpu) × (look.slot ≡ due.slot) × (due.least ≤ look.count) × AreDone dues looks
+    (look.cpu ≡ due.cpu) × (look.slot ≡ due.slot) × (due.least ≤ look.count) × (look.count ≤ due.most) × AreDone dues looks
 
 -- Samples that `observers` observers may have taken. Each observer took exactly the samples that
--- were due, in order. The change counts of an observer's samples on a processor never decrease, and
--- are at most the number of the processor's changes. The order of the samples of different
--- observers and the exact change counts may vary between runs.
+-- were due, in order and within their bounds. The change counts of an observer's samples on a
+-- processor never decrease, and are at most the number of the processor's changes. The order of the
+-- samples of different observers and the exact change counts may vary between runs.
 pub record AreObserved (trace : Trace) (timing : Timing) (path : List ℕ) (observers : ℕ) (looks : List Look) : Type 0 where
   pub done : (observer : ℕ) → observer < observers → AreDone (all_due trace timing path) (looks_by observer looks)
   pub none : (observer : ℕ) → observers ≤ observer → looks_by observer looks ≡ []
