@@ -1,4 +1,4 @@
-"""The steps of tools/record from the first check to the last line."""
+"""The steps of tools/record, from the first check of the machine to the summary."""
 from __future__ import annotations
 
 import contextlib
@@ -47,9 +47,9 @@ LOCK_CURRENT, LOCK_FUTURE, LOCK_ON_FAULT = 1, 2, 4
 
 
 def tell(line: str) -> None:
-    """Prints a line on standard error; if nobody reads it, the recording continues. It is flushed
-    at once, since Python exits with a status of its own if it can't write its buffer.
-    """
+    """Prints a line on standard error. A failed write is ignored, so that the recording continues
+    if nobody reads it. The line is written unbuffered, since Python exits with its own status if it
+    can't flush a buffer."""
     if sys.stderr is not None:
         with contextlib.suppress(OSError, ValueError):
             os.write(sys.stderr.fileno(), f"record: {line}\n".encode(errors="backslashreplace"))
@@ -61,8 +61,8 @@ def tell(line: str) -> None:
 def choose_sources(
     machine: Machine, wanted: Wanted, group: str, folder: Folder, undoing: Undoing
 ) -> tuple[Sources, bool]:
-    """The best available sources, and whether the kernel's statistics must be switched on for them.
-    """
+    """Chooses the best available sources. Returns them, and whether the kernel's scheduler
+    statistics must be switched on for them."""
     if wanted.has_probes:
         sources = add_probes(machine, group, undoing, folder.say, wanted.has_wakeups)
     else:
@@ -87,7 +87,8 @@ def choose_sources(
 def prepare(
     machine: Machine, wanted: Wanted, folder: Folder, undoing: Undoing
 ) -> tuple[Instance, Sources]:
-    """Changes the machine as far as a recording requires; nothing is traced yet."""
+    """Adds the probes and creates the tracing instance, with nothing traced yet. Returns the
+    instance and the sources of events."""
     name = recorder_name()
     sources, needs_statistics = choose_sources(machine, wanted, name, folder, undoing)
     instance = Instance(machine, name + (STATISTICS_SUFFIX if needs_statistics else ""), undoing)
@@ -110,7 +111,8 @@ def prepare(
 
 
 def say_machine(folder: Folder, machine: Machine, wanted: Wanted) -> None:
-    """Writes which machine it is, and the offset from event times to the time of day."""
+    """Writes the machine's name, processors and time zone, and the offset from event times to the
+    time of day."""
     before, realtime, behind = time.monotonic(), time.time(), time.monotonic()
     folder.say(Key.UNAME, " ".join(os.uname()))
     folder.say(Key.PROCESSORS, str(machine.processors()))
@@ -127,7 +129,8 @@ def record(
     machine: Machine, wanted: Wanted, service: Service, folder: Folder, signals: Signals,
     trigger: Trigger | None, condition: int | None,
 ) -> Status:
-    """Records, and undoes all changes, whatever happens."""
+    """Makes one recording and returns the exit status. All changes of the machine are undone, also
+    after an error."""
     ending = None
     with Undoing() as undoing:
         try:
@@ -156,7 +159,8 @@ def record(
                 names.store(folder)
             check_statistics(machine, sources, folder, ending)
     if ending:
-        # Before it ends, so that there are never more recordings than wanted.
+        # Old recordings are deleted before the lock on this one is released, so that there are
+        # never more than the limit allows.
         keep(
             os.path.dirname(os.path.abspath(folder.path)), service.limits, tell,
             os.path.basename(folder.path),
@@ -165,9 +169,8 @@ def record(
 
 
 def check_statistics(machine: Machine, sources: Sources, folder: Folder, ending: Ending) -> None:
-    """If the kernel's statistics were switched off during the recording, perhaps by another
-    recorder, waits for IO seem shorter.
-    """
+    """Reports if the kernel's scheduler statistics were switched off during the recording, perhaps
+    by another recorder: waits for IO then seem shorter than they were."""
     if sources.waits == BY_STATISTICS and statistics_of(machine) != Statistics.ON:
         what = "kernel.sched_schedstats was switched off meanwhile, so waits for IO are missing"
         tell(what)
@@ -177,7 +180,8 @@ def check_statistics(machine: Machine, sources: Sources, folder: Folder, ending:
 
 
 def closed(folder: Folder, ending: Ending | None, left: list[str]) -> Status:
-    """Writes the last lines and the operator's summary; returns the status."""
+    """Writes the last lines of `meta` and the operator's summary, and returns the exit status.
+    `left` names the changes that couldn't be undone."""
     for what in left:
         tell(f"this couldn't be undone, and is left on the machine: {what}")
     if ending:
@@ -200,9 +204,8 @@ def closed(folder: Folder, ending: Ending | None, left: list[str]) -> Status:
 
 
 def finish_compressing(folder: Folder, ending: Ending) -> None:
-    """Waits until all pages are compressed, and writes the cost. Pages that couldn't be compressed
-    are kept as they are, so nothing is lost.
-    """
+    """Waits until all pages are compressed, and reports the processor time that this took. Pages
+    that couldn't be compressed stay as uncompressed files, so nothing is lost."""
     finished = folder.finish_compressing()
     if finished:
         seconds, is_done = finished
@@ -213,7 +216,7 @@ def finish_compressing(folder: Folder, ending: Ending) -> None:
 
 
 def summarize(folder: Folder, ending: Ending) -> None:
-    """Prints what was recorded, and what is wrong with it."""
+    """Prints what was recorded, and in which respects the recording is incomplete."""
     tell(f"{ending.seconds:.1f} s, {folder.bytes / 1e6:.1f} MB of events, ended by {ending.reason}")
     if ending.lost:
         each = ", ".join(f"cpu {processor}: {count}" for processor, count in ending.lost.items())
@@ -223,11 +226,9 @@ def summarize(folder: Folder, ending: Ending) -> None:
 
 
 def make_ready() -> None:
-    """Raises the limit of open files, since each processor needs two. A recorder that waits for a
-    processor, or for its own pages to be swapped in, is late just when it matters: so it gets a
-    high priority, and locks its memory (mlockall(2)). If that isn't permitted, it continues
-    without.
-    """
+    """Prepares this process so that it isn't late when the machine is overloaded: it gets a high
+    priority, and its memory is locked (mlockall(2)). Raises the limit of open files too, since each
+    processor needs two. Steps that aren't permitted are skipped."""
     _, most = resource.getrlimit(resource.RLIMIT_NOFILE)
     with contextlib.suppress(OSError, ValueError):
         resource.setrlimit(resource.RLIMIT_NOFILE, (most, most))
@@ -240,7 +241,7 @@ def make_ready() -> None:
 
 
 def print_status(arguments: list[str]) -> Status:
-    """The command `record status`."""
+    """Runs the command `record status` and returns the exit status."""
     given = status_parser().parse_args(arguments)
     try:
         if given.textfile:
@@ -254,7 +255,7 @@ def print_status(arguments: list[str]) -> Status:
 
 
 def update_textfile(service: Service, above: str) -> None:
-    """Writes the metrics, if that is wanted."""
+    """Writes the metrics of the folder `above`, if the service has a textfile."""
     if service.textfile:
         try:
             write_textfile(service.textfile, above)
@@ -266,7 +267,8 @@ def record_once(
     machine: Machine, out: str, wanted: Wanted, service: Service, signals: Signals,
     is_compressed: bool,
 ) -> Status:
-    """Records into a new folder, and then runs and reports what the service wants."""
+    """Records into the new folder `out`, and then updates the metrics and runs the hook. Returns
+    the exit status."""
     above = os.path.dirname(os.path.abspath(out))
     trigger = Trigger(machine, wanted.until, wanted.group) if wanted.until else None
     try:
@@ -285,7 +287,7 @@ def record_once(
 
 
 def main(arguments: list[str] | None = None) -> int:
-    """Runs the command; returns the status."""
+    """Runs the command line and returns the exit status."""
     arguments = sys.argv[1:] if arguments is None else arguments
     if arguments[:1] == [STATUS_WORD]:
         return print_status(arguments[1:])

@@ -1,10 +1,9 @@
-"""Compresses the pages of a long recording as they arrive, in a process of its own with the lowest
+"""Compresses the pages of a long recording as they arrive, in a separate process with the lowest
 priority.
 
-The recorder writes pages to parts, as it does without compression; each complete part becomes a
-gzip file. So if the machine leaves no time for that, the recording needs more disk space in the
-meantime, and nothing is late or lost; a recorder that is killed leaves parts that can be read.
-"""
+The recorder writes pages to parts; the compressor replaces each complete part by a gzip file. If
+the machine leaves no processor time for that, the recording temporarily needs more disk space, but
+nothing is late or lost. A recorder that is killed leaves parts that can be read."""
 from __future__ import annotations
 
 import contextlib
@@ -20,17 +19,17 @@ from psirec.layout import PACKED
 
 from .waiting import ENDING
 
-# The level of compression, from 1 to 9: level 1 gains most for its time.
+# The level of compression, from 1 to 9. Level 1 saves the most bytes per processor time.
 LEVEL = 1
 LEAST_PRIORITY = 19
-# The time between two searches for complete parts, s.
+# The time (s) between two searches for complete parts.
 PERIOD = 1.0
 PART = re.compile(r"cpu(\d+)\.(\d+)\.raw")
 UNFINISHED = ".part"
 
 
 class Compressor:
-    """The process that compresses the parts of an open folder."""
+    """The process that compresses the complete parts in an open folder."""
 
     def __init__(self, folder: int) -> None:
         reader, self.writer = os.pipe2(os.O_CLOEXEC)
@@ -44,19 +43,17 @@ class Compressor:
         os.close(reader)
 
     def finish(self) -> tuple[float, bool]:
-        """Waits until all parts are compressed. Returns the processor time (s) that it took in all,
-        and whether all parts were compressed.
-        """
+        """Waits until all parts are compressed. Returns the total processor time (s) of the
+        process, and whether all parts were compressed."""
         os.close(self.writer)
         _, status, usage = os.wait4(self.number, 0)
         return usage.ru_utime + usage.ru_stime, status == 0
 
 
 def serve(folder: int, line: int) -> None:
-    """Compresses complete parts until the other end of the pipe is closed, and then the rest. It
-    ignores the signals that end a recording: the recorder handles them. No file of the recorder
-    stays open here.
-    """
+    """Compresses complete parts until the other end of the pipe `line` is closed, and then the
+    remaining ones. Ignores the signals that end a recording, since the recorder handles them, and
+    closes all files inherited from the recorder."""
     for number in ENDING:
         signal.signal(number, signal.SIG_IGN)
     first, second = sorted((folder, line))
@@ -74,9 +71,8 @@ def serve(folder: int, line: int) -> None:
 
 
 def whole_parts(folder: int, is_ended: bool) -> Iterator[str]:
-    """The parts to which nothing more is written: for each processor all but the last one, or all
-    after the end.
-    """
+    """Yields the names of the parts that are complete: for each processor all but its last part, or
+    all parts if `is_ended`."""
     parts = sorted(
         (int(it[1]), int(it[2]), it[0]) for it in map(PART.fullmatch, os.listdir(folder)) if it
     )
@@ -86,16 +82,15 @@ def whole_parts(folder: int, is_ended: bool) -> Iterator[str]:
 
 
 def opener_in(folder: int) -> Callable[[str, int], int]:
-    """An opener for `open` that opens names in an open folder. It follows no link, and only the
-    owner may read a new file.
-    """
+    """Returns an opener for `open` that opens names in the open folder `folder`. The opener follows
+    no link, and gives new files the mode 0600."""
     return lambda name, flags: os.open(
         name, flags | os.O_NOFOLLOW | os.O_CLOEXEC, 0o600, dir_fd=folder
     )
 
 
 def compress(folder: int, name: str) -> None:
-    """Replaces a file of an open folder by its compressed form, after that is complete."""
+    """Replaces the file `name` of an open folder by its gzip file, once that is complete."""
     unfinished = name + PACKED + UNFINISHED
     opener = opener_in(folder)
     with open(name, "rb", opener=opener) as source, open(unfinished, "xb", opener=opener) as target:

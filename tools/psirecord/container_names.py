@@ -1,8 +1,8 @@
-"""Stores the names of containers and pods in a recording, whose groups only have their numbers.
+"""Stores the names of containers and pods in a recording. The paths of their groups only have their
+identifiers.
 
-What runs containers is only asked if there are groups of its containers: nothing is started for
-this. It is asked before the recording and after it.
-"""
+A container runtime is asked, before and after the recording, only if the machine has groups of its
+containers."""
 from __future__ import annotations
 
 import os
@@ -16,7 +16,8 @@ from .folder import DiskFull, Folder
 from .machine import Machine
 from .samples import groups
 
-# What the groups of its containers have in their paths, and the command that prints their names.
+# Each runtime: a word that the paths of its groups contain, and the command that prints its
+# containers.
 COMMANDS = (
     ("kubepods", ("crictl", "ps", "-a", "-o", "json")),
     ("kubepods", ("crictl", "pods", "-o", "json")),
@@ -29,16 +30,17 @@ Tell = Callable[[str], None]
 
 
 class ContainerNames:
-    """The names found so far, by number."""
+    """The names found so far, keyed by the identifier of the container or pod."""
 
     def __init__(self, machine: Machine, tell: Tell) -> None:
         self.machine, self.tell = machine, tell
         self.names: dict[str, str] = {}
-        # On the real machine this is empty, and commands are found as usual.
+        # The folder that contains the commands in tests. It is empty on the real machine, and
+        # commands are then searched in PATH.
         self.root = os.path.dirname(machine.proc).rstrip("/")
 
     def look(self) -> None:
-        """Asks for the names of the containers that have groups now."""
+        """Runs the command of each runtime that has groups now."""
         paths = [it.path for it in groups(self.machine)]
         for mark, words in COMMANDS:
             command = f"{self.root}/{words[0]}" if self.root else shutil.which(words[0])
@@ -46,7 +48,7 @@ class ContainerNames:
                 self.ask([command, *words[1:]])
 
     def ask(self, words: list[str]) -> None:
-        """Runs a command, and takes the names that it prints."""
+        """Runs a command and adds the names that it prints. A failure is reported."""
         try:
             done = subprocess.run(
                 words, stdin=subprocess.DEVNULL, capture_output=True, timeout=PATIENCE_SECONDS
@@ -59,7 +61,7 @@ class ContainerNames:
             self.tell(f"{os.path.basename(words[0])} doesn't say the names of containers: {fault}")
 
     def store(self, folder: Folder) -> None:
-        """Writes the names, if there are any."""
+        """Writes the names to the recording, unless there are none. A failure is reported."""
         names = sorted(self.names.items())
         lines = "".join(f"{number} {' '.join(name.split())}\n" for number, name in names)
         text = lines.encode("utf-8", "surrogateescape")

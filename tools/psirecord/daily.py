@@ -1,6 +1,5 @@
-"""A limit of recordings per day. Each one takes disk space, and nobody removes them: a service that
-is restarted must not fill the disk.
-"""
+"""A limit of recordings per day. Nobody removes recordings, so without a limit a service that is
+restarted again and again would fill the disk."""
 from __future__ import annotations
 
 import contextlib
@@ -13,12 +12,13 @@ from psirec.layout import META
 from .waiting import Signals, Waiting
 
 DAY_SECONDS = 86400.0
-# The time (s) between two checks, since the clock may be set, and recordings may be removed.
+# The longest time (s) between two checks. The clock may be set and recordings may be removed in the
+# meantime.
 LOOK_SECONDS = 60.0
 
 
 def recording_times(folder: str) -> list[float]:
-    """The end times of the recordings in a folder, in seconds since the epoch."""
+    """Returns the end times (s since the epoch) of the recordings in a folder."""
     times = []
     with contextlib.suppress(OSError), os.scandir(folder) as entries:
         for entry in entries:
@@ -28,17 +28,15 @@ def recording_times(folder: str) -> list[float]:
 
 
 def seconds_to_wait(folder: str, limit: int, now: float) -> float:
-    """The time (s) until fewer than `limit` recordings are younger than a day. Recordings from the
-    future, after a clock was set back, don't count.
-    """
+    """Returns the time (s) until fewer than `limit` recordings are younger than a day. Recordings
+    with times after `now`, from before a clock was set back, don't count."""
     latest = sorted((it for it in recording_times(folder) if it <= now), reverse=True)
     return max(0.0, latest[limit - 1] + DAY_SECONDS - now) if len(latest) >= limit else 0.0
 
 
 def wait_for_room(out: str, limit: int, signals: Signals, tell: Callable[[str], None]) -> bool:
-    """Waits until another recording next to `out` is within the limit. False if a signal came
-    first.
-    """
+    """Waits until another recording next to `out` is within the daily limit. Returns False if a
+    signal came first."""
     folder = os.path.dirname(os.path.abspath(out))
     waiting, is_announced = Waiting(signals), False
     while signals.came is None:

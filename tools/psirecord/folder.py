@@ -1,10 +1,9 @@
-"""The folder of a recording, with the file names of `psirec.layout`. All writes are unbuffered: a
-killed recorder loses nothing.
+"""The folder of a recording, with the file names of `psirec.layout`. All writes are unbuffered, so
+nothing is lost if the recorder is killed.
 
-A recording shows what runs on a machine, and addresses of its kernel: only its owner may read it.
-All files are opened through the descriptor of the folder, since the owner of the parent folder may
-rename ours and put something else in its place during the recording.
-"""
+A recording shows which programs run on a machine, and addresses of its kernel, so only its owner
+may read it. All files are opened through the descriptor of the folder, since the owner of the
+parent folder may rename it and put something else in its place during the recording."""
 from __future__ import annotations
 
 import contextlib
@@ -17,13 +16,13 @@ from psirec import layout
 from .compressing import Compressor
 from .machine import Machine, read_file
 
-# A file that reserves disk space during the recording, so that the last lines can be written even
-# if the disk is full.
+# A file that reserves disk space during the recording. It is deleted at the end, so that the last
+# lines can be written even if the disk is full.
 RESERVE = ".reserve"
 RESERVE_BYTES = 1 << 18
 FULL = (errno.ENOSPC, errno.EDQUOT, errno.EFBIG)
 PAGE_BYTES = 4096
-# The bytes of a processor that are compressed together.
+# The size (bytes) at which a processor's part is complete and is compressed.
 PART_BYTES = 8 << 20
 FOLDER_MODE, FILE_MODE = 0o700, 0o600
 FOLDER_FLAGS = os.O_RDONLY | os.O_DIRECTORY | os.O_NOFOLLOW | os.O_CLOEXEC
@@ -31,11 +30,11 @@ NEW_FILE_FLAGS = os.O_WRONLY | os.O_CREAT | os.O_EXCL | os.O_NOFOLLOW | os.O_APP
 
 
 class DiskFull(Exception):
-    """The disk is full."""
+    """Raised if a write fails because the disk is full, or a quota or size limit is reached."""
 
 
 def append(file: int, data: bytes) -> None:
-    """Writes all of it, or raises DiskFull if there is no room."""
+    """Writes all of `data` to the descriptor `file`. Raises DiskFull if there is no room."""
     rest = memoryview(data)
     while rest:
         try:
@@ -47,7 +46,8 @@ def append(file: int, data: bytes) -> None:
 
 
 def made_folder(name: str, above: int | None = None) -> int:
-    """Creates a folder, in the open folder `above` if that is given, and returns its descriptor."""
+    """Creates a folder and returns its descriptor. `name` is relative to the open folder `above`,
+    if that isn't None."""
     os.mkdir(name, FOLDER_MODE, dir_fd=above)
     folder = os.open(name, FOLDER_FLAGS, dir_fd=above)
     found = os.fstat(folder)
@@ -77,13 +77,12 @@ class Folder:
     """A new folder, and the files written to it."""
 
     def __init__(self, path: str, is_compressed: bool = False) -> None:
-        """Creates the folder; OSError if it already exists, DiskFull if there isn't even room to
-        begin. The process that compresses starts now, since it must not inherit the files that are
-        opened later.
-        """
+        """Creates the folder. Raises OSError if it already exists, and DiskFull if there isn't room
+        for the first lines. The compressing process is started before other files are opened, since
+        it must not inherit them."""
         self.path, self.bytes, self.page_bytes = path, 0, PAGE_BYTES
         self.raw: dict[int, int] = {}
-        # For each processor the number of parts, and the bytes in the last one.
+        # The number of parts of each processor, and the bytes in the last part.
         self.parts: dict[int, int] = {}
         self.part_bytes: dict[int, int] = {}
         self.descriptor = made_folder(path)
@@ -93,7 +92,7 @@ class Folder:
                 self.compressor = Compressor(self.descriptor)
             self.reserve()
             self.meta, self.pressure = self.made(layout.META), self.made(layout.PRESSURE)
-            # As long as it is locked the recording is being written, and nobody deletes it.
+            # The lock shows that the recording is still being written, so that nobody deletes it.
             fcntl.flock(self.meta, fcntl.LOCK_EX)
             self.say(layout.Key.RECORDING, layout.VERSION)
         except BaseException:
@@ -105,7 +104,7 @@ class Folder:
         return os.open(name, NEW_FILE_FLAGS, FILE_MODE, dir_fd=self.descriptor)
 
     def reserve(self) -> None:
-        """Reserves room for the last lines, if the file system can."""
+        """Reserves disk space for the last lines, if the file system supports it."""
         file = self.made(RESERVE)
         try:
             os.posix_fallocate(file, 0, RESERVE_BYTES)
@@ -116,12 +115,12 @@ class Folder:
             os.close(file)
 
     def release(self) -> None:
-        """Frees the reserved room for the last lines."""
+        """Frees the disk space that was reserved for the last lines."""
         with contextlib.suppress(FileNotFoundError):
             os.unlink(RESERVE, dir_fd=self.descriptor)
 
     def say(self, key: str, value: str) -> None:
-        """Writes a line of `meta`; if the disk is full, it uses the reserve."""
+        """Writes a line of `meta`, using the reserved disk space if the disk is full."""
         line = f"{key} {' '.join(value.splitlines())}\n".encode(errors="surrogateescape")
         try:
             append(self.meta, line)
@@ -130,7 +129,8 @@ class Folder:
             append(self.meta, line)
 
     def write_formats(self, machine: Machine, events: list[str]) -> None:
-        """Writes the formats of pages and events, from the kernel's own files."""
+        """Stores the kernel's descriptions of ring buffer pages and of `events`, and sets the page
+        size."""
         header = read_file(f"{machine.tracing}/events/header_page")
         parts = [b"== header_page\n" + header]
         for event in [*events, "ftrace/print"]:
@@ -142,7 +142,7 @@ class Folder:
         self.page_bytes = page_bytes(header)
 
     def write_whole(self, name: str, data: bytes) -> None:
-        """Writes a whole file at once."""
+        """Creates a file with the contents `data`."""
         file = self.made(name)
         try:
             append(file, data)
@@ -150,7 +150,7 @@ class Folder:
             os.close(file)
 
     def open_raw(self, processors: int) -> None:
-        """Opens a file for the pages of each processor."""
+        """Creates a file for each processor's pages."""
         for processor in range(processors):
             if self.compressor:
                 self.begin_part(processor)
@@ -158,7 +158,7 @@ class Folder:
                 self.raw[processor] = self.made(layout.raw_name(processor))
 
     def begin_part(self, processor: int) -> None:
-        """Begins a new part for the next pages of a processor."""
+        """Begins a new part for the pages of `processor`, which completes the previous one."""
         if processor in self.raw:
             os.close(self.raw.pop(processor))
         part = self.parts.get(processor, 0)
@@ -166,14 +166,14 @@ class Folder:
         self.parts[processor], self.part_bytes[processor] = part + 1, 0
 
     def finish_compressing(self) -> tuple[float, bool] | None:
-        """Waits until all is compressed. Returns the processor time (s) that it took, and whether
-        all parts were compressed; None without compression.
-        """
+        """Waits until all parts are compressed. Returns the processor time (s) that this took, and
+        whether all parts were compressed. None if the recording isn't compressed."""
         compressor, self.compressor = self.compressor, None
         return compressor.finish() if compressor else None
 
     def append_pages(self, processor: int, pages: bytes) -> None:
-        """Writes pages of a processor. If the disk is full, the file is cut after a whole page."""
+        """Appends pages of a processor to its file. If the disk is full, truncates the file after
+        the last whole page and raises DiskFull."""
         if self.compressor and self.part_bytes[processor] >= PART_BYTES:
             self.begin_part(processor)
         file = self.raw[processor]
@@ -187,11 +187,11 @@ class Folder:
             self.part_bytes[processor] += len(pages)
 
     def append_pressure(self, text: bytes) -> None:
-        """Writes a reading of pressure files."""
+        """Appends a reading of the pressure files."""
         append(self.pressure, text)
 
     def write_below(self, name: str, data: bytes) -> None:
-        """Writes a whole file at once, and creates the folders in its name."""
+        """Creates a file with the contents `data`, and the folders in its name."""
         *folders, last = name.split("/")
         at = os.dup(self.descriptor)
         try:
@@ -210,9 +210,8 @@ class Folder:
             os.close(file)
 
     def discard(self) -> None:
-        """Removes the folder if nothing was recorded. If another folder is at its path now, that
-        one stays.
-        """
+        """Removes the folder, since nothing was recorded. Another folder that is now at the path
+        isn't removed."""
         self.finish_compressing()
         remove_all(self.descriptor)
         mine = os.fstat(self.descriptor)
@@ -222,7 +221,7 @@ class Folder:
                 os.rmdir(self.path)
 
     def close_files(self) -> None:
-        """Closes its files."""
+        """Waits until all parts are compressed, and closes all files of the recording."""
         self.finish_compressing()
         self.release()
         for file in [self.meta, self.pressure, *self.raw.values()]:
@@ -230,13 +229,14 @@ class Folder:
         self.raw.clear()
 
     def close(self) -> None:
-        """Closes everything."""
+        """Closes all files and the folder."""
         self.close_files()
         os.close(self.descriptor)
 
 
 def page_bytes(header: bytes) -> int:
-    """The size of a page according to `events/header_page`: its data's offset and size together."""
+    """Returns the size (bytes) of a ring buffer page: offset plus size of the field `data` in
+    `events/header_page`."""
     for line in header.splitlines():
         words = {
             key: value for key, _, value in (it.strip().partition(b":") for it in line.split(b";"))

@@ -10,14 +10,14 @@ from collections.abc import Callable
 
 from .waiting import Signals, Waiting
 
-# A hook that runs longer than this (s) is terminated, and killed if it hasn't ended 10 s later.
+# The time (s) after which a hook is terminated, and the time (s) after that until it is killed.
 MOST_SECONDS, KILL_SECONDS = 600.0, 10.0
 LOOK_SECONDS = 0.2
 OTHERS_WRITE = stat.S_IWGRP | stat.S_IWOTH
 
 
 def why_not(path: str) -> str | None:
-    """Why the recorder, which is root, wouldn't run this program."""
+    """Returns why the recorder, which is root, refuses to run this program; None if it may run."""
     if not os.path.isabs(path):
         return "it must be a whole path, since a service has no working directory"
     try:
@@ -32,7 +32,8 @@ def why_not(path: str) -> str | None:
 
 
 def make_ordinary() -> None:
-    """In the new process: an ordinary priority, and no protection from the kernel's killer."""
+    """Gives the new process an ordinary priority, and lets the kernel's OOM killer choose it. The
+    recorder's own settings would be inherited otherwise."""
     with contextlib.suppress(OSError):
         os.setpriority(os.PRIO_PROCESS, 0, 0)
     with contextlib.suppress(OSError), open(
@@ -42,7 +43,8 @@ def make_ordinary() -> None:
 
 
 def wait_for(child: subprocess.Popen[bytes], signals: Signals) -> str | None:
-    """Waits for the end of the hook. Why it was terminated, if it was."""
+    """Waits for the end of the hook. Returns why the hook was terminated or how it failed; None if
+    it succeeded."""
     waiting, end = Waiting(signals), time.monotonic() + MOST_SECONDS
     while child.poll() is None:
         if signals.came or time.monotonic() > end:
@@ -58,9 +60,8 @@ def wait_for(child: subprocess.Popen[bytes], signals: Signals) -> str | None:
 
 
 def run_hook(path: str, folder: str, signals: Signals, tell: Callable[[str], None]) -> None:
-    """Runs a program with the name of a recording's folder. Its failure is reported, and changes
-    nothing else.
-    """
+    """Runs the program `path` with the recording's folder as its argument. A failure is reported
+    and has no other effect."""
     fault = why_not(path)
     if fault:
         tell(f"the hook {path} wasn't run: {fault}")

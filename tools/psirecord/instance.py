@@ -1,10 +1,9 @@
-"""An instance of the kernel's tracing, with ring buffers of its own, so that no other tracing is
-affected.
+"""An instance of the kernel's tracing with its own ring buffers, so that other users of tracing
+aren't affected.
 
-Documentation/trace/ftrace.rst describes its files. Pages of the buffers are read in binary form
-(`trace_pipe_raw`): an event has some 40 bytes there instead of 140 as text, reading takes a fourth
-of the time, and the pages themselves record lost events.
-"""
+Documentation/trace/ftrace.rst describes the files of an instance. Pages are read in binary form
+(`trace_pipe_raw`): an event has about 40 bytes instead of 140 as text, reading takes a quarter of
+the time, and pages record the number of lost events."""
 from __future__ import annotations
 
 import contextlib
@@ -20,17 +19,17 @@ from .probing import NEEDED, Say, Sources, Tell, without
 from .undoing import Undoing
 
 READ_BYTES = 1 << 16
-# The suffix of an instance whose recorder also switched the sysctl kernel.sched_schedstats on: it
-# shows a later recorder what to undo.
+# The suffix of an instance whose recorder also switched on the sysctl kernel.sched_schedstats, so
+# that a later recorder knows that it must be switched off.
 STATISTICS_SUFFIX = "-schedstats"
-# A recorder's process number and that process's start time, which names from earlier versions don't
-# have.
+# A recorder's pid, and its start time (clock ticks since boot). Names made by earlier versions have
+# no start time.
 RECORDER = rf"{PREFIX}(?P<number>\d+)(?:_(?P<start>\d+))?"
 INSTANCE = re.compile(rf"{RECORDER}(?P<statistics>{STATISTICS_SUFFIX})?")
 PROBE = re.compile(rf"[a-z]\d*:(?P<probe>{RECORDER}/\w+) ")
-# The states, in /proc/PID/stat, of processes that ended but weren't waited for yet.
+# The states, in /proc/PID/stat, of processes that have ended but haven't been waited for.
 ENDED = (b"Z", b"X")
-# An instance inherits the options of the top one, so those that matter are set.
+# An instance inherits the options of the top-level instance, so the ones that matter are set.
 OPTIONS = {"overwrite": "1", "markers": "1"}
 
 
@@ -39,7 +38,7 @@ class NotRecorded(Exception):
 
 
 class Instance:
-    """An instance, from before its first event until it is removed."""
+    """A tracing instance of a recorder, created with nothing traced."""
 
     def __init__(self, machine: Machine, name: str, undoing: Undoing) -> None:
         self.machine, self.name, self.undoing = machine, name, undoing
@@ -54,13 +53,12 @@ class Instance:
             raise
 
     def write(self, file: str, text: str) -> None:
-        """Writes one of its files."""
+        """Writes `text` to a file of the instance."""
         write_file(f"{self.folder}/{file}", text)
 
     def prepare(self, buffer_kb: int) -> None:
-        """Sets the instance up, with nothing traced yet; times are CLOCK_MONOTONIC; a buffer has
-        `buffer_kb` KiB per processor.
-        """
+        """Sets the instance up, with nothing traced yet. Timestamps are CLOCK_MONOTONIC, and each
+        processor's buffer has `buffer_kb` KiB."""
         self.write("tracing_on", "0")
         self.write("trace_clock", "mono")
         self.write("buffer_size_kb", str(buffer_kb))
@@ -69,7 +67,7 @@ class Instance:
                 self.write(f"options/{option}", value)
 
     def enable(self, event: str, wanted: str) -> None:
-        """Switches an event on, with the filter `wanted` if that isn't empty."""
+        """Switches `event` on, with the filter `wanted` unless that is empty."""
         switch = f"events/{event}/enable"
         self.undoing.note(f"the event {event}", lambda: self.write(switch, "0"))
         try:
@@ -81,9 +79,8 @@ class Instance:
             raise
 
     def enable_all(self, sources: Sources, say: Say, tell: Tell) -> list[str]:
-        """Switches on the available events, and reports the others with the consequences. Returns
-        the events that are on.
-        """
+        """Switches on the available events. Reports each unavailable one and what the recording
+        lacks without it. Returns the events that are on."""
         events = []
         for event in sources.events:
             try:
@@ -101,9 +98,8 @@ class Instance:
         return events
 
     def open_files(self) -> None:
-        """Opens the buffers and the marker. They are closed before any earlier step is undone: an
-        instance can't be removed while one of its files is open.
-        """
+        """Opens the buffers and the marker file. Undoing closes them before any earlier step is
+        undone, since an instance can't be removed while one of its files is open."""
         self.undoing.note("open files", self.close_files)
         self.marker = os.open(f"{self.folder}/trace_marker", os.O_WRONLY)
         for processor in range(self.machine.processors()):
@@ -112,14 +108,15 @@ class Instance:
                 self.buffers[processor] = os.open(path, os.O_RDONLY | os.O_NONBLOCK)
 
     def close_files(self) -> None:
-        """Closes them, once."""
+        """Closes the buffers and the marker file. A second call does nothing."""
         files, self.buffers, self.marker = [*self.buffers.values(), self.marker], {}, -1
         for file in files:
             if file >= 0:
                 os.close(file)
 
     def mark(self, words: str) -> bool:
-        """Writes a marker among the events, unless it is so long that the kernel might cut it."""
+        """Writes a marker among the events. Returns False, and writes nothing, if it is so long
+        that the kernel might cut it."""
         line = words.encode(errors="surrogateescape")
         if len(line) > MOST_MARKER_BYTES:
             return False
@@ -131,9 +128,8 @@ class Instance:
         self.mark(f"{MARK}{word}")
 
     def pages(self, processor: int, most_bytes: float) -> Iterator[bytes]:
-        """The contents of a processor's buffer, without waiting for more, in pieces of whole pages;
-        at most about `most_bytes`.
-        """
+        """Yields a processor's events in pieces of whole pages, about `most_bytes` at most, until
+        the buffer is empty."""
         taken = 0
         while taken < most_bytes:
             try:
@@ -150,7 +146,7 @@ class Instance:
             yield piece
 
     def statistics(self, processor: int) -> dict[str, str]:
-        """The lines of `per_cpu/cpuN/stats`."""
+        """Returns the values of `per_cpu/cpuN/stats` of a processor by name."""
         text = read_file(f"{self.folder}/per_cpu/cpu{processor}/stats").decode(errors="replace")
         return {
             key: value.strip()
@@ -160,42 +156,39 @@ class Instance:
 
 
 def lost_events(statistics: dict[str, str], is_ring: bool) -> int:
-    """The number of lost events of a processor. A flight recorder's buffer is overwritten on
-    purpose.
-    """
+    """Returns the number of lost events of a processor. Overwritten events of a flight recorder
+    don't count, since it overwrites its buffer on purpose."""
     return sum(int(statistics.get(it, 0)) for it in LOST_STATS if not (is_ring and it == "overrun"))
 
 
 def oldest_moment(statistics: dict[str, str]) -> float:
-    """The time (s) at which a processor's buffer begins, if older events were overwritten; else 0.
-    """
+    """Returns the time (s) of the oldest event in a processor's buffer if older ones were
+    overwritten, and 0 otherwise."""
     return float(statistics.get("oldest event ts", 0)) if int(statistics.get("overrun", 0)) else 0.0
 
 
 def start_time(proc: str, process: str) -> str:
-    """The start time of a process, in clock ticks since boot; empty if it ended, even if it wasn't
-    waited for yet. Its name may contain blanks.
-    """
+    """Returns the start time of a process in clock ticks since boot. Empty if the process has
+    ended, even if it hasn't been waited for. Fields are counted from the last bracket, since the
+    process's name may contain blanks."""
     words = read_file(f"{proc}/{process}/stat").rpartition(b")")[2].split()
     return words[19].decode() if len(words) > 19 and words[0] not in ENDED else ""
 
 
 def recorder_name() -> str:
-    """The name of this recorder's instance, and of its probes' group. A process number may be
-    reused, with another start time.
-    """
+    """Returns the name of this recorder's instance and probe group. The start time is included
+    because a pid may be reused."""
     return f"{PREFIX}{os.getpid()}_{start_time('/proc', 'self')}"
 
 
 def remover(remove: Callable[[str], None], name: str) -> Callable[[], None]:
-    """The undo step that removes what has this name."""
+    """Returns an undo step that calls `remove` with `name`."""
     return lambda: remove(name)
 
 
 def remove_left_behind(machine: Machine, tell: Tell) -> None:
-    """Removes what killed recorders left: instances and probes named after a process that has
-    ended.
-    """
+    """Removes the tracing instances and probes of recorders that were killed: those named after a
+    process that no longer exists."""
 
     def is_left(found: re.Match[str]) -> bool:
         number, start = found["number"], found["start"]

@@ -1,10 +1,9 @@
-"""Looks up the offset of a member of a kernel structure, and the number of a function's parameters,
-in the kernel's own types.
+"""Looks up the offsets of members of a kernel structure, and the number of a function's parameters,
+in the kernel's type information (BTF).
 
-The format is described in Documentation/bpf/btf.rst. Only two names are needed from its 10 MB: a
-walk over all types would take seconds on a slow machine, and searching for the position of a name's
-text takes a tenth of a second.
-"""
+Documentation/bpf/btf.rst describes the format. Only a few names are needed from its 10 MB:
+searching for a name's bytes takes a tenth of a second, and a walk over all types takes seconds on a
+slow machine."""
 from __future__ import annotations
 
 import struct
@@ -21,18 +20,16 @@ WORD_BITS = 32
 
 @dataclass(frozen=True)
 class Place:
-    """The position of a member in its structure: its first bit, and its width if it is a bit field,
-    else 0.
-    """
+    """The position of a member in its structure: its first bit, and its width in bits. The width is
+    0 unless the member is a bit field."""
 
     bit: int
     width: int
 
     def fetch(self, argument: int, plain_type: str) -> str:
-        """The words with which a probe fetches it from the structure to which an argument points
-        (Documentation/trace/kprobetrace.rst). A member that isn't a bit field has a type, such as
-        `s32`.
-        """
+        """Returns the words with which a probe fetches the member from the structure to which the
+        function's argument number `argument` points (Documentation/trace/kprobetrace.rst).
+        `plain_type`, such as `s32`, is used unless the member is a bit field."""
         if not self.width:
             return f"+{self.bit // 8}($arg{argument}):{plain_type}"
         offset, bit = self.bit // WORD_BITS * 4, self.bit % WORD_BITS
@@ -40,9 +37,8 @@ class Place:
 
 
 class KernelTypes:
-    """The types of a kernel, from the bytes of /sys/kernel/btf/vmlinux; without any if these aren't
-    valid.
-    """
+    """The types of a kernel, parsed from the bytes of /sys/kernel/btf/vmlinux. There are none if
+    the bytes aren't valid."""
 
     def __init__(self, data: bytes) -> None:
         self.data = data
@@ -54,10 +50,9 @@ class KernelTypes:
                 self.strings = header + strings
 
     def named(self, name: str, kind: int) -> Iterator[int]:
-        """The possible positions of types with this name and kind. Each name occurs once among the
-        strings. Some bytes merely look like a type, so the caller tries the positions until one
-        fits.
-        """
+        """Yields the possible positions of types with this name and kind. Each name occurs once
+        among the strings. Other bytes can look like a type, so the caller tries the positions until
+        one fits."""
         found = self.data.find(b"\0" + name.encode() + b"\0", self.strings)
         if self.strings == 0 or found < 0:
             return
@@ -69,7 +64,8 @@ class KernelTypes:
             place = self.data.find(wanted, place + 1, self.types_end)
 
     def members(self, structure: str, wanted: tuple[str, ...]) -> dict[str, Place]:
-        """The positions of the wanted members of the structure; empty if not all exist."""
+        """Returns the positions of the wanted members of a structure, or an empty dictionary if one
+        doesn't exist."""
         for place in self.named(structure, STRUCTURE):
             info = TYPE.unpack_from(self.data, place)[1]
             has_widths, count = bool(info >> 31), info & 0xFFFF
@@ -84,7 +80,8 @@ class KernelTypes:
         return {}
 
     def member(self, place: int, has_widths: bool, wanted: tuple[str, ...]) -> tuple[str, Place]:
-        """A member's name, empty if it isn't wanted, and its position."""
+        """Returns the name and position of the member at `place`. The name is empty if the member
+        isn't wanted."""
         name_place, _, offset = MEMBER.unpack_from(self.data, place)
         known = [
             it
@@ -96,14 +93,15 @@ class KernelTypes:
         return "".join(known), Place(offset, 0)
 
     def parameters(self, function: str) -> int | None:
-        """The number of the function's parameters; None if there is no such function."""
+        """Returns the number of the function's parameters; None if there is no such function."""
         for place in self.named(function, FUNCTION):
             number = TYPE.unpack_from(self.data, place)[2]
             return self.prototype_parameters(number)
         return None
 
     def prototype_parameters(self, number: int) -> int | None:
-        """The number of parameters of the prototype with this type number, counted from 1."""
+        """Returns the number of parameters of the prototype with the type number `number` (types
+        are numbered from 1); None if there is no such type."""
         place = self.types
         for _ in range(number - 1):
             if place > self.types_end - TYPE.size:
@@ -117,6 +115,6 @@ class KernelTypes:
 
 
 def extra_size(kind: int, count: int) -> int:
-    """The number of bytes that follow a type of this kind."""
+    """Returns the number of bytes that follow a type of this kind with `count` entries."""
     fixed, each = {1: 4, 3: 12, 14: 4, 17: 4}, {4: 12, 5: 12, 6: 8, 13: 8, 15: 12, 19: 12}
     return fixed.get(kind, 0) + each.get(kind, 0) * count

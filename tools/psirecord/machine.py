@@ -14,14 +14,14 @@ from collections.abc import Iterator
 from dataclasses import dataclass
 
 SCHEDULER_STATISTICS = "sys/kernel/sched_schedstats"
-# The number of the first PID namespace (PROC_PID_INIT_INO): events use its process numbers.
+# The inode number of the first PID namespace (PROC_PID_INIT_INO). Events have the pids of that
+# namespace.
 FIRST_PROCESS_NAMESPACE = "pid:[4026531836]"
 
 
 def read_file(path: str) -> bytes:
-    """The whole file; empty if it can't be read, for example if its group was removed in the
-    meantime.
-    """
+    """Returns the contents of a file. Empty if it can't be read, for example because its group was
+    removed."""
     try:
         with open(path, "rb", buffering=0) as file:
             return file.readall() or b""
@@ -30,9 +30,8 @@ def read_file(path: str) -> bytes:
 
 
 def write_file(path: str, text: str, flags: int = 0) -> None:
-    """Writes to an existing file. Never with O_TRUNC, which empties the kernel's list of everyone's
-    probes.
-    """
+    """Writes to an existing file, without O_TRUNC: truncating the kernel's list of probes would
+    remove the probes of all users."""
     file = os.open(path, os.O_WRONLY | flags)
     try:
         os.write(file, text.encode())
@@ -42,7 +41,7 @@ def write_file(path: str, text: str, flags: int = 0) -> None:
 
 @dataclass(frozen=True)
 class Machine:
-    """The real machine. All its paths are absolute."""
+    """The paths of the machine's files. The defaults are those of the real machine."""
 
     tracing: str = "/sys/kernel/tracing"
     groups: str = "/sys/fs/cgroup"
@@ -50,12 +49,13 @@ class Machine:
     types: str = "/sys/kernel/btf/vmlinux"
 
     def processors(self) -> int:
-        """The number of configured processors; those that are absent have empty buffers."""
+        """Returns the number of configured processors, including absent ones, whose buffers are
+        empty."""
         return os.sysconf("SC_NPROCESSORS_CONF")
 
     def missing(self) -> Iterator[str]:
-        """The requirements of a recording that this machine doesn't meet. Checking changes nothing.
-        """
+        """Yields the requirements of a recording that this machine doesn't meet. Changes
+        nothing."""
         if os.geteuid() != 0:
             yield "root: tracing a whole machine takes it"
         if (
@@ -66,7 +66,7 @@ class Machine:
         yield from self.missing_files()
 
     def missing_files(self) -> Iterator[str]:
-        """The missing files."""
+        """Yields the required files and folders that don't exist."""
         if not os.path.isdir(f"{self.tracing}/instances"):
             yield (
                 f"tracefs: {self.tracing}/instances isn't there (mount -t tracefs tracefs"
@@ -87,11 +87,12 @@ class Machine:
             yield f"pressure: {self.proc}/pressure/cpu can't be read (psi=1 at boot)"
 
     def make_instance(self, name: str) -> None:
-        """Creates an instance of tracing, which the kernel fills with files."""
+        """Creates a tracing instance. The kernel creates its files."""
         os.mkdir(f"{self.tracing}/instances/{name}")
 
     def remove_instance(self, name: str) -> None:
-        """Removes it, which switches its events off; EBUSY while one of its files is open."""
+        """Removes a tracing instance, which switches its events off. Raises EBUSY while one of its
+        files is open."""
         os.rmdir(f"{self.tracing}/instances/{name}")
 
     def add_probe(self, definition: str) -> None:
@@ -99,14 +100,15 @@ class Machine:
         write_file(f"{self.tracing}/kprobe_events", f"{definition}\n", os.O_APPEND)
 
     def remove_probe(self, name: str) -> None:
-        """Removes the probe GROUP/EVENT; EBUSY while its event is on in any instance."""
+        """Removes the probe `name`, in the form GROUP/EVENT. Raises EBUSY while its event is on in
+        any instance."""
         write_file(f"{self.tracing}/kprobe_events", f"-:{name}\n", os.O_APPEND)
 
     def open_trigger(self, resource: str, words: str, group: str = "") -> tuple[int, int]:
-        """Opens a file that signals pressure as long as it is open, of a group if one is named;
-        returns it with the condition of poll(2) that is the signal. `words` are those of
-        Documentation/accounting/psi.rst: `some|full THRESHOLD WINDOW`, in us.
-        """
+        """Opens a trigger: a file that signals pressure of `group`, or of the machine if that is
+        empty, as long as it is open. Returns its descriptor, and the condition of poll(2) for the
+        signal. `words` are `some|full THRESHOLD WINDOW` in us
+        (Documentation/accounting/psi.rst)."""
         path = (
             f"{self.groups}{group}/{resource}.pressure"
             if group

@@ -14,9 +14,10 @@ from .recorder import FOREVER, Wanted
 from .status import SERVICE_FOLDER
 from .stored import MEGABYTE, Limits
 
-# The first word that prints a state instead of recording. A folder of this name is ./status.
+# The first argument that prints the state of a folder instead of recording. A new folder of this
+# name is written as ./status.
 STATUS_WORD = "status"
-# More than a trace can have: 4,000,000 events have some 220 MB.
+# The default limit (MB). It is more than a trace can have: 4,000,000 events have about 220 MB.
 MOST_MB = 400.0
 BUFFER_KB = 8192
 TRIGGER = re.compile(rf"({'|'.join(RESOURCES)}) (some|full) ([1-9]\d*) ([1-9]\d*)")
@@ -69,7 +70,7 @@ class Words(argparse.ArgumentParser):
 
 
 def positive(word: str) -> float:
-    """A number above 0."""
+    """Parses a number above 0."""
     try:
         number = float(word)
     except ValueError:
@@ -80,14 +81,15 @@ def positive(word: str) -> float:
 
 
 def whole(word: str) -> int:
-    """A whole number above 0."""
+    """Parses a whole number above 0."""
     if not re.fullmatch("[1-9][0-9]*", word):
         raise argparse.ArgumentTypeError(f"{word} isn't a whole number above 0")
     return int(word)
 
 
 def trigger(word: str) -> str:
-    """A trigger as the kernel takes it (Documentation/accounting/psi.rst): its window is 0.5 to 10 s."""
+    """Parses a trigger in the kernel's syntax (Documentation/accounting/psi.rst). Its window is 0.5
+    to 10 s."""
     found = TRIGGER.fullmatch(" ".join(word.split()))
     if not found:
         raise argparse.ArgumentTypeError(
@@ -102,7 +104,7 @@ def trigger(word: str) -> str:
 
 
 def group_path(word: str) -> str:
-    """The path of a control group, from the root of the hierarchy, with or without its first slash."""
+    """Parses the path of a control group from the root, with or without its first slash."""
     parts = [it for it in word.split("/") if it]
     if not parts or {".", ".."} & set(parts):
         raise argparse.ArgumentTypeError(f"{word!r} isn't the path of a group such as system.slice/db.service")
@@ -110,7 +112,7 @@ def group_path(word: str) -> str:
 
 
 def hook(word: str) -> str:
-    """A program that root may run."""
+    """Checks that root may run this program, and returns its path."""
     fault = why_not(word)
     if fault:
         raise argparse.ArgumentTypeError(f"{word}: {fault}")
@@ -119,9 +121,8 @@ def hook(word: str) -> str:
 
 @dataclass(frozen=True)
 class Service:
-    """What is done around a recording: how many may be made in a day, which stay, the program that
-    is run after it, and the file with metrics; None if it isn't wanted.
-    """
+    """What is done besides recording: the limit of recordings per day, the limits of stored
+    recordings, the program to run afterwards, and the file for metrics. None if not wanted."""
 
     daily_limit: int | None
     limits: Limits
@@ -130,13 +131,13 @@ class Service:
 
 
 def service_of(arguments: argparse.Namespace) -> Service:
-    """The options around a recording."""
+    """Returns the options of the command line that aren't about the recording itself."""
     most = None if arguments.keep_mb is None else int(arguments.keep_mb * MEGABYTE)
     return Service(arguments.daily_limit, Limits(arguments.keep, most), arguments.hook, arguments.textfile)
 
 
 def status_parser() -> argparse.ArgumentParser:
-    """The parser of `record status`."""
+    """Returns the argument parser of `record status`."""
     about = "Prints the recordings of a folder, and whether a recorder is at work there."
     words = Words(prog=f"tools/record {STATUS_WORD}", description=about, allow_abbrev=False)
     words.add_argument("folder", nargs="?", default=SERVICE_FOLDER, metavar="FOLDER", help="the folder above the recordings; %(default)s")
@@ -145,7 +146,7 @@ def status_parser() -> argparse.ArgumentParser:
 
 
 def parser() -> argparse.ArgumentParser:
-    """The parser of the command line."""
+    """Returns the argument parser of `record`."""
     form = argparse.RawDescriptionHelpFormatter
     words = Words(prog="tools/record", description=DESCRIPTION, epilog=EPILOG, formatter_class=form, allow_abbrev=False)
     add = words.add_argument
@@ -174,7 +175,7 @@ def parser() -> argparse.ArgumentParser:
 
 
 def wanted_of(arguments: argparse.Namespace, words: argparse.ArgumentParser) -> Wanted:
-    """The parsed command line, after checking that the options fit together."""
+    """Returns the request for a recording, after checking that the options fit together."""
     if arguments.until and not arguments.ring:
         words.error("--until is for a flight recorder: --ring")
     if arguments.wakeups and arguments.no_probes:

@@ -22,7 +22,7 @@ from .machine import Machine, read_file
 
 
 def plain_machine(folder: str) -> PlainMachine:
-    """The machine that this folder replaces."""
+    """Returns the machine that `folder` replaces."""
     top = os.path.abspath(folder)
     return PlainMachine(
         tracing=f"{top}/tracing", groups=f"{top}/cgroup", proc=f"{top}/proc", types=f"{top}/btf"
@@ -30,12 +30,12 @@ def plain_machine(folder: str) -> PlainMachine:
 
 
 def busy(path: str) -> OSError:
-    """The kernel's error while something is in use."""
+    """Returns the error (EBUSY) that the kernel raises while something is in use."""
     return OSError(errno.EBUSY, os.strerror(errno.EBUSY), path)
 
 
 def open_files() -> Iterator[str]:
-    """The files that this process has open."""
+    """Yields the paths of the files that this process has open."""
     for number in os.listdir("/proc/self/fd"):
         try:
             yield os.readlink(f"/proc/self/fd/{number}")
@@ -45,7 +45,7 @@ def open_files() -> Iterator[str]:
 
 @dataclass(frozen=True)
 class PlainMachine(Machine):
-    """A folder in place of the machine."""
+    """A folder of plain files in place of the real machine."""
 
     def processors(self) -> int:
         """The number of processors that have buffers."""
@@ -54,7 +54,7 @@ class PlainMachine(Machine):
         )
 
     def missing(self) -> Iterator[str]:
-        """A folder needs no root."""
+        """Yields the missing files. A folder of plain files doesn't require root."""
         return self.missing_files()
 
     def instance(self, name: str) -> str:
@@ -110,8 +110,8 @@ class PlainMachine(Machine):
             os.rmdir(os.path.dirname(f"{self.tracing}/events/{name}"))
 
     def open_trigger(self, resource: str, words: str, group: str = "") -> tuple[int, int]:
-        """A plain file signals nothing, a FIFO does: the same one for the machine and all groups.
-        """
+        """Opens the FIFO `trigger`, which signals when it is written to. The machine and all groups
+        share it."""
         return (
             os.open(f"{os.path.dirname(self.tracing)}/trigger", os.O_RDWR | os.O_NONBLOCK),
             select.POLLIN,

@@ -1,11 +1,9 @@
-"""The events and probes from which a trace is made, and the alternatives if one of them isn't
-available.
+"""The events and probes from which a trace is made, and the alternatives if one isn't available.
 
-A wait for IO is what the kernel counts as one (`in_iowait`), which is fewer sleeps than those in
-state D: on a journaling file system a third to a half of the latter don't count. Three sources show
-it, the best first: a probe on `psi_task_switch` that reads the bit itself, the event
-`sched_stat_iowait`, which requires the sysctl kernel.sched_schedstats, and the state D.
-"""
+Only sleeps that the kernel counts as waits for IO (`in_iowait`) are waits for IO. In state D a task
+sleeps more often: on a journaling file system a third to a half of these sleeps don't count. Three
+sources show the waits, the best first: a probe on `psi_task_switch` that reads the bit itself; the
+event `sched_stat_iowait`, which requires the sysctl kernel.sched_schedstats; and the state D."""
 from __future__ import annotations
 
 import enum
@@ -19,7 +17,8 @@ from .kernel_types import KernelTypes
 from .machine import SCHEDULER_STATISTICS, Machine, read_file, write_file
 from .undoing import Undoing
 
-# Each event, and what a recording lacks without it.
+# Each event, and what a recording lacks without it. Recording is impossible without the needed
+# ones.
 NEEDED = ("sched/sched_switch", "sched/sched_wakeup")
 EVENTS = {
     "sched/sched_switch": "nothing can be said",
@@ -51,7 +50,7 @@ STATE_ALONE = "waits for IO are told by state D alone: up to 3.5 times too many 
 
 
 def without(event: str) -> str:
-    """What a recording lacks without this event, which may be that of a probe."""
+    """Returns what a recording lacks without `event`, which may be the event of a probe."""
     probe = PROBES.get(event.rpartition("/")[2], "nothing is known of what it tells")
     return EVENTS.get(event, probe)
 
@@ -64,7 +63,8 @@ Tell = Callable[[str], None]
 
 @dataclass
 class Sources:
-    """What is recorded: events as SYSTEM/EVENT, and filters of some."""
+    """What is recorded: the events as SYSTEM/EVENT, the filters of some of them by event, and the
+    source of waits for IO."""
 
     events: list[str] = field(default_factory=list)
     filters: dict[str, str] = field(default_factory=dict)
@@ -73,9 +73,8 @@ class Sources:
 
 @dataclass(frozen=True)
 class Plan:
-    """A probe to add: its event, the kernel's function, what it fetches, and the filter of its
-    events.
-    """
+    """A probe to add: the name of its event, the kernel's function, the values to fetch, and the
+    filter of its events."""
 
     name: str
     function: str
@@ -83,14 +82,13 @@ class Plan:
     wanted: str = ""
 
     def definition(self, group: str) -> str:
-        """The definition for `kprobe_events`."""
+        """Returns the definition for `kprobe_events`, in the probe group `group`."""
         return f"p:{group}/{self.name} {self.function} {self.fetched}".rstrip()
 
 
 def stall_plans() -> list[Plan]:
-    """Both functions run in the task itself. The flags at the leave are 0 if it is the outermost
-    one.
-    """
+    """Returns the probes at which a task enters and leaves a memory stall. Both functions run in
+    the task itself. On leaving the outermost stall the flags are 0."""
     return [
         Plan(Probe.STALL_BEGINS, "psi_memstall_enter"),
         Plan(Probe.STALL_ENDS, "psi_memstall_leave", f"{Probe.FLAGS}=+0($arg1):u64"),
@@ -98,9 +96,9 @@ def stall_plans() -> list[Plan]:
 
 
 def switch_plan(types: KernelTypes) -> Plan | None:
-    """psi_task_switch(prev, next, sleep) runs right before the event of the switch. Without the
-    filter it would account for a third of all events.
-    """
+    """Returns the probe on psi_task_switch(prev, next, sleep), which runs right before the event of
+    the context switch. Without its filter it would account for a third of all events. None if the
+    kernel's types don't have the members."""
     places = types.members("task_struct", ("pid", "in_iowait"))
     if not places:
         return None
@@ -109,18 +107,16 @@ def switch_plan(types: KernelTypes) -> Plan | None:
 
 
 def interrupt_plan(machine: Machine, types: KernelTypes) -> Plan | None:
-    """psi_account_irqtime(task, delta), if the kernel accounts interrupts at all. Since 6.10 its
-    parameters differ, and none of them is the time.
-    """
+    """Returns the probe on psi_account_irqtime(task, delta); None if the kernel doesn't account
+    interrupts. Since Linux 6.10 the parameters differ, and none of them is the time."""
     if not read_file(f"{machine.proc}/pressure/irq") or types.parameters("psi_account_irqtime") != 2:
         return None
     return Plan(Probe.INTERRUPT, "psi_account_irqtime", f"{Probe.DELTA}=$arg2:u32")
 
 
 def attach_plan(types: KernelTypes) -> Plan | None:
-    """cgroup_attach_task(group, task, whole): the event of that name doesn't show whether the task
-    moves alone.
-    """
+    """Returns the probe on cgroup_attach_task(group, task, whole); None if that isn't available.
+    The kernel's own event doesn't show whether the task moves without its process."""
     places = types.members("task_struct", ("pid",))
     if not places or types.parameters("cgroup_attach_task") != 3:
         return None
@@ -129,9 +125,9 @@ def attach_plan(types: KernelTypes) -> Plan | None:
 
 
 def moment_plans(types: KernelTypes) -> list[Plan]:
-    """In psi_show(file, group, resource) and psi_avgs_work(work) the kernel adds a group's times
-    up: some events a second. One of them alone would show half of the sampling times.
-    """
+    """Returns the probes on psi_show(file, group, resource) and psi_avgs_work(work), in which the
+    kernel samples a group's times. That is a few events per second. There are none unless both are
+    available, since one of them alone shows half of the sampling times."""
     if types.parameters("psi_show") != 3 or types.parameters("psi_avgs_work") != 1:
         return []
     shows = f"{Probe.GROUP}=$arg2:x64 {Probe.RES}=$arg3:u32"
@@ -139,9 +135,8 @@ def moment_plans(types: KernelTypes) -> list[Plan]:
 
 
 def ready_plan(types: KernelTypes) -> Plan | None:
-    """psi_task_change(task, clear, set): one event for each wakeup, and for each task that moves to
-    another processor or group.
-    """
+    """Returns the probe on psi_task_change(task, clear, set); None if that isn't available. There
+    is one event for each wakeup, and for each task that moves to another processor or group."""
     places = types.members("task_struct", ("pid",))
     if not places or types.parameters("psi_task_change") != 3:
         return None
@@ -150,9 +145,8 @@ def ready_plan(types: KernelTypes) -> Plan | None:
 
 
 def add_probes(machine: Machine, group: str, undoing: Undoing, say: Say, has_wakeups: bool) -> Sources:
-    """Adds the available probes, those of wakeups only if requested; reports why another isn't
-    available.
-    """
+    """Adds the available probes, and returns the events to record. Probes of wakeups are added only
+    if `has_wakeups`. Reports why a probe isn't available."""
     types = KernelTypes(read_file(machine.types))
     switch, attach, moments = switch_plan(types), attach_plan(types), moment_plans(types)
     if not switch:
@@ -183,12 +177,12 @@ def add_probes(machine: Machine, group: str, undoing: Undoing, say: Say, has_wak
 
 
 def probe_remover(machine: Machine, name: str) -> Callable[[], None]:
-    """The undo step that removes this probe."""
+    """Returns the undo step that removes the probe `name`."""
     return lambda: machine.remove_probe(name)
 
 
 class Statistics(enum.Enum):
-    """Whether the kernel keeps the statistics that `sched_stat_iowait` requires."""
+    """The state of the scheduler statistics that the event `sched_stat_iowait` requires."""
 
     ON = "on"
     OFF = "off"
@@ -196,7 +190,7 @@ class Statistics(enum.Enum):
 
 
 def statistics_of(machine: Machine) -> Statistics:
-    """The value of the sysctl, or that there is none."""
+    """Returns the state of the scheduler statistics, from the sysctl kernel.sched_schedstats."""
     if not os.path.exists(f"{machine.proc}/{SCHEDULER_STATISTICS}"):
         return Statistics.ABSENT
     is_on = read_file(f"{machine.proc}/{SCHEDULER_STATISTICS}").strip() == b"1"
@@ -204,7 +198,8 @@ def statistics_of(machine: Machine) -> Statistics:
 
 
 def switch_statistics_on(machine: Machine, undoing: Undoing) -> None:
-    """Switches them on; they are switched off again at the end. OSError if that isn't permitted."""
+    """Switches the scheduler statistics on, and registers the undo step. Raises OSError if that
+    isn't permitted."""
     path = f"{machine.proc}/{SCHEDULER_STATISTICS}"
     undoing.note("the sysctl kernel.sched_schedstats, which was 0", lambda: write_file(path, "0"))
     try:

@@ -1,9 +1,8 @@
-"""The recording itself: the periodic work until it ends, and what is written at the end.
+"""The recording itself: the periodic jobs until it ends, and what is written at the end.
 
-A plain recording empties the ring buffers four times a second. A flight recorder lets them be
-overwritten, waits for pressure, and writes their contents after the incident: the size of the
-buffers determines how far back they reach.
-"""
+A plain recording empties the ring buffers four times a second or more often. A flight recorder lets
+the buffers be overwritten, waits for pressure, and writes their contents after the incident. The
+size of the buffers determines how much of the past they contain."""
 from __future__ import annotations
 
 import collections
@@ -23,14 +22,14 @@ from .trigger import Trigger
 from .waiting import Job, Signals, Waiting
 
 DRAIN_SECONDS = 0.25
-# The next turn comes before the busiest buffer is filled to this share: 600,000 switches/s fill 8
+# The largest share of the busiest buffer that may fill between two reads: 600,000 switches/s fill 8
 # MB in 0.1 s.
 MOST_FULL = 0.25
 LEAST_DRAIN_SECONDS = 0.01
 SNAPSHOT_SECONDS = 60.0
-# Between two looks at whether a trigger's group is still the same.
+# The time (s) between two checks of whether the trigger's group was removed or created again.
 GROUP_SECONDS = 1.0
-# The end is this much later than the last reading of pressure files, which is due at the end.
+# The delay (s) of the end after the last reading of the pressure files, which is due at the end.
 LAST_READING_SECONDS = 0.02
 FOREVER = float("inf")
 MEGABYTE = 10**6
@@ -38,11 +37,10 @@ MEGABYTE = 10**6
 
 @dataclass(frozen=True)
 class Wanted:
-    """The operator's request: times in s, sizes in the named units. `is_ring` requests a flight
-    recorder, and `until` has its trigger as `RESOURCE some|full THRESHOLD WINDOW`, or is empty.
-    `has_settings` requests the settings of systemd-oomd, `has_containers` the names of containers,
-    and `group` is the path of the group whose pressure is meant, or empty.
-    """
+    """The operator's request, with times in s and sizes in the units that the names have. `is_ring`
+    requests a flight recorder. `until` is its trigger, `RESOURCE some|full THRESHOLD WINDOW`, or
+    empty. `has_settings` requests the settings of systemd-oomd, and `has_containers` the names of
+    containers. `group` is the path of the trigger's group, or empty."""
 
     seconds: float
     buffer_kb: int
@@ -61,9 +59,8 @@ class Wanted:
 
 @dataclass
 class Ending:
-    """How the recording ended: a reason of `layout.Reason`, the number of lost events of each
-    processor, its length in s, and whether everything else is complete.
-    """
+    """The end of a recording: a reason of `layout.Reason`, the number of lost events of each
+    processor, the length in s, and whether everything else is complete."""
 
     reason: str
     lost: dict[int, int]
@@ -72,7 +69,7 @@ class Ending:
 
 
 class Recorder:
-    """One recording, with its instance switched on."""
+    """One recording, which uses the tracing instance `instance`."""
 
     def __init__(
         self,
@@ -100,9 +97,8 @@ class Recorder:
         self.draining = Job(self.drain, 0.0, DRAIN_SECONDS)
 
     def record(self) -> Ending:
-        """Records from `begin` until the recording ends; what was recorded by then is written in
-        any case.
-        """
+        """Records from `begin` until the recording ends. What was recorded until an error is
+        written in any case."""
         try:
             reason = self.run()
         except DiskFull:
@@ -115,9 +111,8 @@ class Recorder:
             return Ending(f"{Reason.FAILED} {error}", {}, time.monotonic() - self.start)
 
     def begin(self) -> None:
-        """Switches the instance on. NotRecorded if no marker can be written: without markers a
-        recording can't be interpreted.
-        """
+        """Switches tracing on. Raises NotRecorded if no marker can be written, since a recording
+        without markers can't be interpreted."""
         self.instance.write("tracing_on", "1")
         self.usage = resource.getrusage(resource.RUSAGE_SELF)
         self.start = time.monotonic()
@@ -131,7 +126,7 @@ class Recorder:
             ) from error
 
     def jobs(self) -> list[Job]:
-        """The periodic jobs."""
+        """Returns the periodic jobs of this recording."""
         wanted, start = self.wanted, self.start
         jobs = [
             Job(
@@ -149,7 +144,7 @@ class Recorder:
         return [*jobs, self.draining]
 
     def run(self) -> str:
-        """Runs until the recording ends; returns why it ends."""
+        """Runs the periodic jobs until the recording ends, and returns the reason."""
         self.read_pressure()
         self.take_snapshot()
         self.memory.unaccounted = self.snapshots[-1].unaccounted
@@ -169,19 +164,21 @@ class Recorder:
         return Reason.SIGNAL
 
     def watch(self, condition: int) -> None:
-        """Waits for the trigger, which is open."""
+        """Waits for `condition` of the trigger's open file."""
         assert self.trigger
         self.waiting.watch(self.trigger.file, condition)
 
     def is_signal(self) -> bool:
-        """Whether pressure was signalled: a file of a group that is removed is ready too."""
+        """Returns whether pressure was signalled. The file of a removed group becomes ready too,
+        which isn't a signal."""
         if self.trigger and self.trigger.is_current():
             return True
         self.follow_group()
         return False
 
     def follow_group(self) -> None:
-        """Waits for the group again if it was removed and created again, as a service's is."""
+        """Opens the trigger again if its group was removed and has been created again, as the group
+        of a service is."""
         trigger = self.trigger
         if not trigger or trigger.is_current() or self.fired:
             return
@@ -199,7 +196,8 @@ class Recorder:
                 self.tell(f"the trigger watches the group {trigger.group} now")
 
     def fire(self, jobs: list[Job]) -> None:
-        """The trigger fired: records some seconds more. The snapshots from before are kept."""
+        """Handles the trigger's signal: records some seconds more. No further snapshots are taken,
+        since the ones from before the signal are needed."""
         self.waiting.unwatch()
         self.fired = time.monotonic()
         self.end = self.fired + self.wanted.after_seconds
@@ -210,9 +208,8 @@ class Recorder:
     # ---------------------------------------------------------------- jobs
 
     def read_pressure(self) -> None:
-        """Reads the pressure files. A flight recorder keeps its readings, since most of them are
-        older than its buffers when it ends.
-        """
+        """Reads the pressure files. A flight recorder stores its readings in memory, since most of
+        them are older than its buffers when it ends."""
         reading = read_pressure(
             self.machine, self.instance.mark, self.reading_count, time.monotonic()
         )
@@ -223,10 +220,9 @@ class Recorder:
             self.folder.append_pressure(reading.text)
 
     def take_snapshot(self) -> None:
-        """Takes a snapshot: with the events after it, this shows the group of each task. A flight
-        recorder keeps the last two, so that one lies inside its buffers if these are large enough;
-        readings older than both are dropped.
-        """
+        """Takes a snapshot of all groups and tasks. Together with the events after it, it shows the
+        group of each task. A flight recorder stores the last two, so that one lies within the time
+        of its buffers if these are large enough. Readings older than both are dropped."""
         self.instance.note_mark(layout.SNAPSHOT_BEGINS)
         self.snapshots.append(take_snapshot(self.machine, time.monotonic_ns()))
         self.instance.note_mark(layout.SNAPSHOT_ENDS)
@@ -240,9 +236,8 @@ class Recorder:
             self.readings.popleft()
 
     def drain(self) -> None:
-        """Reads what is in the buffers. A busy processor may fill its own as fast as it is read, so
-        at most its size is read.
-        """
+        """Reads the buffers, and adapts the period to the busiest processor. A busy processor may
+        fill its buffer as fast as it is read, so at most the buffer's size is read."""
         size, before = self.wanted.buffer_kb * 1024, self.drained
         self.drained = time.monotonic()
         busiest = self.take_pages(size)
@@ -250,7 +245,8 @@ class Recorder:
         self.draining.period = min(DRAIN_SECONDS, max(LEAST_DRAIN_SECONDS, period))
 
     def take_pages(self, most_bytes: float) -> int:
-        """Reads at most about `most_bytes` of each processor; returns the bytes of the busiest."""
+        """Reads about `most_bytes` of each processor at most. Returns the bytes of the busiest
+        processor."""
         busiest = 0
         for processor in self.instance.buffers:
             before = self.folder.bytes
@@ -262,7 +258,7 @@ class Recorder:
     # ---------------------------------------------------------------- the end
 
     def finish(self, reason: str) -> Ending:
-        """After tracing was switched off: writes the rest, and what was lost."""
+        """Switches tracing off, and writes the rest of the events and the numbers of lost ones."""
         with contextlib.suppress(OSError):
             if self.wanted.is_ring and not self.has_snapshot_inside():
                 self.take_snapshot()
@@ -288,13 +284,12 @@ class Recorder:
         return Ending(reason, lost, seconds, is_whole)
 
     def has_snapshot_inside(self) -> bool:
-        """Whether the buffers reach back to the last snapshot. There is no snapshot yet if a marker
-        failed early.
-        """
+        """Returns whether the buffers go back to the last snapshot. There is no snapshot if a
+        marker failed early."""
         return bool(self.snapshots) and self.snapshots[-1].moment >= self.buffers_begin() * 1e9
 
     def buffers_begin(self) -> float:
-        """The time (s) from which the buffers have all events of all processors."""
+        """Returns the time (s) since which the buffers contain all events of all processors."""
         return max(
             [
                 self.start,
@@ -303,9 +298,9 @@ class Recorder:
         )
 
     def write_ring(self, begin: float) -> bool:
-        """Writes the snapshot with which a flight recorder's trace can begin, and the readings of
-        pressure. False if the buffers were too small to keep the time of the signal.
-        """
+        """Writes the readings, and the snapshot with which a flight recorder's trace can begin.
+        `begin` is the time (s) at which the buffers begin. Returns False if the buffers no longer
+        contain the time of the signal."""
         self.folder.say(Key.RING_START, f"{begin:.6f}")
         inside = [it for it in self.snapshots if it.moment >= begin * 1e9] or [*self.snapshots][-1:]
         for snapshot in inside[:1]:
@@ -332,7 +327,8 @@ class Recorder:
         return {processor: count for processor, count in lost.items() if count}
 
     def write_cost(self, seconds: float) -> None:
-        """Writes how long the recording took, and what it used itself."""
+        """Writes the length of the recording, and the processor time and bytes that the recorder
+        used."""
         usage = resource.getrusage(resource.RUSAGE_SELF)
         user, system = usage.ru_utime - self.usage.ru_utime, usage.ru_stime - self.usage.ru_stime
         self.folder.say(Key.SECONDS, f"{seconds:.3f}")

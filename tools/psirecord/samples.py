@@ -1,8 +1,7 @@
-"""Reads groups, tasks and memory, in addition to the events.
+"""Reads groups, tasks and memory, which the events don't show.
 
-All of it is read while the recording runs, and markers among the events show when: changes in
-between are known from the events. A group or a task may end before it is read; then it is skipped.
-"""
+This happens while the recording runs, and markers among the events show when. Changes in between
+are known from the events. A group or a task that ends before it is read is skipped."""
 from __future__ import annotations
 
 import os
@@ -14,8 +13,8 @@ from psirec import layout
 from .machine import Machine, read_file
 
 KIB = 1024
-# Attributes of a group's folder with which its owner asks oomd, or systemd-oomd, to kill it first
-# or last.
+# Attributes of a group's folder with which its owner asks oomd or systemd-oomd to kill the group
+# first, last or never.
 PREFERENCES = {
     "user.oomd_prefer": "prefer",
     "trusted.oomd_prefer": "prefer",
@@ -29,22 +28,21 @@ Mark = Callable[[str], bool]
 
 @dataclass(frozen=True)
 class Group:
-    """A group: its folder, its path as written in a recording, and the folder's inode number, which
-    changes if a group is removed and created again.
-    """
+    """A control group: its folder, its path as written in a recording, and the folder's inode
+    number, which changes if a group is removed and created again."""
 
     folder: str
     path: str
     number: int
 
     def is_root(self) -> bool:
-        """Whether it is the root, which has no memory files, and whose pressure files are in /proc.
-        """
+        """Returns whether this is the root group. It has no memory files, and its pressure files
+        are in /proc."""
         return self.path == "/"
 
 
 def groups(machine: Machine) -> Iterator[Group]:
-    """All groups, a parent before its children."""
+    """Yields all control groups, each parent before its children."""
     pending = [(machine.groups, 0)]
     while pending:
         folder, number = pending.pop()
@@ -63,7 +61,7 @@ def groups(machine: Machine) -> Iterator[Group]:
 
 
 def memory_information(machine: Machine) -> dict[str, int]:
-    """/proc/meminfo, in bytes."""
+    """Returns the values of /proc/meminfo in bytes."""
     lines = (
         it.split()
         for it in read_file(f"{machine.proc}/meminfo").decode(errors="replace").splitlines()
@@ -72,7 +70,8 @@ def memory_information(machine: Machine) -> dict[str, int]:
 
 
 def scanned_pages(group: Group) -> int:
-    """`pgscan` of `memory.stat`; 0 if it isn't there."""
+    """Returns `pgscan` of `memory.stat`, the number of scanned pages; 0 if there is no such
+    line."""
     for line in read_file(f"{group.folder}/memory.stat").splitlines():
         if line.startswith(b"pgscan "):
             return int(line.split()[1])
@@ -80,25 +79,23 @@ def scanned_pages(group: Group) -> int:
 
 
 def number_in(path: str) -> int | None:
-    """The number in a file, or None if it can't be read."""
+    """Returns the number in a file; None if the file can't be read or has no number."""
     words = read_file(path).split()
     return int(words[0]) if words and words[0].isdigit() else None
 
 
 def is_accounted(group: Group) -> bool | None:
-    """Whether the group's pressure is accounted, according to its `cgroup.pressure`; None if there
-    is no such file: the root may have none, and before Linux 6.1 no group has one.
-    """
+    """Returns whether the group's pressure is accounted, according to `cgroup.pressure`. None if
+    there is no such file: the root may have none, and before Linux 6.1 no group has one."""
     number = number_in(f"{group.folder}/cgroup.pressure")
     return None if number is None else number != 0
 
 
 @dataclass
 class MemorySampler:
-    """Writes the memory of the machine and of each group as markers, and the groups whose
-    `cgroup.pressure` has changed, which no event shows. `unaccounted` are the groups that weren't
-    accounted when last checked.
-    """
+    """Writes the memory of the machine and of each group as markers. Writes changes of
+    `cgroup.pressure` too, since no event shows them. `unaccounted` are the groups whose pressure
+    wasn't accounted at the last check."""
 
     machine: Machine
     mark: Mark
@@ -106,9 +103,8 @@ class MemorySampler:
     too_long: int = 0
 
     def sample(self) -> None:
-        """Samples all groups once. The root's memory use is what isn't available, so that rules on
-        the root find some.
-        """
+        """Samples all groups once. The root's memory use is total minus available memory, so that
+        rules for the root have a value."""
         known = memory_information(self.machine)
         total, swap_total, swap_free = (
             known.get(it, 0) for it in ("MemTotal", "SwapTotal", "SwapFree")
@@ -127,25 +123,25 @@ class MemorySampler:
         self.unaccounted = unaccounted
 
     def sample_memory(self, group: Group) -> None:
-        """Writes a memory sample. A group without memory files, such as the root, has none."""
+        """Writes a memory sample of a group. A group without memory files, such as the root, has
+        none."""
         current = number_in(f"{group.folder}/memory.current")
         if current is not None:
             swap = number_in(f"{group.folder}/memory.swap.current") or 0
             self.write(layout.memory_marker(group.path, current, swap, scanned_pages(group)))
 
     def sample_accounting(self, group: Group) -> bool | None:
-        """Whether the group is accounted; a change is written. A group that was created since is
-        accounted at first, even if its path was that of an unaccounted one.
-        """
+        """Returns whether the group's pressure is accounted, and writes a change. A group that was
+        created since the last check begins accounted, even if an unaccounted group had the same
+        path before."""
         is_on = is_accounted(group)
         if is_on is not None and is_on == (group in self.unaccounted):
             self.write(layout.accounting_marker(group.path, is_on))
         return is_on
 
     def write(self, marker: str) -> None:
-        """Writes a marker. Counts those that are too long: their paths are too long for a trace as
-        well.
-        """
+        """Writes a marker. Counts the markers that are too long, whose paths are too long for a
+        trace too."""
         if not self.mark(marker):
             self.too_long += 1
 
@@ -155,17 +151,16 @@ class MemorySampler:
 
 @dataclass(frozen=True)
 class Reading:
-    """The pressure files of all groups, read between two markers; `moment` is CLOCK_MONOTONIC in s.
-    """
+    """The contents of the pressure files of all groups, read between two markers. `moment` is
+    CLOCK_MONOTONIC in s."""
 
     moment: float
     text: bytes
 
 
 def read_pressure(machine: Machine, mark: Mark, number: int, moment: float) -> Reading:
-    """Reads all groups' pressure files. Each reading is a sample for the kernel too, so its totals
-    depend on how often this is done.
-    """
+    """Reads the pressure files of all groups. The kernel takes a sample at each reading, so the
+    totals depend on how often this is done."""
     mark(layout.pressure_marker(number, is_end=False))
     parts = []
     for group in groups(machine):
@@ -188,23 +183,23 @@ def read_pressure(machine: Machine, mark: Mark, number: int, moment: float) -> R
 
 @dataclass(frozen=True)
 class Snapshot:
-    """Groups and tasks at the time of reading; `moment` is CLOCK_MONOTONIC in ns, before the first
-    was read.
-    """
+    """The groups and tasks at one time, as lines. `moment` is CLOCK_MONOTONIC in ns, taken before
+    the first group is read."""
 
     moment: int
     lines: list[str]
     unaccounted: set[Group]
 
     def text(self) -> bytes:
-        """The contents of the snapshot's file."""
+        """Returns the contents of the snapshot's file."""
         return "".join(
             f"{it}\n" for it in [layout.at_line(self.moment), *self.lines, layout.SNAPSHOT_END]
         ).encode(errors="surrogateescape")
 
 
 def preference(group: Group) -> str:
-    """The preference that its owner set; the first attribute that exists."""
+    """Returns the preference that the group's owner set, which is that of the first attribute that
+    exists; `none` if there is no attribute."""
     for attribute, word in PREFERENCES.items():
         try:
             os.getxattr(group.folder, attribute)
@@ -215,10 +210,9 @@ def preference(group: Group) -> str:
 
 
 def task_line(machine: Machine, number: bytes, group: Group) -> str | None:
-    """A thread of a group, from /proc/TID, or None if it has ended. Its name may contain anything,
-    so fields are counted from the last bracket: the state is the first word after it, the processor
-    the 37th (proc(5): fields 3 and 39).
-    """
+    """Returns the line of a thread of `group`, from /proc/TID; None if the thread has ended. A
+    thread's name may contain anything, so fields are counted from the last bracket: the state is
+    the first word after it, the processor the 37th (proc(5): fields 3 and 39)."""
     folder = f"{machine.proc}/{number.decode()}"
     text = read_file(f"{folder}/stat")
     end = text.rfind(b")")
@@ -237,7 +231,7 @@ def task_line(machine: Machine, number: bytes, group: Group) -> str | None:
 
 
 def take_snapshot(machine: Machine, moment: int) -> Snapshot:
-    """Reads all groups and their threads."""
+    """Reads all groups and their threads. `moment` is the time (ns) now."""
     lines, unaccounted = [], set()
     for group in groups(machine):
         lines.append(layout.group_line(group.path, preference(group)))

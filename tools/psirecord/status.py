@@ -9,9 +9,9 @@ from psirec.layout import Key
 
 from .stored import MEGABYTE, Stored, recordings
 
-# Where the service keeps its recordings.
+# The folder of the service's recordings.
 SERVICE_FOLDER = "/var/lib/psi-record"
-# The value in the metric of each state of a recorder.
+# The metrics, each with its help text.
 GAUGES = (
     ("recordings", "Recordings in the folder, without the one that is being written."),
     ("recordings_bytes", "Bytes of these recordings."),
@@ -39,13 +39,13 @@ def is_incomplete(it: Stored) -> bool:
 
 
 def free_bytes(folder: str) -> int:
-    """The bytes that an ordinary user could still write."""
+    """Returns the disk space (bytes) that an ordinary user can still use."""
     found = os.statvfs(folder)
     return found.f_bavail * found.f_frsize
 
 
 def waits_for(it: Stored) -> str:
-    """What a recorder waits for."""
+    """Returns what the recorder of a recording in progress waits for, in words."""
     ring, group = it.meta.all(Key.RING), it.meta.all(Key.RING_GROUP)
     if not ring or ring[0] == "none":
         return "until it is stopped" if ring else "an ordinary recording"
@@ -53,19 +53,19 @@ def waits_for(it: Stored) -> str:
 
 
 def began(it: Stored) -> str:
-    """When a recording began, by its own clocks."""
+    """Returns the time of day at which a recording began, by the recording's own clocks."""
     words = (it.meta.one(Key.MOMENT) or "").split()
     return clock(float(words[1])) if len(words) > 1 else "an unknown time"
 
 
 def row(it: Stored) -> str:
-    """A finished recording."""
+    """Returns the line of a finished recording."""
     lost = f", {it.lost()} events lost" if it.lost() else ""
     return f"{it.name}  {clock(it.ended)}  {it.bytes / MEGABYTE:8.1f} MB  {it.reason()}{lost}"
 
 
 def lines(folder: str) -> Iterator[str]:
-    """The state of a folder, for people."""
+    """Yields the lines that describe a folder of recordings, for people."""
     found = recordings(folder)
     finished = [it for it in found if not it.is_written]
     total = sum(it.bytes for it in finished) / MEGABYTE
@@ -80,12 +80,12 @@ def lines(folder: str) -> Iterator[str]:
 
 
 def escaped(text: str) -> str:
-    """A label's value in the text format of Prometheus."""
+    """Escapes a label's value for the text format of Prometheus."""
     return text.replace("\\", r"\\").replace('"', r"\"").replace("\n", r"\n")
 
 
 def metrics(folder: str) -> str:
-    """The state of a folder in the text format of Prometheus."""
+    """Returns the state of a folder in the text format of Prometheus."""
     found = recordings(folder)
     finished = [it for it in found if not it.is_written]
     values = {
@@ -106,7 +106,8 @@ def metrics(folder: str) -> str:
 
 
 def write_textfile(path: str, folder: str) -> None:
-    """Writes the metrics. The file changes at once: node_exporter never reads half of it."""
+    """Writes the metrics of `folder` to `path`. The file is replaced by renaming, so node_exporter
+    never reads an incomplete one."""
     text, part = metrics(folder), f"{path}.{os.getpid()}"
     try:
         file = os.open(part, os.O_WRONLY | os.O_CREAT | os.O_EXCL | os.O_NOFOLLOW, 0o644)

@@ -1,5 +1,4 @@
-"""The recordings in a folder: when each ended, what it holds, and which are deleted to keep limits.
-"""
+"""The recordings in a folder, and which of them are deleted to stay within limits."""
 from __future__ import annotations
 
 import contextlib
@@ -21,7 +20,7 @@ FIRST = f"{Key.RECORDING} ".encode()
 
 @dataclass(frozen=True)
 class Limits:
-    """How many recordings are kept, and how many bytes of them; None if there is no limit."""
+    """The largest number of stored recordings, and of their bytes. None if there is no limit."""
 
     count: int | None = None
     bytes: int | None = None
@@ -29,9 +28,8 @@ class Limits:
 
 @dataclass(frozen=True)
 class Stored:
-    """A recording: its folder's name, when it was last written (s since 1970), its bytes, whether a
-    recorder is writing it, and its `meta`.
-    """
+    """A stored recording: the name of its folder, the time of the last write (s since 1970), its
+    bytes, whether a recorder is writing it, and its `meta`."""
 
     name: str
     ended: float
@@ -40,17 +38,19 @@ class Stored:
     meta: Lines
 
     def reason(self) -> str:
-        """Why it ended."""
+        """Returns why the recording ended."""
         return self.meta.one(Key.END) or Reason.KILLED
 
     def lost(self) -> int:
-        """The number of lost events. A flight recorder's buffers are overwritten on purpose."""
+        """Returns the number of lost events. Overwritten events of a flight recorder don't count,
+        since it overwrites its buffers on purpose."""
         names = [it for it in layout.LOST_STATS if it != "overrun" or not self.meta.is_ring()]
         return sum(sum(self.meta.lost(name).values()) for name in names)
 
 
 def is_locked(file: int) -> bool:
-    """Whether a recorder writes this `meta`: it holds a lock until it ends, however it ends."""
+    """Returns whether a recorder is still writing this `meta`. A recorder holds a lock on the file,
+    which ends with its process."""
     try:
         fcntl.flock(file, fcntl.LOCK_SH | fcntl.LOCK_NB)
     except OSError:
@@ -60,7 +60,7 @@ def is_locked(file: int) -> bool:
 
 
 def size_of(path: str) -> int:
-    """The bytes of all files of a folder. Links aren't followed."""
+    """Returns the total size (bytes) of the files in a folder. Links aren't followed."""
     total = 0
     with contextlib.suppress(OSError), os.scandir(path) as entries:
         for entry in entries:
@@ -73,7 +73,7 @@ def size_of(path: str) -> int:
 
 
 def stored_at(path: str) -> Stored | None:
-    """The recording in this folder, if it is one."""
+    """Returns the recording in this folder; None if there is none."""
     try:
         file = os.open(f"{path}/{layout.META}", os.O_RDONLY | os.O_NOFOLLOW | os.O_NONBLOCK)
     except OSError:
@@ -89,7 +89,7 @@ def stored_at(path: str) -> Stored | None:
 
 
 def recordings(folder: str) -> list[Stored]:
-    """The recordings in a folder, the newest first."""
+    """Returns the recordings in a folder, the newest first."""
     found = []
     with contextlib.suppress(OSError), os.scandir(folder) as entries:
         names = [it.name for it in entries if it.is_dir(follow_symlinks=False)]
@@ -98,9 +98,9 @@ def recordings(folder: str) -> list[Stored]:
 
 
 def beyond(found: list[Stored], limits: Limits, own: str) -> Iterator[Stored]:
-    """The recordings to delete: all after those that the limits keep. The newest one always stays,
-    and so does one that is being written; the recorder's `own` counts, since it ends now.
-    """
+    """Yields the recordings to delete, which are the older ones beyond the limits. The newest one
+    and those being written are never deleted. `own` is the recording that ends now and counts as
+    finished."""
     finished = [it for it in found if not it.is_written or it.name == own]
     total = 0
     for place, it in enumerate(finished):
@@ -112,7 +112,8 @@ def beyond(found: list[Stored], limits: Limits, own: str) -> Iterator[Stored]:
 
 
 def delete(folder: str, name: str) -> None:
-    """Deletes a recording. Links aren't followed, and a folder of another owner stays."""
+    """Deletes a recording. Links aren't followed. Raises PermissionError if the folder belongs to
+    another user."""
     above = os.open(folder, FOLDER_FLAGS & ~os.O_NOFOLLOW)
     try:
         inner = os.open(name, FOLDER_FLAGS, dir_fd=above)
@@ -128,9 +129,8 @@ def delete(folder: str, name: str) -> None:
 
 
 def keep(folder: str, limits: Limits, tell: Callable[[str], None], own: str = "") -> None:
-    """Deletes the oldest recordings beyond the limits, except those that are being written. With
-    `own` there is room for the recording of this name, which ends now.
-    """
+    """Deletes the oldest recordings beyond the limits, except those being written. `own` names the
+    recording that ends now, if any; it counts towards the limits."""
     if limits == Limits():
         return
     for it in beyond(recordings(folder), limits, own):

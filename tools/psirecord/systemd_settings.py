@@ -28,7 +28,7 @@ from .machine import Machine, read_file
 from .samples import Group, groups, number_in
 
 BOOTED = "run/systemd/system"
-# Properties of units that show a unit's group, and how systemd-oomd treats it.
+# The properties of units that show the unit's group and how systemd-oomd treats it.
 SHOWN = (
     "Id",
     "ControlGroup",
@@ -39,8 +39,8 @@ SHOWN = (
     "ManagedOOMPreference",
 )
 SETTING = re.compile(rb"^\s*(ManagedOOM|OOMPolicy)", re.MULTILINE)
-# The lines of a unit's file that are kept: its sections, the settings of systemd-oomd, and the
-# slice of its group.
+# The lines of a unit file that are stored: section headings, the settings of systemd-oomd, and the
+# slice of the unit's group.
 KEPT = re.compile(rb"\s*(\[|(ManagedOOM\w*|OOMPolicy|Slice)\s*=)")
 TRUE = (b"1", b"yes", b"y", b"true", b"t", b"on")
 PATIENCE_SECONDS = 10
@@ -50,7 +50,7 @@ Tell = Callable[[str], None]
 
 @dataclass(frozen=True)
 class Answer:
-    """What `systemctl` printed, and the error if it printed nothing."""
+    """The output of `systemctl`, and the error if there was no output."""
 
     printed: bytes
     fault: str
@@ -59,18 +59,17 @@ class Answer:
 @dataclass(frozen=True)
 class Place:
     """The root of the machine's files, and the command that queries systemd. On the real machine
-    the root is empty.
-    """
+    the root is empty."""
 
     root: str
     command: str
 
     def is_booted(self) -> bool:
-        """Whether systemd runs there (sd_booted(3))."""
+        """Returns whether systemd runs on this machine (sd_booted(3))."""
         return os.path.isdir(f"{self.root}/{BOOTED}")
 
     def asked(self, *words: str) -> Answer:
-        """Runs `systemctl` with these words."""
+        """Runs `systemctl` with these arguments, and returns its output."""
         try:
             done = subprocess.run(
                 [self.command, *words],
@@ -87,7 +86,7 @@ class Place:
 
 
 def place_of(machine: Machine) -> Place:
-    """The real machine's place, or a folder of plain files that replaces it."""
+    """Returns the place of the real machine, or of the folder of plain files that replaces it."""
     root = os.path.dirname(machine.proc).rstrip("/")
     return Place(root, f"{root}/systemctl" if root else "systemctl")
 
@@ -96,8 +95,8 @@ def place_of(machine: Machine) -> Place:
 
 
 def is_true(folder: str, attribute: str) -> bool:
-    """Whether an attribute of a group's folder exists and is true, by systemd's rules for booleans.
-    """
+    """Returns whether an attribute of a group's folder exists and is true by systemd's rules for
+    booleans."""
     try:
         return os.getxattr(folder, attribute).strip(b"\0 \n").lower() in TRUE
     except OSError:
@@ -105,7 +104,7 @@ def is_true(folder: str, attribute: str) -> bool:
 
 
 def owner(folder: str) -> int:
-    """The number of the user that owns a group; 0 if the group was removed."""
+    """Returns the uid of a group's owner; 0 if the group was removed."""
     try:
         return os.stat(folder).st_uid
     except OSError:
@@ -113,7 +112,8 @@ def owner(folder: str) -> int:
 
 
 def group_line(group: Group) -> str:
-    """A group, with everything that systemd-oomd reads there and that no trace has."""
+    """Returns the line of a group, with what systemd-oomd reads there and a trace doesn't
+    contain."""
     is_whole = number_in(f"{group.folder}/memory.oom.group") == 1
     avoid, omit = (is_true(group.folder, f"user.oomd_{it}") for it in ("avoid", "omit"))
     attributes = f"oom_group={is_whole:d} avoid={avoid:d} omit={omit:d}"
@@ -124,9 +124,8 @@ def group_line(group: Group) -> str:
 
 
 def files_below(root: str, folder: str) -> Iterator[str]:
-    """Unit files and their drop-in files, by their names from the root: they are at most one folder
-    deep.
-    """
+    """Yields the paths, relative to `root`, of the unit files in `folder` and of their drop-in
+    files, which are one folder deeper."""
     try:
         names = sorted(os.listdir(f"{root}/{folder}"))
     except OSError:
@@ -143,7 +142,7 @@ def files_below(root: str, folder: str) -> Iterator[str]:
 
 
 def configurations(root: str) -> Iterator[str]:
-    """oomd.conf and its drop-in files."""
+    """Yields the paths of oomd.conf and its drop-in files."""
     for folder in CONFIGURATIONS:
         if os.path.exists(f"{root}/{folder}/oomd.conf"):
             yield f"{folder}/oomd.conf"
@@ -153,9 +152,8 @@ def configurations(root: str) -> Iterator[str]:
 
 
 def unit_files(root: str, folders: tuple[str, ...]) -> Iterator[str]:
-    """The files that have a setting of systemd-oomd, and those that may override them: drop-in
-    files and units of the same name.
-    """
+    """Yields the unit files that have a setting of systemd-oomd, and those that may override them:
+    files of the same name in other folders."""
     found = {
         name: os.path.basename(name) for folder in folders for name in files_below(root, folder)
     }
@@ -164,9 +162,8 @@ def unit_files(root: str, folders: tuple[str, ...]) -> Iterator[str]:
 
 
 def settings_alone(text: bytes) -> bytes:
-    """A unit's file with all other lines empty, which keeps the line numbers. A line that ends in a
-    backslash continues in the next one, across comments.
-    """
+    """Returns a unit file with all other lines empty, so that line numbers are unchanged. A line
+    that ends in a backslash continues on the next one that isn't a comment."""
     lines, is_kept, goes_on = [], False, False
     for line in text.splitlines():
         if line.lstrip()[:1] in (b"#", b";"):
@@ -179,12 +176,12 @@ def settings_alone(text: bytes) -> bytes:
 
 
 def is_other_name(root: str, name: str) -> bool:
-    """Whether it is in `lib`, if that is only another name of `usr/lib`."""
+    """Returns whether `name` is in `lib`, and that folder is only a link to `usr/lib`."""
     return name.startswith("lib/") and os.path.islink(f"{root}/lib")
 
 
 def contents(machine: Machine, tell: Tell) -> Iterator[tuple[str, bytes]]:
-    """The files by their names, with their contents."""
+    """Yields the names and contents of the files to store."""
     place = place_of(machine)
     yield VERSION, place.asked("--version").printed.partition(b"\n")[0] + b"\n"
     shown = place.asked(
@@ -207,9 +204,8 @@ def contents(machine: Machine, tell: Tell) -> Iterator[tuple[str, bytes]]:
 
 
 def store(machine: Machine, folder: Folder, tell: Tell) -> None:
-    """Stores all of it in a recording's folder; nothing if systemd doesn't run. Errors are
-    reported, and the recording continues: no trace depends on it.
-    """
+    """Stores the settings in a recording's folder, if systemd runs. An error is reported, and the
+    recording continues, since no trace depends on the settings."""
     if not place_of(machine).is_booted():
         return
     try:

@@ -1,6 +1,5 @@
-"""What a flight recorder waits for: pressure of the machine, or of one group, which may be created
-later, or removed and created again.
-"""
+"""The trigger of a flight recorder: pressure of the machine, or of one group. The group may be
+created later, or be removed and created again."""
 from __future__ import annotations
 
 import os
@@ -9,9 +8,9 @@ from .machine import Machine
 
 
 class Trigger:
-    """A trigger in the kernel's syntax, `RESOURCE some|full THRESHOLD WINDOW`, of a group's path or
-    the whole machine if that is empty. `file` is what signals it, while it is open.
-    """
+    """A trigger `words` in the kernel's syntax, `RESOURCE some|full THRESHOLD WINDOW`, for the
+    group with the path `group`, or for the whole machine if that is empty. `file` is the descriptor
+    that signals pressure, or -1."""
 
     def __init__(self, machine: Machine, words: str, group: str = "") -> None:
         self.machine, self.words, self.group = machine, words, group
@@ -19,9 +18,8 @@ class Trigger:
         self.identity: tuple[int, int] | None = None
 
     def open(self) -> int | None:
-        """Opens it, and returns the condition of poll(2) that is the signal; None if there is no
-        such group yet.
-        """
+        """Opens the trigger. Returns the condition of poll(2) for its signal; None if the group
+        doesn't exist yet."""
         self.identity = self.found()
         if self.group and not self.identity:
             return None
@@ -30,7 +28,8 @@ class Trigger:
         return condition
 
     def found(self) -> tuple[int, int] | None:
-        """What identifies the group's folder, if the group exists."""
+        """Returns the device and inode number of the group's folder; None if the group doesn't
+        exist."""
         try:
             it = os.stat(f"{self.machine.groups}{self.group}")
         except OSError:
@@ -38,11 +37,11 @@ class Trigger:
         return it.st_dev, it.st_ino
 
     def is_current(self) -> bool:
-        """Whether it is open, and its group is still the same."""
+        """Returns whether the trigger is open and its group wasn't replaced by another one."""
         return self.file >= 0 and (not self.group or self.identity == self.found())
 
     def close(self) -> None:
-        """Closes it."""
+        """Closes the trigger, if it is open."""
         if self.file >= 0:
             os.close(self.file)
             self.file = -1

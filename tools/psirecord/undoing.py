@@ -1,6 +1,5 @@
-"""Undoes the changes to the machine, whatever happens: each change is registered at once, and
-undone in reverse order.
-"""
+"""Undoes the changes to the machine. Each change is registered as soon as it is made, and changes
+are undone in reverse order."""
 from __future__ import annotations
 
 from collections.abc import Callable
@@ -8,15 +7,16 @@ from types import TracebackType
 
 
 class Undoing:
-    """The steps that restore the machine. If one fails, the others still run, and `left` names it.
-    """
+    """The steps that restore the machine. If a step fails, the rest still run, and `left` names the
+    change that remains."""
 
     def __init__(self) -> None:
         self.steps: list[tuple[str, Callable[[], None]]] = []
         self.left: list[str] = []
 
     def note(self, what: str, step: Callable[[], None]) -> None:
-        """Registers a step; `what` names what stays on the machine if it fails."""
+        """Registers a step. `what` names the change that remains on the machine if the step
+        fails."""
         self.steps.append((what, step))
 
     def __enter__(self) -> Undoing:
@@ -28,7 +28,7 @@ class Undoing:
         error: BaseException | None,
         trace: TracebackType | None,
     ) -> None:
-        """Undoes everything, whatever went wrong."""
+        """Undoes all changes, also after an error."""
         self.undo()
 
     def undo(self) -> None:

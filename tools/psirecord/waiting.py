@@ -1,5 +1,5 @@
-"""Waits for the next job, a signal, or pressure: in one poll(2), so that none of them is delayed.
-"""
+"""Waits for the next job, a signal or pressure with a single poll(2), so that none of them is
+delayed."""
 from __future__ import annotations
 
 import os
@@ -14,9 +14,8 @@ ENDING = (signal.SIGINT, signal.SIGTERM, signal.SIGHUP)
 
 
 class Signals:
-    """The signals that end a recording, except a hangup that nohup ignores. A handler only stores
-    the signal, so that it never interrupts a change of the machine or an undo step.
-    """
+    """The signals that end a recording. A hangup that nohup ignores isn't one. The handler only
+    stores the signal, so that a change of the machine or an undo step is never interrupted."""
 
     def __init__(self) -> None:
         self.came: signal.Signals | None = None
@@ -27,23 +26,24 @@ class Signals:
                 signal.signal(number, self.note)
 
     def note(self, number: int, _: FrameType | None) -> None:
-        """Stores the first signal."""
+        """Stores the first signal that comes."""
         self.came = self.came or signal.Signals(number)
 
     def end_by_it(self) -> None:
-        """Ends this process by the signal that came, as if it had never been caught."""
+        """Ends this process by the signal that came, as if it hadn't been caught."""
         if self.came:
             signal.signal(self.came, signal.SIG_DFL)
             signal.raise_signal(self.came)
 
     def ignore(self) -> None:
-        """Ignores further signals: after all work is done they don't even change the status."""
+        """Ignores further signals, so that they don't change the exit status after all work is
+        done."""
         for number in ENDING:
             signal.signal(number, signal.SIG_IGN)
 
 
 class Waiting:
-    """Waits, and reports whether pressure was signalled."""
+    """Waits until a time, and reports whether pressure was signalled."""
 
     def __init__(self, signals: Signals) -> None:
         self.poll = select.poll()
@@ -51,7 +51,7 @@ class Waiting:
         self.signals, self.trigger = signals, -1
 
     def watch(self, trigger: int, condition: int) -> None:
-        """Watches a file that signals pressure."""
+        """Watches a file that signals pressure by the poll(2) condition `condition`."""
         self.trigger = trigger
         self.poll.register(trigger, condition)
 
@@ -61,8 +61,8 @@ class Waiting:
         self.trigger = -1
 
     def until(self, moment: float) -> bool:
-        """Waits until `moment` (CLOCK_MONOTONIC, s), a signal or pressure. True if it was pressure.
-        """
+        """Waits until `moment` (CLOCK_MONOTONIC, s), a signal or pressure. Returns whether pressure
+        came."""
         pause = max(0.0, moment - time.monotonic())
         found = [file for file, _ in self.poll.poll(int(pause * 1000 + 0.999))]
         return self.trigger in found and self.signals.came is None
@@ -75,11 +75,12 @@ class Job:
     run: Callable[[], None]
     due: float
     period: float
-    # Whether each turn counts. If not, one late run replaces all turns that were missed.
+    # Whether each turn counts. Otherwise one late run replaces all turns that were missed.
     is_each_due: bool = False
 
     def run_until(self, moment: float) -> None:
-        """Runs it for the turns that are due at `moment`."""
+        """Runs the job once for each turn that is due at `moment`, or once for all if not each is
+        due."""
         while self.due <= moment:
             self.run()
             self.due += self.period
