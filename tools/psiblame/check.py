@@ -1,4 +1,4 @@
-"""Holds the sums of a whole trace against what psi_oomd says of the same states."""
+"""Checks the sums of a whole trace against the stall times that psi_oomd computes."""
 from __future__ import annotations
 
 from collections.abc import Iterable
@@ -15,7 +15,7 @@ ADVICE = "one of the two is wrong: nothing is printed; please report it, with th
 
 
 def states_of(parts: list[Sums], processor: int, group: Group) -> States:
-    """The sums of all stretches."""
+    """Returns a group's times (ns) in each state on a processor, summed over all stretches."""
     place = processor, group.number
     return States(*(sum(sums.get(place, 0) for sums in kind) for kind in (
         [it.io for it in parts], [it.memory for it in parts], [it.waited for it in parts],
@@ -23,9 +23,8 @@ def states_of(parts: list[Sums], processor: int, group: Group) -> States:
 
 
 def must_add_up(parts: list[Sums], live: Iterable[Group], cpus: int, told: Stalls) -> None:
-    """Whether, for each processor and each group that is live at the end, the parts add up to
-    psi_oomd's time of the state. It is a fault where they don't, or where the groups are others.
-    """
+    """Checks that, for each processor and each group that is live at the end, the sums of the
+    stretches equal psi_oomd's times. Raises a Fault if they differ, or if the groups differ."""
     groups = {(processor, group.path): group for processor in range(cpus) for group in live}
     if groups.keys() != told.keys():
         processor, path = min(groups.keys() ^ told.keys())

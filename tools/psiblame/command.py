@@ -1,4 +1,4 @@
-"""The command: its words, and what they ask for."""
+"""The command line of tools/blame, and the work that it requests."""
 from __future__ import annotations
 
 from typing import Any, NamedTuple, Optional
@@ -49,8 +49,8 @@ HELP = {
         " without it at least"
     ),
 }
-# Where rows of processors have so many numbers, they are summed up: memory stays small, and it
-# comes seldom.
+# The number of entries at which the rows of all processors are added up, so that memory use stays
+# small. This happens rarely.
 MOST_ENTRIES = 200_000
 
 
@@ -98,7 +98,7 @@ def read_words() -> Given:
 
 
 def with_paths(given: Given, known: Known, file: str) -> Given:
-    """The same with the paths of groups that are given by other names."""
+    """Returns `given` with the paths of groups in place of other names, such as container names."""
     paths = sorted(groups_of(file))
 
     def path_of(word: str) -> str:
@@ -110,13 +110,13 @@ def with_paths(given: Given, known: Known, file: str) -> Given:
 
 
 def asked_time(given: Given, lines: Lines, known: Known) -> Asked:
-    """The asked time, which must lie in the trace."""
+    """Returns the requested time span, which must lie within the trace."""
     span = span_in(given.values, known.wall, lines.end)
     return Asked(given.trace, lines.end, span.start, span.end, lines.cpus, given.victim, given.top)
 
 
 def walked(given: Given, lines: Lines, asked: Asked, told: Stalls, known: Known) -> Walk:
-    """The machine after the whole trace, whose sums were held against psi_oomd's."""
+    """Plays the whole trace, and checks the sums against psi_oomd's."""
     victims = Named([given.victim] if given.victim is not None else [], True)
     runners = Runners(Tasks(known.companion, given.has_threads))
     walk = Walk(
@@ -132,7 +132,7 @@ def walked(given: Given, lines: Lines, asked: Asked, told: Stalls, known: Known)
 
 
 def asked_groups(given: Given, walk: Walk) -> list[Group]:
-    """The groups that the words name, each once."""
+    """Returns the groups that the arguments name, without duplicates."""
     found = dict.fromkeys(group for word in given.groups for group in walk.named(word))
     for group in found:
         if group.number in walk.victims.numbers:
@@ -144,7 +144,7 @@ def asked_groups(given: Given, walk: Walk) -> list[Group]:
 
 
 def work(given: Given) -> str:
-    """What is printed. Before that the parts of all groups were held against psi_oomd's sums."""
+    """Returns the text to print, after checking the sums of all groups against psi_oomd's."""
     with as_file(given.trace) as file:
         refuse_sampled(file, given.trace, "who ran while a group waited")
         told = stalls(file, given.trace)

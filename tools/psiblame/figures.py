@@ -1,5 +1,4 @@
-"""What is shown of a group: its times and who ran or stalled meanwhile, as text and JSON have it.
-"""
+"""The figures shown for a group, as text or JSON: its times, and who ran or stalled meanwhile."""
 from __future__ import annotations
 
 import collections
@@ -19,9 +18,8 @@ DEEPEST = 32
 
 
 class Part(NamedTuple):
-    """A time (ns) of a group's, or of none; and which of its processes it is of, if they have
-    names.
-    """
+    """A time (ns) attributed to `group`, or to no group if that is None, and its division among the
+    group's processes if they have names."""
 
     group: Optional[Group]
     time: int
@@ -29,11 +27,11 @@ class Part(NamedTuple):
 
 
 class Figures(NamedTuple):
-    """A group in the asked time, in ns: how long tasks of it ran, summed over processors; how long
-    it waited for each processor, for IO and was in a memory stall; and what ran, waited or stalled
-    meanwhile. `while_victim` is how long the victim ran while it waited, and `less` how much of
-    that it wouldn't have waited without it; none where it is the victim itself, or below it.
-    """
+    """The figures of a group in the requested time, in ns: how long its tasks ran, summed over
+    processors; how long the group waited for each processor and for IO, and was in a memory stall;
+    and which groups ran, waited or stalled meanwhile. `while_victim` is how long the victim ran
+    while the group waited. `less` is the part of that in which the group wouldn't have waited
+    without the victim. Both are None for the victim itself and the groups below it."""
 
     group: Group
     ran: int
@@ -54,7 +52,7 @@ class Figures(NamedTuple):
 
     @property
     def worst(self) -> int:
-        """The longest of its waits, by which groups are sorted."""
+        """The longest of the group's waits (ns), by which groups are sorted."""
         return max(self.waited, self.io, self.memory)
 
     @property
@@ -63,12 +61,12 @@ class Figures(NamedTuple):
 
 
 def depth(group: Group) -> int:
-    """The number of components of its path."""
+    """Returns the number of components of the group's path."""
     return group.path.count("/") if group.parent else 0
 
 
 def at_depth(group: Group, most: int) -> Group:
-    """The group, or the one above it that has this number of components, if it has more."""
+    """Returns the group, or its ancestor at depth `most` if the group is deeper."""
     return next(it for it in group.line() if depth(it) <= most)
 
 
@@ -78,9 +76,9 @@ def longest_first(times: Mapping[Optional[Group], int]) -> list[Part]:
 
 
 class Asker:
-    """Reads figures off the sums of a stretch; groups deeper than `depth` are shown as the one at
-    that depth above them. Processes have their names at the end of the stretch, `to` (ns).
-    """
+    """Computes figures from the sums of a stretch. A group deeper than `depth` counts as its
+    ancestor at that depth. Processes have the names that they had at the end of the stretch, `to`
+    (ns)."""
 
     def __init__(self, walk: Walk, cpus: int, depth: int, to: int) -> None:
         self.groups, self.runners, self.victims = walk.all, walk.runners, walk.victims.numbers
@@ -121,7 +119,7 @@ class Asker:
         )
 
     def of_victims(self, runners: dict[int, int]) -> int:
-        """The time in which a task of the victim ran."""
+        """Returns the time (ns) in which a task of the victim ran."""
         of = self.runners.all
         return sum(
             time
@@ -130,11 +128,11 @@ class Asker:
         )
 
     def shares(self, times: Mapping[Optional[Life], int]) -> tuple[Share, ...]:
-        """The times by process, if processes have names."""
+        """Divides `times` (ns) among processes; empty if processes have no names."""
         return tuple(self.runners.tasks.shares(times, self.to)) if self.runners.tasks.lives else ()
 
     def while_ran(self, runners: dict[int, int]) -> list[Part]:
-        """The parts of a wait for processors, by who ran there."""
+        """Returns the parts of a wait for processors, by the group that ran meanwhile."""
         times = collections.defaultdict[Optional[Group], collections.Counter[Optional[Life]]](
             collections.Counter
         )
@@ -149,7 +147,8 @@ class Asker:
         ]
 
     def beside(self, group: Group, pairs: Pairs) -> list[Part]:
-        """Who was in the state at the same time. Those above the group always are."""
+        """Returns the groups that were in the same state at the same time, except the group's
+        ancestors, which always are."""
         others = {
             self.groups[other]: time
             for (asked, other), time in pairs.items()
@@ -164,6 +163,6 @@ class Asker:
         )
 
     def table(self) -> list[Figures]:
-        """All groups down to the depth, the worst first."""
+        """Returns the figures of all groups down to `depth`, the longest wait first."""
         found = [self.figures(group) for group in self.groups if depth(group) <= self.depth]
         return sorted(found, key=lambda it: (-it.worst, it.group.number))

@@ -5,19 +5,17 @@ from typing import NamedTuple
 
 
 class Growth(NamedTuple):
-    """By how many bytes a group's memory grew in a time, from the last sample before it to the
-    highest in it (from the first one in it, if there is none before), and by how much its count of
-    scanned pages rose.
-    """
+    """The growth (bytes) of a group's memory in a time span, and the increase of its count of
+    scanned pages. The growth is from the last sample before the span, or the first one in it if
+    there is none before, to the highest sample in it."""
 
     grown: int
     scanned: int
 
 
 class Samples:
-    """The samples of each group, by number, since the sums were taken. The last one before that
-    counts as the first of them: the group had that memory when the time began.
-    """
+    """The samples of each group, by its number, in the current stretch. The last sample before the
+    stretch counts as its first, since the group had that memory when the stretch began."""
 
     def __init__(self) -> None:
         self.first: dict[int, int] = {}
@@ -26,7 +24,7 @@ class Samples:
         self.scanned: dict[int, int] = {}
 
     def take(self, group: int, current: int, pages: int) -> None:
-        """A sample: bytes in use, and the count of scanned pages."""
+        """Adds a sample of a group: the bytes in use, and the count of scanned pages."""
         if group in self.last:
             self.scanned[group] += max(0, pages - self.last[group][1])
             self.highest[group] = max(self.highest[group], current)
@@ -36,7 +34,7 @@ class Samples:
         self.last[group] = current, pages
 
     def taken(self) -> dict[int, Growth]:
-        """What there is up to now, from which on it is counted anew."""
+        """Returns the growth of each group, and begins a new stretch."""
         found = {
             group: Growth(self.highest[group] - self.first[group], self.scanned[group])
             for group in self.last

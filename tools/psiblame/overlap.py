@@ -1,19 +1,18 @@
-"""How much of the time in which asked groups waited for IO, or were in a memory stall, others did
-at the same time.
-"""
+"""The time in which other groups waited for IO or were in a memory stall while a requested group
+did."""
 from __future__ import annotations
 
 import collections
 
-# By the asked group and the other, ns.
+# Times (ns) by the requested group and the other group.
 Pairs = dict[tuple[int, int], int]
 
 
 class Beside:
-    """An asked group's clock: the time (ns) in which it was in the state, summed over processors;
-    it is so on `processors` of them now. An other's stretch in the state adds by how much the clock
-    went on in it: `since` has what it showed at its begin.
-    """
+    """A requested group's clock: `total` is the time (ns) that the group was in the state, summed
+    over processors, and `processors` the number of processors on which it is now. For each other
+    group in the state, `since` is this clock's time when its stretch began; the difference at its
+    end is the overlap."""
 
     __slots__ = ("group", "total", "processors", "last", "since", "sums")
 
@@ -27,34 +26,34 @@ class Beside:
         return self.total + self.processors * (now - self.last)
 
     def change(self, by: int, now: int) -> None:
-        """From now on it is in the state on one processor more, or less."""
+        """Adds `by` to the number of processors on which the group is in the state."""
         self.total, self.last = self.at(now), now
         self.processors += by
 
     def count(self, other: int, now: int) -> None:
-        """Adds what went on in the other's stretch. Before this group was made there was nothing.
-        """
+        """Adds the overlap with the stretch of `other` that ends now. A group that didn't exist
+        when that stretch began counts from 0."""
         total = self.at(now)
         self.sums[other] += total - self.since.get(other, 0)
         self.since[other] = total
 
 
 class Overlap:
-    """For each asked group and each other one: how much of the asked one's time the other was in
-    the state too, on whatever processor.
-    """
+    """For each requested group and each other group, the part of the requested group's time in
+    which the other one was in the same state, on any processor."""
 
     def __init__(self) -> None:
         self.asked: list[Beside] = []
-        # By the groups that are in the state, on how many processors.
+        # The number of processors on which each group is in the state, without groups that are on
+        # none.
         self.processors: dict[int, int] = {}
 
     def ask(self, group: int) -> None:
-        """This group, which was made just now, is an asked one."""
+        """Makes a group that was just created a requested one."""
         self.asked.append(Beside(group))
 
     def begin(self, group: int, now: int) -> None:
-        """The group is in the state on a processor more."""
+        """Notes that the group is in the state on one more processor."""
         is_first = group not in self.processors
         self.processors[group] = 1 if is_first else self.processors[group] + 1
         for asked in self.asked:
@@ -64,7 +63,7 @@ class Overlap:
                 asked.since[group] = asked.at(now)
 
     def end(self, group: int, now: int) -> None:
-        """It is so on a processor less."""
+        """Notes that the group is in the state on one processor fewer."""
         is_last = self.processors[group] == 1
         if is_last:
             del self.processors[group]
@@ -77,7 +76,7 @@ class Overlap:
                 asked.count(group, now)
 
     def taken(self, now: int) -> Pairs:
-        """The sums up to a moment, from which on they are counted anew."""
+        """Returns the sums up to `now` (ns), and begins new ones."""
         found: Pairs = {}
         for asked in self.asked:
             for group in self.processors:

@@ -1,4 +1,5 @@
-"""A processor: whose task runs there, which groups wait for it, and for how long."""
+"""A processor: the group whose task runs, the groups that wait for it, and the times (ns) of their
+waits."""
 from __future__ import annotations
 
 import collections
@@ -13,18 +14,17 @@ from .overlap import Overlap
 
 # The number of the runner if no task runs.
 NOBODY = -1
-# In a row, how long (ns) it was going on.
+# The key in a row for the length (ns) of the time that the row covers.
 LENGTH = -1
-# Added to the runner's number for times when without the victim nobody of those who wait would have
-# waited.
+# An offset of the runner's number. It marks the times in which, without the victim, none of the
+# waiting tasks would have waited.
 ALONE = 1 << 40
 Row = collections.defaultdict[int, int]
 
 
 class Task(world.Task):
-    """A task, with the process or thread for which it counts if that is known, and the number of
-    this runner in its group.
-    """
+    """A task, with the process or thread to which its time is attributed, if known, and the number
+    of this runner within its group."""
 
     __slots__ = ("life", "runner")
 
@@ -36,11 +36,11 @@ class Task(world.Task):
 
 
 class Held:
-    """Which groups have tasks on a processor that wait for IO, or are in a memory stall, and for
-    how long (ns) each had some.
+    """The groups with tasks on a processor that wait for IO, or are in a memory stall, and the time
+    (ns) for which each group had such tasks.
 
-    An interval is counted at its end, or where the sums are taken. `overlap` sees it begin and end.
-    """
+    An interval is counted when it ends or when the sums are taken. `overlap` is notified at both
+    ends."""
 
     __slots__ = ("counts", "since", "sums", "overlap")
 
@@ -73,7 +73,7 @@ class Held:
                     self.overlap.end(group, now)
 
     def taken(self, now: int) -> Row:
-        """The sums up to a moment, from which on they are counted anew."""
+        """Returns the sums up to `now` (ns), and begins new ones."""
         sums = self.sums
         for group, since in self.since.items():
             sums[group] += now - since
@@ -83,9 +83,8 @@ class Held:
 
 
 class Rows(dict[int, Row]):
-    """By the number of who runs, the time (ns) of each group that waits meanwhile, and under LENGTH
-    of all of it.
-    """
+    """A row for each runner's number: the time (ns) that each group waited while that runner ran,
+    and under LENGTH the time of the row."""
 
     def __missing__(self, runner: int) -> Row:
         row = self[runner] = Row(int)
@@ -93,9 +92,8 @@ class Rows(dict[int, Row]):
 
 
 class Processor:
-    """What stands still between two events: who runs, and which groups have a task that is ready,
-    with how many they have.
-    """
+    """A processor's state between two events, when nothing changes: the running task, and the
+    number of ready tasks in each group that has any."""
 
     __slots__ = ("number", "task", "ready", "rows", "row", "last", "io", "memory")
 
@@ -109,7 +107,7 @@ class Processor:
         self.io, self.memory = Held(io), Held(memory)
 
     def pass_time(self, now: int) -> None:
-        """Counts the stretch up to this moment, at which something is going to change."""
+        """Counts the stretch up to `now` (ns), before the state changes."""
         length = now - self.last
         if length:
             self.last = now
@@ -119,13 +117,13 @@ class Processor:
                 row[group] += length
 
     def add(self, task: Task) -> None:
-        """The task is ready here from now on."""
+        """Adds a task that is ready here from now on."""
         ready = self.ready
         for group in task.group.counted:
             ready[group] = ready.get(group, 0) + 1
 
     def remove(self, task: Task) -> None:
-        """The task isn't ready here from now on."""
+        """Removes a task that is no longer ready here."""
         ready = self.ready
         for group in task.group.counted:
             if ready[group] > 1:
@@ -134,12 +132,12 @@ class Processor:
                 del ready[group]
 
     def run(self, task: Optional[Task]) -> None:
-        """The task runs from now on, or none."""
+        """Sets the running task; None if no task runs."""
         self.task = task
         self.row = self.rows[task.runner if task else NOBODY]
 
     def taken(self, now: int) -> Rows:
-        """The rows up to a moment, from which on they are counted anew."""
+        """Returns the rows up to `now` (ns), and begins new ones."""
         self.pass_time(now)
         rows, self.rows = self.rows, Rows()
         self.run(self.task)
@@ -147,10 +145,9 @@ class Processor:
 
 
 class WatchedProcessor(Processor):
-    """The same, where it matters who would run if the tasks of a victim weren't there: `others` is
-    how many are ready of others. While the victim runs and there is one at most, nobody would wait
-    here without it.
-    """
+    """A processor that also tracks what would happen without the tasks of a victim: `others` is the
+    number of ready tasks that aren't the victim's. While the victim runs and `others` is at most 1,
+    nobody would wait here without it."""
 
     __slots__ = ("victims", "others")
 

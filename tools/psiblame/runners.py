@@ -1,4 +1,5 @@
-"""Who runs: a group, or, if the trace's companion names its tasks, a process in a group."""
+"""The runners of a trace: groups, or processes within groups if the trace's companion file names
+its tasks."""
 from __future__ import annotations
 
 from typing import NamedTuple, Optional
@@ -16,7 +17,7 @@ class Runner(NamedTuple):
 
 
 class Runners:
-    """All runners so far. Each has a number, which its rows are counted by."""
+    """All runners that have occurred. Each has a number, which is the key of its rows."""
 
     def __init__(self, tasks: Tasks) -> None:
         self.tasks = tasks
@@ -24,11 +25,12 @@ class Runners:
         self.numbers: dict[Runner, int] = {}
 
     def life(self, pid: str, now: int) -> Optional[Life]:
-        """For whom a task counts that was created at this time (ns)."""
+        """Returns the process or thread to which the time of a task created at `now` (ns) is
+        attributed; None if unknown."""
         return self.tasks.runner(int(pid), now)
 
     def number(self, group: Group, life: Optional[Life]) -> int:
-        """The number of a runner."""
+        """Returns the number of a runner, which is assigned at its first use."""
         runner = Runner(group, life)
         if runner not in self.numbers:
             self.numbers[runner] = len(self.all)

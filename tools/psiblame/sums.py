@@ -12,13 +12,12 @@ Places = collections.defaultdict[tuple[int, int], int]
 
 
 class Sums:
-    """What happened in a stretch. Who runs stands for itself alone, a group that waits for itself
-    and all below it.
+    """The sums (ns) of a stretch. A running task counts for its own group only; a waiting task
+    counts for its group and all ancestors.
 
-    `waited`, `io` and `memory` are by processor and group; `pairs` by the group that waited for a
-    processor and who ran there meanwhile, NOBODY among these; `alone` the part of it in which,
-    without the victim that ran, nobody would have waited there.
-    """
+    `waited`, `io` and `memory` are keyed by processor and group. `pairs` is keyed by the group that
+    waited for a processor and the runner there, which may be NOBODY. `alone` is the part of `pairs`
+    in which nobody would have waited without the victim that ran."""
 
     def __init__(self) -> None:
         self.length = 0
@@ -30,7 +29,7 @@ class Sums:
         self.growth: dict[int, Growth] = {}
 
     def take_rows(self, processor: Processor, now: int) -> None:
-        """Takes what a processor counted up to a moment of who ran and who waited."""
+        """Adds a processor's times of runners and waiting groups up to `now` (ns)."""
         for key, row in processor.taken(now).items():
             runner = key - ALONE if key >= ALONE else key
             for group, time in row.items():
@@ -43,14 +42,14 @@ class Sums:
                     self.alone[group, runner] += time
 
     def take_held(self, processor: Processor, now: int) -> None:
-        """Takes what it counted of IO and of memory stalls."""
+        """Adds a processor's times of IO waits and memory stalls up to `now` (ns)."""
         for held, sums in ((processor.io, self.io), (processor.memory, self.memory)):
             for group, time in held.taken(now).items():
                 sums[processor.number, group] += time
 
 
 class Stretches:
-    """The sums before the asked time, in it and after it."""
+    """The sums before, in and after the requested time."""
 
     def __init__(self, start: int, end: int) -> None:
         self.cuts = [start, end]
@@ -59,16 +58,16 @@ class Stretches:
         self.done: list[Sums] = []
 
     def next_cut(self) -> float:
-        """The moment (ns) after which another stretch begins, if one is left."""
+        """Returns the time (ns) at which the current stretch ends; infinity for the last one."""
         return self.cuts[0] if self.cuts else float("inf")
 
     def fold(self, processors: Iterable[Processor], now: int) -> None:
-        """Takes the rows of all processors, so that these stay small."""
+        """Adds up the rows of all processors, so that these stay small."""
         for processor in processors:
             self.now.take_rows(processor, now)
 
     def end(self, processors: list[Processor], now: int) -> Sums:
-        """Ends a stretch at a moment, and gives what was summed up in it."""
+        """Ends the current stretch at `now` (ns), and returns its sums."""
         self.fold(processors, now)
         for processor in processors:
             self.now.take_held(processor, now)
@@ -80,5 +79,5 @@ class Stretches:
 
     @property
     def asked(self) -> Sums:
-        """The stretch in the asked time."""
+        """Returns the sums of the requested time."""
         return self.done[1]

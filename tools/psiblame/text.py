@@ -1,4 +1,5 @@
-"""What is told to people: of one group a few lines, of all a table and a matrix."""
+"""The output for people: a few lines about each requested group, or a table and a matrix of all
+groups."""
 from __future__ import annotations
 
 from collections.abc import Callable, Sequence
@@ -13,8 +14,8 @@ from .figures import Figures, Part
 from .told import Asked
 
 MS = 10**6
-# So many of a kind are told where the words don't say, and so many letters of a group's name stand
-# over a column.
+# The default number of rows of a kind, and the largest number of characters of a group's name in a
+# column heading.
 TOP = 10
 HEAD = 22
 NONE = "no task"
@@ -22,7 +23,7 @@ Row = TypeVar("Row", Figures, Part)
 
 
 def three(ns: int) -> str:
-    """Seconds with three decimals."""
+    """Formats a time (ns) in seconds with three decimals."""
     ms = (ns + MS // 2) // MS
     return f"{ms // 1000}.{ms % 1000:03}"
 
@@ -32,7 +33,7 @@ def percent(part: int, whole: int) -> str:
 
 
 def size(number: int) -> str:
-    """So many bytes more, in a unit that people read."""
+    """Formats a number of bytes in the unit that suits its size."""
     value, units = float(number), ["bytes", "KiB", "MiB", "GiB", "TiB"]
     while value >= 1024 and len(units) > 1:
         value, units = value / 1024, units[1:]
@@ -41,12 +42,13 @@ def size(number: int) -> str:
 
 
 def shortened(name: str) -> str:
-    """The name, or its end, which says most."""
+    """Shortens a long name to its end, which is the most specific part."""
     return name if len(name) <= HEAD else f"..{name[2 - HEAD :]}"
 
 
 def columns(rows: list[list[str]], indent: str = "") -> list[str]:
-    """Rows whose first cell stands at the left, and the others at the right of their column."""
+    """Formats rows as a table whose first column is left-aligned and whose other columns are
+    right-aligned."""
     widths = [max(len(row[place]) for row in rows) for place in range(len(rows[0]))]
     cells = (
         [row[0].ljust(widths[0]), *(cell.rjust(width) for cell, width in zip(row[1:], widths[1:]))]
@@ -56,9 +58,8 @@ def columns(rows: list[list[str]], indent: str = "") -> list[str]:
 
 
 def without_same(found: Sequence[Row], shown: Callable[[Row], object]) -> list[Row]:
-    """The rows without those of groups whose values all come from one group right below them, which
-    has the same.
-    """
+    """Returns the rows without those of a group whose values all come from one child with the same
+    values."""
     by_group = {it.group: it for it in found}
     hidden = {
         above
@@ -70,7 +71,7 @@ def without_same(found: Sequence[Row], shown: Callable[[Row], object]) -> list[R
 
 
 def with_names(lines: list[str], shares: Sequence[Sequence[Share]], head: str = "") -> list[str]:
-    """The lines of a table with the processes of each row after it, if they have names."""
+    """Returns the lines of a table, with the processes of each row after it if they have names."""
     if not any(shares):
         return lines
     width = max(map(len, lines))
@@ -79,7 +80,7 @@ def with_names(lines: list[str], shares: Sequence[Sequence[Share]], head: str = 
 
 
 class Teller:
-    """Tells figures of groups of one trace."""
+    """Formats the figures of groups of one trace."""
 
     def __init__(self, groups: Groups, asked: Asked, known: Known) -> None:
         self.groups, self.asked, self.known = groups, asked, known
@@ -87,13 +88,13 @@ class Teller:
         self.when = f"between {seconds(asked.start)} s and {seconds(asked.to)} s"
 
     def shown(self, group: Group) -> str:
-        """The name of a group, in which containers have their names."""
+        """Returns a group's name, in which containers have their names."""
         return self.known.groups.shown(group.path) + self.groups.name(group).removeprefix(
             group.path
         )
 
     def name(self, of: Group, group: Optional[Group]) -> str:
-        """How a part of a group's time is named."""
+        """Returns the name of the group to which a part of `of`'s time is attributed."""
         if group is None:
             return NONE
         return self.shown(group) + (
@@ -101,7 +102,8 @@ class Teller:
         )
 
     def parts(self, of: Group, parts: list[Part], whole: int, head: str) -> list[str]:
-        """Parts with how much of the whole they are, and how many more there are than are shown."""
+        """Formats the longest parts, each with its share of `whole`, and the number of parts that
+        aren't shown."""
         rows = [[head, "s", "of it"]]
         rows += [
             [self.name(of, it.group), three(it.time), f"{percent(it.time, whole)} %"]
@@ -114,9 +116,8 @@ class Teller:
     # ------------------------------------------------------------ one group
 
     def group(self, it: Figures, growing: list[Figures]) -> list[str]:
-        """All that is shown of one group. The last block has the groups whose memory grew
-        meanwhile.
-        """
+        """Returns the lines about one group. The last block has the groups whose memory grew in
+        that time."""
         lines = [self.waited(it)]
         lines += (
             self.parts(it.group, it.while_ran, it.waited, "while there ran") if it.waited else []
@@ -148,14 +149,15 @@ class Teller:
         return f"{name} waited {three(it.waited)} s for a processor {self.when} ({share})"
 
     def without(self, it: Figures) -> list[str]:
-        """What the victim has to do with the wait for processors."""
+        """Returns the lines about the victim's effect on the wait for processors."""
         ran, less = three(it.while_victim or 0), three(it.less or 0)
         return [
             f"  {self.asked.victim} ran there for {ran} s of it: without it at least {less} s less"
         ]
 
     def beside(self, it: Figures, where: str, did: str, whole: int, parts: list[Part]) -> list[str]:
-        """Who did the same at the same time: a trace doesn't say why."""
+        """Returns the lines about the groups that were in the same state at the same time. This
+        isn't a cause: a trace doesn't contain causes."""
         if not whole:
             return []
         if not parts:
@@ -168,7 +170,8 @@ class Teller:
         return [first, *self.parts(it.group, without_same(parts, lambda it: it.time), whole, "")]
 
     def growth(self, it: Figures, growing: list[Figures]) -> list[str]:
-        """Whose memory grew in that time, and for whom pages were scanned."""
+        """Returns the lines about the groups whose memory grew in that time, or for which pages
+        were scanned."""
         if not growing:
             return []
         rows = [["", "grown", "pages scanned"]]
@@ -189,7 +192,7 @@ class Teller:
     # ------------------------------------------------------------ all groups
 
     def table(self, found: list[Figures]) -> list[str]:
-        """All groups that did something, the worst first."""
+        """Returns the table of all groups that ran or waited, the longest wait first."""
         some = without_same([it for it in found if it.has_some], lambda it: self.row(it)[1:])
         victim = self.asked.victim
         heads = [
@@ -229,7 +232,8 @@ class Teller:
         return cells + (without if self.asked.victim is not None else [])
 
     def matrix(self, found: list[Figures]) -> list[str]:
-        """Who waited for whom: a row for each group that waited, a column for who ran there."""
+        """Returns the matrix of waits: a row for each group that waited, and a column for each
+        group that ran meanwhile."""
         waiting = without_same([it for it in found if it.waited], lambda it: it.while_ran)
         if not waiting:
             return ["no group waited for a processor"]
@@ -264,7 +268,8 @@ class Teller:
 def as_text(
     groups: Groups, found: list[Figures], everyone: list[Figures], asked: Asked, known: Known
 ) -> str:
-    """Of the groups that were asked for, or a table and a matrix of all where none was."""
+    """Returns the lines about the requested groups, or a table and a matrix of all groups if none
+    was requested."""
     teller = Teller(groups, asked, known)
     if not found:
         return "\n".join([*teller.table(everyone), "", *teller.matrix(everyone), ""])

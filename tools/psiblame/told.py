@@ -1,4 +1,4 @@
-"""What is told in JSON: all in ns, bytes and pages, for programs."""
+"""The output in JSON, for programs: times in ns, memory in bytes, and numbers of pages."""
 from __future__ import annotations
 
 import json
@@ -14,9 +14,8 @@ from .figures import Figures, Part
 
 
 class Asked(NamedTuple):
-    """What was asked: the trace's name and end, the time (all ns), the victim's path, and how many
-    of each kind are told.
-    """
+    """The request: the trace's name and length, the time span (all in ns), the victim's path, and
+    the number of rows of each kind."""
 
     trace: str
     end: int
@@ -32,7 +31,7 @@ class Asked(NamedTuple):
 
 
 def parts_of(groups: Groups, parts: list[Part], top: Optional[int]) -> list[dict[str, Any]]:
-    """The parts, the longest first; null is told where no task ran."""
+    """Returns the parts, the longest first. The group is null for times in which no task ran."""
     return [
         {
             "group": groups.name(it.group) if it.group else None,
@@ -44,7 +43,7 @@ def parts_of(groups: Groups, parts: list[Part], top: Optional[int]) -> list[dict
 
 
 def shares_of(shares: Sequence[Share]) -> dict[str, Any]:
-    """The processes, if they have names."""
+    """Returns the times of the processes, or an empty object if processes have no names."""
     rows = [
         {"name": it.name, "threads" if it.is_thread else "pids": list(it.numbers), "ns": it.time}
         for it in shares
@@ -79,7 +78,8 @@ def group_of(groups: Groups, it: Figures, asked: Asked, is_named: bool) -> dict[
 def as_json(
     groups: Groups, found: list[Figures], everyone: list[Figures], asked: Asked, known: Known
 ) -> str:
-    """One object: what was asked, and the groups that were asked for, or all where none was."""
+    """Returns one JSON object: the request, and the requested groups, or all groups if none was
+    requested."""
     whole = {
         "trace": asked.trace,
         "end_ns": asked.end,

@@ -1,6 +1,5 @@
-"""The trace that is read: psi_oomd must accept it first, and says how long each group was in each
-state.
-"""
+"""Reads a trace that psi_oomd accepts, and gets from psi_oomd how long each group was in each
+state."""
 from __future__ import annotations
 
 import contextlib
@@ -22,7 +21,7 @@ from psireplay.trace import cpus_in, end_in
 STALL = re.compile(
     r"stall cpu=([0-9]+) (\S+) ([0-9]+) [0-9]+ ([0-9]+) [0-9]+ ([0-9]+) [0-9]+ [0-9]+(?: [0-9]+)?\n"
 )
-# Bytes that are read at once, and how often progress is shown, in s.
+# The number of bytes in one read, and the time (s) between two updates of the progress line.
 PIECE = 1 << 20
 OFTEN = 0.5
 TOLD: dict[int, str] = {
@@ -34,22 +33,22 @@ TOLD: dict[int, str] = {
 
 
 class States(NamedTuple):
-    """How long (ns) a group waited on a processor for IO, was in a memory stall, and waited for
-    that processor.
-    """
+    """The times (ns) that a group, on one processor, waited for IO, was in a memory stall, and
+    waited for the processor."""
 
     io: int
     memory: int
     waited: int
 
 
-# By the processor and the path of a group that is live at the end.
+# The times by processor and path, for the groups that are live at the end.
 Stalls = dict[tuple[int, str], States]
 
 
 @contextlib.contextmanager
 def as_file(name: str) -> Iterator[str]:
-    """A file with the trace's bytes: standard input, which is read twice too, is kept in one."""
+    """Yields the name of a file with the trace's bytes. Standard input is stored in a temporary
+    file, since the trace is read twice."""
     if name != "-":
         yield name
         return
@@ -68,9 +67,8 @@ def program() -> str:
 
 
 def stalls(file: str, name: str) -> Stalls:
-    """What `psi_oomd stall` prints of the trace. One that it refuses is a fault, in its words and
-    with its status.
-    """
+    """Returns the times that `psi_oomd stall` prints for the trace. A rejected trace is a Fault
+    with psi_oomd's message and status."""
     path = program()
     try:
         done = subprocess.run([path, "stall", "--", file], capture_output=True, encoding="latin-1")
@@ -94,8 +92,8 @@ def stalls(file: str, name: str) -> Stalls:
 
 
 class Lines:
-    """The lines of a trace that was accepted: `cpus` of its header, `end` in ns of its last line.
-    """
+    """The lines of an accepted trace: `cpus` is the header's number of processors, `end` the time
+    (ns) of the last line."""
 
     def __init__(self, file: str) -> None:
         self.file, self.size = open(file, "rb"), os.path.getsize(file)
@@ -104,7 +102,8 @@ class Lines:
         self.cpus = cpus_in(self.file) or 0
 
     def pieces(self) -> Iterator[list[str]]:
-        """The event lines, many at a time. A terminal shows how many were read."""
+        """Yields the event lines in large pieces. On a terminal a progress line shows how many were
+        read."""
         shown = time.monotonic()
         is_shown = sys.stderr.isatty()
         with self.file:

@@ -1,4 +1,4 @@
-"""Plays the events of a trace, and adds up who ran, who waited and who stalled."""
+"""Plays the events of a trace, and adds up the times in which groups ran, waited and stalled."""
 from __future__ import annotations
 
 from typing import Optional
@@ -14,16 +14,16 @@ from .sums import Stretches
 
 
 class Named:
-    """Words that name groups, by a path or as PATH#N, and the numbers of those that were created so
-    far.
-    """
+    """Arguments that name groups, by path or as PATH#N, and the numbers of the groups with these
+    names that were created up to now."""
 
     def __init__(self, words: list[str], with_below: bool) -> None:
         self.words, self.with_below = set(words), with_below
         self.numbers: set[int] = set()
 
     def takes(self, group: Group) -> bool:
-        """Whether the words name a group that was just created."""
+        """Checks whether the arguments name a group that was just created, and stores its number if
+        they do."""
         is_named = group.path in self.words or f"{group.path}#{group.life}" in self.words
         is_below = (
             self.with_below and group.parent is not None and group.parent.number in self.numbers
@@ -49,13 +49,13 @@ class Walk(World[Task]):
         self.made(self.all[0])
 
     def processor(self, number: int, io: Optional[Overlap], memory: Optional[Overlap]) -> Processor:
-        """A processor, before the first event."""
+        """Returns a processor in its state before the first event."""
         if self.victims.words:
             return WatchedProcessor(number, io, memory, self.victims.numbers)
         return Processor(number, io, memory)
 
     def new_task(self, pid: str, group: Group, cpu: int) -> Task:
-        """A task that was just created."""
+        """Returns a task that was just created."""
         life = self.runners.life(pid, self.now)
         return Task(pid, group, cpu, life, self.runners.number(group, life))
 
@@ -72,20 +72,20 @@ class Walk(World[Task]):
             self.cut(int(self.next_cut))
 
     def cut(self, now: int) -> None:
-        """Ends a stretch of the sums at a time (ns). Events at that time belong to it."""
+        """Ends a stretch of the sums at `now` (ns). Events at that time belong to it."""
         ended = self.stretches.end(self.processors, now)
         ended.io_beside, ended.memory_beside = self.io.taken(now), self.memory.taken(now)
         ended.growth = self.growth.taken()
         self.next_cut = self.stretches.next_cut()
 
     def play_end(self) -> None:
-        """All stretches end here at the latest."""
+        """Ends all stretches at the end of the trace."""
         for cut in self.stretches.cuts:
             self.cut(cut)
         self.cut(self.now)
 
     def entries(self) -> int:
-        """How many numbers the rows of all processors have."""
+        """Returns the number of entries in the rows of all processors."""
         return sum(len(row) for processor in self.processors for row in processor.rows.values())
 
     def fold(self) -> None:
