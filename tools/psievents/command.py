@@ -28,7 +28,7 @@ from psicli.parser import Parser
 from psicli.running import run, write
 from psicli.status import Status
 from psiread.files import Raw, parts_of
-from psiread.recording import Meta, meta_of
+from psiread.meta import Meta, meta_of
 from psiread.source import Unreadable
 from psiread.table import table_of
 from psirec.layout import raw_name
@@ -48,7 +48,7 @@ PIECE = 8 << 20
 
 
 def program_path() -> str:
-    """The program's path: the one that the variable names, or else the launcher's, which is built."""
+    """The path of the program that the variable names, or else of the one that is built."""
     named = os.environ.get(VARIABLE)
     return os.path.abspath(named) if named else built_program(LAUNCHER)
 

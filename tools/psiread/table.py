@@ -10,7 +10,9 @@ from collections.abc import Iterator
 from psirec.layout import FORMATS
 
 from .files import text_of
-from .formats import Field, Format, FormatFault, formats_of, page_format_of, sections_of, state_letters
+from .formats import (
+    Field, Format, FormatFault, formats_of, page_format_of, sections_of, state_letters,
+)  # fmt: skip
 from .records import CURRENT, NUMBERS, SWITCH
 from .source import Unreadable
 

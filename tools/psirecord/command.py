@@ -129,8 +129,7 @@ def record(
     machine: Machine, wanted: Wanted, service: Service, folder: Folder, signals: Signals,
     trigger: Trigger | None, condition: int | None,
 ) -> Status:
-    """Makes one recording and returns the exit status. All changes of the machine are undone, also
-    after an error."""
+    """Makes one recording, undoes all changes of the machine, and returns the exit status."""
     ending = None
     with Undoing() as undoing:
         try:

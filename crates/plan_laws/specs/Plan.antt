@@ -131,8 +131,8 @@ IrqsFit plan = (k : ℕ) → k ≤ length plan.changes → irq_after plan k ≤ 
 
 -- The invariant of plans. A plan has at most 4,000,000 changes, the limit of a trace's events.
 -- Their times never decrease, and are at most 60,000,000 s, the longest trace. The counts and the
--- interrupt time are within their limits. A change subtracts and adds the counts of at most one task
--- each, and names existing slots. The parent of each slot but the first is an older slot.
+-- interrupt time are within their limits. A change subtracts and adds the counts of at most one
+-- task each, and names existing slots. The parent of each slot but the first is an older slot.
 pub record IsPlan (plan : PlanView) : Type 0 where
   pub few : length plan.changes ≤ most_events
   pub order : AreInOrder plan
