@@ -20,7 +20,7 @@ HELLO, SLEEPS, KILLS = "H", "S", "K"
 MESSAGE = struct.Struct("<cq")
 MOST_LOG = 1 << 26
 GRACE = 20
-"""How long a process may take to end (s) once its driver is gone."""
+"""The time (s) that a process may take to end after its driver has closed the connection."""
 
 
 @functools.lru_cache(maxsize=None)

@@ -10,7 +10,7 @@ HARMLESS = {
     "continue", "stop", "exists", "pressure_above", "pressure_rising_beyond", "memory_above",
     "memory_reclaim", "swap_free", "dump_cgroup_overview", "nr_dying_descendants", "senpai",
 }  # fmt: skip
-"""Plugins that act on nothing but files of the machine. Any other gets `dry`."""
+"""The plugins that act on nothing but files of the machine. Any other plugin gets `dry`."""
 SILENCES = "silence-logs"
 
 

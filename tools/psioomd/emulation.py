@@ -22,10 +22,10 @@ from psirules.rules_file import bytes_of
 from psirules.sampling import must_have_scans
 
 TICK_MS = 1000
-"""A tick that divides every interval, so that oomd's looks are ticks."""
+"""A tick (ms) that divides every interval, so that each look of oomd is a tick."""
 RESOURCES = {b"io\n", b"memory\n"}
 UPTIME = 10**6 * SECOND
-"""How long the machine was up at the start of the trace (ns), unless it is said."""
+"""The uptime of the machine at the start of the trace (ns), unless the user gives it."""
 
 
 @dataclass(frozen=True)

@@ -50,7 +50,8 @@ LEFT_OUT = {
     "senpai": "it changes memory.high, which no trace shows: the memory may be other than recorded",
     "systemd_restart": "what it restarts isn't followed, and neither is the end of its chain",
 }
-"""Plugins of oomd 0.5.0 that a trace can't answer for. Here each does nothing and continues."""
+"""The plugins of oomd 0.5.0 that need data that no trace has. Here each does nothing and
+continues."""
 
 
 @dataclass(frozen=True)

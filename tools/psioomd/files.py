@@ -9,7 +9,7 @@ from psioomd.patterns import ROOT
 from psireplay.groups import Group
 
 MOUNT = "/sys/fs/cgroup"
-"""Where oomd believes the groups to be: the order of equal groups depends on these names."""
+"""The path at which oomd finds the groups. The order of groups of equal rank depends on it."""
 RESOURCES = ("io", "memory")
 FIXED = {
     "cgroup.controllers": "cpu io memory pids\n",

@@ -40,13 +40,13 @@ class Look:
     number: int
     machine: Machine
     scanned: dict[Group, int] = field(default_factory=dict)
-    """Pages scanned at the look before."""
+    """The pages scanned up to the previous look."""
     average: dict[Group, int] = field(default_factory=dict)
-    """Decaying average of memory (bytes), up to this look."""
+    """The decaying average of memory (bytes), including this look."""
     ruleset: Pauses | None = None
-    """The ruleset whose detectors fired at this look."""
+    """The ruleset whose detectors fired at this look, None before that."""
     victims: list["Victim"] = field(default_factory=list)
-    """Whom plugins killed, until the ruleset has taken them."""
+    """The victims of plugins, until the ruleset takes them."""
 
 
 class Plugin(ABC):

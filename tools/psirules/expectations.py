@@ -20,7 +20,7 @@ FORMS = (
     "no kill before S",
 )
 ABSENT = " if present"
-"""At the end of `no kill of PATTERN`: a trace may have no group that the pattern matches."""
+"""The end of a `no kill of PATTERN` that may be checked on a trace without a matching group."""
 MOST_MOMENTS = 10
 
 

@@ -10,12 +10,12 @@ from psirules.plugins import Form
 
 WHOLE = r"(0|[1-9][0-9]{0,19})"
 UNITS = {"": 1, "K": 1 << 10, "M": 1 << 20, "G": 1 << 30, "T": 1 << 40}
-"""Bytes by letter."""
+"""The bytes that each letter stands for."""
 MOST_BYTES = 1 << 60
 MOST_PATTERNS = 16
 MOST = {Form.PERCENT: 100, Form.SECONDS: 1000000}
 LEADING = re.compile(r"\s*\+?([0-9]+)")
-"""The whole number in front, which is all that oomd reads of one."""
+"""The digits at the start of a text, which is all that oomd reads of a whole number."""
 
 
 @dataclass(frozen=True)

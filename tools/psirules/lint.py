@@ -32,7 +32,7 @@ read. With --fix it is 0 where the printed file means what FILE does, 1 where so
 that is lost, and 2 where nothing could be printed."""
 WHOLE_FILE = "the file"
 MOST_BYTES = 1048576
-"""The length of a rules file at most."""
+"""The greatest length of a rules file (bytes)."""
 CAUSES = {
     "TooLong": "it has more than 1048576 bytes",
     "BadJson": "it is no JSON text in UTF-8",

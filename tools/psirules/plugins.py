@@ -98,9 +98,7 @@ OF_OOMD = {
     "senpai": Effect.ACTS,
     "systemd_restart": Effect.ACTS,
 }
-"""The plugins of oomd 0.5.0 that psi_oomd doesn't know, by the names under which that version
-registers them.
-"""
+"""The plugins of oomd 0.5.0 that psi_oomd doesn't know, by the names that oomd registers."""
 
 TOP_KEYS = ("rulesets",)
 TOP_KEYS_OF_OOMD = ("prekill_hooks", "version")

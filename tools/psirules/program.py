@@ -37,7 +37,7 @@ ADVICE: dict[int, str] = {
         "the program isn't built, and couldn't be: run `psi_oomd --build`, and read what it says"
     ),
 }
-"""What to do, by the status of the program."""
+"""Advice for the user, by the program's exit status."""
 
 Answer = TypeVar("Answer")
 

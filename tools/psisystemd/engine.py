@@ -19,7 +19,7 @@ from psiworld.groups import ROOT
 
 SWAP_INTERVAL = 150 * SECOND // 1000
 RECLAIM = 30 * SECOND
-"""For so long a scan counts."""
+"""The time (ns) after a scan during which a group counts as reclaiming memory."""
 PAUSE = 15 * SECOND
 LEAST_SWAP_PERCENT = 5
 
@@ -77,15 +77,16 @@ class PressureRule:
         self.looks: dict[str, Look] = {}
         self.lost: set[Group] = set()
         self.unread: set[str] = set()
-        """Watched groups that had no sample of memory at some look."""
+        """The watched groups that had no memory sample at some check."""
         self.courses: dict[str, Course] = {}
         self.scans = Scans()
         self.candidates: dict[str, Group] = {}
-        """Those of the look before, if some group was above its limit then."""
+        """The candidates at the previous check, if some group was above its limit then;
+        otherwise empty."""
         self.rests_until = 0
         self.paused: list[tuple[int, str, int]] = []
-        """When (ns) a watched group's limits were exceeded, but the rule rested until a later time.
-        """
+        """The pauses: the time (ns) at which a group exceeded its limit for its duration, its
+        path, and the time (ns) until which the rule rests after its last kill."""
 
     def look(self, now: int, averages: dict[str, int]) -> list[Decision]:
         """Returns the decisions at `now` (ns). `averages` has the full memory pressure over 10 s
@@ -208,9 +209,8 @@ class SwapRule:
         self.samples = 0
         self.is_told = False
         self.most = (-1, -1, 0)
-        """The greatest share of swap that was used, the share of memory at that moment, and the
-        moment (ns).
-        """
+        """The greatest share of swap in use, the share of memory in use at that time (both in
+        hundredths of a percent, -1 if unknown), and the time (ns)."""
         self.was_watched = self.is_absent = False
 
     def is_due(self) -> bool:

@@ -25,7 +25,7 @@ class Limits:
     pressure: int = 6000
     duration: int = 30 * SECOND
     places: tuple[tuple[str, str], ...] = ()
-    """Which settings are given, and where."""
+    """Each setting that a file has, with the file and line."""
 
     def changed(self, setting: Setting) -> Limits:
         """Returns the limits with one setting changed, or raises a Fault if its value is

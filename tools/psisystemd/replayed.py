@@ -23,7 +23,7 @@ from psiworld.groups import ROOT
 
 LOOK_MS = 1000
 BY = (MEMORY_PRESSURE, SWAP)
-"""By what is killed, by number, as rulesets have them."""
+"""The rules' names. Their indices stand for the numbers of rulesets in kills."""
 
 
 @contextlib.contextmanager

@@ -16,7 +16,7 @@ from psisystemd.texts import text_at
 from psisystemd.units import TYPES, Unit, UnitFiles, shown_units
 
 NEWEST = 257
-"""The version whose rule is taken where none is told."""
+"""The version of systemd that is assumed if none is given or recorded."""
 MANAGER = re.compile(r"user@([0-9]{1,10})\.service")
 BELOW_MANAGER = re.compile(rf"/{MANAGER.pattern}(?:/|$)")
 GROUP_LINE = re.compile(r"(/\S*) uid=([0-9]{1,10}) oom_group=([01]) avoid=([01]) omit=([01])")

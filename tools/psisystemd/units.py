@@ -17,7 +17,7 @@ from psisystemd.texts import Setting, drop_ins, settings_of, text_at
 from psisystemd.values import duration, share, share_of_scale
 
 TYPES = ("service", "slice", "scope")
-"""The types of units that may have such settings."""
+"""The types of units that may have settings of systemd-oomd."""
 SECTIONS = {"service": "Service", "slice": "Slice", "scope": "Scope"}
 MODES = {"auto": False, "kill": True}
 PREFERENCES = ("none", "avoid", "omit")
@@ -49,7 +49,7 @@ class Unit:
     is_whole: bool | None = None
     slice: str | None = None
     places: dict[str, str] = field(default_factory=dict)
-    """Where each setting stands."""
+    """The file and line of each setting."""
 
     def changed(self, setting: Setting, version: int) -> Unit:
         """Returns the unit with one setting changed. Precondition: the setting's name is known."""

@@ -7,9 +7,9 @@ from decimal import Decimal
 from psicli.times import SECOND
 
 WHOLE = 10000
-"""All of it, in hundredths of a percent, as all shares are here."""
+"""A share of 100 percent, in hundredths of a percent (the unit of all shares here)."""
 SCALE = (1 << 32) - 1
-"""All of it, as `systemctl show` has the limit of a unit."""
+"""A share of 100 percent in the scale in which `systemctl show` prints a unit's limit."""
 SHARE = re.compile(r"([0-9]{1,9})(?:\.([0-9]{1,2}))?([%‰‱])")
 # The hundredths of a percent for each sign, and the most decimals before the sign.
 SIGNS = {"%": (100, 2), "‰": (10, 1), "‱": (1, 0)}
