@@ -1,4 +1,4 @@
-"""The rows that all input formats give, and checks of their values."""
+"""Samples as all input formats give them."""
 from __future__ import annotations
 
 import re
@@ -10,7 +10,7 @@ from psicli.fault import Fault
 from psicli.times import SECOND
 from psirec.layout import escaped_path
 
-# The fields of a row after the six totals (us) in the order of LEVELS: a group's memory and swap
+# Fields of a sample, after the six totals (us) in the order of LEVELS: a group's memory and swap
 # (bytes) and scanned pages, the machine's memory, swap and free swap (bytes), and three averages
 # (hundredths of a percent) for each of the six levels.
 MEMORY, SWAP, SCANS, HOST, AVERAGES = 6, 7, 8, 9, 12
@@ -19,7 +19,7 @@ ROOT = "/"
 
 
 class Place(NamedTuple):
-    """The place at which a sample was read: a file, and a line from 1."""
+    """Where a sample was read: a file and its line, from 1."""
 
     file: str
     line: int
@@ -29,8 +29,9 @@ class Place(NamedTuple):
 
 
 class Row(NamedTuple):
-    """Values of a group at a time (ns since 1970), for consecutive fields from `field` on.
-    `place` has the number of the file and the line."""
+    """Values of a group at a time (ns since 1970), of consecutive fields from `field` on. `place`
+    is that of a Place in the reader's numbering: the file's number and the line.
+    """
 
     time: int
     group: str
@@ -43,8 +44,9 @@ Put = Callable[[int, str, int, tuple[int, ...], int], None]
 
 
 def ns_of(text: str) -> int:
-    """Parses a decimal number of seconds, as any format writes it, and returns ns. Raises
-    ValueError if it is malformed."""
+    """The ns of a decimal number of seconds, as any format writes one; a ValueError if it isn't
+    one.
+    """
     if re.fullmatch(r"[0-9]{1,12}", text):
         return int(text) * SECOND
     found = re.fullmatch(r"([0-9]{1,12})\.([0-9]{1,9})", text)

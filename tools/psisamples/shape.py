@@ -1,9 +1,8 @@
-"""When in an interval a total grew, by avg10 at both of its ends.
+"""Distributes the growth of a total over an interval, by avg10 at both of its ends.
 
-Between two samples a total could have grown early or late. avg10 at the end says which: late growth
-weighs more in it. So the rates of the ticks between become a slope, bounded by 0 and the most,
-whose growth is the total's and whose avg10 is the one that was read.
-"""
+Between two samples a total could have grown early or late. avg10 at the end shows which, since
+it gives more weight to late growth. So the rates of the ticks in between follow a slope, bounded
+by 0 and the most, such that the growth is the total's and avg10 is the one that was read."""
 from __future__ import annotations
 
 from collections.abc import Sequence
@@ -13,19 +12,20 @@ from psiconvert.lead_in import FACTORS, WHOLE
 from .block import TICK
 
 FACTOR = FACTORS[10]
-# A file's averages are from its last update, up to 2 s before: half of that in the mean (ns).
+# The mean age (ns) of the averages in a file, which the kernel updates every 2 s.
 AGE = TICK // 2
 STEEPEST, SLOPES, LEVELS_OF_SLOPE = 64.0, 20, 24
 
 
 def parts_of(start: int, end: int) -> list[tuple[int, int]]:
-    """The interval, cut at the ticks in it."""
+    """Splits the interval at the ticks in it."""
     cuts = [start, *range((start // TICK + 1) * TICK, end, TICK), end]
     return [(one, other) for one, other in zip(cuts, cuts[1:]) if one < other]
 
 
 def left_of(time: int, end: int) -> float:
-    """What is left at the end of an average that was read at a time."""
+    """Returns the fraction that is left at `end` (ns) of an average that was read at `time`
+    (ns)."""
     return float(FACTOR ** (max(0, end - AGE - time) / TICK))
 
 
@@ -36,9 +36,8 @@ def bounded_rates(
     lengths: Sequence[int],
     growth: float,
 ) -> list[float]:
-    """Rates along a slope, from 0 to the most of each part, by which the total grows as much as it
-    did.
-    """
+    """Returns rates along a slope, from 0 to the most of each part, that give the total's
+    growth."""
     low, high = -abs(slope), 1.0 + abs(slope)
     found = [0.0] * len(recent)
     for _ in range(LEVELS_OF_SLOPE):
@@ -58,9 +57,8 @@ def rates(
     averages: tuple[float, float],
     most: Sequence[float] | None = None,
 ) -> list[float]:
-    """The rate (0 to 1) in each part of an interval in which a total grew (ns), with avg10
-    (percent) at its ends.
-    """
+    """Returns the rate (0 to 1) in each part of an interval. `growth` is the total's growth
+    (ns), `averages` are avg10 (percent) at both ends, and `most` bounds the rates."""
     parts = parts_of(start, end)
     lengths = [other - one for one, other in parts]
     tops = list(most) if most else [1.0] * len(parts)
@@ -91,9 +89,8 @@ def knots_between(
     before: tuple[float, float],
     after: tuple[float, float],
 ) -> list[tuple[int, int, int, int]]:
-    """Knots at the ticks between two samples, each a time, the totals of some and full, and 0; the
-    others are samples. `before` and `after` are avg10 of some and full at both.
-    """
+    """Returns knots at the ticks between two samples. `before` and `after` are avg10 (percent)
+    of some and full at the samples."""
     start, end = one[0], other[0]
     some = rates(start, end, other[1] - one[1], (before[0], after[0]))
     full = rates(start, end, other[2] - one[2], (before[1], after[1]), some)

@@ -1,4 +1,5 @@
-"""Rows in order of time. Memory holds a bounded part; the others are in a temporary file."""
+"""Stores rows, and returns them in order of time. A bounded number is in memory, and the rest in
+temporary files."""
 from __future__ import annotations
 
 import bisect
@@ -9,28 +10,28 @@ from collections.abc import Iterator
 from operator import itemgetter
 from typing import IO
 
-# How many rows are sorted in memory, and how many are read and written at once.
+# The number of rows that are sorted in memory, and the number that is read and written at once.
 MOST_IN_MEMORY = 300_000
 BATCH = 5_000
 
-# A row as a plain tuple, which marshal can write: see rows.Row.
+# A row (see rows.Row) as a plain tuple, which marshal can write.
 Plain = tuple[int, str, int, tuple[int, ...], tuple[int, int]]
 ORDER = itemgetter(0, 1, 2)
 
 
 class Store:
-    """Takes rows in any order; then gives them in the order of time, from any time on."""
+    """Takes rows in any order, and then yields them in order of time, from any time on."""
 
     def __init__(self) -> None:
         self.rows: list[Plain] = []
         self.runs: list[IO[bytes]] = []
         self.file: IO[bytes] | None = None
-        # The time of the first row of each batch, and where it is in the file.
+        # The time (ns) of the first row of each batch, and the batch's offset in the file (bytes).
         self.times: list[int] = []
         self.offsets: list[int] = []
 
     def put(self, row: Plain) -> None:
-        """Takes a row."""
+        """Adds a row."""
         self.rows.append(row)
         if len(self.rows) >= MOST_IN_MEMORY:
             self.spill()
@@ -45,7 +46,7 @@ class Store:
         self.rows = []
 
     def sort(self) -> Iterator[Plain]:
-        """All rows in the order of time, once; after that `since` gives them."""
+        """Yields all rows in order of time, once. After that `since` yields them."""
         if not self.runs:
             self.rows.sort(key=ORDER)
             yield from self.rows
@@ -71,7 +72,7 @@ class Store:
         marshal.dump(batch, self.file)
 
     def since(self, time: int) -> Iterator[Plain]:
-        """The rows from this time (ns) on, and maybe some before it."""
+        """Yields the rows from `time` (ns) on, and possibly some before that."""
         if self.file is None:
             first = bisect.bisect_left(self.rows, time, key=itemgetter(0))
             for place in range(first, len(self.rows)):
@@ -84,7 +85,7 @@ class Store:
 
 
 def rows_in(run: IO[bytes]) -> Iterator[Plain]:
-    """The rows of a sorted run."""
+    """Yields the rows of a sorted run."""
     run.seek(0)
     while True:
         try:

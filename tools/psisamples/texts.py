@@ -1,4 +1,4 @@
-"""Samples as text: CSV, JSON lines, and what a loop over the pressure files printed."""
+"""Reads samples from text: CSV, JSON lines, and the output of a loop over the pressure files."""
 from __future__ import annotations
 
 import json
@@ -21,7 +21,7 @@ MEMORY_FILES = {"memory.current": 0, "memory.swap.current": 1}
 
 
 def us(text: str) -> int:
-    """A total in us."""
+    """Parses a total (us)."""
     if not (text.isascii() and text.isdigit() and len(text) <= 18):
         raise ValueError(f"the total {text!r} isn't a whole number of us")
     return int(text)
@@ -36,9 +36,8 @@ def put_totals(
     line: int,
     has_averages: bool = True,
 ) -> None:
-    """The totals of a pressure file: some and full in us; then maybe the averages of both, if they
-    are wanted.
-    """
+    """Stores the totals of a pressure file, some and full (us), and the averages of both if they
+    are there and wanted."""
     base = 2 * RESOURCES.index(resource)
     put(time, group, base, (us(words[0]), us(words[1])), line)
     if has_averages and len(words) == 8:
@@ -46,10 +45,9 @@ def put_totals(
 
 
 def read_csv(lines: Lines, put: Put, has_averages: Callable[[], bool]) -> None:
-    """`TIME,GROUP,RESOURCE,SOME,FULL` with the six averages or without,
-    `TIME,GROUP,mem,CURRENT,SWAP[,SCANS]` and `TIME,/,host,TOTAL,SWAP_TOTAL,SWAP_FREE`; a first line
-    with names is left out.
-    """
+    """Reads lines `TIME,GROUP,RESOURCE,SOME,FULL` with or without the six averages,
+    `TIME,GROUP,mem,CURRENT,SWAP[,SCANS]` and `TIME,/,host,TOTAL,SWAP_TOTAL,SWAP_FREE`. A first
+    line with names is skipped."""
     last, time = "", 0
     for number, line in lines:
         words = line.split(",")
@@ -72,9 +70,8 @@ def read_csv(lines: Lines, put: Put, has_averages: Callable[[], bool]) -> None:
 
 
 def read_json_lines(lines: Lines, put: Put) -> None:
-    """An object a line: `time`, `group`, and for each resource an object with `some` and `full`, in
-    us; or `current`, `swap` and `pgscan`; or `mem_total`, `swap_total` and `swap_free`.
-    """
+    """Reads an object per line: `time`, `group`, and for each resource an object with `some` and
+    `full` (us); or `current`, `swap` and `pgscan`; or `mem_total`, `swap_total` and `swap_free`."""
     for number, line in lines:
         if not line.strip():
             continue
@@ -104,9 +101,8 @@ def read_json_lines(lines: Lines, put: Put) -> None:
 
 
 class Round:
-    """One round of a loop over files: the totals of each pressure file, and the sizes of memory, by
-    group.
-    """
+    """A round of a loop over files: the totals of each pressure file, and the memory sizes, by
+    group."""
 
     def __init__(self, time: int) -> None:
         self.time = time
@@ -138,7 +134,7 @@ class Round:
             self.sizes.setdefault(group_of(folder), [None, 0, None])[2] = whole(text.split()[1])
 
     def put_all(self, put: Put) -> None:
-        """Puts what came. A file `cpu` of an old kernel has no line `full`."""
+        """Stores the values of the round. A file for `cpu` of an old kernel has no line `full`."""
         for (group, resource), lines in self.totals.items():
             some, number = lines["some"]
             full, _ = lines.get("full", (["0", "0", "0", "0"], number))
@@ -157,7 +153,7 @@ class Round:
 
 
 def group_of(folder: str) -> str:
-    """The group of a folder below the mount of control groups."""
+    """Returns the group of a folder below the mount point of control groups."""
     for mount in ("/sys/fs/cgroup/unified", "/sys/fs/cgroup"):
         if folder == mount or folder.startswith(mount + "/"):
             return escaped_path(folder[len(mount) :].encode("utf-8", "surrogateescape")) or ROOT
@@ -165,9 +161,8 @@ def group_of(folder: str) -> str:
 
 
 def read_loop(lines: Lines, put: Put) -> None:
-    """For each round a line with the time in s, and then lines of files as `grep . FILE ..` prints
-    them: `PATH:LINE`.
-    """
+    """Reads the output of a loop: for each round a line with the time (s), and then lines of
+    files as `grep . FILE ..` prints them, `PATH:LINE`."""
     found: Round | None = None
     for number, line in lines:
         if re.fullmatch(r"[0-9]+(\.[0-9]+)?", line):
