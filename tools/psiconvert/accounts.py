@@ -1,6 +1,7 @@
 """Finds the groups whose pressure the machine didn't account, and when that changed: from the
 snapshot, and from the recorder's markers, each of which reports what has changed since the
-previous sample."""
+previous sample.
+"""
 from __future__ import annotations
 
 from collections.abc import Sequence
@@ -20,7 +21,8 @@ class Account(NamedTuple):
 
 class Accounts(NamedTuple):
     """The groups that weren't accounted when the recording began, and the changes, by the index
-    of the event that reports them."""
+    of the event that reports them.
+    """
 
     off: set[str]
     found: dict[int, list[Account]]
@@ -28,7 +30,8 @@ class Accounts(NamedTuple):
 
 def told_by(event: Event) -> Account | None:
     """Returns a group's accounting according to a marker, None if the event reports something
-    else."""
+    else.
+    """
     text = event.text if isinstance(event, Marker) else b""
     words = (
         text.decode("utf-8", "surrogateescape")[len(MARK) :].split()
@@ -42,7 +45,8 @@ def told_by(event: Event) -> Account | None:
 
 def is_end_of(snapshot: Snapshot, event: Event) -> bool:
     """Whether this event marks the end of the snapshot that was read. A flight recorder reads
-    added groups later."""
+    added groups later.
+    """
     is_end = isinstance(event, Marker) and event.text.startswith((MARK + SNAPSHOT_ENDS).encode())
     return is_end and event.moment >= snapshot.moment
 
@@ -50,7 +54,8 @@ def is_end_of(snapshot: Snapshot, event: Event) -> bool:
 def accounts_of(events: Sequence[Event], snapshot: Snapshot) -> Accounts:
     """Returns the accounting in a recording. The snapshot is later than the start, in a flight
     recorder up to a minute: if the first report about a group is a marker, the opposite was true
-    at the start. A group that was created during the recording was accounted at first."""
+    at the start. A group that was created during the recording was accounted at first.
+    """
     unaccounted, off = set(snapshot.unaccounted), set(snapshot.unaccounted)
     found: dict[int, list[Account]] = {}
     named: set[str] = set()

@@ -21,7 +21,8 @@ NUMBER = re.compile(r"(?<=chose task )[0-9]+")
 class Anonymous:
     """The numbers that groups and tasks got. They are counted in the order in which the summary
     and the trace name them, so that another conversion of the same recording gives the same
-    numbers."""
+    numbers.
+    """
 
     def __init__(self) -> None:
         self.paths = {ROOT: ROOT}
@@ -53,7 +54,8 @@ class Anonymous:
 
     def parts(self, parts: Iterable[bytes]) -> Iterator[bytes]:
         """Yields an anonymous trace in parts. The boundaries of the given parts may be within
-        lines."""
+        lines.
+        """
         rest = b""
         for part in parts:
             *lines, rest = (rest + part).split(b"\n")

@@ -67,7 +67,8 @@ DEFAULT_PREFERENCES = {"prefer": "prefer", "avoid": "avoid", "omit": "avoid"}
 
 class Options(NamedTuple):
     """The parsed command line. `wall` is the time at which the recording began, if the user gave
-    it."""
+    it.
+    """
 
     source: str
     output: str | None
@@ -170,7 +171,8 @@ def tell(line: str) -> None:
 
 class Reading(NamedTuple):
     """The input: the whole recording, or if it is to be folded only its rare events, with all
-    events in slices, and the tasks that never leave a processor."""
+    events in slices, and the tasks that never leave a processor.
+    """
 
     source: Source
     slices: Slices
@@ -208,7 +210,8 @@ def part_of(options: Options, source: Source, whole: Window) -> Window:
 
 def method_of(options: Options, source: Source) -> Method:
     """Returns how waits for IO are recognised: by the requested method, if the recording
-    supports it."""
+    supports it.
+    """
     best = best_method(source.events, source.has_switch_probe)
     kinds = {type(event) for event in source.events} if options.method else set()
     has_probe = source.has_switch_probe or SwitchProbe in kinds
@@ -220,7 +223,8 @@ def method_of(options: Options, source: Source) -> Method:
 
 def wakeups_of(options: Options, source: Source) -> Wakeups:
     """Returns what moves each wakeup to the requested time. Raises a Fault if the recording
-    lacks the probe for that."""
+    lacks the probe for that.
+    """
     counting = options.counting or (Counting.PROBE if source.has_ready_probe else Counting.EVENT)
     if counting is not Counting.EVENT and not source.has_ready_probe:
         raise Fault(f"--wakeups {counting.value}: the recording has no such probe (record --wakeups)")
@@ -235,7 +239,8 @@ def check_interrupts(options: Options, source: Source) -> None:
 
 def upon_of(options: Options, source: Source) -> dict[str, list[str]]:
     """Returns the lines to write when a group is created, by path: its preference, and its
-    triggers."""
+    triggers.
+    """
     upon: dict[str, list[str]] = {}
     for path, preference in sorted(source.snapshot.groups.items()):
         if preference != "none":
@@ -247,7 +252,8 @@ def upon_of(options: Options, source: Source) -> dict[str, list[str]]:
 
 def past_of(options: Options, source: Source, window: Window) -> Past | None:
     """Returns the requested warm-up, with the machine's averages at the reading nearest to the
-    window's start. None if none is requested."""
+    window's start. None if none is requested.
+    """
     if options.lead_in is None:
         return None
     spans = spans_of(source) if os.path.isdir(options.source) else {}
@@ -266,7 +272,8 @@ def put_in_unwritten(source: Source, window: Window) -> None:
 
 def losses_of(source: Source, window: Window, whole: Window) -> list[str]:
     """Returns the report of losses in the window; for a whole recording also of those before its
-    first event."""
+    first event.
+    """
     gaps = source.gaps if window == whole else overlapping(source.gaps, window)
     return [f"lost: {it}" for it in [*source.losses, *([loss_text(gaps, whole)] if gaps else [])]]
 
@@ -304,7 +311,8 @@ def write_companion(options: Options, known: Companion) -> None:
 
 def is_large(options: Options) -> bool:
     """Whether the input is large enough for several processes, by the size of the file or of the
-    folder's files."""
+    folder's files.
+    """
     path = options.source
     names = [os.path.join(path, name) for name in os.listdir(path)] if os.path.isdir(path) else [path]
     return sum(os.path.getsize(name) for name in names if os.path.isfile(name)) >= LARGE

@@ -1,5 +1,6 @@
 """Makes the companion of a converted trace: names of its tasks and containers, and its time of
-day."""
+day.
+"""
 from __future__ import annotations
 
 from typing import NamedTuple
@@ -40,7 +41,8 @@ def companion(
 
 def folded_lives(known: Companion) -> list[Life]:
     """Returns the processes that ran most in some window, with the label 0. A folded trace has
-    no other tasks."""
+    no other tasks.
+    """
     lives: dict[int, Life] = {}
     for busy in known.busy:
         since = busy.window * known.window

@@ -1,5 +1,6 @@
 """Converts a recording to a trace, which begins with the initial state and goes on with the
-events."""
+events.
+"""
 from __future__ import annotations
 
 from bisect import bisect_left
@@ -43,7 +44,8 @@ class Known(NamedTuple):
 class Prior:
     """The state before the trace begins: groups, the groups that aren't accounted, tasks, and
     memory samples. `is_sound` says whether nothing was lost up to then. A task that no event
-    names up to `settled` (ns) was in the state that is known here."""
+    names up to `settled` (ns) was in the state that is known here.
+    """
 
     groups: list[str]
     off: set[str]
@@ -56,7 +58,8 @@ class Prior:
 
 class Converted(NamedTuple):
     """A trace's lines, and the figures for the report. The lines of a folded trace are in
-    `folded`."""
+    `folded`.
+    """
 
     lines: list[str]
     world: World
@@ -72,7 +75,8 @@ class Converted(NamedTuple):
 
 class Told(NamedTuple):
     """Facts that are derived from all events together: the indices of the switches that begin a
-    wait for IO, and the changes of accounting."""
+    wait for IO, and the changes of accounting.
+    """
 
     waits: set[int]
     accounts: Accounts
@@ -85,7 +89,8 @@ def snapshot_prior(
     snapshot: Snapshot, events: Sequence[Event], beginning: Beginning, off: set[str]
 ) -> Prior:
     """Returns the state at the recording's start by a snapshot. Since the snapshot was taken
-    later, whatever was created in between is removed."""
+    later, whatever was created in between is removed.
+    """
     first_events: dict[str, type] = {}
     for event in events:
         if isinstance(event, (GroupMade, GroupRemoved)) and not event.hierarchy:
@@ -155,7 +160,8 @@ def first_of(number: int, prior: Prior, beginning: Beginning) -> First:
 def late_state(known: Known | None) -> State:
     """Returns the state at the start of a task that runs later without a wakeup. If it wasn't
     known to run or to be ready, a task for which the kernel writes no events woke or created it.
-    If it were taken for ready, it would wait from the start."""
+    If it were taken for ready, it would wait from the start.
+    """
     if known is None:
         return State.ASLEEP
     return State.READY if known.first.state is State.RUNNING else known.first.state
@@ -163,7 +169,8 @@ def late_state(known: Known | None) -> State:
 
 def begin_task(world: World, number: int, known: Known, first: First, is_stalled: bool) -> None:
     """Writes a task that exists at the start. Turns of zero length put it to sleep, into a wait
-    or into a stall."""
+    or into a stall.
+    """
     processor = first.processor if 0 <= first.processor < world.processors else 0
     task = world.fork(number, known.path, processor, known.process)
     if known.name:
@@ -212,7 +219,8 @@ def begin(world: World, prior: Prior, beginning: Beginning) -> None:
 
 def chosen(firsts: dict[int, First], prior: Prior, beginning: Beginning) -> list[int]:
     """Returns the tasks of the initial state. If there are too many, these are only the tasks
-    that an event names, and one more of each group of the others, so that the group isn't empty."""
+    that an event names, and one more of each group of the others, so that the group isn't empty.
+    """
     if len(firsts) <= MOST_TASKS // 2:
         return list(firsts)
     named = [number for number in firsts if number in beginning.tasks]
@@ -266,7 +274,8 @@ def limit_of(world: World) -> str | None:
 
 def play(player: Player, source: Source, places: range, window: Window) -> str | None:
     """Plays the events at the indices `places`, up to the window's end or up to a limit of
-    traces, which it returns."""
+    traces, which it returns.
+    """
     world = player.world
     for place in places:
         event = source.events[place]
@@ -284,7 +293,8 @@ def play(player: Player, source: Source, places: range, window: Window) -> str |
 
 class Past(NamedTuple):
     """The warm-up before a recording: its length in ticks, and the machine's averages at its
-    end."""
+    end.
+    """
 
     ticks: int
     averages: dict[str, Averages]
@@ -297,7 +307,8 @@ class Past(NamedTuple):
 class Wanted(NamedTuple):
     """The options of a conversion: the window, the method by which waits for IO are recognised,
     the number of levels of groups, the lines to write when a group is created, whether
-    interrupts are included, and the warm-up."""
+    interrupts are included, and the warm-up.
+    """
 
     window: Window
     method: Method

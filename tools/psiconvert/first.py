@@ -1,6 +1,7 @@
 """Derives what each task did when the trace begins. No event reports that; it follows from the
 first event that names a task: the task that a switch leaves was running, the task that it
-switches to was ready, and a task that is woken was asleep."""
+switches to was ready, and a task that is woken was asleep.
+"""
 from __future__ import annotations
 
 from collections.abc import Iterable, Sequence
@@ -26,7 +27,8 @@ LONGEST_READY = 10**9
 
 class First(NamedTuple):
     """What a task did at the start, its processor, and the time (ns) of the event that shows
-    this, 0 if none does."""
+    this, 0 if none does.
+    """
 
     state: State
     processor: int
@@ -36,7 +38,8 @@ class First(NamedTuple):
 class Beginning:
     """The initial state as the events show it. If no event reports new tasks, a task that first
     runs after `latest_ready` (ns) is taken for new, since hardly any task is ready for that
-    long."""
+    long.
+    """
 
     def __init__(self, latest_ready: int) -> None:
         self.latest_ready = latest_ready
@@ -58,13 +61,15 @@ class Beginning:
 
     def name(self, task: int, state: State, processor: int, moment: int) -> None:
         """Records what a task did at the start, if this is the first event that names it. If the
-        task moved to another processor before, its state refers to the processor it came from."""
+        task moved to another processor before, its state refers to the processor it came from.
+        """
         if self.is_new(task):
             self.tasks[task] = First(state, self.origins.get(task, processor), moment)
 
     def take(self, event: Event) -> None:
         """Takes the next event. It also names the task that runs on the processor on which it
-        was written."""
+        was written.
+        """
         self.runs.setdefault(event.processor, event.current)
         self.name(event.current, State.RUNNING, event.processor, event.moment)
         if isinstance(event, Switch):
@@ -90,7 +95,8 @@ class Beginning:
     def take_stall(self, event: StallBegins | StallEnds) -> None:
         """Takes the begin or end of a memory stall. A task that leaves a stall without having
         entered it was in the stall at the start. So was a task that entered a nested stall,
-        which the flags at the end of that stall show."""
+        which the flags at the end of that stall show.
+        """
         task = event.current
         if task in self.stalled or task in self.born:
             return
@@ -110,7 +116,8 @@ def tells_of_births(events: Iterable[Event]) -> bool:
 
 def beginning_of(events: Sequence[Event], has_births: bool) -> Beginning:
     """Returns the state before the first of these events. `has_births` says whether the
-    recording reports the creation of tasks."""
+    recording reports the creation of tasks.
+    """
     is_open = has_births or not events
     beginning = Beginning(NEVER if is_open else events[0].moment + LONGEST_READY)
     for event in events:

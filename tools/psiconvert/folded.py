@@ -5,7 +5,8 @@ The result is that of `convert`, which takes all events at once, apart from diff
 don't occur in a short recording. The initial state of each task follows from the events of the
 first minute, which are read twice for that. An unwritten switch is moved back to the time at
 which its task was last seen, but at most to the previous slice. A wait for IO that only its end
-shows is found if the end is in the same slice or the next. A slice is at least 2 s long."""
+shows is found if the end is in the same slice or the next. A slice is at least 2 s long.
+"""
 from __future__ import annotations
 
 import gc
@@ -80,8 +81,7 @@ class Spool:
         self.events = events + 1
 
     def parts(self) -> Iterator[bytes]:
-        """Yields the whole file for writing: the header line, then the rest in pieces of up to 1
-        MiB."""
+        """Yields the whole file: the header line, then the rest in pieces of up to 1 MiB."""
         yield f"{self.header}\n".encode("ascii")
         self.file.seek(0)
         while part := self.file.read(1 << 20):
@@ -112,7 +112,8 @@ class Slice:
 
 class Mender:
     """Inserts the unwritten switches among the events. `moments` has the times (ns) of these
-    switches."""
+    switches.
+    """
 
     def __init__(self, source: Source, silent: set[int]) -> None:
         self.chains = Chains(source.events, source.gaps)
@@ -134,7 +135,8 @@ class Mender:
 
     def mended(self, events: list[Event], before: list[Event] | None) -> tuple[list[Event], list[Event]]:
         """Returns a slice's events with the unwritten switches since its first event, and
-        separately the unwritten switches before that."""
+        separately the unwritten switches before that.
+        """
         whole, moments = self.chains.mended(events)
         if not moments:
             return events, []
@@ -149,7 +151,8 @@ class Mender:
 
 class Ahead:
     """What each task did when the recording began and when the window began, according to the
-    next LOOK_AHEAD ns of events."""
+    next LOOK_AHEAD ns of events.
+    """
 
     def __init__(self, source: Source, window: Window) -> None:
         self.source, self.start, self.end = source, window.start, min(window.end, window.start + LOOK_AHEAD)
@@ -176,7 +179,8 @@ class Ahead:
 
     def take_late(self) -> None:
         """Takes the first event of each processor that had none up to now: it shows which task
-        ran there since the start."""
+        ran there since the start.
+        """
         begins_there = self.start <= self.source.start
         for event in self.source.events:
             if event[1] not in self.recording.runs:
@@ -201,7 +205,8 @@ def looked_ahead(source: Source, slices: Iterable[list[Event]], silent: set[int]
 class Conversion:
     """Plays the events of a recording, and passes the resulting lines to `put`. `accounts` has
     the changes of accounting by the marker that reports them. `window` is the length (ns) of a
-    folded window."""
+    folded window.
+    """
 
     def __init__(self, source: Source, wanted: Wanted, ahead: Ahead, put: Callable[[list[str]], None], window: int) -> None:
         self.source, self.wanted, self.ahead, self.put = source, wanted, ahead, put
@@ -297,7 +302,8 @@ class Conversion:
 
     def play_window(self, player: Player, events: list[Event], places: range) -> None:
         """Plays the events at these indices, and passes the resulting lines on. For speed the
-        commonest kinds of events are handled here, by their type."""
+        commonest kinds of events are handled here, by their type.
+        """
         world, start, put, play = player.world, self.wanted.window.start, self.put, player.play
         switch, wake, migrate, lines = player.switch, player.wake, player.migrate, world.lines
         pairs: Iterable[tuple[int, Any]] = zip(places, events[places.start : places.stop])
@@ -350,7 +356,8 @@ class Conversion:
 
 class Folded(NamedTuple):
     """A folded trace: the figures for the report, its lines in a file, and the outcome of
-    folding."""
+    folding.
+    """
 
     converted: Converted
     spool: Spool

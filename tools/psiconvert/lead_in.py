@@ -6,7 +6,8 @@ pressure file to the value in the machine's file: the last 20 s, the 100 s befor
 before these, one for each of the three averages. Each group has processors of its own for this,
 in addition to the machine's. A few artificial tasks wait, stall and run there for the times that
 result in its shares, less the shares that it has from its descendants. At the end all artificial
-tasks exit."""
+tasks exit.
+"""
 from __future__ import annotations
 
 import re
@@ -43,7 +44,8 @@ Averages = dict[tuple[str, str], tuple[float, float, float]]
 
 class Shares(NamedTuple):
     """The percentages of a tick for which some and all tasks of a group on a processor wait for
-    IO, are in a memory stall, and wait for the processor."""
+    IO, are in a memory stall, and wait for the processor.
+    """
 
     io_some: float
     io_full: float
@@ -67,7 +69,8 @@ def averages_in(text: str, number: int) -> dict[str, Averages]:
 
 def stretches_of(averages: Sequence[float], ticks: int) -> list[float]:
     """Returns the pressures (0 to 100 percent) of the three stretches, the earliest first, that
-    bring averages from 0 as near as possible to the given ones."""
+    bring averages from 0 as near as possible to the given ones.
+    """
     lengths = (ticks - MIDDLE - LAST, MIDDLE, LAST)
     rows = []
     for factor in FACTORS.values():
@@ -88,7 +91,8 @@ def stretches_of(averages: Sequence[float], ticks: int) -> list[float]:
 
 def possible(shares: Iterable[float]) -> Shares:
     """Returns the nearest shares that one processor can have: full is at most some, and while
-    all tasks wait for IO none is ready."""
+    all tasks wait for IO none is ready.
+    """
     io_some, io_full, memory_some, memory_full, cpu_some, cpu_full = (
         min(WHOLE, max(0.0, it)) for it in shares
     )
@@ -101,7 +105,8 @@ def possible(shares: Iterable[float]) -> Shares:
 class Status(NamedTuple):
     """The state of a group's processor from some percentage of a tick on: whether a task waits
     for IO, is stalled, and all are stalled; whether a task is ready, another task waits, and a
-    task from outside the group runs."""
+    task from outside the group runs.
+    """
 
     waits: bool
     stalls: bool
@@ -114,7 +119,8 @@ class Status(NamedTuple):
 def timeline(shares: Shares) -> list[tuple[float, Status]]:
     """Returns the statuses of a tick in order. First no task is ready, so that only waits for IO
     count; then the group's own task runs; then another task waits for the processor; and then
-    both wait for a task from outside."""
+    both wait for a task from outside.
+    """
     begins = shares.io_full
     some = max(begins, shares.memory_full)
     ends = some + shares.memory_some - shares.memory_full
@@ -131,7 +137,8 @@ def timeline(shares: Shares) -> list[tuple[float, Status]]:
 class Stage:
     """A processor of a group, with its five artificial tasks: one waits for IO, one sleeps in a
     stall, one runs, one waits for the processor, and one of the root takes the processor from
-    both."""
+    both.
+    """
 
     def __init__(self, world: World, path: str, processor: int, number: int) -> None:
         self.world, self.processor = world, processor
@@ -189,14 +196,16 @@ class Stage:
 
 class Diffusion:
     """Converts shares to whole percentages of ticks with the same mean, since the averages are
-    computed from whole percentages."""
+    computed from whole percentages.
+    """
 
     def __init__(self) -> None:
         self.rest: dict[tuple[str, tuple[str, str]], float] = {}
 
     def percent(self, path: str, pressure: tuple[str, str], share: float) -> float:
         """Returns this tick's share: half a percent above the whole percentage to which the
-        kernel rounds it down, or 0."""
+        kernel rounds it down, or 0.
+        """
         owed = self.rest.get((path, pressure), 0.0) + share
         whole = int(owed)
         self.rest[path, pressure] = owed - whole
@@ -226,7 +235,8 @@ class LeadIn:
 
     def make_stages(self, first: int, most: int) -> None:
         """Assigns processors to each group, numbered from `first` and below `most`: as few as
-        come near enough to its shares."""
+        come near enough to its shares.
+        """
         own: list[dict[str, Shares]] = [{} for _ in range(STRETCHES)]
         for path in list(self.paths):
             if first >= most:
@@ -258,7 +268,8 @@ class LeadIn:
 
     def off(self, path: str, count: int, own: list[dict[str, Shares]]) -> float:
         """Returns the largest error of a group's shares (percent) if it has `count` processors
-        of its own, considering the shares of its descendants."""
+        of its own, considering the shares of its descendants.
+        """
         worst = 0.0
         for stretch, shares in enumerate(own):
             rest = self.rest_of(path, count, self.wanted(path, stretch), shares)
@@ -303,7 +314,8 @@ class LeadIn:
         self, path: str, count: int, wanted: Sequence[float], own: dict[str, Shares]
     ) -> list[float]:
         """Returns the shares that each of a group's `count` processors needs so that the group,
-        including its descendants, has the wanted shares."""
+        including its descendants, has the wanted shares.
+        """
         below = [
             (len(self.stages[it]), seen_from(own[it], path)) for it in own if is_below(it, path)
         ]
@@ -322,7 +334,8 @@ def is_below(path: str, above: str) -> bool:
 
 def seen_from(shares: Shares, path: str) -> Shares:
     """Returns the shares that the ancestor `path` has from a descendant's processor. For the
-    root, the task from outside is one of its own that isn't stalled."""
+    root, the task from outside is one of its own that isn't stalled.
+    """
     if path != ROOT:
         return shares
     hidden = max(0.0, shares.memory_full - (WHOLE - shares.cpu_full))

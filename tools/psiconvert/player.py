@@ -1,6 +1,7 @@
 """Plays a recording's events in the world of a trace. An event that contradicts the known state
 is accepted and counted. In a sound recording that is rare, and after losses the counts measure
-the damage."""
+the damage.
+"""
 from __future__ import annotations
 
 from collections import Counter, defaultdict
@@ -34,7 +35,8 @@ class Samples:
 
 class Player:
     """Plays events one by one. `waits` has the indices of the switches that begin a wait for IO,
-    `accounts` the changes of accounting by index, and `types` the known types of groups."""
+    `accounts` the changes of accounting by index, and `types` the known types of groups.
+    """
 
     def __init__(
         self,
@@ -97,7 +99,8 @@ class Player:
 
     def is_task(self, number: int) -> bool:
         """Whether `number` can be a task's. No event of a sound recording wakes, creates or
-        renames task 0, the idle task."""
+        renames task 0, the idle task.
+        """
         if not number:
             self.mended["event of the idle task that it can't have, left out"] += 1
         return number != 0
@@ -110,7 +113,8 @@ class Player:
     def task_of(self, number: int, place: int, fits: Callable[[Task], bool]) -> Task | None:
         """Returns the task with this number, None if there is none. If an exec is about to
         change the number, it is changed at the first event that fits only the thread that takes
-        it over."""
+        it over.
+        """
         changes, tasks = self.changes.get(number), self.world.tasks
         while changes and changes[0][0] < place:
             changes.pop(0)
@@ -122,13 +126,15 @@ class Player:
 
     def change_number(self, number: int, old: int) -> None:
         """Gives the thread `old` the number of its process's first thread. If that thread still
-        exists, it gets the number `old`, under which it leaves."""
+        exists, it gets the number `old`, under which it leaves.
+        """
         self.world.swap_numbers(number, old)
         self.mended["number changed by exec"] += 1
 
     def is_swapped(self, number: int, processor: int) -> bool:
         """Whether the running task has the number of a process's first thread, which the thread
-        `number` is about to take over."""
+        `number` is about to take over.
+        """
         changes = self.changes.get(self.world.running(processor))
         return bool(changes and changes[0][1] == number)
 
@@ -136,7 +142,8 @@ class Player:
 
     def switch(self, place: int, event: Switch) -> None:
         """Switches to the next task. Usually the leaving task is known to run, and the next one
-        to be ready."""
+        to be ready.
+        """
         world, (_, processor, _, previous, state, number) = self.world, event
         runs, comes = world.runs.get(processor, 0), world.tasks.get(number)
         if (
@@ -152,7 +159,8 @@ class Player:
 
     def how(self, place: int, state: str) -> How:
         """Returns how the task leaves. A task that remains ready doesn't wait, even if psi's
-        mark says so."""
+        mark says so.
+        """
         if state == STAYS:
             return How.PREEMPT
         if state in GONE:
@@ -161,7 +169,8 @@ class Player:
 
     def leaver(self, place: int, event: Switch) -> None:
         """Makes the leaving task run if it isn't known to. The task that was known to run there
-        must have gone to sleep."""
+        must have gone to sleep.
+        """
         world, number, processor = self.world, event.previous, event.processor
         running = world.running(processor)
         if running == number:
@@ -208,7 +217,8 @@ class Player:
     def migrate(self, event: Migration) -> None:
         """Moves a ready task to another processor. If the task waits for IO, the kernel ends the
         wait there and not at the wakeup that follows; after that the trace can only let it
-        sleep."""
+        sleep.
+        """
         task = self.world.tasks.get(event.task)
         if task and task.state is State.READY:
             self.world.ready(event.task, event.target)
@@ -218,7 +228,8 @@ class Player:
 
     def new_task(self, event: NewTask) -> None:
         """Creates a task in the group of its parent, the running task. It sleeps until its first
-        wakeup."""
+        wakeup.
+        """
         if not self.is_task(event.task):
             return
         process = self.process_of(event.current) if event.flags & CLONE_THREAD else event.task
@@ -247,7 +258,8 @@ class Player:
     def named_group(self, parent: int) -> str | None:
         """Returns the likely group of a new task whose group its parent named to clone(2), which
         no event reports: the group that the parent's process created last, if that is empty.
-        Otherwise None."""
+        Otherwise None.
+        """
         path = self.groups_made.get(self.process_of(parent))
         is_likely = path in self.world.groups.live and not self.world.groups.tasks[path or ROOT]
         guess = "the group that its parent made last" if is_likely else "its parent's group"
@@ -256,7 +268,8 @@ class Player:
 
     def first_wakeup(self, event: FirstWakeup) -> None:
         """Makes a new task ready. If its creation wasn't recorded, the running task creates it
-        now."""
+        now.
+        """
         if event.task in self.world.tasks:
             self.world.ready(event.task, event.target)
         elif self.is_task(event.task):
@@ -292,7 +305,8 @@ class Player:
     def attach(self, event: Attach) -> None:
         """Moves a process with all its threads to another group, or a single thread. For a
         process's first thread the event alone doesn't say which; without a probe all threads are
-        moved."""
+        moved.
+        """
         probe = self.moves.pop(event.current, None)
         if event.hierarchy:
             return
@@ -351,7 +365,8 @@ class Player:
 
 def sample_of(words: Sequence[str]) -> str | None:
     """Returns the three numbers of a sample as in a trace, None if the words aren't such
-    numbers."""
+    numbers.
+    """
     if len(words) != 3 or not all(
         word.isascii() and word.isdecimal() and int(word) <= MOST_MEMORY for word in words
     ):

@@ -1,5 +1,6 @@
 """The report of a conversion: what was read, how waits for IO are recognised, and what was
-repaired or lost."""
+repaired or lost.
+"""
 from __future__ import annotations
 
 from datetime import datetime, timezone
@@ -127,7 +128,8 @@ def summary_of(
 
 def other_way(converted: Converted) -> str:
     """Suggests a further remedy if a trace has too many events, which is the most frequent
-    limit."""
+    limit.
+    """
     if not converted.limit or not converted.limit.endswith(" events"):
         return ""
     if converted.folded is not None:

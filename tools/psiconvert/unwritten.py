@@ -5,7 +5,8 @@ wait until it does something itself.
 
 The next event of the processor shows which task runs there. If that task was ready, the switch
 to it is put at the time at which the leaving task was last seen. That task may have run a while
-longer, but far less than its successor, which often runs for many ms before anything is written."""
+longer, but far less than its successor, which often runs for many ms before anything is written.
+"""
 from __future__ import annotations
 
 from collections.abc import Iterable, Iterator, Sequence
@@ -22,7 +23,8 @@ STAYS, SLEEPS = "R", "S"
 
 def renamed(events: Sequence[Event]) -> set[tuple[int, int]]:
     """Returns the pairs of numbers that an exec exchanges: the processor goes from one number to
-    the other without a switch."""
+    the other without a switch.
+    """
     changes = [
         (event.old, event.task)
         for event in events
@@ -39,7 +41,8 @@ def silent_tasks(events: Sequence[Event]) -> set[int]:
 
 class Chains:
     """The running task of each processor, and the tasks that are ready there, according to
-    switches and to the tasks in which events were written."""
+    switches and to the tasks in which events were written.
+    """
 
     def __init__(self, events: Sequence[Event], gaps: Sequence[Gap]) -> None:
         self.gaps, self.renamed, self.silent = gaps, renamed(events), silent_tasks(events)
@@ -51,7 +54,8 @@ class Chains:
 
     def mended(self, events: Iterable[Event]) -> tuple[list[Event], list[int]]:
         """Returns the next events together with the unwritten switches, each before the event
-        that shows it, and the times (ns) of these switches."""
+        that shows it, and the times (ns) of these switches.
+        """
         whole: list[Event] = []
         moments: list[int] = []
         running = self.running
@@ -68,7 +72,8 @@ class Chains:
 
     def missing(self, event: Event, known: int, runs: int) -> list[Switch]:
         """Returns the unwritten switches on the event's processor before it, from the task that
-        was known to run there to the one that runs now."""
+        was known to run there to the one that runs now.
+        """
         if (known, runs) in self.renamed or self.is_gap(event):
             return []
         follows = [runs] if runs in self.ready or not runs else []
@@ -80,7 +85,8 @@ class Chains:
 
     def waiting(self, processor: int, others: set[int]) -> list[int]:
         """Returns the tasks that write no switch and were ready there, the earliest first: they
-        ran before the task that follows."""
+        ran before the task that follows.
+        """
         waiting = [
             it for it in self.silent - others if it in self.ready and self.ready[it][0] == processor
         ]
@@ -93,7 +99,8 @@ class Chains:
 
     def switches(self, processor: int, route: Sequence[int]) -> Iterator[Switch]:
         """Yields switches from each task of the route to the next, each at its earliest possible
-        time."""
+        time.
+        """
         moment = self.moments[processor]
         for previous, following in zip(route, route[1:]):
             self.ready.pop(previous, None)
@@ -121,7 +128,8 @@ class Chains:
 
 def with_unwritten(events: Sequence[Event], gaps: Sequence[Gap]) -> tuple[list[Event], list[int]]:
     """Returns the events with the unwritten switches, and the times (ns) of the latter. There
-    are none after lost events, since it isn't known which tasks ran during the gap."""
+    are none after lost events, since it isn't known which tasks ran during the gap.
+    """
     whole, moments = Chains(events, gaps).mended(events)
     whole.sort(key=itemgetter(0))
     return whole, moments

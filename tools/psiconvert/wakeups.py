@@ -1,7 +1,8 @@
 """Moves wakeups to the time at which the kernel counts a task as ready. It does that in
 `psi_task_change`, some time before it writes the event of the wakeup. If a recording has the
 probe on this function, a wakeup can be put at either time or in the middle. In fact the task
-became ready somewhere in between, so the two bound its waits for a processor."""
+became ready somewhere in between, so the two bound its waits for a processor.
+"""
 from __future__ import annotations
 
 from bisect import bisect_left
@@ -29,7 +30,8 @@ class Counting(Enum):
 def counted_at(events: Sequence[Event], told: dict[int, int] | None = None) -> dict[int, int]:
     """Returns the time (ns) at which psi counted each wakeup, by the index of the event. A task
     that moves to another processor or group is counted again, so a probe without a wakeup after
-    it is ignored. If events are read in parts, pass the same `told` for each part."""
+    it is ignored. If events are read in parts, pass the same `told` for each part.
+    """
     told = {} if told is None else told
     found: dict[int, int] = {}
     for place, event in enumerate(events):
@@ -60,7 +62,8 @@ def put_at(events: Sequence[Event], counted: dict[int, int], counting: Counting)
 
 class Wakeups:
     """Moves the wakeups of a recording to the requested time. `lags` counts by how many ns psi
-    counted them before their events, and `untold` is the number of wakeups without a probe."""
+    counted them before their events, and `untold` is the number of wakeups without a probe.
+    """
 
     def __init__(self, counting: Counting) -> None:
         self.counting = counting
@@ -79,7 +82,8 @@ class Wakeups:
 
     def slices(self, slices: Iterable[list[Event]]) -> Iterator[list[Event]]:
         """Yields slices of events with their wakeups moved. A wakeup that moves to before its
-        slice goes into the previous one."""
+        slice goes into the previous one.
+        """
         before: list[Event] | None = None
         for events in slices:
             moved = self.put(events)
@@ -93,7 +97,8 @@ class Wakeups:
 
     def lag_at(self, place: int) -> float:
         """Returns the distance (us) between the two times of a wakeup. `place` is its index in
-        ascending order of distances."""
+        ascending order of distances.
+        """
         for lag, count in sorted(self.lags.items()):
             if place < count:
                 return lag / 1000
@@ -152,7 +157,8 @@ def lag_bounds(lag: int) -> Bounds:
 
 def with_wakeups(lines: Iterable[str], bounds: Bounds, is_first: bool) -> list[str]:
     """Returns a trace's lines with each wakeup as early or as late as possible, but not before
-    the task's previous line."""
+    the task's previous line.
+    """
     runs: dict[str, str] = {}
     lasts: dict[str, int] = {}
     found: list[tuple[int, str]] = []

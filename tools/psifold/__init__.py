@@ -1,2 +1,3 @@
 """Folds a trace into windows with the same pressure, for `tools/fold` and `tools/psitrace
---fold`."""
+--fold`.
+"""

@@ -15,7 +15,8 @@ the *divisor* (Edmonds' pivots), and so are the times. The numbers of a column o
 packed into one large integer, each in a *field* of its own, so that one operation adds two
 columns, or compares all times with 0. A number is always below half of what its field can hold:
 an upper bound on the inverse says when the numbers must be checked, and fields are widened if
-necessary."""
+necessary.
+"""
 from __future__ import annotations
 
 from collections.abc import Sequence
@@ -73,7 +74,8 @@ class Fields:
 
 class Units:
     """Packs columns that are given with a bit for each sum, byte by byte. `used` has the bits
-    that occur; each of them is a row, in this order."""
+    that occur; each of them is a row, in this order.
+    """
 
     def __init__(self, used: int, fields: Fields) -> None:
         self.fields, self.size = fields, (used.bit_length() + 7) // 8
@@ -90,7 +92,8 @@ class Units:
 
 class ByteFields(dict[int, bytes]):
     """The packed fields of a byte's used bits, by the byte's value. Each field has `size` bytes,
-    and is 1 if the bit is set."""
+    and is 1 if the bit is set.
+    """
 
     def __init__(self, used: int, size: int) -> None:
         self.places, self.size = list(bits_of(used)), size
@@ -104,7 +107,8 @@ class ByteFields(dict[int, bytes]):
 
 class Basis:
     """The joint states that remain, with columns of `rows` numbers. `longest` (ns) bounds the
-    sum of their times."""
+    sum of their times.
+    """
 
     def __init__(self, rows: int, longest: int) -> None:
         self.longest, self.fields = longest, Fields(rows, FIELD_BITS)
@@ -118,7 +122,8 @@ class Basis:
 
     def take_all(self, columns: Sequence[int], times: Sequence[int]) -> int:
         """Takes joint states, which are numbered by their index, as columns packed into fields
-        of FIELD_BITS, and times (ns). Returns the packed sums of all of them."""
+        of FIELD_BITS, and times (ns). Returns the packed sums of all of them.
+        """
         total = 0
         for start in range(0, len(columns), TOGETHER):
             sums = [0]
@@ -135,7 +140,8 @@ class Basis:
     ) -> None:
         """Takes the joint states from `start`, whose cumulative sums are `sums`. It tries all at
         once, and then half as many until there is room. If there was no room for all, there is
-        none for the rest after some were taken, until a pivot changes that."""
+        none for the rest after some were taken, until a pivot changes that.
+        """
         end = wanted = len(sums) - 1
         taken, is_full = 0, False
         while taken < end:
@@ -153,7 +159,8 @@ class Basis:
 
     def made_of(self, packed: int) -> int:
         """Returns the packed coefficients of the basis that give a column of sums, times the
-        divisor."""
+        divisor.
+        """
         size = FIELD_BITS // 8
         data = packed.to_bytes(size * self.fields.rows, "little")
         numbers = memoryview(data).cast("Q").tolist()
@@ -161,7 +168,8 @@ class Basis:
 
     def give(self, sums: int) -> bool:
         """Adds sums to the times of the basis, if there is room for them. Returns whether there
-        is."""
+        is.
+        """
         parts = self.made_of(sums)
         times = self.times + parts
         signs = self.fields.signs
@@ -172,7 +180,8 @@ class Basis:
 
     def take(self, number: int, column: int, time: int) -> bool:
         """Takes a joint state by its number, its column and its time (ns). Returns whether that
-        needed a pivot."""
+        needed a pivot.
+        """
         parts = self.made_of(column)
         times, signs = self.times + time * parts, self.fields.signs
         if (parts + signs ^ signs) & self.free:
@@ -193,7 +202,8 @@ class Basis:
 
     def pivot(self, row: int, number: int, parts: int, time: int) -> None:
         """Replaces the joint state of `row` by a new one, whose column is the combination
-        `parts` and whose time is `time` (ns)."""
+        `parts` and whose time is `time` (ns).
+        """
         fields, divisor = self.fields, self.divisor
         found, times = fields.numbers(parts), fields.numbers(self.times)
         factor = found[row]
@@ -232,13 +242,15 @@ class Basis:
         """Whether all numbers that the next step computes in fields are below half of a field.
         If M is the greatest number of the inverse, the parts of a column are at most P = rows *
         M, the parts of sums at most P times the longest time, and a pivot needs at most P * M
-        and the divisor times M."""
+        and the divisor times M.
+        """
         parts = max(self.fields.rows * self.most, self.divisor)
         return 3 * parts * max(self.longest, self.most) < self.fields.half
 
     def make_room(self) -> None:
         """Computes the greatest number of the inverse, and widens the fields if it is too large
-        for them."""
+        for them.
+        """
         self.most = max(
             abs(number) for column in self.columns for number in self.fields.numbers(column)
         )
@@ -257,7 +269,8 @@ class Basis:
 
 def first_at_zero(times: list[int], parts: list[int]) -> int:
     """Returns the row whose time reaches 0 first if time is distributed among the rows according
-    to `parts`."""
+    to `parts`.
+    """
     row, time, least = -1, 1, 0
     for place, part in enumerate(parts):
         # Compares times[place] / -part with time / -least; the first is accepted if there is none

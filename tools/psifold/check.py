@@ -2,7 +2,8 @@
 accounting, which counts tasks, and compares the resulting sums with those of the original window.
 
 This shares no code with the code that writes the lines: it has its own tasks and counts, and
-derives the states of docs/TRACES.md from the counts."""
+derives the states of docs/TRACES.md from the counts.
+"""
 from __future__ import annotations
 
 import functools
@@ -27,12 +28,14 @@ AFTER = {"preempt": READY, "sleep": ASLEEP, "iowait": WAITS}
 
 class Different(Exception):
     """The error that a folded window differs from the original one; the message says where and
-    how."""
+    how.
+    """
 
 
 class Key(NamedTuple):
     """A sum of time: its processor, its group, its state (0 to 6), and the groups that it
-    excludes."""
+    excludes.
+    """
 
     processor: int
     path: str
@@ -45,7 +48,8 @@ class Window:
     """An original window from `start` to `end` (ns): its sums (ns) for the groups that are
     accounted; the time of interrupts (ns) by processor and group of the running task; the groups
     that had tasks at its end, None if that doesn't matter; and the lines that are copied
-    unchanged, with their times (ns)."""
+    unchanged, with their times (ns).
+    """
 
     start: int
     end: int
@@ -75,7 +79,8 @@ def chain_of(path: str) -> tuple[str, ...]:
 
 class Clock:
     """The counts of a group on a processor, and the time (ns) for which it was in each state in
-    this window."""
+    this window.
+    """
 
     def __init__(self, start: int) -> None:
         self.counts = [0, 0, 0, 0]
@@ -94,7 +99,8 @@ class Clock:
 
     def held(self) -> tuple[bool, ...]:
         """Returns which states hold, according to the counts, and to whether the running task is
-        of the group and in a stall."""
+        of the group and in a stall.
+        """
         waiting, stalled, active, active_stalled = self.counts
         return (
             waiting > 0,
@@ -119,7 +125,8 @@ class Clock:
 
 class Clocks:
     """The clocks of all groups on all processors. Tasks of the groups `without`, and of their
-    descendants, don't count."""
+    descendants, don't count.
+    """
 
     def __init__(self, without: tuple[str, ...]) -> None:
         self.without = without
@@ -140,7 +147,8 @@ class Clocks:
 
     def sums(self, end: int, accounted: set[str]) -> dict[Key, int]:
         """Returns the sums (ns) of the window that ends at `end` (ns), and begins the next
-        window there."""
+        window there.
+        """
         found: dict[Key, int] = {}
         for (processor, path), clock in self.clocks.items():
             clock.go_to(end)
@@ -311,7 +319,8 @@ class Check:
 
     def pass_edge(self, moment: int) -> None:
         """Checks the groups that have tasks at an edge, before the first line after it: a tick
-        there sees the effect of all lines of its time."""
+        there sees the effect of all lines of its time.
+        """
         if self.edge and moment > self.edge[0]:
             self.compare_tasks(f"at a tick at {self.edge[0]}", self.edge[1])
             self.edge = None

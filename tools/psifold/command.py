@@ -130,7 +130,8 @@ class Output:
 
 def refuse_victims(options: Options, beginning: list[str]) -> None:
     """Rejects victims for a trace that was made from samples: such a trace doesn't show what the
-    victim's end changes for others."""
+    victim's end changes for others.
+    """
     found = sampled_in("".join(beginning).encode("ascii", "replace"))
     if found and options.folding.victims:
         raise Fault(

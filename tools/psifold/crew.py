@@ -1,6 +1,7 @@
 """Folds the windows of all processors in this process, or once there is much to do, in several
 processes with a share of the processors each. Windows are submitted, and their results are
-returned later in the same order."""
+returned later in the same order.
+"""
 from __future__ import annotations
 
 import contextlib
@@ -28,7 +29,8 @@ MUCH, MOST_WORKERS = 4_000, 8
 
 class Work(NamedTuple):
     """The data of a window to fold: additions to the catalog, the sums to preserve if they have
-    changed, and the turns by processor."""
+    changed, and the turns by processor.
+    """
 
     news: tuple[list[str], list[int | None], list[int]]
     plan: Plan | None
@@ -60,7 +62,8 @@ class Share:
     def serve(self, own: Connection, others: Sequence[Connection]) -> None:
         """Folds what arrives on a connection, in a process of its own, until the other end is
         closed. A thread receives everything at once, so that the sender never waits for the
-        reader of results."""
+        reader of results.
+        """
         signal.signal(signal.SIGINT, signal.SIG_IGN)
         for line in others:
             line.close()
@@ -123,7 +126,8 @@ class Crew:
 
     def take_out(self) -> dict[int, Piece]:
         """Returns the pieces, by processor, of the first window whose result wasn't returned
-        yet."""
+        yet.
+        """
         pieces = self.waiting.popleft()
         if pieces is not None:
             return pieces

@@ -6,7 +6,8 @@ replace the original ones if they give the same times; about as many events as t
 on the processors are always enough. All other lines are unchanged: memory samples, preferences
 and triggers keep their times, and so do the lines that create and remove groups or switch
 accounting, each of which ends a window. The same groups have tasks at the end of a window as in
-the original."""
+the original.
+"""
 from __future__ import annotations
 
 from collections import deque
@@ -39,7 +40,8 @@ class TooMany(Exception):
 class Counts:
     """The number of lines of a trace (its events and the end) before and after folding, the
     number of joint states of all windows and processors before and after, and the number of
-    windows."""
+    windows.
+    """
 
     lines: int = 0
     written: int = 0
@@ -53,7 +55,8 @@ class Outcome:
     """The result of folding: the counts; the time (ns) up to which the trace is written; the
     number of kills up to which it is exact (None for any number); how many tasks came to the
     victims' groups or moved from one of them, and when the last did (ns); and the victims'
-    patterns that match no group."""
+    patterns that match no group.
+    """
 
     counts: Counts
     written: int
@@ -65,7 +68,8 @@ class Outcome:
 class Fold:
     """Folds the lines of a trace of `processors` processors into windows of `length` ns, and
     passes the resulting lines to `put`. The result also has the same times without the groups of
-    `victims`."""
+    `victims`.
+    """
 
     def __init__(
         self,
@@ -167,7 +171,8 @@ class Fold:
 
     def go_to(self, moment: int) -> None:
         """Ends the windows that end before `moment` (ns). Consecutive windows without events are
-        merged."""
+        merged.
+        """
         if moment > MOST_TIME:
             raise NotATrace(f"its time is beyond {MOST_TIME} ns")
         self.flush(self.edge, True)
@@ -179,7 +184,8 @@ class Fold:
     def flush(self, end: int, is_edge: bool, removed: Iterable[str] = ()) -> None:
         """Submits the window that ends at `end` (ns), either at an edge, which may be a tick, or
         because groups or their accounting change. No task remains in removed groups, and at an
-        edge none in a group that is empty then."""
+        edge none in a group that is empty then.
+        """
         world, paths = self.world, self.world.paths
         populated = {paths[slot]: slot for slot, count in world.members.items() if count}
         accounted = {paths[slot] for slot in world.live.values() if slot not in world.off}
@@ -209,7 +215,8 @@ class Fold:
     def kept_of(self, slot: int, processor: int) -> int:
         """Returns how many representatives a group with tasks needs on this processor: one on
         one of the processors. A group that might be killed needs all that may ever be used,
-        since a task that is created after the kill would survive it."""
+        since a task that is created after the kill would survive it.
+        """
         return (
             MOST_AT_ONCE
             if slot in self.world.watched
@@ -220,7 +227,8 @@ class Fold:
 
     def write(self, waiting: int) -> None:
         """Writes what is due, except the last `waiting` windows, which may still be computed,
-        and the lines after them."""
+        and the lines after them.
+        """
         while self.due and (
             len(self.crew.waiting) > waiting or not isinstance(self.due[0], Window)
         ):

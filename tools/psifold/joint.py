@@ -2,7 +2,8 @@
 
 The number of ready tasks in a group doesn't matter, only whether there is one. So for each group
 only the set of its tasks' kinds matters, and the joint state of a processor is the set of all
-pairs of a group and a kind."""
+pairs of a group and a kind.
+"""
 from __future__ import annotations
 
 from enum import IntEnum
@@ -13,7 +14,8 @@ from psiworld.world import How
 
 class Kind(IntEnum):
     """The state of a task, and whether it is in a memory stall (the bit STALLED). ASLEEP tasks
-    aren't counted."""
+    aren't counted.
+    """
 
     ASLEEP = 0
     READY = 1

@@ -3,7 +3,8 @@
 Each task of a joint state is played by a *representative*, a task created for this purpose: it
 belongs to the same group, stays on its processor, and sleeps while it isn't needed. The change
 from one joint state to the next takes as few lines as possible: a task whose state changes runs
-for zero time, leaves the processor in its new state, and the previous task runs again."""
+for zero time, leaves the processor in its new state, and the previous task runs again.
+"""
 from __future__ import annotations
 
 from collections.abc import Iterable, Iterator, Sequence
@@ -31,7 +32,8 @@ class Interrupt(NamedTuple):
 
 class Move(NamedTuple):
     """A change of a representative's kind. `before` is None if it is created, and `after` is
-    None if it exits."""
+    None if it exits.
+    """
 
     path: str
     task: int
@@ -44,7 +46,8 @@ class Move(NamedTuple):
 
     def turns(self) -> bool:
         """Whether the representative must run for zero time, in order to sleep, wait, exit, or
-        begin or end a stall."""
+        begin or end a stall.
+        """
         is_runner = runs(self.before) or runs(self.after)
         return not is_runner and (
             self.after is None or self.after & WAY in BLOCKED or self.changes_stall()
@@ -107,7 +110,8 @@ class Writer:
     ) -> list[Line]:
         """Returns the lines that put the processor into each joint state for its duration (ns),
         beginning at `start` (ns), and the lines of interrupts among them, in order of time. If
-        `present` is given, the first joint state only has tasks in these groups."""
+        `present` is given, the first joint state only has tasks in these groups.
+        """
         lines: list[Line] = []
         moment, due = start, list(interrupts)
         # The order must not depend on the order of sets, so that each run gives the same lines.
@@ -129,7 +133,8 @@ class Writer:
 
     def interrupt(self, told: Interrupt) -> list[Line]:
         """Returns the lines of an interrupt. If no task of its group runs, one runs for zero
-        time."""
+        time.
+        """
         runs_there = any(it.path == told.path and runs(it.kind) for it in self.state)
         line = f"irq {self.processor} {told.length}"
         if runs_there:
@@ -168,7 +173,8 @@ class Writer:
 
     def moves(self, path: str, leaving: list[Kind], coming: list[Kind]) -> Iterator[Move]:
         """Yields the moves of a group's representatives. To need few lines, it prefers
-        representatives that are free now, then sleeping ones, and creates new ones last."""
+        representatives that are free now, then sleeping ones, and creates new ones last.
+        """
         busy = self.busy.get(path, {})
         pairs = sorted(
             (COSTS[before, after], before, after) for before in leaving for after in coming
@@ -205,7 +211,8 @@ class Writer:
 
     def keep(self, moment: int, counts: dict[str, int]) -> list[Line]:
         """Returns the lines that give each group at least this number of representatives. New
-        ones sleep."""
+        ones sleep.
+        """
         moves = []
         for path, count in sorted(counts.items()):
             made = len(self.busy.get(path, ())) + len(self.asleep.get(path, ()))
@@ -215,7 +222,8 @@ class Writer:
     def perform(self, moves: list[Move]) -> list[str]:
         """Returns the lines for these moves, without times. All turns of zero length form one
         chain, in which each task hands the processor to the next: a running task that leaves
-        begins it, and the task that runs next ends it."""
+        begins it, and the task that runs next ends it.
+        """
         words = [f"fork {it.task} {it.path} {self.processor}" for it in moves if it.before is None]
         words += [f"wake {it.task} {self.processor}" for it in moves if it.wakes()]
         before = self.runner
@@ -239,7 +247,8 @@ class Writer:
 
     def chain(self, turns: list[Move], following: int, how: str) -> Iterator[str]:
         """Yields the switches of a chain. In the first one the running task leaves by the word
-        `how`, and the last one switches to `following`."""
+        `how`, and the last one switches to `following`.
+        """
         for turn in turns:
             yield f"switch {self.processor} {turn.task} {how}"
             if turn.changes_stall():

@@ -1,5 +1,6 @@
 """Folds in another process while this one plays a recording's events. Lines are sent in parts,
-and the outcome is returned at the end."""
+and the outcome is returned at the end.
+"""
 from __future__ import annotations
 
 import contextlib
@@ -52,7 +53,8 @@ class Elsewhere:
 
     def take(self, lines: list[str]) -> None:
         """Sends these lines. If one can't be folded, the other process ends there, and the fault
-        is raised here."""
+        is raised here.
+        """
         try:
             if not lines:
                 return

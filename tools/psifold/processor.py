@@ -19,7 +19,8 @@ from .world import Catalog, Interrupts, bits_of
 
 class Few(NamedTuple):
     """The joint states that replace those of a window, with their times (ns); the window's sums
-    (ns); and the number of its joint states before."""
+    (ns); and the number of its joint states before.
+    """
 
     times: dict[int, int]
     sums: dict[Sum, int]
@@ -28,7 +29,8 @@ class Few(NamedTuple):
 
 def few_of(spent: dict[int, int], sums: Sums, left: Left) -> Few:
     """Returns few joint states with the same sums as those in `spent`. It takes the longest
-    first, since most of the others then fit into their times."""
+    first, since most of the others then fit into their times.
+    """
     columns: dict[int, int] = {}
     states: dict[int, int] = {}
     for state, time in spent.items():
@@ -61,7 +63,8 @@ def moments_of(
 ) -> list[Interrupt]:
     """Returns the interrupts of a window with their times (ns). Each line is as early as
     possible: its whole length fits between the previous line (for the first one: `last`) and its
-    own time, which is at least `first`. So the last line isn't later than in the original."""
+    own time, which is at least `first`. So the last line isn't later than in the original.
+    """
     told: list[Interrupt] = []
     moment = last
     parts = [interrupts.first] if interrupts.first else []
@@ -80,7 +83,8 @@ class Turn(NamedTuple):
     `populated` is given, in any group outside of that, and each group in `kept` has at least
     this number of tasks. `first` is the joint state at its start. If it starts at an edge, which
     may be a tick, `present` has the groups with tasks at that time: no other group may get one
-    before 1 ns has passed."""
+    before 1 ns has passed.
+    """
 
     start: int
     end: int
@@ -95,7 +99,8 @@ class Turn(NamedTuple):
 
 class Piece(NamedTuple):
     """The result for a processor's window: its lines with their times, its original sums (ns),
-    and the number of joint states before and after."""
+    and the number of joint states before and after.
+    """
 
     lines: list[Line]
     sums: dict[Sum, int]

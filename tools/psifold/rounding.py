@@ -1,5 +1,6 @@
 """Rounds fractional times to whole ns. The rounding error of each sum is carried into the next
-window, which rounds in the other direction, so that no sum drifts over any number of windows."""
+window, which rounds in the other direction, so that no sum drifts over any number of windows.
+"""
 from __future__ import annotations
 
 from collections import Counter
@@ -19,7 +20,8 @@ MOST_STEPS = 20
 
 class Rounding:
     """The times of joint states by number. `columns` are the sums of each. A time in `shares` is
-    a multiple of 1/`divisor` ns."""
+    a multiple of 1/`divisor` ns.
+    """
 
     def __init__(
         self, shares: list[Share], divisor: int, columns: list[int], behind: dict[int, int]
@@ -40,7 +42,8 @@ class Rounding:
 
     def round(self) -> None:
         """Distributes the remainder, a whole number of ns, to joint states whose times aren't
-        whole, so that the sum of squared errors is small."""
+        whole, so that the sum of squared errors is small.
+        """
         short = set(self.rests)
         for _ in range(sum(self.rests.values()) // self.divisor):
             number = min(sorted(short), key=self.growth)
@@ -57,7 +60,8 @@ class Rounding:
 
     def growth(self, number: int) -> int:
         """Returns by how much the sum of squared errors grows, in units of 1/`divisor`, if this
-        joint state gets another ns."""
+        joint state gets another ns.
+        """
         return self.divisor * self.columns[number].bit_count() - 2 * self.lags[number]
 
     def give(self, number: int, length: int) -> None:
@@ -72,7 +76,8 @@ class Rounding:
     def improve(self, givers: Iterable[int], takers: Iterable[int]) -> None:
         """Moves single ns from givers to takers as long as the sum of squared errors falls. A
         move adds to it for each sum that only one of the two takes part in, and for the
-        difference between the giver's and the taker's shortfall."""
+        difference between the giver's and the taker's shortfall.
+        """
         lags, sums, takers = self.lags, self.columns, sorted(takers)
         pairs = [
             (self.divisor * (sums[giver] ^ sums[taker]).bit_count(), giver, taker)
@@ -94,7 +99,8 @@ def whole_times(
     shares: list[Share], divisor: int, columns: list[int], sum_of: Callable[[int], Sum], left: Left
 ) -> dict[int, int]:
     """Returns the times in whole ns, by the number of the joint state. Updates `left`, which is
-    carried from window to window."""
+    carried from window to window.
+    """
     if divisor == 1 and not any(left.values()):
         return {number: time for number, time in shares}
     used = 0

@@ -3,7 +3,8 @@ states, also without groups that might be killed.
 
 The states are those of docs/TRACES.md. A set of groups is an integer with a bit for each, and so
 are the sums of a joint state, so that each of thousands of joint states takes only a few
-operations."""
+operations.
+"""
 from __future__ import annotations
 
 from collections.abc import Sequence
@@ -42,7 +43,8 @@ class Sum(NamedTuple):
 
 class View:
     """The sums of some groups, without other groups and their descendants. Bit STATE *
-    len(groups) + PLACE of a joint state's sums is for this state and the group with this index."""
+    len(groups) + PLACE of a joint state's sums is for this state and the group with this index.
+    """
 
     def __init__(self, catalog: Catalog, groups: Sequence[int], without: tuple[int, ...]) -> None:
         self.catalog, self.groups, self.without = catalog, groups, without
@@ -59,7 +61,8 @@ class View:
 
     def chain(self, slot: int) -> int:
         """Returns the set of a group and its ancestors whose sums are computed; empty for an
-        excluded group."""
+        excluded group.
+        """
         chain = 0
         at: int | None = slot
         while at is not None:
@@ -122,7 +125,8 @@ Plan = list[tuple[list[int], tuple[int, ...]]]
 
 def plan_of(world: FoldWorld, removals: Sequence[tuple[int, ...]]) -> Plan:
     """Returns the sums to preserve: those of all accounted groups, and for each removal (a set
-    of groups to exclude together) those of their common ancestors."""
+    of groups to exclude together) those of their common ancestors.
+    """
     accounted = [slot for slot in sorted(world.live.values()) if slot not in world.off]
     plan: Plan = [(accounted, ())]
     for removal in removals:
@@ -133,7 +137,8 @@ def plan_of(world: FoldWorld, removals: Sequence[tuple[int, ...]]) -> Plan:
 
 class Sums:
     """All sums that are preserved; each has a bit. `total` is the bit of an extra sum that each
-    joint state takes part in."""
+    joint state takes part in.
+    """
 
     def __init__(self, catalog: Catalog, plan: Plan) -> None:
         self.views = [View(catalog, groups, without) for groups, without in plan]

@@ -1,5 +1,6 @@
 """Selects the groups that might be killed, by patterns like those of rules. A folded trace is
-exact without these groups too."""
+exact without these groups too.
+"""
 from __future__ import annotations
 
 import json
@@ -70,7 +71,8 @@ def victims_in(rules: dict[str, Any]) -> Iterator[Victim]:
 class Victims:
     """The groups that might be killed, as groups are created and removed. `whole` is the number
     of kills up to which the times of the remaining groups are exact, None if there is no such
-    limit."""
+    limit.
+    """
 
     def __init__(self, wanted: Sequence[Victim]) -> None:
         self.wanted, self.known = wanted, dict[str, bool]()
@@ -90,7 +92,8 @@ class Victims:
     def removals(self, world: FoldWorld) -> list[tuple[int, ...]]:
         """Returns the sets of groups to exclude: each group alone, then sets of two, of three
         and so on, as long as all sets of one size fit. No set contains both a group and its
-        ancestor, since the ancestor suffices."""
+        ancestor, since the ancestor suffices.
+        """
         slots = (
             sorted(slot for path, slot in world.live.items() if self.matches(path))
             if self.wanted

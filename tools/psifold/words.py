@@ -23,7 +23,8 @@ MILLISECOND, LONGEST_TICK = 10**6, 60 * SECOND
 
 def window_of(text: str) -> int:
     """Parses the length of a window, and returns ns: a whole number of ms, at most the longest
-    tick."""
+    tick.
+    """
     length = nanoseconds(text)
     if not 0 < length <= LONGEST_TICK or length % MILLISECOND:
         raise Malformed(f"{text} is no window: it has 0.001 to 60 s, of whole ms, as ticks have")
@@ -53,7 +54,8 @@ class Folding(NamedTuple):
 
 def folding_of(found: dict[str, Any]) -> Folding | None:
     """Removes the options of folding from the parsed ones and returns them, None if nothing is
-    to be folded."""
+    to be folded.
+    """
     length, patterns, rules = found.pop("fold"), found.pop("victims"), found.pop("rules")
     if length is None and (patterns or rules):
         raise Fault("--victims and --rules say how to fold: --fold")
@@ -126,7 +128,8 @@ def whatif_line(folding: Folding, outcome: Outcome) -> str:
 
 class Progress:
     """Shows progress on standard error if that is a terminal: the seconds done, and the total
-    (ns) if it is known."""
+    (ns) if it is known.
+    """
 
     def __init__(self, name: str, total: int | None = None) -> None:
         self.name, self.total, self.is_shown, self.due = name, total, sys.stderr.isatty(), 0.0

@@ -2,7 +2,8 @@
 psireplay/world.py it rejects lines that it can't follow, since nothing has checked them before.
 
 Here a joint state is an integer with a bit for each element that occurs in some window. So a
-change of a task is an exclusive or, and the time of a joint state is looked up by the integer."""
+change of a task is an exclusive or, and the time of a joint state is looked up by the integer.
+"""
 from __future__ import annotations
 
 import re
@@ -42,7 +43,8 @@ def shortened(line: str) -> str:
 
 def kept_path(line: str) -> str:
     """Returns the group of a line that is copied unchanged, `/` if it names none. `line` has no
-    time. Raises NotATrace if it is malformed."""
+    time. Raises NotATrace if it is malformed.
+    """
     found = SAMPLE.fullmatch(line) or PREFERENCE.fullmatch(line)
     if found and all(int(word) <= MOST_MEMORY for word in line.split(" ") if word.isdigit()):
         return found[1] or "/"
@@ -64,7 +66,8 @@ class Task:
 class Interrupts:
     """The time (ns) that interrupts took from the groups whose tasks ran. The first line of a
     window is separate, with its group's number, since it may include time before the window. The
-    others are added up by group."""
+    others are added up by group.
+    """
 
     def __init__(self) -> None:
         self.first: tuple[int, int] | None = None
@@ -80,14 +83,16 @@ class Interrupts:
 
 class Changes:
     """The number of tasks that came into groups that might be killed, the number that moved out
-    of them or between them, and the time (ns) of the last such event."""
+    of them or between them, and the time (ns) of the last such event.
+    """
 
     def __init__(self) -> None:
         self.came, self.moved, self.last = 0, 0, 0
 
     def note(self, moment: int, came: bool, moved: bool) -> None:
         """Counts a task that came, moved or did both. Lines at time 0 are skipped, because they
-        are the trace's initial state."""
+        are the trace's initial state.
+        """
         if moment and (came or moved):
             self.came, self.moved, self.last = self.came + came, self.moved + moved, moment
 
@@ -95,7 +100,8 @@ class Changes:
 class Catalog:
     """The groups and the bits of joint states, by number: for each group its path and its
     parent, and for each bit the element's key, which consists of the group's number and the
-    kind. Nothing is ever removed."""
+    kind. Nothing is ever removed.
+    """
 
     def __init__(self) -> None:
         self.paths = ["/"]
@@ -132,7 +138,8 @@ class Catalog:
 
 class FoldWorld:
     """The machine at the present line of a trace. Groups are numbered in the order of their
-    creation; the root is 0."""
+    creation; the root is 0.
+    """
 
     def __init__(self, processors: int) -> None:
         self.processors = processors
@@ -170,7 +177,8 @@ class FoldWorld:
 
     def change(self, processor: int, moment: int, before: int, after: int) -> None:
         """Moves a task of this processor from one element to another, by their keys. ASLEEP
-        isn't counted."""
+        isn't counted.
+        """
         counts, bits = self.counts[processor], 0
         if before & 7:
             counts[before] = left = counts[before] - 1
@@ -334,7 +342,8 @@ class FoldWorld:
 
     def close(self, moment: int) -> list[dict[int, int]]:
         """Ends a window, and returns the ns of each joint state since the previous end, by
-        processor."""
+        processor.
+        """
         closed = self.spent
         for processor, spent in enumerate(closed):
             if moment != self.since[processor]:

@@ -1,5 +1,6 @@
 """Finds the processes that ran most in each group, in windows of time. For folded traces, which
-no longer name the tasks, and for tools that don't read the whole trace."""
+no longer name the tasks, and for tools that don't read the whole trace.
+"""
 from __future__ import annotations
 
 from collections.abc import Iterator
@@ -21,7 +22,8 @@ class Process(NamedTuple):
 
 class Busy(NamedTuple):
     """A group in a window: the time (ns) for which its own tasks ran, and the processes that ran
-    longest."""
+    longest.
+    """
 
     window: int
     path: str
@@ -31,7 +33,8 @@ class Busy(NamedTuple):
 
 class Runner(NamedTuple):
     """The task that runs on a processor, the task's group, and the time (ns) since which it
-    runs."""
+    runs.
+    """
 
     path: str
     life: Life
@@ -49,7 +52,8 @@ class Clocks:
 
     def run(self, processor: int, path: str, life: Optional[Life], now: int) -> None:
         """Records that `life` runs on `processor` from `now` (ns) on. None is the idle
-        processor."""
+        processor.
+        """
         while now >= self.end:
             self.close()
         before = self.runners.get(processor)

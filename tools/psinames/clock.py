@@ -29,7 +29,8 @@ Given = Union[int, TimeOfDay, WallTime]
 
 def time_of_day(word: str) -> Optional[TimeOfDay]:
     """Parses a time of day such as `14:03`, `14:03:10` or `14:03:10.5`. Returns None if `word`
-    isn't one."""
+    isn't one.
+    """
     found = TIME_OF_DAY.fullmatch(word)
     if not found:
         return None
@@ -59,7 +60,8 @@ def time_given(word: str) -> Given:
 def offset_of(word: str, epoch: int) -> Optional[int]:
     """Returns by how many ns the clocks of a zone are ahead of UTC at `epoch` (ns since 1970).
     The zone is `UTC`, an offset, `local`, or a name such as Europe/Berlin. Returns None if
-    `word` is no zone."""
+    `word` is no zone.
+    """
     found = OFFSET.fullmatch(word)
     if found and int(found[2]) < 15 and int(found[3]) < 60:
         return (int(found[2]) * HOUR + int(found[3]) * MINUTE) * (-1 if found[1] == "-" else 1)
@@ -123,7 +125,8 @@ def time_in(
 ) -> int:
     """Converts a time to ns since the start of a trace that began at `wall` and is `length` ns
     long. A time of day means its first occurrence after the start, which may be up to `after` ns
-    past the end. Raises a Fault if the time isn't in the trace."""
+    past the end. Raises a Fault if the time isn't in the trace.
+    """
     if isinstance(given, int):
         return given
     if not wall:

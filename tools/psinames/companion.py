@@ -1,5 +1,6 @@
 """The companion file of a trace, `X.trace.names` next to `X.trace`, which psitrace writes. It
-has the names and times that a trace can't express. docs/TRACES.md describes its lines."""
+has the names and times that a trace can't express. docs/TRACES.md describes its lines.
+"""
 from __future__ import annotations
 
 import contextlib
@@ -31,7 +32,8 @@ class Companion:
     """What is known of a trace: its size (bytes), its SHA-256, its length (ns), the time of day
     at its start, the time (ns) at which the recording begins after a warm-up, its tasks with
     their lifetimes, and the processes that ran most in each window of `window` ns. The tasks of
-    a folded trace have the label 0. `containers` maps the ids of containers and pods to names."""
+    a folded trace have the label 0. `containers` maps the ids of containers and pods to names.
+    """
 
     size: int
     digest: str
@@ -192,7 +194,8 @@ def read(name: str, is_whole: bool = True) -> Companion:
 
 def led(known: Companion) -> Companion:
     """Sets each task's `leader`, the first thread of its process: of the lives with the
-    process's number, the latest one that began no later than the task, or else the first one."""
+    process's number, the latest one that began no later than the task, or else the first one.
+    """
     leaders: dict[int, list[Life]] = {}
     for life in known.tasks:
         if life.task == life.process:
@@ -225,7 +228,8 @@ def pieces_of(trace: str) -> Iterator[bytes]:
 
 def must_belong(name: str, known: Companion, trace: str) -> None:
     """Rejects the companion of another trace: its names and its times would be wrong for this
-    one."""
+    one.
+    """
     size = os.path.getsize(trace)
     why = f"its trace has {known.size} bytes, and {trace} {size}" if size != known.size else ""
     if not why and digest_of(pieces_of(trace))[1] != known.digest:
@@ -237,7 +241,8 @@ def must_belong(name: str, known: Companion, trace: str) -> None:
 
 def find(trace: str, is_whole: bool = True) -> Optional[Companion]:
     """Reads the companion of a trace. Returns None if there is no such file, or if the trace is
-    the standard input."""
+    the standard input.
+    """
     name = companion_of(trace)
     if trace == "-" or not os.path.isfile(name) or not os.path.isfile(trace):
         return None

@@ -1,5 +1,6 @@
 """Prints the paths of groups with the names of containers, and finds the group that an operator
-names."""
+names.
+"""
 from __future__ import annotations
 
 import re
@@ -35,7 +36,8 @@ class GroupNames:
     def shown(self, path: str) -> str:
         """Returns `path` with each component that contains the id of a known container or pod
         replaced by the name in braces: `/kubepods.slice/{default/web/nginx}`. No path contains
-        braces."""
+        braces.
+        """
         if not self.containers:
             return path
         if path not in self.known:
@@ -69,7 +71,8 @@ class GroupNames:
 
     def matches(self, word: str, path: str) -> bool:
         """Whether `word` names the group at `path`: it is the path (as in the trace or as
-        printed), the last component of one of these, such as a unit, or the name of a container."""
+        printed), the last component of one of these, such as a unit, or the name of a container.
+        """
         shown = self.shown(path)
         container = re.search(r"/\{([^{}]*)\}\Z", shown)
         names = {path, shown, path.rpartition("/")[2]}
@@ -79,7 +82,8 @@ class GroupNames:
 
     def find(self, word: str, paths: Iterable[str], where: str) -> str:
         """Returns the one path of `paths` that `word` names. Raises a Fault that lists the
-        candidates if there is none or more than one; `where` says in its message where they are."""
+        candidates if there is none or more than one; `where` says in its message where they are.
+        """
         names = list(dict.fromkeys(paths))
         if word in names:
             return word

@@ -1,5 +1,6 @@
 """Options and files that add names and the time of day to a trace, and the options that select a
-part of it."""
+part of it.
+"""
 from __future__ import annotations
 
 from collections.abc import Mapping
@@ -50,7 +51,8 @@ class Span(NamedTuple):
 
 class Known(NamedTuple):
     """What is known of a trace: the time of day at its start, its companion, and the names of
-    containers."""
+    containers.
+    """
 
     wall: Optional[WallTime]
     companion: Optional[Companion]
@@ -93,7 +95,8 @@ def containers_in(name: str) -> dict[str, str]:
 
 def known_of(trace: str, values: Mapping[str, Any], is_whole: bool = False) -> Known:
     """Collects what is known of a trace from its companion and from those options of `add_clock`
-    and `add_names` that the tool has. Without `is_whole`, the companion's tasks aren't read."""
+    and `add_names` that the tool has. Without `is_whole`, the companion's tasks aren't read.
+    """
     companion = find(trace, is_whole)
     has_names = not values.get("no_names")
     containers = dict(companion.containers) if companion and has_names else {}
@@ -141,7 +144,8 @@ def span_in(
 
 def end_in(given: Given, wall: Optional[WallTime], length: int) -> int:
     """Returns the end of a part (ns), at most the end of the trace. A time of day may be up to
-    half a day after the end."""
+    half a day after the end.
+    """
     return min(time_in(given, wall, length, "--to", DAY // 2), length)
 
 

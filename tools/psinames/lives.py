@@ -8,7 +8,8 @@ class Life:
     """A task from its `fork` line to its exit (ns since the trace's start): its label in the
     trace, its number (tid), its process, and its names, each with the time since which it had
     it. `leader` is the life of the process's first thread, whose name is the name of the
-    process. If that isn't known, it is the task itself."""
+    process. If that isn't known, it is the task itself.
+    """
 
     __slots__ = ("label", "first", "last", "task", "process", "leader", "names")
 
@@ -27,7 +28,8 @@ class Life:
 
     def rename(self, now: int, name: str) -> None:
         """Records that the task has this name from `now` (ns) on. The first name that becomes
-        known counts from the task's start."""
+        known counts from the task's start.
+        """
         if not self.names:
             self.names = ((self.first, name),)
         elif self.name != name:
@@ -44,7 +46,8 @@ class Life:
 
     def renumber(self, number: int) -> None:
         """Records a change of the task's number: at exec a thread takes over the number of its
-        process's first thread."""
+        process's first thread.
+        """
         self.task = number
         if number == self.process:
             self.leader = self

@@ -28,7 +28,8 @@ class Output(io.TextIOBase):
 
 def show_containers(traces: Iterable[str], values: Mapping[str, Any]) -> None:
     """Wraps standard output so that it shows the container names from the companions of `traces`
-    and from the options of `add_names`."""
+    and from the options of `add_names`.
+    """
     containers: dict[str, str] = {}
     for trace in traces:
         containers.update(known_of(trace, values).groups.containers)

@@ -16,7 +16,8 @@ MS = 10**6
 
 class Share(NamedTuple):
     """The processes with the same name, or one thread: their numbers, and how long they ran
-    (ns)."""
+    (ns).
+    """
 
     name: str
     numbers: tuple[int, ...]
@@ -26,7 +27,8 @@ class Share(NamedTuple):
 
 class Tasks:
     """The lives of a trace's tasks by label. With `has_threads` each thread is counted by
-    itself, otherwise its run time counts for its process."""
+    itself, otherwise its run time counts for its process.
+    """
 
     def __init__(self, known: Optional[Companion], has_threads: bool = False) -> None:
         self.has_threads = has_threads
@@ -37,7 +39,8 @@ class Tasks:
 
     def runner(self, label: int, now: int) -> Optional[Life]:
         """Returns the life for which a task created at `now` (ns) counts: the first thread of
-        its process, or with `has_threads` the task itself. None if the task isn't known."""
+        its process, or with `has_threads` the task itself. None if the task isn't known.
+        """
         for life in self.lives.get(label, ()):
             if life.first == now:
                 return life if self.has_threads else life.leader
@@ -45,7 +48,8 @@ class Tasks:
 
     def shares(self, times: Mapping[Optional[Life], int], now: int) -> list[Share]:
         """Adds up the times (ns) by the name that each life had at `now` (ns). The longest comes
-        first."""
+        first.
+        """
         found: dict[tuple[str, int], tuple[set[int], int]] = {}
         for life, time in times.items():
             name = (life.name_at(now) if life else "") or UNNAMED
@@ -75,7 +79,8 @@ def share_text(share: Share) -> str:
 
 def shares_text(shares: Iterable[Share], others: int = 0) -> str:
     """Lists the first shares by name with their times, and all others together. `others` is the
-    run time (ns) of processes that aren't in `shares`."""
+    run time (ns) of processes that aren't in `shares`.
+    """
     shares = list(shares)
     named = [f"{share_text(it)} {seconds_text(it.time)}" for it in shares[:SHOWN]]
     rest = shares[SHOWN:]
@@ -92,7 +97,8 @@ def shares_text(shares: Iterable[Share], others: int = 0) -> str:
 def busiest(known: Companion, path: str, start: int, end: int) -> tuple[list[Share], int]:
     """Returns the shares of the processes that ran most in a group and its descendants, in the
     windows that begin between `start` and `end` (ns), and the time (ns) for which others ran. A
-    process that was never among a window's busiest counts as one of the others."""
+    process that was never among a window's busiest counts as one of the others.
+    """
     prefix = path.rstrip("/") + "/"
     names: dict[int, Life] = {}
     for life in known.tasks:

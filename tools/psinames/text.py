@@ -1,5 +1,6 @@
 """Escapes names, so that whoever can name a task or a container can't send control characters to
-a terminal."""
+a terminal.
+"""
 from __future__ import annotations
 
 import re
@@ -9,7 +10,8 @@ ESCAPE = re.compile(r"\\x([0-9a-f]{2})")
 
 def escaped(name: bytes) -> str:
     """Escapes a name: each backslash, and each byte that isn't part of a printable character,
-    becomes `\\xHH`. An escaped name can be printed as it is."""
+    becomes `\\xHH`. An escaped name can be printed as it is.
+    """
     text = name.decode("utf-8", "surrogateescape")
     return "".join(it if it.isprintable() and it != "\\" else escapes(it) for it in text)
 

@@ -97,7 +97,8 @@ def known(use: PluginUse) -> tuple[dict[str, Argument], dict[str, str]]:
 
 def values(use: PluginUse, host: Host) -> dict[str, Any]:
     """Parses the values of a plugin's arguments. `host` has the totals at oomd's start. Raises
-    Refused if oomd rejects an argument."""
+    Refused if oomd rejects an argument.
+    """
     table, args = known(use)
     for name, argument in table.items():
         if argument.is_required and name not in args:

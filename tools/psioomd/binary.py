@@ -1,5 +1,6 @@
 """Runs oomd itself on a trace. Its files show each time of the trace in turn, and all its kills
-are dry."""
+are dry.
+"""
 from __future__ import annotations
 
 import contextlib
@@ -41,7 +42,8 @@ MEMORY = "/dev/shm"
 @dataclass
 class BinaryRun:
     """The run of oomd itself: its file and version, its sandbox, and the number of its looks.
-    `fault` says how it ended, if it ended early."""
+    `fault` says how it ended, if it ended early.
+    """
 
     path: str
     version: str
@@ -187,7 +189,8 @@ class Follower:
 
     def has_looked(self, moment: int | None) -> bool:
         """Waits until oomd sleeps again after its start or a look. Returns False if oomd has
-        ended."""
+        ended.
+        """
         end = self.daemon.sleep_end()
         said = self.daemon.new_log()
         when = "start" if moment is None else f"{seconds(moment)} s"

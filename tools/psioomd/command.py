@@ -125,7 +125,8 @@ def compare(program: Program, name: str, trace: str, interval_s: int) -> Compari
 @dataclass(frozen=True)
 class Answers:
     """All results: of the emulation (None if it rejects a configuration that oomd itself
-    accepts), of oomd itself, and of the rules."""
+    accepts), of oomd itself, and of the rules.
+    """
 
     run: Run
     own: Engine | None
@@ -143,7 +144,8 @@ class Answers:
 
 def agreement(own: Engine, ran: binary.BinaryRun) -> str:
     """Says whether the kills of oomd itself are those of the emulation, apart from the choice
-    among equal candidates."""
+    among equal candidates.
+    """
     for decision, other in zip(own.decisions, ran.kills):
         found = decision.kill()
         is_same = (found.moment, found.ruleset, found.action) == (
@@ -238,7 +240,8 @@ def run_of(given: argparse.Namespace, trace: str) -> Run:
 
 def try_emulation(program: Program, run: Run, has_binary: bool) -> Engine | None:
     """Runs the emulation. If oomd itself runs too, its own verdict on the configuration counts,
-    so a rejection by the emulation is only reported."""
+    so a rejection by the emulation is only reported.
+    """
     try:
         return emulate(program, run, processors())
     except Refused as refused:

@@ -1,5 +1,6 @@
 """Parses a configuration as oomd does: first by JsonCpp's rules with comments, and then by
-oomd's own."""
+oomd's own.
+"""
 from __future__ import annotations
 
 from collections.abc import Iterable, Iterator
@@ -49,7 +50,8 @@ class RulesetUse:
 @dataclass
 class Configuration:
     """The contents of a configuration: its file name, its rulesets, the names of its prekill
-    hooks, and its JSON data."""
+    hooks, and its JSON data.
+    """
 
     name: str
     rulesets: list[RulesetUse]
@@ -87,7 +89,8 @@ def truth_of(value: Any, place: str) -> bool:
 
 def items(value: Any) -> Iterable[Any]:
     """Returns the values over which oomd iterates: a list, or an object's values in order of
-    keys."""
+    keys.
+    """
     if isinstance(value, dict):
         return [value[key] for key in sorted(value)]
     return value if isinstance(value, list) else []
@@ -102,7 +105,8 @@ def object_at(value: Any, place: str) -> dict[str, Any]:
 
 def plugin_use(value: Any, place: str) -> PluginUse:
     """Converts a plugin. oomd stops reading arguments at the first one that isn't a string,
-    number or boolean."""
+    number or boolean.
+    """
     if not isinstance(value, dict) or not isinstance(value.get("name"), str):
         return PluginUse("", {}, place)
     name, args = value["name"], {}

@@ -133,7 +133,8 @@ class Daemon:
 
     def end(self, grace: float = GRACE) -> str:
         """Ends the process, by a signal if it doesn't end within `grace` seconds. Says how it
-        ended."""
+        ended.
+        """
         for fd in (self.to, self.of):
             os.close(fd)
         try:

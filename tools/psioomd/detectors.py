@@ -23,7 +23,8 @@ def average(hundredths: int) -> float:
 
 def weight(averages: Averages) -> float:
     """Returns the weight by which oomd picks a group: three times avg10, plus twice avg60, plus
-    avg300."""
+    avg300.
+    """
     short, middle, long = map(average, (averages.avg10, averages.avg60, averages.avg300))
     return float32(float32(float32(short * 3) + float32(middle * 2)) + long)
 
@@ -49,7 +50,8 @@ class Nearest:
 
 class Above(Plugin):
     """`pressure_above`: avg10 of the group with the greatest weight is above the threshold for
-    the duration."""
+    the duration.
+    """
 
     def __init__(self, use: PluginUse, args: dict[str, Any]) -> None:
         super().__init__(use, args)
@@ -92,7 +94,8 @@ class Above(Plugin):
 
 class Rising(Above):
     """`pressure_rising_beyond`: avg60 is above the threshold for the duration, avg10 is above it
-    now, and has not fallen much since the previous look."""
+    now, and has not fallen much since the previous look.
+    """
 
     def __init__(self, use: PluginUse, args: dict[str, Any]) -> None:
         super().__init__(use, args)
@@ -112,7 +115,8 @@ class Rising(Above):
 
 class MemoryAbove(Plugin):
     """`memory_above`: the greatest memory use of a group is above the threshold for the
-    duration."""
+    duration.
+    """
 
     def __init__(self, use: PluginUse, args: dict[str, Any]) -> None:
         super().__init__(use, args)
@@ -142,7 +146,8 @@ class MemoryAbove(Plugin):
 
 class Reclaim(Plugin):
     """`memory_reclaim`: the sum of scanned pages rose within the duration. As in oomd, the sum
-    is 0 pages when the machine starts."""
+    is 0 pages when the machine starts.
+    """
 
     def __init__(self, use: PluginUse, args: dict[str, Any], uptime: int) -> None:
         super().__init__(use, args)
@@ -164,7 +169,8 @@ class Reclaim(Plugin):
 
 class SwapFree(Plugin):
     """`swap_free`: less than a percentage of the swap is free. oomd computes with unsigned
-    numbers."""
+    numbers.
+    """
 
     def __init__(self, use: PluginUse, args: dict[str, Any]) -> None:
         super().__init__(use, args)
@@ -214,7 +220,8 @@ class Dying(Plugin):
 
 class Constant(Plugin):
     """A plugin that always returns the same result: `continue`, `stop`, `dump_cgroup_overview`,
-    and the plugins that aren't emulated."""
+    and the plugins that aren't emulated.
+    """
 
     def __init__(self, use: PluginUse, args: dict[str, Any], always: Result) -> None:
         super().__init__(use, args)

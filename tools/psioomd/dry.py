@@ -34,7 +34,8 @@ def dry_group(number: int, group: Any) -> Any:
 
 def dry_ruleset(ruleset: Any, name: str) -> Any:
     """Returns the ruleset with this name. Its logs aren't silenced, since the kills are read
-    from them."""
+    from them.
+    """
     if not isinstance(ruleset, dict):
         return ruleset
     found = {key: value for key, value in ruleset.items() if key != SILENCES}

@@ -1,5 +1,6 @@
 """Applies oomd's algorithm to a trace, with the pressure that a replay by psi_oomd prints at
-each look."""
+each look.
+"""
 from __future__ import annotations
 
 import itertools
@@ -32,7 +33,8 @@ UPTIME = 10**6 * SECOND
 class Run:
     """The input of an emulation: the trace, the configuration and its drop-in files by name, the
     interval between looks (s), values that no trace has, the time of looks before the trace (s),
-    and the uptime (ns)."""
+    and the uptime (ns).
+    """
 
     trace: str
     config: str
@@ -129,7 +131,8 @@ def decide(it: Engine, run: Run, ticks: Iterator[Tick]) -> None:
 
 def prepare_engine(run: Run) -> Engine:
     """Returns the engine before its first look. Raises a Fault if oomd rejects the
-    configuration, or if the trace lacks what a plugin needs."""
+    configuration, or if the trace lacks what a plugin needs.
+    """
     base, parts = run.configurations()
     for it in (base, *parts):
         must_have_scans(run.trace, it.plugins(), it.name)

@@ -51,13 +51,15 @@ LEFT_OUT = {
     "systemd_restart": "what it restarts isn't followed, and neither is the end of its chain",
 }
 """The plugins of oomd 0.5.0 that need data that no trace has. Here each does nothing and
-continues."""
+continues.
+"""
 
 
 @dataclass(frozen=True)
 class Start:
     """The values that oomd reads once at its start: the totals of the machine, and its uptime
-    (ns)."""
+    (ns).
+    """
 
     totals: Host
     uptime: int
@@ -196,7 +198,8 @@ class Ruleset(Pauses):
 
     def chain(self, first: int, why: list[str], look: Look) -> None:
         """Runs the actions from the index `first` on, until one stops or waits for the next
-        look."""
+        look.
+        """
         acts: list[Act] = []
         self.fired.append(Fired(look.now, why, None, acts))
         for number in range(first, len(self.actions)):
@@ -224,7 +227,8 @@ class Course:
 @dataclass
 class Engine:
     """All rulesets in the order in which they run, and what oomd remembers about groups between
-    looks."""
+    looks.
+    """
 
     machine: Machine
     rulesets: list[Ruleset]
@@ -311,7 +315,8 @@ def engine(
     base: Configuration, parts: Sequence[Configuration], machine: Machine, uptime: int
 ) -> Engine:
     """Returns the engine for a configuration and drop-in files. Raises Refused if oomd rejects
-    the configuration. A rejected drop-in file is noted, since oomd continues without it."""
+    the configuration. A rejected drop-in file is noted, since oomd continues without it.
+    """
     notes, start = Notes(), Start(machine.totals, uptime)
     rulesets = [Ruleset(it, at, start, notes) for at, it in enumerate(base.rulesets)]
     check_hooks(base, notes)

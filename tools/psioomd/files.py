@@ -31,7 +31,8 @@ def text_of(hundredths: int) -> str:
 
 def pressure_text(averages: Averages) -> str:
     """Formats a pressure file. oomd doesn't read its line `some`, so that has the values of
-    `full`."""
+    `full`.
+    """
     shares = (averages.avg10, averages.avg60, averages.avg300)
     names = zip(("avg10", "avg60", "avg300"), map(text_of, shares))
     line = " ".join(f"{name}={share}" for name, share in names) + " total=0\n"

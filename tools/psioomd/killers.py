@@ -55,7 +55,8 @@ class Killer(Plugin):
 
     def victims(self, look: Look, paths: list[str]) -> list[tuple[str, list[Candidate]]]:
         """Returns the groups that may be killed, which are equal in rank, each with its sibling
-        candidates. It is undefined which of them oomd kills."""
+        candidates. It is undefined which of them oomd kills.
+        """
         order, candidates = self.ranked(look, paths)
         best = [it.path for it in candidates]
         for _, equals in itertools.groupby(best, key=lambda it: order[it]):
@@ -83,7 +84,8 @@ class Killer(Plugin):
         self, look: Look, path: str, candidates: list[Candidate]
     ) -> list[tuple[str, list[Candidate]]]:
         """Returns the groups that may be killed after the group at `path` was chosen: the group
-        itself, or some of its descendants. Empty if none has a task."""
+        itself, or some of its descendants. Empty if none has a task.
+        """
         machine = look.machine
         if self.is_recursive and not machine.ends_as_a_whole(path):
             children = machine.children(path)
@@ -120,7 +122,8 @@ class ByPressure(Killer):
 
 class ByScans(Killer):
     """`kill_by_pg_scan`: ranks by the pages scanned since the previous look, even if there are
-    none. It waits for a second consecutive look."""
+    none. It waits for a second consecutive look.
+    """
 
     def __init__(self, use: PluginUse, args: dict[str, Any]) -> None:
         super().__init__(use, args)

@@ -1,5 +1,6 @@
 """The machine as oomd sees it at a look: the trace's last samples, and the pressure at the last
-tick."""
+tick.
+"""
 from __future__ import annotations
 
 from dataclasses import dataclass, field
@@ -31,7 +32,8 @@ Pressure = dict[str, Averages]
 @dataclass(eq=False)
 class Extras:
     """Values that no trace has: numbers by a group's path and the name of a file such as
-    memory.low."""
+    memory.low.
+    """
 
     numbers: dict[tuple[str, str], int] = field(default_factory=dict)
 
@@ -79,7 +81,8 @@ class Machine:
 
     def pressure(self, path: str, resource: str) -> Averages:
         """Returns the group's averages. They are 0 if its accounting is off, since it has no
-        pressure files then."""
+        pressure files then.
+        """
         group = self.group(path)
         if not group.is_accounted:
             return NO_PRESSURE
@@ -87,7 +90,8 @@ class Machine:
 
     def current(self, path: str) -> int:
         """Returns the memory in use (bytes). For the root this is MemTotal less MemFree, both in
-        KiB."""
+        KiB.
+        """
         used = self.sample(path).memory
         if path != ROOT:
             return used

@@ -88,7 +88,8 @@ def parts_sum(text: str) -> int | None:
 
 def size(text: str, total: int) -> int:
     """Parses a size, or a percentage of `total` bytes, and returns bytes. A bare number is in
-    MiB."""
+    MiB.
+    """
     fault = BadNumber(f"Failed to parse threshold: {text}")
     if text.endswith("%"):
         try:

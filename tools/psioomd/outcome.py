@@ -13,7 +13,8 @@ MOST_CANDIDATES = 4
 @dataclass(frozen=True)
 class Candidate:
     """A group that could be chosen: the values of its rank in words, and its preference.
-    `passed_over` says why the group was skipped, and is empty if it wasn't."""
+    `passed_over` says why the group was skipped, and is empty if it wasn't.
+    """
 
     path: str
     rank: str
@@ -28,7 +29,8 @@ class Candidate:
 @dataclass(frozen=True)
 class Victim:
     """The victim of an action, the groups that were equal in rank, and all candidates in order
-    of rank."""
+    of rank.
+    """
 
     path: str
     equals: list[str]
@@ -39,7 +41,8 @@ class Victim:
 @dataclass(frozen=True)
 class Act:
     """The outcome of an action at a look: its number and plugin, its victim or why there is
-    none, and its candidates."""
+    none, and its candidates.
+    """
 
     action: int
     plugin: str
@@ -51,7 +54,8 @@ class Act:
 @dataclass(frozen=True)
 class Fired:
     """A look (ns) at which a ruleset fired: what the detectors of the group that fired found,
-    and what the actions did, or the time (ns) until which the ruleset was paused."""
+    and what the actions did, or the time (ns) until which the ruleset was paused.
+    """
 
     moment: int
     why: list[str]

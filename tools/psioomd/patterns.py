@@ -1,5 +1,6 @@
 """Matches patterns of control groups, which oomd passes to glob(3) with GLOB_BRACE below its
-mount point."""
+mount point.
+"""
 from __future__ import annotations
 
 import re
@@ -17,7 +18,8 @@ def split(text: str, mark: str) -> list[str]:
 
 def closing_brace(text: str, start: int) -> int | None:
     """Returns the index of the brace that closes the brace before `start`, None if there is
-    none."""
+    none.
+    """
     depth, at = 0, start
     while at < len(text):
         if text[at] == "\\":
@@ -35,7 +37,8 @@ def closing_brace(text: str, start: int) -> int | None:
 
 def without_braces(text: str) -> str:
     """Returns the pattern without braces. Since oomd splits at commas first, each pair of braces
-    has one alternative."""
+    has one alternative.
+    """
     found = re.match(r"(?:[^\\{]|\\.)*", text, re.DOTALL)
     start = found.end() if found else 0
     if start >= len(text) or text[start] != "{":
@@ -48,7 +51,8 @@ def without_braces(text: str) -> str:
 
 def bracket(text: str, at: int) -> tuple[str, int] | None:
     """Returns the regular expression of the set that begins at `at`, and the index after the
-    set. None if the set isn't closed."""
+    set. None if the set isn't closed.
+    """
     start = at + 1
     is_negated = text[start : start + 1] in ("!", "^")
     first = start + is_negated
@@ -62,7 +66,8 @@ def bracket(text: str, at: int) -> tuple[str, int] | None:
 
 def component(text: str) -> re.Pattern[str]:
     """Returns the regular expression of a component. Only a dot in the pattern matches a name's
-    leading dot."""
+    leading dot.
+    """
     at, parts = 0, []
     while at < len(text):
         mark = text[at]

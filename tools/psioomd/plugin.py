@@ -34,7 +34,8 @@ class Pauses(ABC):
 @dataclass
 class Look:
     """A look at the machine: its time (ns), its number from 1, and what oomd remembers from
-    earlier looks."""
+    earlier looks.
+    """
 
     now: int
     number: int
@@ -83,7 +84,8 @@ class Duration:
 
     def holds(self, now: int, is_true: bool) -> bool:
         """Updates the condition at the time `now` (ns), and returns whether it has held long
-        enough."""
+        enough.
+        """
         if not is_true:
             self.since = None
             return False

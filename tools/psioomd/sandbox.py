@@ -50,7 +50,8 @@ exec setpriv --no-new-privs --inh-caps=-all --bounding-set=-all -- "$@"
 @dataclass(frozen=True)
 class Sandbox:
     """A way to run oomd: the kind of sandbox, the folder that oomd may write, and oomd's
-    program."""
+    program.
+    """
 
     kind: str
     folder: str

@@ -3,7 +3,8 @@
 `moment` is in ns of the recording's clock, `processor` is the one on which the event was
 written, and `current` the task that ran there (0 is the idle task). Tasks are threads, numbered
 as in the first PID namespace. The names of the kernel's events are those of
-`include/trace/events/{sched,task,cgroup,oom}.h`."""
+`include/trace/events/{sched,task,cgroup,oom}.h`.
+"""
 from __future__ import annotations
 
 from typing import NamedTuple, Union
@@ -11,7 +12,8 @@ from typing import NamedTuple, Union
 
 class Switch(NamedTuple):
     """`sched_switch`: `previous` leaves the processor and `next` gets it. `state` is the letter
-    of the kernel's print format for `previous` (`R`: it remains ready)."""
+    of the kernel's print format for `previous` (`R`: it remains ready).
+    """
 
     moment: int
     processor: int
@@ -43,7 +45,8 @@ class FirstWakeup(NamedTuple):
 
 class Migration(NamedTuple):
     """`sched_migrate_task`: a ready task, or a task that is about to be woken, moves from
-    processor `origin` to `target`."""
+    processor `origin` to `target`.
+    """
 
     moment: int
     processor: int
@@ -55,7 +58,8 @@ class Migration(NamedTuple):
 
 class NewTask(NamedTuple):
     """`task_newtask`: a task was created. `current` is its parent, and `flags` are those of
-    clone(2)."""
+    clone(2).
+    """
 
     moment: int
     processor: int
@@ -66,7 +70,8 @@ class NewTask(NamedTuple):
 
 class Exec(NamedTuple):
     """`sched_process_exec`: if `old` differs from `task`, the thread `old` has taken over the
-    number of its process's first thread."""
+    number of its process's first thread.
+    """
 
     moment: int
     processor: int
@@ -77,7 +82,8 @@ class Exec(NamedTuple):
 
 class WaitEnds(NamedTuple):
     """`sched_stat_iowait`: the sleep of `task` that ends was a wait for IO. It precedes the
-    wakeup."""
+    wakeup.
+    """
 
     moment: int
     processor: int
@@ -87,7 +93,8 @@ class WaitEnds(NamedTuple):
 
 class SwitchProbe(NamedTuple):
     """A probe on `psi_task_switch`, right before the `sched_switch` of the same processor:
-    `waits` says whether psi counts the task that leaves as waiting for IO."""
+    `waits` says whether psi counts the task that leaves as waiting for IO.
+    """
 
     moment: int
     processor: int
@@ -98,7 +105,8 @@ class SwitchProbe(NamedTuple):
 
 class ShowProbe(NamedTuple):
     """A probe on `psi_show`: `current` reads a pressure file, so the kernel samples the group.
-    `resource` is an index into RESOURCES, and `group` the address of the group's psi data."""
+    `resource` is an index into RESOURCES, and `group` the address of the group's psi data.
+    """
 
     moment: int
     processor: int
@@ -109,7 +117,8 @@ class ShowProbe(NamedTuple):
 
 class AverageProbe(NamedTuple):
     """A probe on `psi_avgs_work`: the kernel's periodic work samples a group. `work` is the
-    address of the work, which is a part of the group's psi data."""
+    address of the work, which is a part of the group's psi data.
+    """
 
     moment: int
     processor: int
@@ -119,7 +128,8 @@ class AverageProbe(NamedTuple):
 
 class ReadyProbe(NamedTuple):
     """A probe on `psi_task_change`: psi counts the task as ready. At a wakeup this precedes the
-    event of the wakeup."""
+    event of the wakeup.
+    """
 
     moment: int
     processor: int
@@ -146,7 +156,8 @@ class StallEnds(NamedTuple):
 
 class Attach(NamedTuple):
     """`cgroup_attach_task`: a task moves to a group. If a process moves with all its threads,
-    `task` is its first thread. `hierarchy` is 0 for cgroup 2 only."""
+    `task` is its first thread. `hierarchy` is 0 for cgroup 2 only.
+    """
 
     moment: int
     processor: int
@@ -159,7 +170,8 @@ class Attach(NamedTuple):
 class AttachProbe(NamedTuple):
     """A probe on the function `cgroup_attach_task`, which `current` runs right before the event
     of that name: `whole` is 0 if only the task moves, by `cgroup.threads`, and not its process
-    with all threads."""
+    with all threads.
+    """
 
     moment: int
     processor: int
@@ -219,7 +231,8 @@ class Marker(NamedTuple):
 
 class Named(NamedTuple):
     """The name of a task, if it differs from the name in earlier events of the processor. It
-    precedes the switch or the `sched_process_exec` in which it was read."""
+    precedes the switch or the `sched_process_exec` in which it was read.
+    """
 
     moment: int
     processor: int
@@ -265,7 +278,8 @@ NEVER = 2**64
 class Gap(NamedTuple):
     """Lost events of a processor: `lost` is their number (0 if unknown). They were lost between
     `start` and `end` (ns); a `start` of 0 is the beginning, and an `end` of NEVER the end of the
-    recording."""
+    recording.
+    """
 
     processor: int
     start: int

@@ -1,6 +1,7 @@
 """Opens the files of a recording's folder. Only regular files are opened, since a device or a
 FIFO could block or never end. From compressed pages at most the number of bytes in `meta` is
-read."""
+read.
+"""
 from __future__ import annotations
 
 import gzip
@@ -45,7 +46,8 @@ def text_of(folder: str, name: str) -> str:
 class Raw:
     """The pages of a processor, from one file or from several parts that are read as one.
     Reading more than `most` bytes of compressed parts is an error; `count` is the number of
-    bytes read."""
+    bytes read.
+    """
 
     def __init__(self, folder: str, processor: int, most: int | None) -> None:
         self.name = raw_name(processor)
@@ -86,7 +88,8 @@ class Raw:
 
 def parts_of(folder: str, processor: int) -> list[str]:
     """Returns the paths of a processor's parts in order. If a part exists both plain and
-    compressed, the recorder was interrupted while compressing it, and the plain file is taken."""
+    compressed, the recorder was interrupted while compressing it, and the plain file is taken.
+    """
     names = set(os.listdir(folder))
     parts: list[str] = []
     while (

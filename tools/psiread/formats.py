@@ -2,7 +2,8 @@
 the kernel's own `format` files.
 
 A field's line is `field:TYPE NAME; offset:N; size:N; signed:N;`, offsets and sizes in bytes
-(`Documentation/trace/events.rst` of Linux, section 2.2). Numbers are little-endian."""
+(`Documentation/trace/events.rst` of Linux, section 2.2). Numbers are little-endian.
+"""
 from __future__ import annotations
 
 import operator
@@ -29,7 +30,8 @@ class FormatFault(Exception):
 
 class Field(NamedTuple):
     """A field of a record. `offset` and `size` are in bytes, and `size` is 0 for a text that
-    ends the record."""
+    ends the record.
+    """
 
     type: str
     offset: int
@@ -48,7 +50,8 @@ class Format(NamedTuple):
 
 def field_of(line: str) -> tuple[str, Field] | None:
     """Parses a line of a format. Returns the field's name and the field, or None if the line has
-    none."""
+    none.
+    """
     found = FIELD.match(line)
     if not found:
         return None
@@ -59,7 +62,8 @@ def field_of(line: str) -> tuple[str, Field] | None:
 
 def sections_of(text: str) -> dict[str, list[str]]:
     """Splits the recording's file of formats into its sections `== NAME`, and returns each one's
-    lines."""
+    lines.
+    """
     sections: dict[str, list[str]] = {}
     lines: list[str] = []
     for line in text.split("\n"):
@@ -91,7 +95,8 @@ def formats_of(sections: dict[str, list[str]]) -> dict[str, Format]:
 
 class PageFormat(NamedTuple):
     """The layout of a ring buffer's page, according to `events/header_page`: its size, the size
-    of the field for the used bytes, and the offset of its records, all in bytes."""
+    of the field for the used bytes, and the offset of its records, all in bytes.
+    """
 
     size: int
     commit_size: int
@@ -115,7 +120,8 @@ def page_format_of(sections: dict[str, list[str]]) -> PageFormat:
 def state_letters(print_format: str) -> tuple[dict[int, str], int]:
     """Returns the letter of each bit of `prev_state` in the print format of `sched_switch`, and
     the bit of `R+`, which is the next higher one: the task was preempted while it was about to
-    sleep, and remains ready."""
+    sleep, and remains ready.
+    """
     letters = {
         int(bit, 16): letter
         for bit, letter in re.findall(r"\{\s*(0x[0-9a-fA-F]{1,16}),\s*\"(\w)\"", print_format)
@@ -142,7 +148,8 @@ def integers_of(form: Format, names: Sequence[str]) -> IntegerReader:
 
 def in_order(reader: struct.Struct, places: list[int]) -> IntegerReader:
     """Returns a reader that unpacks a structure and returns its numbers in the order of
-    `places`."""
+    `places`.
+    """
     unpack = reader.unpack_from
     if places == list(range(len(places))):
         return unpack

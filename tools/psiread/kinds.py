@@ -44,7 +44,8 @@ def kind_of(head: bytes) -> str | None:
 
 def kind_of_file(name: str) -> str | None:
     """Says what a file or a folder is, with advice. None if its kind is unknown, it can't be
-    read, or `name` is the standard input."""
+    read, or `name` is the standard input.
+    """
     if os.path.isdir(name):
         return (
             "it is a recording: tools/psitrace makes a trace of it"
@@ -73,7 +74,8 @@ def is_trace(name: str) -> bool:
 
 def recording_below(folder: str) -> str | None:
     """Returns the recording one or two levels below `folder`, if there is exactly one, otherwise
-    None."""
+    None.
+    """
     found = [
         path
         for pattern in ("*", "*/*")

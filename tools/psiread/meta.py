@@ -42,13 +42,15 @@ class Meta(Lines):
 
     def ring_start(self) -> int:
         """Returns the time (ns) from which all processors have events in a flight recorder's
-        ring, or 0."""
+        ring, or 0.
+        """
         start = self.one(Key.RING_START) or ""
         return ns_of(start) if re.fullmatch(r"[0-9]{1,10}(\.[0-9]{1,9})?", start) else 0
 
     def bytes(self) -> int | None:
         """Returns the total bytes of all pages, as the recorder counted them. None if it was
-        killed."""
+        killed.
+        """
         count = self.one(Key.BYTES) or ""
         return int(count) if re.fullmatch("[0-9]{1,15}", count) else None
 
@@ -58,7 +60,8 @@ class Meta(Lines):
 
     def realtime(self) -> int | None:
         """Returns by how many ns CLOCK_REALTIME was ahead of CLOCK_MONOTONIC, None if not
-        recorded."""
+        recorded.
+        """
         found = re.fullmatch(
             r"realtime ([0-9]{1,12}\.[0-9]{1,9}) monotonic ([0-9]{1,12}\.[0-9]{1,9})",
             self.one(Key.MOMENT) or "",
@@ -77,7 +80,8 @@ class Meta(Lines):
 
     def has_all_bytes(self) -> bool:
         """Whether all pages that `meta` counts must be there. If the disk was full, some
-        couldn't be written."""
+        couldn't be written.
+        """
         return self.end() is not None and not self.ended_early()
 
     def ended_early(self) -> bool:
@@ -87,7 +91,8 @@ class Meta(Lines):
 
 def meta_of(folder: str) -> Meta:
     """Reads the `meta` of a recording. If there is none, the error suggests a recording below
-    the folder."""
+    the folder.
+    """
     if not os.path.lexists(folder):
         raise Unreadable(f"{folder}: No such file or directory")
     if os.path.isdir(folder) and not os.path.lexists(os.path.join(folder, META)):

@@ -1,5 +1,6 @@
 """Finds what a recording lacks: pages that `meta` counts, a part of the snapshot, files that
-aren't read, and plausible times."""
+aren't read, and plausible times.
+"""
 from __future__ import annotations
 
 import os
@@ -25,7 +26,8 @@ GROUP_SAMPLE = f"{MARK}mem ".encode()
 class Expected(NamedTuple):
     """The contents of a complete recording: the bytes of pages that `meta` counts (None if it
     has no count, or if not all could be written), whether the recorder's last marker must be
-    among the events, and whether its snapshots have an end mark."""
+    among the events, and whether its snapshots have an end mark.
+    """
 
     byte_count: int | None
     has_stop: bool
@@ -58,7 +60,8 @@ def tell_missing(source: Source, folder: str, expected: Expected) -> None:
 def tell_bytes(source: Source, count: int, has_stop: bool) -> None:
     """Compares the bytes of pages with the number in `meta`, and adds the difference to the
     losses. If all processors' events end at one time, before the recorder's last marker, nothing
-    is missing before that time: then the difference is only a note."""
+    is missing before that time: then the difference is only a note.
+    """
     if source.bytes > count:
         source.losses.append(
             f"the pages have {source.bytes} bytes, and meta counts {count}: some aren't of this"
@@ -109,7 +112,8 @@ def ends_of(source: Source) -> tuple[dict[int, int], dict[int, int]]:
 
 def unread_processors(folder: str, processors: int) -> list[int]:
     """Returns the processors that have files in the folder, but whose numbers exceed those in
-    `meta`."""
+    `meta`.
+    """
     found = (RAW.fullmatch(name) for name in os.listdir(folder))
     return sorted({int(it[1]) for it in found if it and int(it[1]) >= processors})
 
@@ -120,7 +124,8 @@ def unread_processors(folder: str, processors: int) -> list[int]:
 def missing_in_snapshot(source: Source) -> str | None:
     """Says what a snapshot without an end mark lacks. It must list the recorder itself, and all
     groups of the first memory sample that weren't created or removed during the recording. None
-    if it lists them all."""
+    if it lists them all.
+    """
     snapshot = source.snapshot
     if snapshot.is_cut:
         return "its last line has no newline"
@@ -142,7 +147,8 @@ def missing_in_snapshot(source: Source) -> str | None:
 
 def first_sampled(events: list[Event]) -> set[str]:
     """Returns the groups of the first memory sample, for which the recorder writes a line per
-    group."""
+    group.
+    """
     found: set[str] = set()
     for event in events:
         if isinstance(event, Marker) and event.text.startswith(GROUP_SAMPLE):

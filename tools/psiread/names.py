@@ -1,5 +1,6 @@
 """Reads names of tasks from a processor's records: each switch has the name of the task that
-leaves, and each exec the name of the file."""
+leaves, and each exec the name of the file.
+"""
 from __future__ import annotations
 
 from typing import Any, NamedTuple, Optional
@@ -13,7 +14,8 @@ MOST_NAME = 15
 
 class NameFields(NamedTuple):
     """The places of names in records: the number of `sched_switch` with the start and end of its
-    field (bytes), and the number of `sched_process_exec` with its field."""
+    field (bytes), and the number of `sched_process_exec` with its field.
+    """
 
     switch: int
     start: int
@@ -24,7 +26,8 @@ class NameFields(NamedTuple):
 
 def name_fields(forms: dict[str, Format]) -> NameFields:
     """Returns the fields with names according to the recording's formats. An event's number is
-    -1 if the recording doesn't have it."""
+    -1 if the recording doesn't have it.
+    """
     switch, exec_ = forms.get("sched_switch"), forms.get("sched_process_exec")
     name = switch.fields.get("prev_comm") if switch else None
     file = exec_.fields.get("filename") if exec_ else None
@@ -44,7 +47,8 @@ class Names:
 
     def of_switch(self, event: Any, data: bytes, at: int) -> Optional[Named]:
         """Returns the name of the task that leaves by this switch, None if it is known already.
-        `at` is the offset of the record in `data`."""
+        `at` is the offset of the record in `data`.
+        """
         name = data[at + self.start : at + self.end]
         task = event[3]
         if self.known.get(task) == name:
@@ -57,7 +61,8 @@ class Names:
 
     def of_exec(self, event: Event, data: bytes, at: int, end: int) -> Optional[Named]:
         """Returns the name that a task gets by exec, which is that of its file. A script may be
-        called differently, which its next switch shows."""
+        called differently, which its next switch shows.
+        """
         assert isinstance(event, Exec) and self.fields.file
         name = text_at(data, at, end, self.fields.file).rpartition(b"/")[2][:MOST_NAME]
         if not name:

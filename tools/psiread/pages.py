@@ -40,7 +40,8 @@ class PageFault(Exception):
 class Page(NamedTuple):
     """The header of a page: the time (ns) of its first record, the number of events lost before
     the page (0 for none, -1 for unknown), and the start and end of its records (offsets in
-    bytes)."""
+    bytes).
+    """
 
     moment: int
     lost: int
@@ -99,7 +100,8 @@ def records_of(data: bytes, page: Page) -> Iterator[tuple[int, int, int]]:
 
 class Pages(NamedTuple):
     """The contents of one processor's pages: its events in order, the gaps, and the number of
-    bytes after the last whole page."""
+    bytes after the last whole page.
+    """
 
     events: list[Event]
     gaps: list[Gap]
@@ -115,7 +117,8 @@ def read_pages(
     is_ring: bool,
 ) -> Pages:
     """Reads all pages of a processor. In a flight recorder's ring a loss before the first page
-    is no gap, because the ring overwrites old pages by design."""
+    is no gap, because the ring overwrites old pages by design.
+    """
     events: list[Event] = []
     gaps: list[Gap] = []
     named = names.switch, names.exec

@@ -1,5 +1,6 @@
 """Reads the pressure files of a recording, and the reports of a replay: stall totals (us) over
-time."""
+time.
+"""
 from __future__ import annotations
 
 import re
@@ -47,7 +48,8 @@ Readings = dict[int, dict[File, Totals]]
 
 def reading_markers(source: Source) -> Iterator[tuple[Marker, int, bool]]:
     """Yields the markers at the start and end of each reading of the pressure files, each with
-    the reading's number, and whether it is the start."""
+    the reading's number, and whether it is the start.
+    """
     for event in source.events:
         if isinstance(event, Marker) and event.text.startswith(MARK.encode()):
             found = READING.fullmatch(event.text[len(MARK) :])
@@ -62,7 +64,8 @@ def recorder_of(source: Source) -> int | None:
 
 def spans_of(source: Source) -> dict[int, tuple[int, int]]:
     """Returns the start and end of each reading of the pressure files (ns of the recording's
-    clock)."""
+    clock).
+    """
     begins: dict[int, int] = {}
     spans: dict[int, tuple[int, int]] = {}
     for marker, number, is_begin in reading_markers(source):
@@ -75,7 +78,8 @@ def spans_of(source: Source) -> dict[int, tuple[int, int]]:
 
 def machine_readings(folder: str, source: Source) -> Readings:
     """Reads the contents of the machine's own pressure files. The files of a reading were read
-    one after the other, so each gets its own time between the start and the end of the reading."""
+    one after the other, so each gets its own time between the start and the end of the reading.
+    """
     spans = spans_of(source)
     found: dict[int, list[tuple[File, int, int]]] = {}
     for number, path, resource, some, full in SAMPLE.findall(text_of(folder, PRESSURE)):
@@ -103,7 +107,8 @@ def replay_series(printed: str) -> Series:
 
 def totals_at(totals: list[Totals], moment: int) -> Totals:
     """Returns the totals at a time (ns), interpolated linearly between two reports. They are 0
-    at time 0."""
+    at time 0.
+    """
     place = bisect_left([it.moment for it in totals], moment)
     if place == len(totals):
         return totals[-1]
@@ -129,7 +134,8 @@ class Pair(NamedTuple):
 
 class Compared(NamedTuple):
     """The numbers of the first and last compared readings, the time between them (ns), and the
-    growth of each file."""
+    growth of each file.
+    """
 
     first: int
     last: int
@@ -144,7 +150,8 @@ def growth(before: Totals, after: Totals) -> tuple[int, int]:
 
 def made_in(source: Source) -> dict[str, int]:
     """Returns the time (ns) at which each group was created during the recording, by path. For a
-    group that was created repeatedly it is the last time."""
+    group that was created repeatedly it is the last time.
+    """
     made = (it for it in source.events if isinstance(it, GroupMade) and not it.hierarchy)
     return {escaped_path(it.path): it.moment for it in made}
 
@@ -154,7 +161,8 @@ def first_totals(
 ) -> Totals | None:
     """Returns the totals from which a file's growth is counted: those of the first reading, or
     if its group had no files then because it wasn't accounted, those of the first reading that
-    has them. None if the group was created later, so that its totals began at 0."""
+    has them. None if the group was created later, so that its totals began at 0.
+    """
     is_new = file not in readings[0] and made.get(file.path, 0) > max(
         it.moment for it in readings[0].values()
     )
@@ -163,7 +171,8 @@ def first_totals(
 
 def readings_within(readings: Readings, start: int, end: int) -> list[int]:
     """Returns the numbers of the readings that lie entirely between `start` and `end` (ns of the
-    recording's clock)."""
+    recording's clock).
+    """
     return [
         number
         for number, files in readings.items()
@@ -176,7 +185,8 @@ def compared(
 ) -> Compared | None:
     """Compares all files that machine and replay have at the last reading of a trace from
     `start` to `end` (ns of the recording's clock). `made` has the times at which groups were
-    created. None if the trace has fewer than two readings."""
+    created. None if the trace has fewer than two readings.
+    """
     inside = readings_within(readings, start, end)
     if len(inside) < 2:
         return None

@@ -51,7 +51,8 @@ def kernel_of(folder: str) -> Kernel:
 def gaps_behind(processor: int, lost: int, gaps: list[Gap], last: Event | None) -> list[Gap]:
     """Returns the events that a processor lost after the last page that was read, as a gap. Only
     the statistics show them, which count all lost events. `gaps` are the known gaps, and `last`
-    is the last event."""
+    is the last event.
+    """
     behind = lost - sum(gap.lost for gap in gaps)
     return (
         [Gap(processor, last.moment if last else 0, NEVER, behind)]
@@ -62,7 +63,8 @@ def gaps_behind(processor: int, lost: int, gaps: list[Gap], last: Event | None) 
 
 def read_processors(folder: str, meta: Meta, source: Source) -> None:
     """Reads the pages of all processors, and merges their events by time. Events of one
-    processor remain in the order in which they were written."""
+    processor remain in the order in which they were written.
+    """
     kernel = kernel_of(folder)
     overrun = {} if meta.is_ring() else meta.lost("overrun")
     for processor in range(source.processors):
@@ -106,14 +108,16 @@ def first_moments(events: list[Event]) -> dict[int, int]:
 
 def first_moment(events: list[Event], word: str) -> int | None:
     """Returns the time (ns) of the recorder's first marker that begins with `word`, None if
-    there is none."""
+    there is none.
+    """
     return next((event.moment for event in events if is_marker(event, word)), None)
 
 
 def begin_ring(source: Source, start: int) -> None:
     """Skips the part of a flight recorder's ring that was partly overwritten. The trace begins
     after `start`, when all processors have events, at the next reading of the pressure files, so
-    that the totals to compare with are known."""
+    that the totals to compare with are known.
+    """
     whole_from = max([start, *first_moments(source.events).values()])
     source.events = [event for event in source.events if event.moment >= whole_from]
     if not source.events:
@@ -125,7 +129,8 @@ def begin_ring(source: Source, start: int) -> None:
 
 def tell_losses(source: Source, meta: Meta) -> None:
     """Adds the other losses: events that were lost at unknown times, and what followed an early
-    end."""
+    end.
+    """
     for line in LOST_STATS[1:]:
         for processor, count in sorted(meta.lost(line).items()):
             source.losses.append(f"cpu {processor}: {count} events by '{line}', nobody knows when")
@@ -142,7 +147,8 @@ def read_recording(
     folder: str, is_forced: bool, read: Callable[[str, Meta, Source], None] = read_processors
 ) -> Source:
     """Reads a folder by the function `read`. Unless `is_forced`, it rejects a recording without
-    an end, whose recorder was killed."""
+    an end, whose recorder was killed.
+    """
     meta = meta_of(folder)
     fault = meta.version_fault()
     if fault is None and meta.end() is None and not is_forced:

@@ -3,7 +3,8 @@ processors in slices of time.
 
 A *survey* first reads what must be known of the whole recording before the first slice: the rare
 events, the first and the last event of each processor and the first of each kind, the losses,
-and the tasks that never leave a processor."""
+and the tasks that never leave a processor.
+"""
 from __future__ import annotations
 
 import contextlib
@@ -50,7 +51,8 @@ MOMENT = itemgetter(0)
 
 class WaitingSwitch(Switch):
     """A switch that begins a wait for IO, as the probe right before it reported. The probe
-    itself is dropped."""
+    itself is dropped.
+    """
 
     __slots__ = ()
 
@@ -73,7 +75,8 @@ def reader_of(
     forms: dict[str, Format], name: str, fields: tuple[str, ...]
 ) -> tuple[int, IntegerReader]:
     """Returns an event's number, and a reader for these fields of its records. If the recording
-    doesn't have the event, the number is -1 and the reader reads nothing."""
+    doesn't have the event, the number is -1 and the reader reads nothing.
+    """
     form = forms.get(name)
     return (
         (form.number, integers_of(form, fields))
@@ -84,7 +87,8 @@ def reader_of(
 
 class Reader:
     """Reads the pages of one processor's file part by part. `gaps` are the gaps in the pages
-    that were read, and `rest` is the number of bytes after the last whole page."""
+    that were read, and `rest` is the number of bytes after the last whole page.
+    """
 
     def __init__(
         self,
@@ -178,7 +182,8 @@ class Reader:
 
 class Surveyed:
     """The result of surveying a processor: its rare events, the tasks that were switched to and
-    from, and its last event."""
+    from, and its last event.
+    """
 
     def __init__(self, reader: Reader) -> None:
         self.rare: list[Event] = []
@@ -197,7 +202,8 @@ class Surveyed:
 
     def take(self, reader: Reader, data: bytes) -> None:
         """Surveys the next pages. The first event of each frequent kind is stored like a rare
-        one."""
+        one.
+        """
         records, processor, seen, leave, come = (
             reader.records,
             reader.processor,
@@ -240,7 +246,8 @@ class Surveyed:
 
 def survey_share(readers: list[Reader], own: Connection, others: list[Connection]) -> None:
     """Surveys some of the processors in a process of its own, and sends the result, or why
-    something can't be read. The process ends when the other end of the connection is closed."""
+    something can't be read. The process ends when the other end of the connection is closed.
+    """
     signal.signal(signal.SIGINT, signal.SIG_IGN)
     for line in others:
         line.close()
@@ -254,7 +261,8 @@ def survey_share(readers: list[Reader], own: Connection, others: list[Connection
 
 def end_with(line: Connection) -> None:
     """Ends this process when the other end of the connection is closed. That end never sends
-    anything."""
+    anything.
+    """
     with contextlib.suppress(EOFError, OSError):
         line.recv()
     os._exit(1)
@@ -293,7 +301,8 @@ def share_from(line: Connection) -> list[Surveyed]:
 class Survey:
     """Reads the folder of a recording twice: first the rare events, in several processes if the
     recording is large, and then all events in slices. `silent` are the tasks that were switched
-    to and never leave."""
+    to and never leave.
+    """
 
     def __init__(self, folder: str, is_large: bool) -> None:
         self.folder, self.is_large, self.silent = folder, is_large, set[int]()
@@ -333,7 +342,8 @@ class Survey:
 
     def slices(self, whole_from: int) -> Iterator[list[Event]]:
         """Yields the events in slices, from the time `whole_from` (ns) at which they are
-        complete."""
+        complete.
+        """
         for events in slices_of(self.readers()):
             yield (
                 events
@@ -347,7 +357,8 @@ class Survey:
 
 def slices_of(readers: list[Reader]) -> Iterator[list[Event]]:
     """Yields the events of all processors in order of time, in slices. All slices but the last
-    cover at least LEAST_SLICE ns."""
+    cover at least LEAST_SLICE ns.
+    """
     events: list[Event] = []
     for part in parts_of(readers):
         events += part
@@ -359,7 +370,8 @@ def slices_of(readers: list[Reader]) -> Iterator[list[Event]]:
 
 def parts_of(readers: list[Reader]) -> Iterator[list[Event]]:
     """Yields the events in parts, which may be short: a part ends where the first processor has
-    no more events in memory."""
+    no more events in memory.
+    """
     waiting: dict[int, list[Event]] = {place: [] for place in range(len(readers))}
     ended: set[int] = set()
     boundary = 0

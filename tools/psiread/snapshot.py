@@ -13,7 +13,8 @@ NUMBER = re.compile("[0-9]{1,18}")
 
 def snapshot_of(folder: str) -> Snapshot:
     """Parses the snapshot. Malformed lines are ignored, since a task's name may contain
-    anything."""
+    anything.
+    """
     snapshot, text = Snapshot(), text_of(folder, SNAPSHOT)
     for words in (line.split(" ", 6) for line in text.split("\n")):
         if words == [SNAPSHOT_END]:

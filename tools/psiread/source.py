@@ -1,5 +1,6 @@
 """The input of a conversion, in the same form for pages and for text: events in one order,
-losses, and what else is known of the recording."""
+losses, and what else is known of the recording.
+"""
 from __future__ import annotations
 
 from collections import Counter
@@ -17,7 +18,8 @@ class Unreadable(Fault):
 
 class ListedTask(NamedTuple):
     """A thread of a snapshot: its process, the letter of its state, its processor, its group's
-    path as in a trace, and its name."""
+    path as in a trace, and its name.
+    """
 
     process: int
     state: str
@@ -29,7 +31,8 @@ class ListedTask(NamedTuple):
 @dataclass
 class Snapshot:
     """A snapshot taken during the recording at `moment` (ns): groups with their preferences,
-    their types if the recorder wrote these, groups whose pressure isn't accounted, and threads."""
+    their types if the recorder wrote these, groups whose pressure isn't accounted, and threads.
+    """
 
     moment: int = 0
     groups: dict[str, str] = field(default_factory=dict)
@@ -44,7 +47,8 @@ class Snapshot:
 @dataclass
 class Source:
     """A recording. Times are in ns of the recording's own clock; adding `realtime` gives ns
-    since 1970."""
+    since 1970.
+    """
 
     events: list[Event]
     processors: int

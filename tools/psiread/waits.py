@@ -1,6 +1,7 @@
 """Finds the sleeps that were waits for IO. The kernel counts those during which the task's
 `in_iowait` is set, and not every sleep in state D: on a journaling file system a third to a half
-of the latter don't count."""
+of the latter don't count.
+"""
 from __future__ import annotations
 
 from collections.abc import Callable, Sequence
@@ -22,7 +23,8 @@ class Method(Enum):
 
 def best_method(events: Sequence[Event], has_probe: bool) -> Method:
     """Returns the most exact method that the recording supports. A probe that was on but never
-    wrote means that nothing waited."""
+    wrote means that nothing waited.
+    """
     kinds = {type(event) for event in events}
     if has_probe or SwitchProbe in kinds:
         return Method.PROBE
@@ -32,7 +34,8 @@ def best_method(events: Sequence[Event], has_probe: bool) -> Method:
 def by_probe(events: Sequence[Event], told: dict[int, SwitchProbe] | None = None) -> set[int]:
     """Returns the indices of the switches that begin a wait for IO, by the probe right before
     each on the same processor. If events are read in parts, pass the same `told` for each part:
-    it has the probes whose switch is still to come, by processor."""
+    it has the probes whose switch is still to come, by processor.
+    """
     waits: set[int] = set()
     told = {} if told is None else told
     for place, event in enumerate(events):
@@ -47,7 +50,8 @@ def by_probe(events: Sequence[Event], told: dict[int, SwitchProbe] | None = None
 
 def by_statistics(events: Sequence[Event]) -> set[int]:
     """Returns the indices of the switches that begin a wait for IO, by the events that report
-    the end of such a sleep before its wakeup."""
+    the end of such a sleep before its wakeup.
+    """
     waits: set[int] = set()
     asleep: dict[int, int] = {}
     for place, event in enumerate(events):

@@ -1,5 +1,6 @@
 """Selects the part of a recording that is converted: a window of time, and in it a stretch
-without losses."""
+without losses.
+"""
 from __future__ import annotations
 
 from collections import Counter
@@ -23,13 +24,15 @@ class Window(NamedTuple):
 
 def overlapping(gaps: Iterable[Gap], window: Window) -> list[Gap]:
     """Returns the gaps that touch the window. A gap begins at the last event before the loss,
-    and ends at the first event after it."""
+    and ends at the first event after it.
+    """
     return [gap for gap in gaps if gap.end > window.start and gap.start < window.end]
 
 
 def longest_stretch(gaps: Iterable[Gap], window: Window) -> Window:
     """Returns the longest part of the window without loss on any processor, the first if several
-    are equally long."""
+    are equally long.
+    """
     best, start = Window(window.start, window.start), window.start
     for gap in sorted(gaps, key=lambda it: it.start):
         stretch = Window(start, min(max(gap.start, start), window.end))

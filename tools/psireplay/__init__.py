@@ -1,2 +1,3 @@
 """Code that the tools share for replays: running psi_oomd, parsing the lines that `replay`
-prints, and reading traces, rules files and memory samples."""
+prints, and reading traces, rules files and memory samples.
+"""

@@ -30,7 +30,8 @@ class Group:
     """A group from its creation to its removal (`made` and `removed`, ns). Groups are numbered
     in the order of their creation, and the root is 0. `life` counts the groups with the same
     path, from 1. `counted` has the numbers of this group and its ancestors whose accounting is
-    on: a task of the group counts in these."""
+    on: a task of the group counts in these.
+    """
 
     __slots__ = (
         "path", "number", "parent", "life", "made", "removed", "is_accounted", "counted",
@@ -69,7 +70,8 @@ class Group:
     def whole_sample(self) -> Sample | None:
         """Returns the group's last sample. A group without a sample of its own has the sum of
         its children's, since the kernel charges a child's memory to its parent too. None without
-        any sample."""
+        any sample.
+        """
         if self.sample or self.path == ROOT:
             return self.sample
         below = [it for it in (child.whole_sample() for child in self.children.values()) if it]
@@ -87,7 +89,8 @@ class Groups:
     """All groups of the trace up to the current event, by number, and the live ones by path; the
     number of groups created with each path; the host's last sample, and the number of samples.
     Events must be in order of time: `now` is the time (ns) of the last one. Tools override
-    `pass_to`, `made` and `removed`."""
+    `pass_to`, `made` and `removed`.
+    """
 
     def __init__(self) -> None:
         self.now = 0
@@ -114,7 +117,8 @@ class Groups:
 
     def pass_to(self, moment: int) -> None:
         """Called before time advances to `moment` (ns), the next event's time. Nothing changed
-        since `now`."""
+        since `now`.
+        """
 
     def made(self, group: Group) -> None:
         """Called after `group` was created."""
@@ -165,12 +169,14 @@ class Groups:
 
     def name(self, group: Group) -> str:
         """Returns the group's path. If several groups had it, `#` and the number of this one
-        among them follow. No path contains a `#`."""
+        among them follow. No path contains a `#`.
+        """
         return group.path if self.counts[group.path] == 1 else f"{group.path}#{group.life}"
 
     def named(self, word: str) -> list[Group]:
         """Returns the groups with the path `word`, or the one that PATH#N names. Raises a Fault
-        if there never was such a group."""
+        if there never was such a group.
+        """
         path, _, life = word.partition("#")
         found = [it for it in self.all if it.path == path and (not life or str(it.life) == life)]
         if not found:

@@ -1,5 +1,6 @@
 """Recognises files of an unexpected kind, so that a message can say what a file is and what to
-do."""
+do.
+"""
 from __future__ import annotations
 
 import os
@@ -20,7 +21,8 @@ TRACE, RULES, REPLAY, JSON = (
 
 class Kind(NamedTuple):
     """A kind of file, and advice on how to use such a file. `{name}` in the advice is replaced
-    by its name."""
+    by its name.
+    """
 
     what: str
     advice: str = ""
@@ -62,7 +64,8 @@ def kind_of(head: bytes) -> Optional[Kind]:
 
 def file_kind(path: str) -> Optional[Kind]:
     """Returns the kind of a regular file, or None if it isn't known. Other files aren't opened,
-    since a pipe can't be read twice."""
+    since a pipe can't be read twice.
+    """
     if not os.path.isfile(path):
         return None
     try:
@@ -74,7 +77,8 @@ def file_kind(path: str) -> Optional[Kind]:
 
 def told_kind(kind: Optional[Kind], expected: str, name: str) -> str:
     """Says what a file is instead of what was expected, as the end of a message. Empty if that
-    isn't known or the file is as expected."""
+    isn't known or the file is as expected.
+    """
     if not kind or (kind.what, expected) in ((expected, expected), (JSON, RULES)):
         return ""
     advice = kind.advice.format(name=name)
@@ -87,13 +91,15 @@ def told_kind(kind: Optional[Kind], expected: str, name: str) -> str:
 
 def what_it_is(path: str, expected: str, name: Optional[str] = None) -> str:
     """Says what the file at `path` is instead of what was expected. Empty if that isn't known.
-    `name` is the name that messages use, if it isn't the path."""
+    `name` is the name that messages use, if it isn't the path.
+    """
     return told_kind(file_kind(path), expected, path if name is None else name)
 
 
 def why_refused(said: str, path: str, name: Optional[str] = None) -> str:
     """Returns the program's message about a trace or rules. If it rejected the very beginning of
-    the file, the message also says what the file is instead."""
+    the file, the message also says what the file is instead.
+    """
     expected = (
         TRACE if said.startswith("trace line 1: ") else RULES if said.endswith("BadJson") else ""
     )

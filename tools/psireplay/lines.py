@@ -93,7 +93,8 @@ def pressure_of(fields: tuple[str, ...]) -> Pressure:
 
 class Reader:
     """Parses line after line. It stores a report's head and its line `some` until the report is
-    complete."""
+    complete.
+    """
 
     def __init__(self) -> None:
         self.head: Optional[tuple[str, str, str]] = None
@@ -112,7 +113,8 @@ class Reader:
 
     def take(self, line: str) -> Optional[Line]:
         """Parses a line. Returns the item that it completes, or None if it completes none.
-        Raises ValueError if replay can't print the line at this point."""
+        Raises ValueError if replay can't print the line at this point.
+        """
         verb = line.partition(" ")[0]
         found = FORMS[verb].fullmatch(line) if verb in FORMS and self.is_in_place(verb) else None
         if not found:
@@ -146,7 +148,8 @@ class Reader:
 
 def refused(number: int, text: bytes) -> Fault:
     """Returns the error that replay can't print this line here. For the first line it also says
-    what the input is instead."""
+    what the input is instead.
+    """
     found = told_kind(kind_of(text), REPLAY, "FILE") if number == 1 else ""
     if found:
         return Fault(f"the input: {found}")
@@ -156,7 +159,8 @@ def refused(number: int, text: bytes) -> Fault:
 
 def read(printed: Iterable[bytes]) -> Iterator[Line]:
     """Yields the items of a replay's output, without the lines of live clocks. Raises a Fault at
-    a line that replay can't print there, or if the last line is missing."""
+    a line that replay can't print there, or if the last line is missing.
+    """
     reader = Reader()
     number = 0
     for number, text in enumerate(printed, 1):

@@ -1,6 +1,7 @@
 """Runs psi_oomd for tools and tests: the program that the variable PSI_OOMD names, or else the
 launcher in the folder above the tools. In a checkout the launcher builds the program; in an
-installation it is next to the program."""
+installation it is next to the program.
+"""
 from __future__ import annotations
 
 import os
@@ -36,7 +37,8 @@ NOTED = "PSI_OOMD_IS_NOTED"
 
 def named_program() -> str:
     """Returns the name of the program in PSI_OOMD, or the launcher's. It warns once per run if
-    that program isn't proved."""
+    that program isn't proved.
+    """
     name = os.environ.get(VARIABLE) or LAUNCHER
     if name.endswith(UNPROVED) and not os.environ.get(NOTED):
         os.environ[NOTED] = "1"
@@ -60,7 +62,8 @@ def built_program(launcher: str = LAUNCHER) -> str:
     launcher reports a build on standard error.
 
     The launcher checks all sources at each start, so a program that is run more than once is run
-    without the launcher."""
+    without the launcher.
+    """
     done = subprocess.run([launcher, "--build"], stdout=subprocess.PIPE, encoding="utf-8")
     if done.returncode:
         raise Fault(f"{launcher} couldn't be built: {ADVICE}")
@@ -69,7 +72,8 @@ def built_program(launcher: str = LAUNCHER) -> str:
 
 def start(words: list[str], notes: IO[bytes]) -> subprocess.Popen[bytes]:
     """Starts the program with pipes as standard input and output. Standard error goes into the
-    file `notes`."""
+    file `notes`.
+    """
     path = program_path()
     try:
         path = built_program() if path == LAUNCHER else path
@@ -83,7 +87,8 @@ def start(words: list[str], notes: IO[bytes]) -> subprocess.Popen[bytes]:
 def finish(run: subprocess.Popen[bytes], notes: IO[bytes], what: str, name: str) -> str:
     """Waits for a run, and returns what it printed. Raises a Fault if its status isn't 0, with
     the program's own message and what the file is instead. The message calls the file `what` and
-    by its `name`."""
+    by its `name`.
+    """
     assert run.stdin and run.stdout
     try:
         run.stdin.close()
@@ -104,7 +109,8 @@ def finish(run: subprocess.Popen[bytes], notes: IO[bytes], what: str, name: str)
 
 def opened(name: str) -> IO[bytes]:
     """Opens a file for reading. Raises a Fault if it can't be opened, in the program's words if
-    it doesn't exist."""
+    it doesn't exist.
+    """
     try:
         return open(name, "rb")
     except FileNotFoundError:
@@ -132,7 +138,8 @@ def accepted_rules(name: str) -> bytes:
 
 class CheckedTrace:
     """The lines of a trace, each passed on to `psi_oomd check`. If that rejects the trace, the
-    last line is followed by a Fault."""
+    last line is followed by a Fault.
+    """
 
     def __init__(self, name: str) -> None:
         self.name = name

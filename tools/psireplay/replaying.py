@@ -1,5 +1,6 @@
 """Provides the output of a replay to tools that accept either a trace or what `psi_oomd replay`
-printed."""
+printed.
+"""
 from __future__ import annotations
 
 import contextlib
@@ -54,7 +55,8 @@ def must_have_trace(trace: Optional[str], values: Mapping[str, Any]) -> None:
 def replayed(trace: Optional[str], values: Mapping[str, Any], report_s: int) -> Iterator[IO[bytes]]:
     """Yields the output of a replay: of `trace` with reports every `report_s` seconds, or
     without a trace the standard input. Raises a Fault at the end if the program rejects the
-    trace or the rules."""
+    trace or the rules.
+    """
     must_have_trace(trace, values)
     if trace is None:
         with open(0, "rb", closefd=False) as printed:

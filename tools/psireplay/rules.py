@@ -2,7 +2,8 @@
 show.
 
 The program validates a file first, so a file that is read here has the form that docs/RULES.md
-describes."""
+describes.
+"""
 from __future__ import annotations
 
 import fnmatch
@@ -30,7 +31,8 @@ class Plugin(NamedTuple):
 
     def may_kill(self, path: str) -> bool:
         """Whether an action of this kind can choose `path`: it matches the path, or the action
-        is recursive and matches an ancestor."""
+        is recursive and matches an ancestor.
+        """
         above = [path[:place] for place, letter in enumerate(path) if letter == "/" and place]
         goes_down = self.args.get("recursive", "false") in TRUTHS
         return self.covers(path) or goes_down and any(self.covers(it) for it in ["/", *above])
@@ -60,7 +62,8 @@ def does_match(pattern: str, path: str) -> bool:
     """Whether `pattern` matches `path`: both have the same number of components, and `*` matches
     any string within a component.
 
-    `?` and `[` would be special here, but no pattern that the program accepts contains them."""
+    `?` and `[` would be special here, but no pattern that the program accepts contains them.
+    """
     if pattern == "/" or path == "/":
         return pattern == path
     parts, names = pattern.lstrip("/").split("/"), path[1:].split("/")
@@ -84,7 +87,8 @@ def ruleset_of(value: Any) -> Ruleset:
 
 def unmatched(rulesets: list[Ruleset], paths: set[str]) -> list[str]:
     """Returns the patterns that match none of `paths`, each with its ruleset. Such a rule does
-    nothing on these groups."""
+    nothing on these groups.
+    """
     found = []
     for ruleset in rulesets:
         patterns = [
@@ -109,7 +113,8 @@ class Rules:
 
     def killer(self, kill: Kill) -> Killer:
         """Returns the ruleset and plugin that made a kill. Raises a Fault if no action of these
-        rules can have made it, because the replay was by other rules."""
+        rules can have made it, because the replay was by other rules.
+        """
         ruleset = self.rulesets[kill.ruleset] if kill.ruleset < len(self.rulesets) else None
         which = f"ruleset {kill.ruleset}, action {kill.action}"
         if not ruleset or kill.action >= len(ruleset.actions):
@@ -129,7 +134,8 @@ class Rules:
 
 def size(text: str, host: Optional[int]) -> Optional[int]:
     """Parses a size, and returns bytes. A percentage refers to `host`, the host's memory
-    (bytes); the result is None if that isn't known."""
+    (bytes); the result is None if that isn't known.
+    """
     if text.endswith("%"):
         return None if host is None else host * int(text[:-1]) // 100
     power = POWERS.get(text[-1].upper(), 0)

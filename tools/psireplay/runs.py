@@ -21,7 +21,8 @@ PROGRAM = "psi_oomd"
 class Done(NamedTuple):
     """A command that was run: its number on the page, its words, its exit status, what it wrote
     to standard error, its output, and the contents of the file that was made for it, empty if
-    there was none."""
+    there was none.
+    """
 
     number: int
     words: str
@@ -41,14 +42,16 @@ class Done(NamedTuple):
 
 def refused_file(words: list[str], said: str) -> str:
     """Returns the name of the file that the program rejected: its rules, or else the trace,
-    which is the last of the words."""
+    which is the last of the words.
+    """
     rules = [word.partition("=")[2] for word in words if word.startswith("--rules=")]
     return rules[0] if rules and said.startswith("rules") else words[-1]
 
 
 class Runs:
     """Runs psi_oomd and the tools of this folder. Standard output goes into files, since a
-    replay's can be long."""
+    replay's can be long.
+    """
 
     def __init__(self) -> None:
         path = program_path()

@@ -2,7 +2,8 @@
 the details, and the second removes it.
 
 Such a trace has the pressure of groups, but its tasks, its processors and its context switches
-are synthetic. Every tool that needs real ones calls this module, and rejects such a trace."""
+are synthetic. Every tool that needs real ones calls this module, and rejects such a trace.
+"""
 from __future__ import annotations
 
 import os
@@ -26,7 +27,8 @@ class Sampled(NamedTuple):
     """The contents of a mark: the interval between samples and the longest gap (ns), and whether
     scanned pages were sampled. For traces that were made together also the set's number, the
     part's number from 1, the time (ns) in the set at which the part begins, and the time (ns) in
-    the part up to which the previous part has the kills."""
+    the part up to which the previous part has the kills.
+    """
 
     every: int
     gap: int
@@ -87,7 +89,8 @@ def sampled_in(data: bytes) -> Optional[Sampled]:
 
 def sampled(name: str) -> Optional[Sampled]:
     """Returns the mark of a trace. None if it has no mark, or if it can't be read: the next
-    reader reports why. `-` is the standard input, if that is a file."""
+    reader reports why. `-` is the standard input, if that is a file.
+    """
     try:
         if name == "-":
             return sampled_in(os.pread(0, MOST_BYTES, 0))
@@ -99,13 +102,15 @@ def sampled(name: str) -> Optional[Sampled]:
 
 def refusal(name: str, found: Sampled, what: str) -> str:
     """Returns the message that rejects a trace of samples. `what` is what the tool needs and
-    such a trace doesn't have."""
+    such a trace doesn't have.
+    """
     return f"{name} was made of {found.interval()}: it doesn't say {what} (docs/SAMPLES.md)"
 
 
 def refuse_sampled(file: str, name: str, what: str) -> None:
     """Raises a Fault if the trace was made from samples. `what` is what the tool needs and such
-    a trace doesn't have."""
+    a trace doesn't have.
+    """
     found = sampled(file)
     if found:
         raise Fault(refusal(name, found, what))
@@ -113,7 +118,8 @@ def refuse_sampled(file: str, name: str, what: str) -> None:
 
 class Whole(NamedTuple):
     """A trace, or a set of traces that were made together from longer samples, named after its
-    first trace."""
+    first trace.
+    """
 
     name: str
     parts: list[tuple[str, Optional[Sampled]]]
@@ -134,7 +140,8 @@ def wholes(names: list[str]) -> list[Whole]:
 
 def time_in_whole(time: int, mark: Optional[Sampled]) -> Optional[int]:
     """Converts a time (ns) in a part to the time in the whole set. None if the previous part has
-    it too."""
+    it too.
+    """
     if mark is None:
         return time
     return mark.start + time if time >= mark.skip else None

@@ -21,7 +21,8 @@ class Sample(NamedTuple):
 
 class Life:
     """The samples of a group from its creation to its removal at `end` (ns), None if it was
-    never removed."""
+    never removed.
+    """
 
     def __init__(self) -> None:
         self.samples: list[Sample] = []

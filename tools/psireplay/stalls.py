@@ -1,6 +1,7 @@
 """Ranks groups by how long they stalled, from the totals that a replay printed. Apart from the
 root, only groups without children have tasks. An ancestor's stalls come from these groups, so
-only they are ranked."""
+only they are ranked.
+"""
 from __future__ import annotations
 
 from typing import Iterable, NamedTuple, Optional
@@ -14,14 +15,16 @@ RANKED = ("io", "memory", "cpu")
 
 class Stalls(NamedTuple):
     """A group, and for how long (us) some or all of its tasks were stalled, by resource and
-    level."""
+    level.
+    """
 
     path: str
     totals: dict[tuple[str, str], int]
 
     def rank(self) -> tuple[int, int]:
         """Returns the sort key: the longest time (us) in which all tasks waited for one
-        resource, and the longest in which some did."""
+        resource, and the longest in which some did.
+        """
         full, some = (
             max(self.totals.get((it, level), 0) for it in RANKED) for level in ("full", "some")
         )
@@ -31,7 +34,8 @@ class Stalls(NamedTuple):
 class Lives:
     """The growth of all groups' totals between two times (ns), from the reports after `start`
     and up to `end`. A group that is created again counts with the earlier group of the same
-    path."""
+    path.
+    """
 
     def __init__(self, start: int, end: float) -> None:
         self.start, self.end = start, end
@@ -55,7 +59,8 @@ class Lives:
 def ranked(printed: Iterable[bytes], start: int = -1, end: float = float("inf")) -> list[Stalls]:
     """Returns the groups without children in the output of a replay, sorted by how long they
     stalled between two times (ns), the longest first. Only the root if there are no other
-    groups."""
+    groups.
+    """
     lives = Lives(start, end)
     for line in read(printed):
         if isinstance(line, Report):

@@ -1,5 +1,6 @@
 """Reads a trace file: its header, its end, its groups and its events. It doesn't check the
-trace."""
+trace.
+"""
 from __future__ import annotations
 
 import io
@@ -39,7 +40,8 @@ def end_in(file: IO[bytes]) -> int | None:
 
 def end_of(trace: str, unknown: int = UNKNOWN) -> int:
     """Returns the end of a trace (ns), or `unknown` if the file can't be read or doesn't end
-    like a trace."""
+    like a trace.
+    """
     try:
         with open(trace, "rb") as file:
             end = end_in(file)
@@ -50,7 +52,8 @@ def end_of(trace: str, unknown: int = UNKNOWN) -> int:
 
 def groups_in(number: int) -> set[str]:
     """Returns the paths of all groups that a trace ever creates, and the root, without the group
-    of a mark. `number` is the file descriptor of the trace."""
+    of a mark. `number` is the file descriptor of the trace.
+    """
     with mmap.mmap(number, 0, access=mmap.ACCESS_READ) as data:
         found = GROUP.findall(data, len(mark_in(data[:MOST_BYTES])))
     return {"/", *(path.decode("latin-1") for path in found)}
@@ -58,7 +61,8 @@ def groups_in(number: int) -> set[str]:
 
 def groups_of(trace: str) -> set[str]:
     """Returns the paths of all groups that a trace ever creates, and the root. Only the root if
-    the file can't be read."""
+    the file can't be read.
+    """
     try:
         with open(trace, "rb") as file:
             return groups_in(file.fileno())

@@ -4,7 +4,8 @@ the verbs of docs/TRACES.md.
 The trace must be one that psi_oomd accepts. Tools override `leave` and `enter`, which are called
 before and after each change of a task, and add up what they need. Two other modules interpret
 lines too, both on purpose: psifold/world.py must reject what it can't fold, and psifold/check.py
-checks folded traces independently, so that an error here can't hide one there."""
+checks folded traces independently, so that an error here can't hide one there.
+"""
 from __future__ import annotations
 
 from collections.abc import Callable
@@ -21,7 +22,8 @@ NO_TASK = "0"
 
 class Task:
     """A task: its pid in the trace, its group, the processor on which it was last ready, its
-    state, and whether it is in a memory stall."""
+    state, and whether it is in a memory stall.
+    """
 
     __slots__ = ("pid", "group", "cpu", "state", "is_stalled")
 
@@ -35,7 +37,8 @@ T = TypeVar("T", bound=Task)
 
 class World(Groups, Generic[T]):
     """The groups and the tasks of a trace, and the task that runs on each processor. `create`
-    makes a task from its pid, its group and its processor."""
+    makes a task from its pid, its group and its processor.
+    """
 
     def __init__(self, create: Callable[[str, Group, int], T]) -> None:
         super().__init__()
@@ -53,7 +56,8 @@ class World(Groups, Generic[T]):
 
     def enter(self, task: T) -> None:
         """Called after the task was created or has changed: from now on it counts with its new
-        state."""
+        state.
+        """
 
     # ------------------------------------------------------------ verbs
 
@@ -109,7 +113,8 @@ class World(Groups, Generic[T]):
 
     def play_pressure(self, path: str, word: str) -> None:
         """Turns a group's accounting on or off, which changes how all tasks of the group and its
-        descendants count."""
+        descendants count.
+        """
         group = self.live[path]
         if group.is_accounted == (word == "on"):
             return

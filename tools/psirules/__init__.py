@@ -1,2 +1,3 @@
 """The parts of tools/rules and tools/fleet. None of these modules computes pressure or kills
-itself."""
+itself.
+"""

@@ -16,7 +16,8 @@ RULESETS = {"rulesets": [{"name": it, "actions": [{"name": NAME}]} for it in BY]
 
 class BySystemd(RulesFile):
     """The rules of systemd-oomd, in place of a rules file: a ruleset for memory pressure and one
-    for swap."""
+    for swap.
+    """
 
     def __init__(self, folder: str) -> None:
         super().__init__(folder, json.dumps(RULESETS).encode())
@@ -41,7 +42,8 @@ def replays(
     program: Program, folder: str, version: int | None, traces: Traces
 ) -> list[list[Kill] | Fault]:
     """Returns the kills in each trace, or why it couldn't be replayed. Raises a Fault at a bad
-    setting."""
+    setting.
+    """
     for note in Settings(folder, version).notes:
         complain(note)
     return traces.each(functools.partial(replay, program, folder, version))

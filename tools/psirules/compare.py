@@ -33,7 +33,8 @@ STATUS = (
 @dataclass(frozen=True)
 class Difference:
     """How the kills of a trace differ between OLD and NEW: a word for the kind of difference,
-    the first kill that differs by each of the two, and the difference in a sentence."""
+    the first kill that differs by each of the two, and the difference in a sentence.
+    """
 
     word: str
     old: Kill | None

@@ -61,19 +61,22 @@ class Expectation(ABC):
     @abstractmethod
     def verdict(self, kills: list[Kill], rules: RulesFile) -> Verdict:
         """Decides whether the kills, in the order in which they were printed, meet the
-        expectation."""
+        expectation.
+        """
 
     def check(self, rules: RulesFile) -> None:
         """Raises a Fault if the expectation can't be checked with these rules."""
 
     def pattern_needed(self) -> str | None:
         """Returns the path or pattern that some group of each trace must match, None if there is
-        none. If no group matches, the expectation can't be checked on that trace."""
+        none. If no group matches, the expectation can't be checked on that trace.
+        """
         return None
 
     def missing(self, groups: set[str]) -> str | None:
         """Says that no group of a trace matches the pattern, with the groups that were probably
-        meant. None if one matches."""
+        meant. None if one matches.
+        """
         pattern = self.pattern_needed()
         if pattern is None or any(matches(pattern, path) for path in groups):
             return None
@@ -83,7 +86,8 @@ class Expectation(ABC):
 @dataclass(frozen=True)
 class First(Expectation):
     """The first kill, or another at the same time, is of this path, and between two times (ns),
-    both inclusive."""
+    both inclusive.
+    """
 
     path: str
     start: int
@@ -139,7 +143,8 @@ class KilledBy(Expectation):
 @dataclass(frozen=True)
 class NoKillOf(Expectation):
     """No kill is of a group that the pattern matches. `may_be_absent` says that a trace may have
-    no such group."""
+    no such group.
+    """
 
     pattern: str
     may_be_absent: bool
@@ -221,7 +226,8 @@ def read_line(line: int, text: str) -> Expectation:
 
 def read(name: str, data: bytes) -> list[Expectation]:
     """Parses a WANT file. A comment begins with a `#` at the start of a line or after a space,
-    and ends with the line."""
+    and ends with the line.
+    """
     wanted = []
     for number, line in enumerate(data.decode("utf-8", "replace").splitlines(), 1):
         text = " ".join(re.sub(r"(^|\s)#.*", "", line).split())

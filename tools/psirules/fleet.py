@@ -1,5 +1,6 @@
 """Replays many traces with one rules file on one or many machines, using GNU parallel. See
-`tools/fleet --help`."""
+`tools/fleet --help`.
+"""
 import argparse
 import collections
 import os
@@ -43,7 +44,8 @@ LOGGED = re.compile(r"^([0-9]+)\t([^\t]*)(?:\t[0-9. ]*){4}\t(-?[0-9]+)\t", re.MU
 @dataclass
 class Answer:
     """The result for a trace: the lines of its replay, other output of its host, and how the job
-    ended."""
+    ended.
+    """
 
     lines: list[str] = field(default_factory=list)
     said: list[str] = field(default_factory=list)
@@ -57,7 +59,8 @@ class Answer:
 
 def command(given: argparse.Namespace, options: list[str]) -> list[str]:
     """Returns the command line of parallel. Each line of its output has a job's number, a tab,
-    and a line with a kill, the end, or an error."""
+    and a line with a kill, the end, or an error.
+    """
     rules = os.path.abspath(given.rules)
     replay = [
         program_path(),
@@ -89,7 +92,8 @@ def command(given: argparse.Namespace, options: list[str]) -> list[str]:
 
 def parted(path: str) -> str:
     """Returns the path in parallel's notation for a file that is copied into the folder of its
-    job, under the last component of its path."""
+    job, under the last component of its path.
+    """
     return os.path.join(os.path.dirname(path), ".", os.path.basename(path))
 
 
@@ -101,7 +105,8 @@ def names_of(given: argparse.Namespace, traces: list[str]) -> bytes:
 
 def overhear(end: int, found: list[Answer]) -> None:
     """Reads parallel's standard error from the file descriptor `end`, and stores lines about
-    jobs. Other text is printed at once, even without a newline, since `--eta` writes none."""
+    jobs. Other text is printed at once, even without a newline, since `--eta` writes none.
+    """
     held = ""
     with os.fdopen(end, "rb", 0) as pipe:
         while piece := pipe.read(65536).decode("utf-8", "replace"):
@@ -156,7 +161,8 @@ def answers(given: argparse.Namespace, options: list[str], traces: list[str]) ->
 
 def summary(given: argparse.Namespace, traces: list[str], found: list[Answer]) -> dict[str, object]:
     """Counts the results. Traces made together from the same samples count as one, and a kill in
-    the time that two of them share counts once."""
+    the time that two of them share counts once.
+    """
     rules = RulesFile(given.rules, bytes_of(given.rules))
     rulesets: collections.Counter[str] = collections.Counter()
     paths: collections.Counter[str] = collections.Counter()

@@ -1,5 +1,6 @@
 """The values of arguments: which ones psi_oomd accepts, and how oomd 0.5.0 reads others that it
-accepts."""
+accepts.
+"""
 import re
 from dataclasses import dataclass
 from decimal import Decimal
@@ -21,7 +22,8 @@ LEADING = re.compile(r"\s*\+?([0-9]+)")
 @dataclass(frozen=True)
 class Repair:
     """A text that psi_oomd accepts in place of a text that only oomd accepts, the reason, and
-    whether the meaning changes."""
+    whether the meaning changes.
+    """
 
     text: str
     why: str
@@ -30,7 +32,8 @@ class Repair:
 
 def spelled(value: object) -> str | None:
     """Returns an argument's value as a string, as both programs read it. None if it is neither a
-    string, a number nor a boolean."""
+    string, a number nor a boolean.
+    """
     if isinstance(value, bool):
         return "true" if value else "false"
     return (
@@ -66,7 +69,8 @@ def is_valid(form: Form, text: str) -> bool:
 
 def size(text: str) -> int | None:
     """Parses a size that isn't a percentage, and returns bytes. None if it is malformed or too
-    large."""
+    large.
+    """
     found = re.fullmatch(WHOLE + r"(?:(\.[0-9]{1,3})?([KMGTkmgt]))?", text)
     if not found:
         return None
@@ -76,7 +80,8 @@ def size(text: str) -> int | None:
 
 def size_text(count: int) -> str:
     """Formats a number of bytes with a letter, since oomd reads a number without a letter as
-    megabytes. The result is rounded up to a thousandth of a KiB, about a byte."""
+    megabytes. The result is rounded up to a thousandth of a KiB, about a byte.
+    """
     for letter, unit in reversed(UNITS.items()):
         if letter and count % unit == 0:
             return f"{count // unit}{letter}" if count else "0"
@@ -86,7 +91,8 @@ def size_text(count: int) -> str:
 
 def oomd_size(text: str) -> int | None:
     """Parses a size as oomd does, with several parts, spaces or more decimals, such as `1.5M 32K
-    512`. Returns bytes, or None if it is malformed."""
+    512`. Returns bytes, or None if it is malformed.
+    """
     joined = "".join(text.split()).lower().removeprefix("+")
     parts = re.findall(r"([0-9]+\.?[0-9]*|\.[0-9]+)([kmgt]?)", joined)
     if not parts or "".join(number + letter for number, letter in parts) != joined:
@@ -98,7 +104,8 @@ def oomd_size(text: str) -> int | None:
 
 def repair(form: Form, text: str) -> Repair | None:
     """Returns the replacement for a text that psi_oomd rejects, or reads differently from oomd.
-    None if none is needed or possible."""
+    None if none is needed or possible.
+    """
     if form is Form.SIZE:
         return repair_size(text)
     if is_valid(form, text):
@@ -114,7 +121,8 @@ def repair(form: Form, text: str) -> Repair | None:
 
 def repair_size(text: str) -> Repair | None:
     """Returns the replacement for a size: oomd reads a bare number as megabytes, and only the
-    whole part of a percentage."""
+    whole part of a percentage.
+    """
     found = LEADING.match(text)
     if text.endswith("%"):
         is_known = is_valid(Form.SIZE, text) or not found or int(found[1]) > 100
@@ -146,7 +154,8 @@ def repair_ratio(text: str) -> Repair | None:
 
 def repair_patterns(text: str) -> Repair | None:
     """Returns the replacement for patterns: oomd ignores empty patterns and empty components,
-    and accepts a shell's wildcards."""
+    and accepts a shell's wildcards.
+    """
     patterns = []
     for pattern in text.split(","):
         parts = [part for part in pattern.strip().split("/") if part]

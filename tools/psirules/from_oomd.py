@@ -69,7 +69,8 @@ class Nearest:
 
     def group(self, use: GroupUse) -> list[Any] | None:
         """Converts a group of detectors. None if rules can't express one of them, so that the
-        group never fires."""
+        group never fires.
+        """
         made: list[Any] = [use.name]
         for it in use.detectors:
             if it.name in NOTHING:
@@ -180,7 +181,8 @@ class Nearest:
 
     def patterns(self, place: str, text: str) -> str:
         """Returns patterns whose only wildcard is `*`. A pattern with others becomes a wider
-        one; a pattern that can't match any group of a trace is left out."""
+        one; a pattern that can't match any group of a trace is left out.
+        """
         found = []
         for pattern in split(text, ","):
             plain = "/".join(split(without_braces("/".join(split(pattern, "/"))), "/")) or "/"

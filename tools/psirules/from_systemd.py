@@ -1,5 +1,6 @@
 """tools/rules from-systemd: converts the settings of systemd-oomd to the nearest rules of
-psi_oomd."""
+psi_oomd.
+"""
 import argparse
 import re
 import sys
@@ -32,7 +33,8 @@ SWAP_LIMIT, PRESSURE_LIMIT, LENGTH = "SwapUsedLimit", "DefaultMemoryPressureLimi
 @dataclass(frozen=True)
 class Place:
     """A unit, or several units whose groups a pattern matches, and whether these groups are
-    expected to have children."""
+    expected to have children.
+    """
 
     name: str
     pattern: str
@@ -41,7 +43,8 @@ class Place:
 
     def inner(self) -> str:
         """Returns the pattern of the groups among which a victim is chosen: the children, or the
-        group alone."""
+        group alone.
+        """
         if self.pattern == ROOT:
             return "*"
         return f"{self.pattern}/*" if self.has_groups else self.pattern
@@ -53,7 +56,8 @@ class Place:
 
 def slices(name: str) -> str:
     """Returns the pattern of a slice, which contains the slices above it: a.slice/a-b.slice for
-    a-b.slice."""
+    a-b.slice.
+    """
     parts = name.removesuffix(".slice").replace("%i", "*").split("-")
     if not any(parts):
         return ROOT
@@ -63,7 +67,8 @@ def slices(name: str) -> str:
 
 def pattern_of(name: str, unit: Unit, is_users: bool) -> str | None:
     """Returns the pattern of the groups of a unit that only unit files name. None if they don't
-    say where its groups are."""
+    say where its groups are.
+    """
     stem, _, kind = name.rpartition(".")
     if kind == "scope":
         return None
@@ -107,7 +112,8 @@ class Nearest:
 
     def named(self, is_users: bool) -> Iterator[Place]:
         """Yields the watched units that are named only in unit files, and notes the units that
-        no rule can watch."""
+        no rule can watch.
+        """
         files: UnitFiles = self.settings.files[is_users]
         known = {name for name, _ in self.settings.shown.values()} if not is_users else set()
         known |= {template for name in known if (template := template_of(name))}
@@ -134,7 +140,8 @@ class Nearest:
 
     def whole(self, hundredths: int, place: str) -> int:
         """Rounds a share in hundredths of a percent to a whole percentage, as thresholds must
-        be, and notes the loss."""
+        be, and notes the loss.
+        """
         nearest = (hundredths + HUNDREDTHS // 2) // HUNDREDTHS
         if hundredths % HUNDREDTHS:
             self.tell(f"{place}: a limit of {percent(hundredths)}: thresholds are whole, so it is written {nearest} %", True)
@@ -142,7 +149,8 @@ class Nearest:
 
     def add_swap(self, places: list[Place]) -> None:
         """Adds rulesets for swap. All groups that are watched for it are compared in one
-        ruleset, up to the limit of patterns in an argument."""
+        ruleset, up to the limit of patterns in an argument.
+        """
         limits = self.settings.limits
         limit = self.whole(limits.swap_used, dict(limits.places).get(SWAP_LIMIT, SWAP_LIMIT)) if places else 0
         for first in range(0, len(places), MOST_PATTERNS):

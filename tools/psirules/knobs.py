@@ -1,5 +1,6 @@
 """The thresholds and durations of detectors that `suggest` varies, and the kills with other
-values."""
+values.
+"""
 from __future__ import annotations
 
 import copy
@@ -36,7 +37,8 @@ Found = list[list[Kill] | Fault]
 class Knob:
     """A number of a detector that may be varied: its place in words, its argument, the greatest
     sensible value, its value in the file, and its unit. `way` is the path of keys and indices to
-    it."""
+    it.
+    """
 
     place: str
     argument: str
@@ -62,7 +64,8 @@ class Subject(ABC):
     @abstractmethod
     def knobs(self, longest: int) -> Iterator[Knob]:
         """Yields the numbers that can be varied. `longest` is the length (s) of the longest
-        trace, up to which durations make sense."""
+        trace, up to which durations make sense.
+        """
 
     @abstractmethod
     def kills(self, values: Values, traces: Traces) -> Found:
@@ -83,7 +86,8 @@ class Subject(ABC):
 
 def detector_knobs(rulesets: Any, longest: int) -> Iterator[Knob]:
     """Yields the thresholds in percent, and the durations, of the detectors of pressure and
-    memory."""
+    memory.
+    """
     for number, ruleset in enumerate(rulesets):
         for group, items in enumerate(ruleset["detectors"]):
             for item, plugin in enumerate(items):
@@ -133,7 +137,8 @@ class OwnRules(Subject):
 
     def kills_of_each(self, many: list[Values], traces: Traces) -> list[Found]:
         """Evaluates the rulesets of many sets of values in one replay, since neither rulesets
-        nor kills affect each other in a replay."""
+        nor kills affect each other in a replay.
+        """
         step = self.at_once
         parts = [many[start : start + step] for start in range(0, len(many), step)]
         return [found for part in parts for found in self.kills_side_by_side(part, traces)]
@@ -155,7 +160,8 @@ class OwnRules(Subject):
 
 def own_kills(found: list[Kill] | Fault, number: int, count: int) -> list[Kill] | Fault:
     """Selects the kills by copy `number` of several copies of `count` rulesets each, with the
-    rulesets' numbers in the original file."""
+    rulesets' numbers in the original file.
+    """
     if isinstance(found, Fault):
         return found
     return [

@@ -46,7 +46,8 @@ CAUSES = {
 
 def place_told(said: str, data: Any) -> str:
     """Names the place of an error from the program's message, with the names of the ruleset,
-    group or plugin."""
+    group or plugin.
+    """
     lists = {"ruleset": "rulesets", "group": "detectors", "action": "actions"}
     told, at = [], data
     for kind, number in re.findall(r"(ruleset|group|item|action) ([0-9]+)", said):
@@ -62,7 +63,8 @@ def place_told(said: str, data: Any) -> str:
 
 def verdict(data: bytes, read: Any) -> Finding | None:
     """Returns the first error that psi_oomd itself finds in these bytes, None if it accepts
-    them."""
+    them.
+    """
     with kept(data, "") as file:
         try:
             Program().judge(file)

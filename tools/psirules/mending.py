@@ -1,5 +1,6 @@
 """Finds what psi_oomd rejects, ignores or reads differently from oomd in the data of a rules
-file, and corrects the data."""
+file, and corrects the data.
+"""
 import difflib
 from dataclasses import dataclass
 from enum import Enum
@@ -23,7 +24,8 @@ class Kind(Enum):
 @dataclass(frozen=True)
 class Finding:
     """A finding: its place, its kind, what it is, how it is corrected (None if it isn't), and
-    whether the correction loses some of what oomd would do."""
+    whether the correction loses some of what oomd would do.
+    """
 
     place: str
     kind: Kind
@@ -99,7 +101,8 @@ class Mender:
 
     def group(self, place: str, group: list[Any]) -> bool:
         """Corrects a group in place, and returns whether it stays. It keeps the detectors that
-        psi_oomd knows."""
+        psi_oomd knows.
+        """
         if len(group) == 1:
             self.find(place, Kind.NOTE, "it has no detector, so it always holds; oomd refuses it")
         kept = group[:1]
@@ -152,7 +155,8 @@ class Mender:
         self, place: str, plugin: Any, known: dict[str, Plugin], others: dict[str, Plugin]
     ) -> Effect | None:
         """Corrects a plugin's arguments. If psi_oomd has no such plugin, returns what oomd's
-        does, otherwise None."""
+        does, otherwise None.
+        """
         if not isinstance(plugin, dict) or not isinstance(plugin.get("name"), str):
             return None
         name = plugin["name"]
@@ -177,7 +181,8 @@ class Mender:
 
     def arguments(self, place: str, args: dict[str, Any], plugin: Plugin) -> Effect | None:
         """Corrects arguments. Returns an effect if one of them makes a plugin that psi_oomd
-        can't express, otherwise None."""
+        can't express, otherwise None.
+        """
         for name in list(args):
             if name in plugin.of_oomd or plugin.form_of(name):
                 continue

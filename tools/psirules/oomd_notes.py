@@ -1,5 +1,6 @@
 """Notes for tools/rules lint on what oomd 0.5.0 does differently from psi_oomd with the same
-rules, as far as the file shows it."""
+rules, as far as the file shows it.
+"""
 from __future__ import annotations
 
 import re

@@ -1,5 +1,6 @@
 """Patterns of groups' paths in rules files: components with `/` between them, in which `*`
-matches any string."""
+matches any string.
+"""
 import re
 
 COMPONENT = r"[A-Za-z0-9_.@:\\*-]+"
@@ -8,13 +9,15 @@ PATTERN = re.compile(rf"/|/?{COMPONENT}(?:/{COMPONENT})*")
 
 def is_pattern(text: str) -> bool:
     """Whether `text` is a pattern that can match a path: its components have only letters of
-    paths and `*`, and none is `.` or `..`."""
+    paths and `*`, and none is `.` or `..`.
+    """
     return bool(PATTERN.fullmatch(text)) and not {".", ".."} & set(text.split("/"))
 
 
 def matches(pattern: str, path: str) -> bool:
     """Whether `pattern` matches `path`: they have the same number of components, and each one
-    matches."""
+    matches.
+    """
     wanted, found = ([it for it in text.split("/") if it] for text in (pattern, path))
     return len(wanted) == len(found) and all(
         re.fullmatch(".*".join(map(re.escape, one.split("*"))), other)

@@ -18,7 +18,8 @@ DELAY = "post_action_delay"
 @dataclass(frozen=True)
 class Place:
     """A plugin, or a ruleset: the path of keys and indices to it, and the numbers and the names
-    of its ruleset, its group and itself. `plugin` is None for a ruleset."""
+    of its ruleset, its group and itself. `plugin` is None for a ruleset.
+    """
 
     way: tuple[str | int, ...]
     numbers: tuple[str, ...]
@@ -33,7 +34,8 @@ class Place:
 
     def is_meant(self, parts: list[str]) -> bool:
         """Whether `parts` name this place: the ruleset, the detector's group or `actions`
-        (optional), and the plugin, each by name or number."""
+        (optional), and the plugin, each by name or number.
+        """
         own = list(zip(self.names, self.numbers))
         ways = [own] if len(own) != 3 else [own, [own[0], own[2]]]
         return any(
@@ -82,7 +84,8 @@ def splits(text: str) -> Iterator[list[str]]:
 
 def find(rules: RulesFile, text: str) -> tuple[Place, str]:
     """Finds the place and the argument that `ruleset/plugin.argument` names. Raises a Fault
-    unless exactly one place matches."""
+    unless exactly one place matches.
+    """
     name, _, argument = text.rpartition(".")
     if not name:
         raise Fault(f"{quoted(text)} names no argument: write 'ruleset/detector.threshold'")

@@ -1,5 +1,6 @@
 """The plugins that psi_oomd knows, as in the tables of docs/RULES.md, and the plugins that only
-oomd 0.5.0 knows."""
+oomd 0.5.0 knows.
+"""
 from dataclasses import dataclass, field
 from enum import Enum
 
@@ -19,7 +20,8 @@ class Form(Enum):
 @dataclass(frozen=True)
 class Plugin:
     """The arguments of a plugin, each with its form, and the arguments that only oomd knows,
-    which psi_oomd ignores."""
+    which psi_oomd ignores.
+    """
 
     required: dict[str, Form]
     optional: dict[str, Form] = field(default_factory=dict)

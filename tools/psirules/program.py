@@ -45,7 +45,8 @@ Answer = TypeVar("Answer")
 @dataclass(frozen=True)
 class Kill:
     """A kill that a replay printed: its time (ns), its ruleset and action by number from 0, and
-    the victim's path."""
+    the victim's path.
+    """
 
     moment: int
     ruleset: int
@@ -75,7 +76,8 @@ class RulesAt:
 
 class Refusal(Fault):
     """The error that the program ended without its output: the file that it rejected, its
-    message and its status."""
+    message and its status.
+    """
 
     def __init__(self, file: str, said: str, status: int, path: str | None = None) -> None:
         """`path` is the file whose kind is recognised for the message, if it isn't `file`."""
@@ -107,7 +109,8 @@ class Program:
 
     def replay(self, trace: str, rules: RulesAt, pace: Pace, threads: int) -> list[Kill]:
         """Returns the kills in a trace by these rules. Raises a Refusal if the program rejects
-        one of them. With `--report-s=0` it prints only the last report, which is ignored."""
+        one of them. With `--report-s=0` it prints only the last report, which is ignored.
+        """
         words = [
             "replay",
             f"--rules={rules.path}",
@@ -139,7 +142,8 @@ class Program:
 
     def started(self, words: list[str], said: IO[bytes] | None) -> subprocess.Popen[bytes]:
         """Starts the program. Its standard error goes into the file `said`, or isn't redirected
-        without one."""
+        without one.
+        """
         try:
             return subprocess.Popen([self.path, *words], stdout=subprocess.PIPE, stderr=said)
         except OSError as fault:
@@ -151,7 +155,8 @@ class Program:
     def prepare(self) -> None:
         """Builds the program next to the tools if it isn't up to date, once and before several
         processes would build it at the same time. From then on it is run without the launcher,
-        which looks for newer sources at each start."""
+        which looks for newer sources at each start.
+        """
         if not os.environ.get(VARIABLE):
             with self.started(["--build"], None) as child:
                 assert child.stdout is not None
@@ -181,7 +186,8 @@ def read_kills(lines: Iterable[str]) -> list[Kill] | None:
 
 def side_by_side(calls: Sequence[Callable[[int], Answer]], jobs: int) -> list[Answer | Fault]:
     """Runs `jobs` calls at a time, and returns the answer or the Fault of each, in order. Each
-    call gets the number of threads that it may use."""
+    call gets the number of threads that it may use.
+    """
     lanes = max(1, min(jobs, len(calls)))
     threads = max(1, processors() // lanes)
 

@@ -1,5 +1,6 @@
 """Finds the ranges of a number's values that meet expectations, by bisection if the answer is
-monotone, otherwise on a grid."""
+monotone, otherwise on a grid.
+"""
 from __future__ import annotations
 
 from collections.abc import Callable
@@ -16,7 +17,8 @@ class Outcome:
     first kills of each trace.
 
     In a monotone search a lower value never makes a first kill later. So an EARLY fault remains
-    if the value is lowered, and a LATE fault if it is raised."""
+    if the value is lowered, and a LATE fault if it is raised.
+    """
 
     faults: dict[str, str]
     first: tuple[object, ...]
@@ -32,7 +34,8 @@ class Outcome:
 @dataclass(frozen=True)
 class Range:
     """Consecutive values that hold, both ends included, and why the next value on each side
-    doesn't; empty if there is no next value."""
+    doesn't; empty if there is no next value.
+    """
 
     low: int
     high: int
@@ -43,7 +46,8 @@ class Range:
 @dataclass(frozen=True)
 class Search:
     """The ranges of a number, how they were found, and how many values were tried. `step` is the
-    distance between the values of a grid, or 1."""
+    distance between the values of a grid, or 1.
+    """
 
     ranges: list[Range]
     way: str
@@ -56,7 +60,8 @@ class Search:
 
     def widest(self) -> Range | None:
         """Returns the range with the most values, the first if there are several. None without
-        ranges."""
+        ranges.
+        """
         order = sorted(self.ranges, key=lambda it: (it.low - it.high, it.low))
         return order[0] if order else None
 
@@ -67,13 +72,15 @@ Look = Callable[[list[int]], list[Outcome]]
 
 def is_settled(low: Outcome, high: Outcome) -> bool:
     """Whether the values between two need not be tried: all have the same first kills, all are
-    too early, or all are too late."""
+    too early, or all are too late.
+    """
     return low.first == high.first or EARLY in high.faults or LATE in low.faults
 
 
 def bisect(low: int, high: int, at_once: int, look: Look) -> dict[int, Outcome]:
     """Returns the outcomes of values between which all others are settled. The first round tries
-    about `at_once` values, and each further round halves all ranges that aren't settled."""
+    about `at_once` values, and each further round halves all ranges that aren't settled.
+    """
     step = max(1, -(-(high - low) // max(1, at_once - 1)))
     values = sorted({*range(low, high, step), high})
     found = dict(zip(values, look(values)))
@@ -92,7 +99,8 @@ def bisect(low: int, high: int, at_once: int, look: Look) -> dict[int, Outcome]:
 
 def on_grid(low: int, high: int, present: int, look: Look) -> tuple[dict[int, Outcome], int]:
     """Returns the outcomes of evenly spaced values and of the present one, and the distance
-    between the values."""
+    between the values.
+    """
     step = max(1, -(-(high - low) // (GRID - 1)))
     values = sorted({*range(low, high + 1, step), high, min(max(present, low), high)})
     return dict(zip(values, look(values))), step
@@ -100,7 +108,8 @@ def on_grid(low: int, high: int, present: int, look: Look) -> tuple[dict[int, Ou
 
 def joined(found: dict[int, Outcome], is_exact: bool) -> list[Range]:
     """Joins values that hold into ranges. On a grid, the values between two that hold count as
-    holding."""
+    holding.
+    """
     values = sorted(found)
     ranges: list[Range] = []
     for place, value in enumerate(values):
@@ -125,7 +134,8 @@ def search(
     span: tuple[int, int], present: int, at_once: int, is_monotone: bool, look: Look
 ) -> Search:
     """Finds the ranges in a span, both ends included. `at_once` is the number of values that one
-    replay can evaluate."""
+    replay can evaluate.
+    """
     low, high = span
     if is_monotone:
         found = bisect(low, high, at_once, look)

@@ -14,7 +14,8 @@ TAKEN_OUT = "it is taken out"
 
 class Reading:
     """The data of a rules file. `changes` lists what isn't JSON by RFC 8259, and how it was
-    changed; `doubles` lists keys that occur twice in an object."""
+    changed; `doubles` lists keys that occur twice in an object.
+    """
 
     def __init__(self, data: bytes) -> None:
         self.changes: list[tuple[str, str]] = []
@@ -34,7 +35,8 @@ class Reading:
 
     def strict(self, text: str) -> str:
         """Returns the text without comments, and without commas after the last item of a list or
-        an object."""
+        an object.
+        """
         kept, line = [], 1
         for found in TOKEN.finditer(text):
             token = found[0]
@@ -66,7 +68,8 @@ class Reading:
 
     def decoded(self, text: str, is_strict: bool) -> tuple[Any, int]:
         """Parses the data at the start of the text, and returns it and the offset of its end.
-        With `is_strict`, strings must not contain control characters."""
+        With `is_strict`, strings must not contain control characters.
+        """
         self.doubles = []
         words: dict[str, Any] = {
             "parse_int": whole,

@@ -30,7 +30,8 @@ GROUP = re.compile(rb"^[0-9]+ group (\S+)$", re.MULTILINE)
 class Traces:
     """Traces by name, the lengths of ticks and intervals, and how many are replayed at a time
     (None for the number of processors). Traces that were made together from samples are one,
-    named after the first; `parts` has all of them."""
+    named after the first; `parts` has all of them.
+    """
 
     names: list[str]
     pace: Pace
@@ -50,7 +51,8 @@ class Traces:
 
     def joined(self, trace: str, replay: Callable[[str], list[Kill]]) -> list[Kill]:
         """Returns the kills in a trace, or in all its parts. A kill in the time that two parts
-        share counts once."""
+        share counts once.
+        """
         if trace not in self.parts:
             return replay(trace)
         kills = []
@@ -61,7 +63,8 @@ class Traces:
 
     def groups(self, trace: str) -> set[str] | None:
         """Returns the groups that a trace or any of its parts ever has. None if some part can't
-        be read twice."""
+        be read twice.
+        """
         found: set[str] = set()
         for name, _ in self.parts.get(trace, [(trace, None)]):
             groups = all_groups(name)
@@ -86,7 +89,8 @@ class Traces:
 
     def each(self, replay: Callable[[str, int], list[Kill]]) -> list[list[Kill] | Fault]:
         """Replays each trace by the function `replay`, which gets the number of threads that it
-        may use. Returns the kills in each trace, or why it couldn't be replayed."""
+        may use. Returns the kills in each trace, or why it couldn't be replayed.
+        """
 
         def call(trace: str, threads: int) -> list[Kill]:
             return self.joined(trace, lambda name: replay(name, threads))
@@ -98,7 +102,8 @@ class Traces:
 
 def read_again() -> None:
     """Replaces the standard input by a temporary file with its contents, so that it can be read
-    again."""
+    again.
+    """
     file = tempfile.TemporaryFile()
     shutil.copyfileobj(sys.stdin.buffer, file)
     file.seek(0)
@@ -107,7 +112,8 @@ def read_again() -> None:
 
 def all_groups(trace: str) -> set[str] | None:
     """Returns the groups that a trace ever has, with the root and without the group of a mark.
-    None if the trace can't be read twice, such as a pipe."""
+    None if the trace can't be read twice, such as a pipe.
+    """
     with contextlib.ExitStack() as files:
         number = 0 if trace == STANDARD_INPUT else None
         if number is None and os.path.isfile(trace):
@@ -125,7 +131,8 @@ def all_groups(trace: str) -> set[str] | None:
 
 def note_unmatched(traces: Traces, names: list[str], rules: list[RulesFile]) -> None:
     """Prints a note for each pattern of the rules that matches no group of a trace: such a rule
-    never does anything there. A trace with only the root needs no note."""
+    never does anything there. A trace with only the root needs no note.
+    """
     for trace in names:
         groups = traces.groups(trace) or set()
         for file in rules if len(groups) > 1 else ():
@@ -155,7 +162,8 @@ def accepted(
     program: Program, name: str, files: contextlib.ExitStack, order: str = ""
 ) -> tuple[RulesFile, RulesAt]:
     """Returns a rules file that the program accepts, and a copy that exists until `files` is
-    closed. If a trace is given in its place, the Fault says in which `order` the arguments are."""
+    closed. If a trace is given in its place, the Fault says in which `order` the arguments are.
+    """
     data = bytes_of(name)
     rules = files.enter_context(kept(data, name))
     try:

@@ -25,7 +25,8 @@ def bytes_of(name: str) -> bytes:
 @contextmanager
 def kept(data: bytes, name: str) -> Iterator[RulesAt]:
     """Yields a temporary rules file with these bytes. So the replayed rules are those whose
-    names are shown, even if the original file changes meanwhile or is a pipe."""
+    names are shown, even if the original file changes meanwhile or is a pipe.
+    """
     with tempfile.NamedTemporaryFile(prefix="psirules-", suffix=".json") as file:
         file.write(data)
         file.flush()
@@ -67,7 +68,8 @@ class RulesFile:
 
     def numbers_of(self, ruleset: str) -> list[int]:
         """Returns the numbers of the rulesets named `ruleset`, or if there are none, the ruleset
-        with this number."""
+        with this number.
+        """
         named = [number for number, it in enumerate(self.rulesets) if it["name"] == ruleset]
         if (
             not named
@@ -80,7 +82,8 @@ class RulesFile:
 
     def patterns(self) -> list[tuple[int, str]]:
         """Returns the groups' patterns of each ruleset without repetitions, each with the
-        ruleset's number."""
+        ruleset's number.
+        """
         found = []
         for number, ruleset in enumerate(self.rulesets):
             plugins = [it for group in ruleset["detectors"] for it in group[1:]] + ruleset[

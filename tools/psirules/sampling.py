@@ -1,5 +1,6 @@
 """Traces that were made from samples: which rules can be evaluated on them, and how reliable an
-answer is."""
+answer is.
+"""
 from __future__ import annotations
 
 import math
@@ -20,7 +21,8 @@ ABOVE = ("pressure_above", "pressure_rising_beyond")
 
 def must_have_scans(trace: str, plugins: Iterable[str], name: str) -> None:
     """Raises a Fault if a plugin needs counts of scanned pages and the trace was made from
-    samples without them. `plugins` are those of the rules file `name`."""
+    samples without them. `plugins` are those of the rules file `name`.
+    """
     found = next((it for it in plugins if it in OF_SCANS), None)
     mark = sampled(trace) if found else None
     if mark and not mark.has_scans:
@@ -32,7 +34,8 @@ def must_have_scans(trace: str, plugins: Iterable[str], name: str) -> None:
 
 def must_judge(trace: str, rules: Any, name: str) -> None:
     """Raises a Fault if rules need scanned pages and the trace was made from samples without
-    them. `rules` is the data of a rules file."""
+    them. `rules` is the data of a rules file.
+    """
     for ruleset in rules["rulesets"]:
         plugins = [it for group in ruleset["detectors"] for it in group[1:]] + ruleset["actions"]
         must_have_scans(trace, (it["name"] for it in plugins), name)
@@ -40,7 +43,8 @@ def must_judge(trace: str, rules: Any, name: str) -> None:
 
 def note(trace: str) -> str:
     """Returns what follows an answer on a trace: the interval of its samples. Empty if it wasn't
-    made from samples."""
+    made from samples.
+    """
     mark = sampled(trace)
     return f" ({mark.interval()})" if mark else ""
 
@@ -48,7 +52,8 @@ def note(trace: str) -> str:
 def least_stall(mark: Sampled, threshold: float, duration: float) -> float:
     """Returns the shortest full stall (s) that is sure to be seen above a threshold (percent)
     for a duration (s): the time until the average over 10 s exceeds the threshold, the duration,
-    and two intervals between samples."""
+    and two intervals between samples.
+    """
     rise = PERIOD * math.log(100 / (100 - min(threshold, 99.0)))
     return duration + rise + 2 * mark.every / SECOND
 
@@ -64,7 +69,8 @@ def thresholds(rules: Any) -> Iterator[tuple[float, float]]:
 
 def promise(trace: str, rules: Any) -> str | None:
     """Says from which length on these rules are sure to see stalls in a trace of samples. None
-    for other traces, or without pressure detectors."""
+    for other traces, or without pressure detectors.
+    """
     mark, found = sampled(trace), list(thresholds(rules))
     if not mark or not found:
         return None

@@ -1,5 +1,6 @@
 """Finds the key of a rules file that is missing, and the value that has the wrong JSON kind.
-psi_oomd itself reports only the place and the cause."""
+psi_oomd itself reports only the place and the cause.
+"""
 from collections.abc import Iterator
 from typing import Any
 
@@ -23,7 +24,8 @@ def kind_of(value: object) -> str:
 
 def first_fault(data: Any) -> str | None:
     """Returns the first missing key or value of a wrong kind, in the order in which psi_oomd
-    reads. None if there is none."""
+    reads. None if there is none.
+    """
     return next(faults(data), None)
 
 

@@ -72,7 +72,8 @@ class Judge:
 
     def look(self, many: list[Values]) -> list[Outcome]:
         """Returns the outcomes of sets of values. A number that isn't in a set has its value in
-        the file."""
+        the file.
+        """
         keys = [tuple(sorted(values.items(), key=lambda it: it[0].spelled())) for values in many]
         unknown = {key: values for key, values in zip(keys, many) if key not in self.known}
         found = self.subject.kills_of_each(list(unknown.values()), self.task.traces)
@@ -105,7 +106,8 @@ class Judge:
 @dataclass(frozen=True)
 class Answer:
     """The ranges of a number, and the intervals of the samples that traces were made from, if
-    they were."""
+    they were.
+    """
 
     knob: Knob
     search: Search
@@ -156,7 +158,8 @@ def middle(found: Range) -> int:
 def widest(judge: Judge, knobs: list[Knob]) -> dict[Knob, int]:
     """Returns values with wide margins. Each number in turn is set to the middle of its widest
     range, given the values set before. All but the last are set a second time, since ranges
-    depend on the other numbers."""
+    depend on the other numbers.
+    """
     chosen: dict[Knob, int] = {}
     for knob in [*knobs, *knobs[:-1]]:
         others = {it: value for it, value in chosen.items() if it != knob}
@@ -182,7 +185,8 @@ def check_words(given: argparse.Namespace) -> None:
 
 def task_of(given: argparse.Namespace) -> Task:
     """Reads the expectations and traces. Raises a Fault if a line of WANT has a pattern that
-    matches no group of an incident."""
+    matches no group of an incident.
+    """
     wanted = expectations.read(given.want, bytes_of(given.want))
     traces = Traces.of([*given.incidents, *given.quiet], given.pace, given.jobs)
     for trace in given.incidents:
@@ -206,7 +210,8 @@ def check_wanted(task: Task, it: Subject, name: str) -> None:
 @dataclass(frozen=True)
 class Suggestion:
     """The ranges of each number, the values with the widest margins, and the ranges around
-    these."""
+    these.
+    """
 
     answers: list[Answer]
     chosen: dict[Knob, int]
@@ -216,7 +221,8 @@ class Suggestion:
 
 def suggest(given: argparse.Namespace, judge: Judge, knobs: list[Knob]) -> Suggestion:
     """Finds all ranges and the values with the widest margins, and writes the latter to a file
-    if asked to."""
+    if asked to.
+    """
     marks = {mark.interval() for trace in judge.task.traces.names if (mark := sampled(trace))}
     samples = ", ".join(sorted(marks))
     answers = [Answer(knob, searched(judge, knob, {}), samples) for knob in knobs]

@@ -78,7 +78,8 @@ def axis(rules: RulesFile, text: str) -> Axis:
 @dataclass(frozen=True)
 class Row:
     """A trace, a value of each argument, and the kills with these values, or why there was no
-    replay."""
+    replay.
+    """
 
     trace: str
     values: tuple[str, ...]

@@ -17,7 +17,8 @@ class Form(Enum):
 @dataclass(frozen=True)
 class Outcome:
     """The outcome of a check: its name, whether it is as expected (None if it couldn't be run),
-    and why."""
+    and why.
+    """
 
     name: str
     is_ok: bool | None
@@ -26,7 +27,8 @@ class Outcome:
 
 def status_of(outcomes: list[Outcome]) -> int:
     """Returns the exit status. A check that couldn't be run counts more than one that failed,
-    since it isn't known whether it would have failed."""
+    since it isn't known whether it would have failed.
+    """
     if any(outcome.is_ok is None for outcome in outcomes):
         return Status.FAILED
     return Status.DONE if all(outcome.is_ok for outcome in outcomes) else Status.FOUND
@@ -53,7 +55,8 @@ def tell(
     tell_lines: Callable[[], None],
 ) -> int:
     """Prints the outcomes in one of the forms, and returns the exit status. `record` makes the
-    JSON value from the status, and `tell_lines` prints lines for people."""
+    JSON value from the status, and `tell_lines` prints lines for people.
+    """
     status = status_of(outcomes)
     if form is Form.JSON:
         tell_json(record(status))

@@ -31,7 +31,8 @@ CONTINUE = {"name": "continue", "args": {}}
 
 def oomd_size(text: str) -> str:
     """Returns a size as oomd reads it: with a letter or as a sum, since oomd counts a bare
-    number in MiB."""
+    number in MiB.
+    """
     if text.endswith("%"):
         return text
     count = int(text)
@@ -69,7 +70,8 @@ class Converter:
 
     def group(self, place: str, number: int, group: list[Any]) -> list[Any]:
         """Converts a group of detectors. A group without detectors always holds, like oomd's
-        `continue`."""
+        `continue`.
+        """
         name, *detectors = group
         made = [self.plugin(f"{place}, item {at}", it) for at, it in enumerate(detectors)]
         return [name or f"group {number}", *(made or [CONTINUE])]

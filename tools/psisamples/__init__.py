@@ -1,2 +1,3 @@
 """Makes a trace from sampled totals: scheduler events that give the pressure that a machine
-reported."""
+reported.
+"""

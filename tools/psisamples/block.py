@@ -6,7 +6,8 @@ the first no task is ready. In the second `o` is ready and no task runs. In the 
 the end of the block, so that the block has a whole number of ms of weight.
 
 A task's state is one letter: `w` waits for IO, `s` sleeps in a stall, `r` and `R` are ready, `x`
-and `X` run; those in capitals are in a stall. `z` sleeps."""
+and `X` run; those in capitals are in a stall. `z` sleeps.
+"""
 from __future__ import annotations
 
 from typing import NamedTuple
@@ -61,7 +62,8 @@ def least_length(times: Times) -> int:
 
 def easy_length(times: Times) -> int:
     """Returns the length (ns) of a block in which tasks sleep during all of memory full, which
-    needs fewer turns. If a tick hasn't that much room, returns the shortest length."""
+    needs fewer turns. If a tick hasn't that much room, returns the shortest length.
+    """
     io_some, io_full, mem_some, mem_full, cpu_some, _ = times
     busy = max(cpu_some, io_some - io_full, mem_some - mem_full)
     easy = busy + max(io_full, mem_full)

@@ -34,8 +34,7 @@ TASKS = "tasks"
 
 
 class Off(NamedTuple):
-    """How often a total of a group differed from the samples by more than NEAR, and the greatest
-    difference (us)."""
+    """How often a group's total was off by more than NEAR, and the greatest difference (us)."""
 
     times: int
     most: int
@@ -49,8 +48,7 @@ class Trigger(NamedTuple):
 
 
 class Options(NamedTuple):
-    """The options of a conversion: triggers, the length of the lead-in (ticks), and whether
-    totals grow between two samples as avg10 says."""
+    """Options: triggers, the lead-in (ticks), and whether totals grow as avg10 says."""
 
     triggers: tuple[Trigger, ...] = ()
     lead: int = 0
@@ -63,7 +61,8 @@ class Options(NamedTuple):
 
 class Conversion:
     """A trace that is made tick by tick. `checks` gets the lines of the totals that a replay
-    must print at each tick, according to the samples."""
+    must print at each tick, according to the samples.
+    """
 
     def __init__(self, lives: Lives, options: Options) -> None:
         self.lives, self.triggers, self.lead = lives, options.triggers, options.lead
@@ -96,8 +95,7 @@ class Conversion:
     # ---------------------------------------------------------------- groups
 
     def change_groups(self) -> list[str]:
-        """Removes and creates groups after the previous tick, and returns the lines for that,
-        without times."""
+        """Removes and creates groups after the previous tick; returns the lines without times."""
         self.lives.read_until((self.tick + 1) * TICK)
         ends = [it for it in self.order if it.gone is not None and it.gone <= self.tick]
         begins = [it for it in self.lives.born if it.tick <= self.tick]
@@ -114,8 +112,7 @@ class Conversion:
         return lines
 
     def remove(self, ends: list[Life], lines: list[str]) -> list[Life]:
-        """Removes groups and their descendants, and returns new lives for the descendants that
-        continue."""
+        """Removes groups and their descendants; returns new lives for those that continue."""
         gone = {it.path for it in ends}
         again: list[Life] = []
         for life in sorted(self.order, key=lambda it: -it.path.count("/")):
@@ -183,7 +180,8 @@ class Conversion:
 
     def step(self) -> None:
         """Converts the next tick. Groups are created and removed 1 ns after the previous tick,
-        which therefore counts what they had until then."""
+        which therefore counts what they had until then.
+        """
         changes = self.change_groups()
         start = self.tick * TICK
         events = self.events_of(start)
@@ -209,8 +207,7 @@ class Conversion:
         self.file.write(out)
 
     def put_changes(self, lines: list[str], time: int) -> None:
-        """Writes the lines about created and removed groups, and marks the places at which the
-        tasks of a group are created."""
+        """Writes the lines about groups, and marks the places at which tasks are created."""
         for line in lines:
             verb, _, number = line.partition(" ")
             if verb == TASKS:
@@ -220,7 +217,8 @@ class Conversion:
 
     def events_of(self, start: int) -> list[Event]:
         """Returns the events of the tick. They are those of the previous tick if all groups want
-        the same shares again."""
+        the same shares again.
+        """
         wanted = self.wants(start)
         if wanted == self.wanted and self.plan is not None:
             self.repeats += 1
@@ -273,7 +271,8 @@ class Conversion:
     def wants(self, start: int) -> list[tuple[int, tuple[int, ...]]]:
         """Returns the shares (ns) that each group is to have in the tick that begins at `start`
         (ns), from the deepest group up. A group without a share is left out, unless a descendant
-        has one."""
+        has one.
+        """
         end, active, found = start + TICK, set[int](), []
         chains = self.tree.chains
         for life in self.order:
@@ -321,8 +320,7 @@ class Conversion:
     # ---------------------------------------------------------------- memory
 
     def put_memory(self, time: int, out: list[str]) -> None:
-        """Writes the memory samples at a tick: at each reading, and between two readings if a
-        size changed much."""
+        """Writes memory samples: at each reading, and in between if a size changed much."""
         host = self.lives.host
         at = self.tick * TICK
         is_first = self.tick == 0
@@ -349,8 +347,7 @@ class Conversion:
     # ---------------------------------------------------------------- comparing
 
     def compare(self) -> None:
-        """Stores the totals that a replay must print at this tick, and counts those that are
-        off."""
+        """Stores the totals that a replay must print at this tick; counts those that are off."""
         at = self.tick * TICK
         for life, number in self.sampled:
             for level in (2 * number, 2 * number + 1):
@@ -367,7 +364,8 @@ class Conversion:
 
 def next_due(samples: deque[Memory], last: Memory) -> int:
     """Returns the time (ns) until which no memory sample is due after the last one: that of the
-    next sample, if the sizes hardly change up to it and no page is scanned."""
+    next sample, if the sizes hardly change up to it and no page is scanned.
+    """
     if len(samples) < 2:
         return NEVER
     is_near = all(it.scans == last.scans and abs(it.current - last.current) * PARTS <= last.current for it in (samples[0], samples[1]))
@@ -377,7 +375,8 @@ def next_due(samples: deque[Memory], last: Memory) -> int:
 def bounded(growth: int, owed: int) -> int:
     """Returns the share (ns) of a level in a tick: its growth, corrected by `owed` (ns), which
     is negative if earlier ticks had too much. At most half of the growth is taken back, since
-    otherwise a group above would need more and more weight."""
+    otherwise a group above would need more and more weight.
+    """
     if -SMALL < owed < SMALL:
         return growth
     if owed < 0:

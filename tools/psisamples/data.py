@@ -21,7 +21,8 @@ MOST_INTERVAL = 600 * SECOND
 @dataclass
 class Data:
     """A summary of all samples. Times are in ns since 1970. `every` is the usual interval
-    between a group's samples, and `gap` the longest (both ns)."""
+    between a group's samples, and `gap` the longest (both ns).
+    """
 
     inputs: Inputs
     start: int = 0

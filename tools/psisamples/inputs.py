@@ -29,7 +29,8 @@ PRESSURE = "pressure"
 
 def other_kind(name: str, beginning: str) -> str:
     """Says what a file is instead of samples; it may be compressed by gzip. Empty if that isn't
-    known. JSON may have samples, except for a rules file."""
+    known. JSON may have samples, except for a rules file.
+    """
     kind = kind_of(beginning.encode("utf-8", "surrogateescape"))
     if kind and kind.what == JSON:
         return f"it is {RULES}, not {SAMPLES}" if '"rulesets"' in beginning else ""
@@ -47,7 +48,8 @@ def open_text(name: str) -> TextIO:
 
 class Naming(NamedTuple):
     """The names of groups: paths that replace others and their descendants; the most components
-    of a path; and the labels whose values form the path of a series without a label `id`."""
+    of a path; and the labels whose values form the path of a series without a label `id`.
+    """
 
     renamed: dict[str, str]
     depth: int | None
@@ -88,7 +90,8 @@ class Inputs:
 
     def refused(self, beginning: str, why: str) -> Fault:
         """Returns the error for the current line. At the first line it says what the file is
-        instead of samples, if that is known."""
+        instead of samples, if that is known.
+        """
         other = other_kind(self.files[-1], beginning) if self.line == 1 else ""
         return Fault(f"{self.files[-1]}: {other}" if other else f"{self.here()}: {why}")
 

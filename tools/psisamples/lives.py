@@ -2,7 +2,8 @@
 time.
 
 Between two readings a total grows linearly. A group without a reading in three rounds of other
-groups' readings is gone, and one whose totals fall was removed and created again."""
+groups' readings is gone, and one whose totals fall was removed and created again.
+"""
 from __future__ import annotations
 
 import bisect
@@ -46,7 +47,8 @@ def between(one: Knot, other: Knot, time: int) -> tuple[int, int]:
 
 class Memory(NamedTuple):
     """A memory sample: its time (ns), the memory and swap in use (bytes), and the pages scanned,
-    -1 if unknown."""
+    -1 if unknown.
+    """
 
     time: int
     current: int
@@ -63,7 +65,8 @@ class Reading:
 
     def totals(self) -> dict[int, tuple[int, int]]:
         """Returns the totals (ns) of some and full, by resource. A resource without some is left
-        out; a missing full is 0."""
+        out; a missing full is 0.
+        """
         get = self.values.get
         return {
             it // 2: (self.values[it] * US, get(it + 1, 0) * US)
@@ -73,7 +76,8 @@ class Reading:
 
     def shares(self, number: int) -> Optional[tuple[float, float]]:
         """Returns avg10 of some and full of a resource (percent), None if averages don't shape
-        totals."""
+        totals.
+        """
         place = AVERAGES + 6 * number
         if not self.is_shaped or place not in self.values:
             return None
@@ -82,7 +86,8 @@ class Reading:
 
 class Life:
     """A group from its creation to its removal. It is created after the tick `tick`, and removed
-    after the tick `gone`. `base` has the totals (ns) at its start, which are 0 in the trace."""
+    after the tick `gone`. `base` has the totals (ns) at its start, which are 0 in the trace.
+    """
 
     def __init__(self, path: str, tick: int, is_sampled: bool) -> None:
         self.path, self.tick, self.is_sampled = path, tick, is_sampled
@@ -109,7 +114,8 @@ class Life:
 
     def add(self, reading: Reading) -> None:
         """Adds a reading. A resource that occurs for the first time begins with the reading's
-        totals, or at 0 in a new group."""
+        totals, or at 0 in a new group.
+        """
         totals = reading.totals()
         for number, (some, full) in totals.items():
             knots = self.knots[number]
@@ -156,7 +162,8 @@ class Life:
 
     def grown(self, number: int, one: Knot, other: Knot, start: int, end: int) -> tuple[int, int]:
         """Returns the growth (ns) of a resource's totals in the tick from `start` to `end`, and
-        updates `target`. `one` and `other` are the first two knots that matter for the tick."""
+        updates `target`. `one` and `other` are the first two knots that matter for the tick.
+        """
         target, base, level = self.target, self.base, 2 * number
         if one[0] <= start and end <= other[0]:
             part, whole, some, full = (
@@ -222,7 +229,8 @@ class Lives:
 
     def read_until(self, time: int) -> None:
         """Reads all readings up to `time` (ns), and as many after it as are needed to know which
-        groups are gone."""
+        groups are gone.
+        """
         while self.row is not None and (self.time < time + self.every or self.is_open(time)):
             self.read_round()
         if self.row is None:
@@ -253,7 +261,8 @@ class Lives:
 
     def is_open(self, time: int) -> bool:
         """Whether for some group without a reading at `time` (ns) or later it isn't known yet
-        whether it is gone."""
+        whether it is gone.
+        """
         return any(
             not life.is_known_until(time)
             and life.gone is None
@@ -264,7 +273,8 @@ class Lives:
 
     def is_absent(self, life: Life, time: int) -> bool:
         """Whether more rounds than may be missed lie between the life's last reading and `time`
-        (ns)."""
+        (ns).
+        """
         first = bisect.bisect_right(self.rounds, life.last + self.every // 2)
         return bisect.bisect_left(self.rounds, time - self.every // 2) - first > MOST_MISSED
 
@@ -304,7 +314,8 @@ class Lives:
     def has_fallen(self, life: Life, reading: Reading) -> bool:
         """Whether the group was created again since the life's last reading, so that a total has
         fallen. Raises a Fault if another total is too great to have begun at 0 since then, or if
-        a total grows faster than time."""
+        a total grows faster than time.
+        """
         has_fallen = False
         slower: tuple[int, int] | None = None
         for number, new in reading.totals().items():
@@ -358,7 +369,8 @@ class Lives:
 
     def end(self, life: Life) -> None:
         """Ends a life after the first tick that isn't before its last reading. A life that ended
-        before the trace begins is dropped."""
+        before the trace begins is dropped.
+        """
         life.gone = max(life.tick + 1, -(-life.last // TICK))
         if life.last <= 0 and life in self.born:
             self.born.remove(life)
@@ -366,7 +378,8 @@ class Lives:
 
 def between_samples(samples: deque[Memory], time: int) -> tuple[Memory, bool]:
     """Returns the memory at `time` (ns), interpolated between two samples, and whether a new
-    sample was reached since the last call."""
+    sample was reached since the last call.
+    """
     is_new = False
     while len(samples) > 1 and samples[1].time <= time:
         samples.popleft()

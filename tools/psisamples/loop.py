@@ -68,7 +68,8 @@ def text_of(path: str) -> str:
 
 def spelled(path: str) -> str:
     """Returns a group's path as in traces: a byte that traces don't allow becomes \\xHH, as
-    systemd writes it."""
+    systemd writes it.
+    """
     parts = [it for it in os.fsencode(path).split(b"/") if it]
     return "/" + "/".join(
         "".join(chr(byte) if byte in PLAIN else f"\\x{byte:02x}" for byte in it) for it in parts
@@ -77,7 +78,8 @@ def spelled(path: str) -> str:
 
 def pressure_line(head: str, resource: str, text: str) -> str:
     """Returns the line for a pressure file: both totals (us) and six averages. Empty if the file
-    has no line `some`. An old kernel's file for cpu has no line `full`."""
+    has no line `some`. An old kernel's file for cpu has no line `full`.
+    """
     found = {it[1]: it for it in LINE.finditer(text)}
     if "some" not in found:
         return ""
@@ -88,7 +90,8 @@ def pressure_line(head: str, resource: str, text: str) -> str:
 
 def memory_line(head: str, folder: str) -> str:
     """Returns the line for a group's memory: memory and swap (bytes), and scanned pages. Empty
-    if the group has no memory controller."""
+    if the group has no memory controller.
+    """
     current = text_of(f"{folder}/memory.current").strip()
     if not current.isdigit():
         return ""

@@ -1,5 +1,6 @@
 """Reads samples from metrics: JSON answers of Prometheus, `promtool tsdb dump`, and OpenMetrics
-text with timestamps."""
+text with timestamps.
+"""
 from __future__ import annotations
 
 import json
@@ -43,7 +44,8 @@ class Column(NamedTuple):
 
 class Metrics:
     """Finds the series that are samples. Each field of a group has one series, since two are of
-    different machines."""
+    different machines.
+    """
 
     def __init__(self, labels: tuple[str, ...]) -> None:
         self.labels = labels
@@ -78,7 +80,8 @@ class Metrics:
 
     def group_of(self, name: str, labels: dict[str, str]) -> Optional[str]:
         """Returns the group of a series, by cAdvisor's label `id`, or by the labels that
-        --labels names."""
+        --labels names.
+        """
         if name.startswith("node_"):
             return ROOT
         if self.labels and all(labels.get(it) for it in self.labels):
@@ -128,7 +131,8 @@ def labels_of(text: str) -> dict[str, str]:
 
 def read_dump(lines: Iterable[tuple[int, str]], metrics: Metrics, put: Put) -> None:
     """Reads lines `NAME{LABELS} VALUE TIME`, as OpenMetrics writes them (time in s), or
-    `{__name__="NAME", ..} VALUE TIME` as promtool does (ms)."""
+    `{__name__="NAME", ..} VALUE TIME` as promtool does (ms).
+    """
     known: dict[str, Optional[Column]] = {}
     for number, line in lines:
         if not line or line.startswith("#"):
@@ -179,7 +183,8 @@ class Text:
 
     def find(self, pattern: re.Pattern[str]) -> Optional[re.Match[str]]:
         """Moves to the end of the next match of a short pattern, and returns the match. None if
-        there is none."""
+        there is none.
+        """
         while True:
             found = pattern.search(self.text, self.at)
             if found and (found.end() < len(self.text) or not self.more()):
@@ -226,7 +231,8 @@ VALUES = re.compile(r'"values"\s*:\s*\[|"value"\s*:')
 
 def read_json(file: TextIO, metrics: Metrics, put: Put, lined: Lined) -> None:
     """Reads the answer of Prometheus' API to a query with a range, such as `name[6h]`, or to
-    query_range."""
+    query_range.
+    """
     text = Text(file, lined)
     while found := text.find(METRIC):
         if "error" in found[0]:

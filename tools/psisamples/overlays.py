@@ -2,7 +2,8 @@
 its own.
 
 Such a task lies over the block: it takes no time of its own, so it adds no weight to the group,
-and no group below sees it."""
+and no group below sees it.
+"""
 from __future__ import annotations
 
 from typing import NamedTuple
@@ -51,7 +52,8 @@ STATUS_OF = [
 
 class Overlay(NamedTuple):
     """A task of this kind in this state, laid over a block. `after` has for each status the
-    status with the task, None if the task would change something else there."""
+    status with the task, None if the task would change something else there.
+    """
 
     kind: str
     state: str

@@ -32,7 +32,8 @@ Progress = Callable[[int], None]
 @dataclass
 class Made:
     """The result of all parts: their names, lines, processors and groups, the totals that are
-    off, and the number of compared totals."""
+    off, and the number of compared totals.
+    """
 
     names: list[str] = field(default_factory=list)
     lines: list[int] = field(default_factory=list)
@@ -57,7 +58,8 @@ class Made:
 
 def part_name(output: str, part: int) -> str:
     """Returns the file name of a part: the output itself for the first one, and a number before
-    its ending for the others."""
+    its ending for the others.
+    """
     root, ending = os.path.splitext(output)
     return output if part == 1 else f"{root}.{part}{ending}"
 
@@ -73,7 +75,8 @@ def number_of(data: Data, start: int, end: int) -> int:
 
 class Maker:
     """Makes traces from the samples between `start` and `end` (ns since 1970), of at most `most`
-    lines each."""
+    lines each.
+    """
 
     def __init__(
         self, data: Data, start: int, end: int, options: Options, most: int, progress: Progress
@@ -115,7 +118,8 @@ class Maker:
 
     def make_part(self, name: str, begin: int, part: int) -> int | None:
         """Makes one part, and returns the time (ns) at which the next one begins, None after the
-        last."""
+        last.
+        """
         every = self.data.every
         options = self.options if part == 1 else self.options.later()
         origin = begin - options.lead * TICK

@@ -11,7 +11,8 @@ HUNDRED = 100
 
 class Past:
     """The pressure of groups in the ticks before their first samples, computed from the samples'
-    averages."""
+    averages.
+    """
 
     def __init__(self, ticks: int) -> None:
         self.ticks = ticks
@@ -38,6 +39,7 @@ class Past:
 
 def end_past(life: Life) -> None:
     """Resets the totals of a group at the end of its lead-in: what it has by then is what it is
-    to have."""
+    to have.
+    """
     life.target = list(life.achieved)
     life.base = [base - achieved for base, achieved in zip(life.base, life.achieved)]

@@ -4,7 +4,8 @@ A group's share is sum(weight * time) // sum(weight) over processors. A group wi
 below it needs one block: the share is then the block's time. A group above others adds what is
 missing, and dilutes what is too much: overlays, which weigh nothing; a block of its own; and
 ballast, a block in which only its own task runs. Groups are handled from the deepest up, so each
-sees all of the blocks below it."""
+sees all of the blocks below it.
+"""
 from __future__ import annotations
 
 from collections.abc import Iterator
@@ -42,7 +43,8 @@ ROUNDS = 12
 
 class Block:
     """A block of a group on a processor: its start there, its length and its tasks' states (ns),
-    and its segments."""
+    and its segments.
+    """
 
     __slots__ = ("group", "start", "length", "spans", "others", "segments", "has")
 
@@ -60,7 +62,8 @@ class Block:
 class Offer(NamedTuple):
     """An offer of `blocks` blocks of `length` ms each with these times, on this processor or, if
     that is None, on empty ones. With it the group weighs `heavy` ms in total, and its shares are
-    off by `off` ns."""
+    off by `off` ns.
+    """
 
     off: int
     heavy: int
@@ -80,7 +83,8 @@ class Tree(NamedTuple):
 class Plan:
     """The blocks of one tick. `before` has the processors on which each group had blocks in the
     previous tick. Groups in `late` are created just after the tick begins, so their blocks begin
-    1 ms later."""
+    1 ms later.
+    """
 
     def __init__(
         self, tree: Tree, before: dict[int, list[int]], late: AbstractSet[int] = frozenset()
@@ -116,8 +120,7 @@ class Plan:
             places[processor] = list(map(add, before, added)) if before else list(added)
 
     def empty_places(self, group: int) -> Iterator[int]:
-        """Yields the processors without blocks of the group or its descendants, those of the
-        previous tick first."""
+        """Yields processors without blocks of the group or below, the previous tick's first."""
         known, last = self.has.get(group, {}), self.before.get(group, ())
         yield from (it for it in last if it not in known)
         yield from (it for it in range(MOST_PROCESSORS) if it not in known and it not in last)
@@ -132,9 +135,9 @@ class Plan:
         return [ROOM - late] * (MOST_PROCESSORS - len(self.used)) + sorted(found, reverse=True)
 
     def place_alone(self, group: int, times: Times) -> None:
-        """Places the block of a group that has none below it, on the processor on which the
-        group above has the least weight: that group sees two blocks of a processor as a longer
-        and heavier one."""
+        """Places the block of a group that has none below it, on the processor on which its parent
+        has the least weight: the parent sees two blocks of a processor as one longer, heavier one.
+        """
         if group in self.late:
             times = fitted(times, (ROOM - 1) * MS)
         length = max(1, -(-easy_length(times) // MS))
@@ -160,7 +163,8 @@ class Plan:
 
     def put_ballast(self, group: int, weight: int) -> None:
         """Adds `weight` ms in which a task of the group runs, on processors on which the group
-        has nothing yet."""
+        has nothing yet.
+        """
         for processor in list(self.empty_places(group)) if weight > 0 else ():
             if weight <= 0:
                 return
@@ -173,7 +177,8 @@ class Plan:
 
     def lay(self, group: int, over: Overlay, amount: int) -> int:
         """Lays tasks of the group over blocks below it, for `amount` ns times ms of weight.
-        Returns the amount for which there was room."""
+        Returns the amount for which there was room.
+        """
         done, known = 0, self.has[group]
         for processor in sorted(known, key=lambda it: -known[it][0]):
             weight = known[processor][0]
@@ -258,7 +263,8 @@ class Plan:
         self, group: int, times: Times, weight: int, sums: list[int], levels: Sequence[int]
     ) -> int:
         """Returns the least weight (ms) by which none of these levels is too high, as far as
-        there is room."""
+        there is room.
+        """
         found = weight
         for level in levels:
             if times[level] and sums[level] > times[level] * found:
@@ -301,7 +307,8 @@ class Plan:
         self, group: int, times: Times, heavy: int, levels: Sequence[int]
     ) -> Optional[Offer]:
         """Returns the lightest own blocks by which the group has its shares, or else those by
-        which it comes nearest. None if none comes nearer than now."""
+        which it comes nearest. None if none comes nearer than now.
+        """
         known = self.has[group]
         weight, sums = self.sums(group)
         now = sum(abs(times[it] * weight - sums[it]) for it in levels) // max(1, weight)
@@ -334,7 +341,8 @@ class Plan:
 
 class Need(NamedTuple):
     """The wanted times of a group, and what a processor has already: its weight (ms) and six
-    times (ns)."""
+    times (ns).
+    """
 
     wanted: Times
     levels: Sequence[int]
@@ -349,7 +357,8 @@ class Need(NamedTuple):
     def at(self, length: int, count: int) -> tuple[int, int, list[int], Times]:
         """Returns for `count` blocks of `length` ms: the group's weight with ballast, the factor
         of a ns of their times, what they have to add, and their times. A block adds (base weight
-        + length) * times + length * base times to what the group has."""
+        + length) * times + length * base times to what the group has.
+        """
         wanted, added = self.wanted, count * length
         heavy = least = max(self.least, self.weight + added)
         more = [self.sums[it] + added * self.base[it + 1] for it in self.levels]
@@ -369,7 +378,8 @@ class Need(NamedTuple):
 
     def offer(self, count: int) -> Offer:
         """Returns the shortest blocks by which the group has its shares, or the longest that
-        there is room for."""
+        there is room for.
+        """
         length, base = 1 if count == 1 else self.room, self.base[0]
         for turn in range(ROUNDS):
             heavy, share, rest, times = self.at(length, count)

@@ -1,5 +1,6 @@
 """Reads the samples of a recording's folder: its pressure files, and the memory samples in its
-markers."""
+markers.
+"""
 from __future__ import annotations
 
 from psicli.fault import Fault
@@ -21,7 +22,8 @@ EVERY = 2 * 10**9
 def times_of(source: Source, most: int) -> list[int]:
     """Returns the time (ns) of each reading of the pressure files, by number from 0 to `most`. A
     reading whose markers were lost gets an interpolated time, or one extrapolated at both ends;
-    without any marker readings are EVERY apart."""
+    without any marker readings are EVERY apart.
+    """
     begins = {
         number: marker.moment for marker, number, is_begin in reading_markers(source) if is_begin
     }
@@ -44,7 +46,8 @@ def times_of(source: Source, most: int) -> list[int]:
 
 def read_folder(folder: str, put: Put) -> None:
     """Stores all samples of a recording. The line of a row is that of the pressure file, 0 for
-    memory samples."""
+    memory samples.
+    """
     try:
         source, text = read_recording(folder, True), text_of(folder, PRESSURE)
     except Fault as fault:

@@ -1,4 +1,4 @@
-"""Samples as all input formats give them."""
+"""The rows that all input formats give, and checks of their values."""
 from __future__ import annotations
 
 import re
@@ -10,7 +10,7 @@ from psicli.fault import Fault
 from psicli.times import SECOND
 from psirec.layout import escaped_path
 
-# Fields of a sample, after the six totals (us) in the order of LEVELS: a group's memory and swap
+# The fields of a row after the six totals (us) in the order of LEVELS: a group's memory and swap
 # (bytes) and scanned pages, the machine's memory, swap and free swap (bytes), and three averages
 # (hundredths of a percent) for each of the six levels.
 MEMORY, SWAP, SCANS, HOST, AVERAGES = 6, 7, 8, 9, 12
@@ -19,7 +19,7 @@ ROOT = "/"
 
 
 class Place(NamedTuple):
-    """Where a sample was read: a file and its line, from 1."""
+    """The place at which a sample was read: a file, and a line from 1."""
 
     file: str
     line: int
@@ -29,8 +29,8 @@ class Place(NamedTuple):
 
 
 class Row(NamedTuple):
-    """Values of a group at a time (ns since 1970), of consecutive fields from `field` on. `place`
-    is that of a Place in the reader's numbering: the file's number and the line.
+    """Values of a group at a time (ns since 1970), for consecutive fields from `field` on.
+    `place` has the number of the file and the line.
     """
 
     time: int
@@ -44,8 +44,8 @@ Put = Callable[[int, str, int, tuple[int, ...], int], None]
 
 
 def ns_of(text: str) -> int:
-    """The ns of a decimal number of seconds, as any format writes one; a ValueError if it isn't
-    one.
+    """Parses a decimal number of seconds, as any format writes it, and returns ns. Raises
+    ValueError if it is malformed.
     """
     if re.fullmatch(r"[0-9]{1,12}", text):
         return int(text) * SECOND
@@ -70,8 +70,8 @@ def us_of(text: str) -> int:
 
 
 def whole(text: str) -> int:
-    """A whole number from 0 on, which may be written as floating point; a ValueError if it isn't
-    one.
+    """Parses a whole number, which may be written as floating point. Raises ValueError if it is
+    malformed, negative or too large.
     """
     if re.fullmatch(r"[0-9]{1,19}", text):
         found = int(text)
@@ -86,7 +86,7 @@ def whole(text: str) -> int:
 
 
 def hundredths(text: str) -> int:
-    """A percentage with two decimals at most, in hundredths."""
+    """Parses a percentage with at most two decimals, and returns hundredths of a percent."""
     found = re.fullmatch(r"([0-9]{1,3})(?:\.([0-9]{1,2}))?", text)
     if not found:
         raise ValueError(text)
@@ -94,7 +94,7 @@ def hundredths(text: str) -> int:
 
 
 def must_be_path(path: str, place: Place) -> None:
-    """A group that a trace can't name is a fault."""
+    """Rejects a group whose path a trace can't contain."""
     components = path[1:].split("/") if path != ROOT else []
     if not path.startswith("/"):
         raise Fault(f"{place}: the group {path!r} doesn't begin with a /: --rename gives it a path")

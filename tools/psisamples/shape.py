@@ -2,7 +2,8 @@
 
 Between two samples a total could have grown early or late. avg10 at the end shows which, since
 it gives more weight to late growth. So the rates of the ticks in between follow a slope, bounded
-by 0 and the most, such that the growth is the total's and avg10 is the one that was read."""
+by 0 and the most, such that the growth is the total's and avg10 is the one that was read.
+"""
 from __future__ import annotations
 
 from collections.abc import Sequence
@@ -25,7 +26,8 @@ def parts_of(start: int, end: int) -> list[tuple[int, int]]:
 
 def left_of(time: int, end: int) -> float:
     """Returns the fraction that is left at `end` (ns) of an average that was read at `time`
-    (ns)."""
+    (ns).
+    """
     return float(FACTOR ** (max(0, end - AGE - time) / TICK))
 
 
@@ -37,7 +39,8 @@ def bounded_rates(
     growth: float,
 ) -> list[float]:
     """Returns rates along a slope, from 0 to the most of each part, that give the total's
-    growth."""
+    growth.
+    """
     low, high = -abs(slope), 1.0 + abs(slope)
     found = [0.0] * len(recent)
     for _ in range(LEVELS_OF_SLOPE):
@@ -58,7 +61,8 @@ def rates(
     most: Sequence[float] | None = None,
 ) -> list[float]:
     """Returns the rate (0 to 1) in each part of an interval. `growth` is the total's growth
-    (ns), `averages` are avg10 (percent) at both ends, and `most` bounds the rates."""
+    (ns), `averages` are avg10 (percent) at both ends, and `most` bounds the rates.
+    """
     parts = parts_of(start, end)
     lengths = [other - one for one, other in parts]
     tops = list(most) if most else [1.0] * len(parts)
@@ -90,7 +94,8 @@ def knots_between(
     after: tuple[float, float],
 ) -> list[tuple[int, int, int, int]]:
     """Returns knots at the ticks between two samples. `before` and `after` are avg10 (percent)
-    of some and full at the samples."""
+    of some and full at the samples.
+    """
     start, end = one[0], other[0]
     some = rates(start, end, other[1] - one[1], (before[0], after[0]))
     full = rates(start, end, other[2] - one[2], (before[1], after[1]), some)

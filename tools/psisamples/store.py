@@ -1,5 +1,6 @@
 """Stores rows, and returns them in order of time. A bounded number is in memory, and the rest in
-temporary files."""
+temporary files.
+"""
 from __future__ import annotations
 
 import bisect

@@ -37,7 +37,8 @@ def put_totals(
     has_averages: bool = True,
 ) -> None:
     """Stores the totals of a pressure file, some and full (us), and the averages of both if they
-    are there and wanted."""
+    are there and wanted.
+    """
     base = 2 * RESOURCES.index(resource)
     put(time, group, base, (us(words[0]), us(words[1])), line)
     if has_averages and len(words) == 8:
@@ -47,7 +48,8 @@ def put_totals(
 def read_csv(lines: Lines, put: Put, has_averages: Callable[[], bool]) -> None:
     """Reads lines `TIME,GROUP,RESOURCE,SOME,FULL` with or without the six averages,
     `TIME,GROUP,mem,CURRENT,SWAP[,SCANS]` and `TIME,/,host,TOTAL,SWAP_TOTAL,SWAP_FREE`. A first
-    line with names is skipped."""
+    line with names is skipped.
+    """
     last, time = "", 0
     for number, line in lines:
         words = line.split(",")
@@ -71,7 +73,8 @@ def read_csv(lines: Lines, put: Put, has_averages: Callable[[], bool]) -> None:
 
 def read_json_lines(lines: Lines, put: Put) -> None:
     """Reads an object per line: `time`, `group`, and for each resource an object with `some` and
-    `full` (us); or `current`, `swap` and `pgscan`; or `mem_total`, `swap_total` and `swap_free`."""
+    `full` (us); or `current`, `swap` and `pgscan`; or `mem_total`, `swap_total` and `swap_free`.
+    """
     for number, line in lines:
         if not line.strip():
             continue
@@ -102,7 +105,8 @@ def read_json_lines(lines: Lines, put: Put) -> None:
 
 class Round:
     """A round of a loop over files: the totals of each pressure file, and the memory sizes, by
-    group."""
+    group.
+    """
 
     def __init__(self, time: int) -> None:
         self.time = time
@@ -162,7 +166,8 @@ def group_of(folder: str) -> str:
 
 def read_loop(lines: Lines, put: Put) -> None:
     """Reads the output of a loop: for each round a line with the time (s), and then lines of
-    files as `grep . FILE ..` prints them, `PATH:LINE`."""
+    files as `grep . FILE ..` prints them, `PATH:LINE`.
+    """
     found: Round | None = None
     for number, line in lines:
         if re.fullmatch(r"[0-9]+(\.[0-9]+)?", line):

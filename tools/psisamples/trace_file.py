@@ -1,5 +1,6 @@
 """Writes a trace: events go to a temporary file, since what must precede them is known only at
-the end."""
+the end.
+"""
 from __future__ import annotations
 
 import shutil
@@ -16,7 +17,8 @@ PIECE = 1 << 20
 
 class Tasks:
     """The tasks of a group's life, which are created with the group. `at` is their place in the
-    file of events (bytes), and `time` the time (ns)."""
+    file of events (bytes), and `time` the time (ns).
+    """
 
     def __init__(self, path: str) -> None:
         self.path, self.at, self.time = path, 0, 0
@@ -24,7 +26,8 @@ class Tasks:
 
     def lines(self) -> Iterable[str]:
         """Yields the lines that create the tasks on a processor of their own, where they fall
-        asleep one after the other."""
+        asleep one after the other.
+        """
         yield from (f"{self.time} fork {it} {self.path} {FIRST}\n" for it in self.numbers)
         how = "idle"
         for number in self.numbers:

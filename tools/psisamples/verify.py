@@ -26,7 +26,8 @@ NO_TOTALS: Totals = {}
 class Checked(NamedTuple):
     """The number of compared totals, and those that differ by more than was reported: the time
     (ns), the group, the level, the total by the samples (us), and the program's (us), None if it
-    printed none."""
+    printed none.
+    """
 
     compared: int
     wrong: list[tuple[int, str, int, int, int | None]]
@@ -77,7 +78,8 @@ def wanted(checks: IO[bytes]) -> Iterator[tuple[int, Totals]]:
 
 def check(trace: str, checks: IO[bytes], off: dict[tuple[str, int], Off]) -> Checked:
     """Replays a trace, and compares all totals at the ticks of samples. A total may be off by
-    NEAR, or by what was reported."""
+    NEAR, or by what was reported.
+    """
     count, wrong = 0, []
     with tempfile.TemporaryFile() as notes:
         run = start(["replay", "--report-s=2", "--", trace], notes)

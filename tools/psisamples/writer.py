@@ -1,5 +1,6 @@
 """Writes the event lines of blocks: tasks change their states by turns of zero length on their
-processor."""
+processor.
+"""
 from __future__ import annotations
 
 from collections.abc import Callable, Iterable
@@ -38,7 +39,8 @@ class Processor:
 
     def changes_of(self, blocks: Iterable[Block]) -> dict[int, dict[Key, str]]:
         """Returns the states that begin in a tick, by the ns since its start. Tasks of the
-        previous tick fall asleep unless they continue."""
+        previous tick fall asleep unless they continue.
+        """
         found: dict[int, dict[Key, str]] = {}
         begins: dict[int, dict[Key, str]] = {}
         asleep = {key: "z" for key, task in self.tasks.items() if task.state != "z"}
@@ -61,7 +63,8 @@ class Processor:
 
     def play(self, blocks: Iterable[Block], out: list[Event]) -> None:
         """Appends the events of a tick to `out`. Tasks that it doesn't use become available to
-        other processors."""
+        other processors.
+        """
         changes = self.changes_of(blocks)
         used = {key for states in changes.values() for key in states}
         for time in sorted(changes):
@@ -76,7 +79,8 @@ class Processor:
 
     def change(self, time: int, wanted: dict[Key, str], out: list[Event]) -> None:
         """Brings tasks into these states. A task that falls asleep, or enters or leaves a stall,
-        runs for zero time."""
+        runs for zero time.
+        """
         cpu, tasks, runs = self.number, self.tasks, self.runs
         changed, turns, last = list[Task](), list[Task](), None
         for key, state in wanted.items():

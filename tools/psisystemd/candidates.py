@@ -18,7 +18,8 @@ def is_below(path: str, above: str) -> bool:
 def memory_of(group: Group) -> Sample | None:
     """Returns a group's memory as systemd-oomd reads it; for the root, swap and scans are 0.
     None if nothing can be read, because the group has no memory controller, or its accounting is
-    off and so it has no pressure files."""
+    off and so it has no pressure files.
+    """
     sample = group.whole_sample()
     if group.path == ROOT:
         return Sample(sample.memory if sample else 0, 0, 0)
@@ -27,7 +28,8 @@ def memory_of(group: Group) -> Sample | None:
 
 def leaves(group: Group, settings: Settings) -> Iterator[Group]:
     """Yields the candidates of a watched group: its descendants without children, and those that
-    are killed as a whole (memory.oom.group)."""
+    are killed as a whole (memory.oom.group).
+    """
     if not group.children:
         yield group
     for child in group.children.values():
@@ -39,7 +41,8 @@ def leaves(group: Group, settings: Settings) -> Iterator[Group]:
 
 def preference(group: Group, settings: Settings, above: str) -> str:
     """Returns a candidate's preference, which counts only if the candidate belongs to root or to
-    the owner of the watched group `above`."""
+    the owner of the watched group `above`.
+    """
     if settings.owner(group.path) not in (0, settings.owner(above)):
         return "none"
     return settings.preference(group.path, group.preference)
@@ -49,7 +52,8 @@ def candidates_of(
     world: World[Task], settings: Settings, watched: Iterable[str]
 ) -> dict[str, Group]:
     """Returns the candidates of all watched groups, by path, without those whose memory can't be
-    read."""
+    read.
+    """
     found = (
         it
         for path in watched
@@ -64,7 +68,8 @@ def gathered(
 ) -> list[Candidate]:
     """Returns the candidates at and below the group `above`, in order of paths. `risen` has the
     scanned pages by which they are ranked. If a group isn't in it, all pages that it ever
-    scanned count."""
+    scanned count.
+    """
     found = []
     for path, group in sorted(candidates.items()):
         sample = memory_of(group)

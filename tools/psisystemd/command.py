@@ -97,7 +97,8 @@ def compared(program: Program, name: str, trace: str, interval_s: int | None) ->
 
 def told_decisions(decisions: list[Decision], is_all: bool) -> Iterator[tuple[int, list[str]]]:
     """Yields each decision's time (ns) and its lines. Consecutive decisions to kill the same
-    group for swap are listed once."""
+    group for swap are listed once.
+    """
     for _, same in itertools.groupby(
         decisions, key=lambda it: (it.by, it.victim, it.by == SWAP or it.moment)
     ):

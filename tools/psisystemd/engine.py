@@ -2,7 +2,8 @@
 
 This follows systemd 252 and 257, which have the same rules and differ only in settings.
 systemd-oomd checks the pressure of groups each second, and the machine's swap each 0.15 s.
-docs/SYSTEMD.md lists the differences between this module and systemd-oomd."""
+docs/SYSTEMD.md lists the differences between this module and systemd-oomd.
+"""
 from __future__ import annotations
 
 from collections.abc import Iterable
@@ -28,7 +29,8 @@ LEAST_SWAP_PERCENT = 5
 class Look:
     """The state of a watched group between checks: its limit (hundredths of a percent) and
     duration (ns), the time (ns) since which its pressure is above the limit, the scan count
-    (pages) at the previous check, and when (ns) a scan was last seen."""
+    (pages) at the previous check, and when (ns) a scan was last seen.
+    """
 
     group: Group
     limit: int
@@ -41,7 +43,8 @@ class Look:
 
 class Scans:
     """The number of pages that each group scanned between the last two samples. A check that
-    finds no new sample uses the result of the previous one."""
+    finds no new sample uses the result of the previous one.
+    """
 
     def __init__(self) -> None:
         self.samples = 0
@@ -82,15 +85,18 @@ class PressureRule:
         self.scans = Scans()
         self.candidates: dict[str, Group] = {}
         """The candidates at the previous check, if some group was above its limit then;
-        otherwise empty."""
+        otherwise empty.
+        """
         self.rests_until = 0
         self.paused: list[tuple[int, str, int]] = []
         """The pauses: the time (ns) at which a group exceeded its limit for its duration, its
-        path, and the time (ns) until which the rule rests after its last kill."""
+        path, and the time (ns) until which the rule rests after its last kill.
+        """
 
     def look(self, now: int, averages: dict[str, int]) -> list[Decision]:
         """Returns the decisions at `now` (ns). `averages` has the full memory pressure over 10 s
-        of each watched group, in hundredths of a percent."""
+        of each watched group, in hundredths of a percent.
+        """
         self.scans.take(now, self.world)
         self.update(now, averages)
         above = [it for it in self.looks.values() if it.since is not None]
@@ -117,7 +123,8 @@ class PressureRule:
 
     def update(self, now: int, averages: dict[str, int]) -> None:
         """Updates the state of each watched group. A group whose accounting was off once isn't
-        watched until it is created again."""
+        watched until it is created again.
+        """
         before, self.looks = self.looks, {}
         for path, group in self.world.live.items():
             watched = self.settings.watched(path)
@@ -164,7 +171,8 @@ class PressureRule:
 
     def told_once(self, now: int, target: Look, averages: dict[str, int]) -> list[Decision]:
         """Returns the decision that nobody is killed because nothing was scanned, but only at
-        the first check at which this prevents a kill."""
+        the first check at which this prevents a kill.
+        """
         if target.is_told:
             return []
         target.is_told = True
@@ -181,7 +189,8 @@ class PressureRule:
     ) -> Decision:
         """Returns the decision for the group `target`: the victim, or why there is none. `known`
         has the candidates of the previous check. For any other group all pages that it ever
-        scanned count."""
+        scanned count.
+        """
         path = target.group.path
         risen = {group: count for group, count in self.scans.risen.items() if group in known}
         found = gathered(self.candidates, self.settings, path, risen)
@@ -210,12 +219,14 @@ class SwapRule:
         self.is_told = False
         self.most = (-1, -1, 0)
         """The greatest share of swap in use, the share of memory in use at that time (both in
-        hundredths of a percent, -1 if unknown), and the time (ns)."""
+        hundredths of a percent, -1 if unknown), and the time (ns).
+        """
         self.was_watched = self.is_absent = False
 
     def is_due(self) -> bool:
         """Whether a check would find a new sample. Without one the result would be that of the
-        previous check."""
+        previous check.
+        """
         return self.world.samples != self.samples
 
     def look(self, now: int) -> list[Decision]:
@@ -258,7 +269,8 @@ class SwapRule:
 
 def chosen(world: World[Task], decision: Decision) -> Decision:
     """Returns `decision` with its victim, the first candidate that isn't skipped. If that group
-    has no tasks, nothing is killed, and no other candidate is tried."""
+    has no tasks, nothing is killed, and no other candidate is tried.
+    """
     first: Candidate | None = next((it for it in decision.candidates if not it.passed_over), None)
     if not first:
         return replace(decision, why=f"{decision.why}; but there is no candidate")
@@ -283,7 +295,8 @@ class Engine:
 
     def look_at_swap(self, until: int) -> None:
         """Checks swap up to `until` (ns). It checks once per new sample, since further checks
-        have the same result."""
+        have the same result.
+        """
         if self.next_look < until:
             if self.swap.is_due():
                 self.decisions += self.swap.look(self.next_look)

@@ -29,7 +29,8 @@ class Limits:
 
     def changed(self, setting: Setting) -> Limits:
         """Returns the limits with one setting changed, or raises a Fault if its value is
-        malformed."""
+        malformed.
+        """
         if setting.name == "DefaultMemoryPressureDurationSec":
             return self.put(setting, "duration", checked_duration(setting) or Limits.duration)
         found = share(setting.value)
@@ -51,7 +52,8 @@ NAMES = {
 
 def checked_duration(setting: Setting) -> int | None:
     """Parses a duration of at least 1 s, and returns it in ns. None if it is empty or 0, which
-    select the default."""
+    select the default.
+    """
     if not setting.value:
         return None
     found = duration(setting.value)
@@ -81,7 +83,8 @@ def configurations(root: str, version: int) -> list[str]:
 
 def read_limits(root: str, version: int, notes: list[str]) -> Limits:
     """Reads the limits from the files below `root`. Adds a note to `notes` for each ignored
-    setting."""
+    setting.
+    """
     limits = Limits()
     for path in configurations(root, version):
         for setting in settings_of(path):

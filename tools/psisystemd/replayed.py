@@ -1,5 +1,6 @@
 """Applies systemd-oomd's rules to a trace, with the pressure that a replay by psi_oomd prints
-each second."""
+each second.
+"""
 from __future__ import annotations
 
 import contextlib
@@ -29,7 +30,8 @@ BY = (MEMORY_PRESSURE, SWAP)
 @contextlib.contextmanager
 def kept_trace(name: str) -> Iterator[str]:
     """Yields the path of a trace that can be read twice: the standard input is copied to a
-    temporary file."""
+    temporary file.
+    """
     if name != "-":
         yield name
         return
@@ -42,7 +44,8 @@ def kept_trace(name: str) -> Iterator[str]:
 @dataclass(frozen=True)
 class Second:
     """A check: its time (ns), and the full memory pressure over 10 s of the watched groups and
-    the root, in hundredths of a percent."""
+    the root, in hundredths of a percent.
+    """
 
     moment: int
     averages: dict[str, int]
@@ -50,7 +53,8 @@ class Second:
 
 def kept(printed: Iterable[bytes], settings: Settings) -> Iterator[bytes]:
     """Yields the lines that checks need. It drops the reports of other resources, and of
-    unwatched groups except the root, whose reports mark each second."""
+    unwatched groups except the root, whose reports mark each second.
+    """
     is_kept = True
     for line in printed:
         if line[:5] not in (b"some ", b"full "):
@@ -88,7 +92,8 @@ def decide(engine: Engine, trace: str, seconds: Iterator[Second]) -> None:
 
 def replayed(program: Program, trace: str, settings: Settings, threads: int) -> Engine:
     """Returns what systemd-oomd would have done in a trace with these settings. Raises a Refusal
-    if psi_oomd rejects the trace."""
+    if psi_oomd rejects the trace.
+    """
     words = [
         "replay",
         f"--tick-ms={LOOK_MS}",
@@ -118,7 +123,8 @@ def replayed(program: Program, trace: str, settings: Settings, threads: int) -> 
 
 def kills_of(decisions: Iterable[Decision]) -> list[Kill]:
     """Converts decisions to the kills of a replay, in which a rule's index takes the place of
-    the ruleset."""
+    the ruleset.
+    """
     return [
         Kill(it.moment, BY.index(it.by), 0, it.victim) for it in decisions if it.victim is not None
     ]
@@ -126,7 +132,8 @@ def kills_of(decisions: Iterable[Decision]) -> list[Kill]:
 
 def warnings(engine: Engine, settings: Settings) -> list[str]:
     """Returns warnings about what the trace or the settings lack, so that nothing could be
-    killed."""
+    killed.
+    """
     found = []
     pressure, swap = engine.pressure, engine.swap
     unread = sorted(pressure.unread - set(pressure.courses))

@@ -2,7 +2,8 @@
 
 They are read from a folder with files as in a machine's root, or from what tools/record stored.
 The latter also has what systemd itself reported about its units, and each group's owner and
-attributes. Such reports have priority over files."""
+attributes. Such reports have priority over files.
+"""
 from __future__ import annotations
 
 import os
@@ -26,7 +27,8 @@ NO_UNIT = Unit()
 @dataclass(frozen=True)
 class Watched:
     """The rules by which a group is watched: swap, and memory pressure with its limit
-    (hundredths of a percent) and duration (ns)."""
+    (hundredths of a percent) and duration (ns).
+    """
 
     swap: bool
     pressure: bool
@@ -37,7 +39,8 @@ class Watched:
 @dataclass(frozen=True)
 class Attributes:
     """The attributes of a group's folder: its owner (uid), whether the group is killed as a
-    whole, and its preference."""
+    whole, and its preference.
+    """
 
     owner: int
     is_whole: bool
@@ -46,7 +49,8 @@ class Attributes:
 
 def version_of(path: str) -> int:
     """Parses the version of a recorded machine's systemd from the output of `systemctl
-    --version`."""
+    --version`.
+    """
     found = re.match(r"systemd ([0-9]{1,4})\b", text_at(path))
     if not found:
         raise Fault(
@@ -136,7 +140,8 @@ class Settings:
 
     def owner(self, path: str) -> int:
         """Returns the uid of the group's owner. If it isn't recorded, a user's manager and its
-        descendants belong to the user, and other groups to root."""
+        descendants belong to the user, and other groups to root.
+        """
         if path in self.groups:
             return self.groups[path].owner
         found = BELOW_MANAGER.search(path)
@@ -144,7 +149,8 @@ class Settings:
 
     def preference(self, path: str, traced: str) -> str:
         """Returns the group's preference, from its attributes, or else from its unit, or else
-        from the trace (`traced`)."""
+        from the trace (`traced`).
+        """
         if path in self.groups:
             return self.groups[path].preference
         return self.unit(path).preference or (traced if traced == "avoid" else "none")
@@ -153,7 +159,8 @@ class Settings:
 def unit_of(path: str) -> tuple[str, bool] | None:
     """Returns the name of the unit whose group is at `path`, and whether it belongs to a user's
     manager. None if no manager has it: units are in slices, and a user's units in slices below
-    the manager."""
+    the manager.
+    """
     if path == "/":
         return "-.slice", False
     *above, name = path[1:].split("/")

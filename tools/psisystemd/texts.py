@@ -1,5 +1,6 @@
 """Parses files of settings with sections, comments and continued lines, according to
-systemd.syntax(7)."""
+systemd.syntax(7).
+"""
 from __future__ import annotations
 
 import os
@@ -22,7 +23,8 @@ class Setting:
 
     def fault(self, wanted: str) -> Fault:
         """Returns the error that the setting's value is malformed; `wanted` says what it has to
-        be."""
+        be.
+        """
         return Fault(f"{self.place}: {self.name} is {quoted(self.value)}: it has to be {wanted}")
 
 
@@ -47,7 +49,8 @@ def text_at(path: str) -> str:
 
 def whole_lines(text: str) -> Iterator[tuple[int, str]]:
     """Yields each logical line with its number from 1, without comments and empty lines. A line
-    that ends in a backslash continues in the next one, and comments in between don't end it."""
+    that ends in a backslash continues in the next one, and comments in between don't end it.
+    """
     begun: tuple[int, str] | None = None
     for number, line in enumerate(text.split("\n"), 1):
         if line.lstrip()[:1] in ("#", ";"):
@@ -87,7 +90,8 @@ def settings_of(path: str) -> Iterator[Setting]:
 def drop_ins(root: str, folders: list[str]) -> list[str]:
     """Returns the drop-in files in `folders`, sorted by file name. Of files with the same name,
     the one in the first folder is used, even if it is empty or a link to /dev/null, which then
-    only hides the others."""
+    only hides the others.
+    """
     found: dict[str, str] = {}
     for folder in folders:
         try:

@@ -24,7 +24,8 @@ class Candidate:
     """A group that could be chosen: the scanned pages by which it is ranked, its memory and swap
     (bytes), and its preference. `passed_over` says why it was skipped; it is empty for a group
     that only ranked too low. `is_new` says that the group was no candidate at the previous
-    check, so that all pages that it ever scanned count."""
+    check, so that all pages that it ever scanned count.
+    """
 
     path: str
     scanned: int
@@ -52,7 +53,8 @@ class Candidate:
 @dataclass(frozen=True)
 class Decision:
     """A decision at a time (ns): the victim or None, the rule, the watched group, the reason,
-    and all candidates in order of rank. `span` says in which time the pages were scanned."""
+    and all candidates in order of rank. `span` says in which time the pages were scanned.
+    """
 
     moment: int
     victim: str | None
@@ -99,7 +101,8 @@ class Decision:
 class Course:
     """How near a watched group came to a kill: its limit and its greatest pressure (both in
     hundredths of a percent), when that was reached (ns), and the longest time (ns) above the
-    limit, None if it was never above."""
+    limit, None if it was never above.
+    """
 
     path: str
     limit: int
@@ -110,7 +113,8 @@ class Course:
 
     def take(self, moment: int, pressure: int, since: int | None) -> None:
         """Records the pressure at a time (ns). `since` is the time since which the pressure is
-        above the limit, None if it isn't."""
+        above the limit, None if it isn't.
+        """
         if pressure > self.most:
             self.most, self.most_at = pressure, moment
         if since is not None:

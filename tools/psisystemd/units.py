@@ -1,5 +1,6 @@
 """The settings of systemd-oomd in units, from unit files and drop-in files, merged as systemd
-does, and from `systemctl show`."""
+does, and from `systemctl show`.
+"""
 from __future__ import annotations
 
 import os
@@ -39,7 +40,8 @@ Meaning = TypeVar("Meaning")
 class Unit:
     """The settings for a unit's group. The limit is in hundredths of a percent and the duration
     in ns; None selects oomd.conf's. `is_whole` says whether memory.oom.group is set, None if the
-    unit doesn't say."""
+    unit doesn't say.
+    """
 
     swap: bool = False
     pressure: bool = False
@@ -87,7 +89,8 @@ class Unit:
 
 def chosen(setting: Setting, words: dict[str, Meaning], empty: str) -> Meaning:
     """Returns the meaning of the setting's value, or raises a Fault if it isn't one of `words`.
-    An empty value means the same as the word `empty`."""
+    An empty value means the same as the word `empty`.
+    """
     value = setting.value or empty
     if value not in words:
         raise setting.fault(" or ".join(words))
@@ -99,7 +102,8 @@ def chosen(setting: Setting, words: dict[str, Meaning], empty: str) -> Meaning:
 
 def template_of(name: str) -> str | None:
     """Returns the template of an instance, such as user@.service for user@1000.service. None if
-    `name` isn't an instance."""
+    `name` isn't an instance.
+    """
     prefix, is_instance, rest = name.partition("@")
     instance, _, kind = rest.rpartition(".")
     return f"{prefix}@.{kind}" if is_instance and instance else None
@@ -108,7 +112,8 @@ def template_of(name: str) -> str | None:
 def widened(name: str) -> str | None:
     """Shortens a unit's name to the prefix before its last dash: a-b-.service for a-b-c.service,
     then a-.service. For a template the result isn't a template: a-.service for a-b@.service.
-    None if there is no such prefix."""
+    None if there is no such prefix.
+    """
     name = name.replace("@.", ".", 1)
     stem = name.partition("@")[0] if "@" in name else name.rpartition(".")[0]
     front = stem.removesuffix("-").rpartition("-")[0]
@@ -117,7 +122,8 @@ def widened(name: str) -> str | None:
 
 def drop_in_names(name: str) -> Iterator[str]:
     """Yields the names whose drop-in files also apply to a unit, the most specific first: for
-    u-v@x.service these are u-v@.service, u-.service and u-@x.service. A name may occur twice."""
+    u-v@x.service these are u-v@.service, u-.service and u-@x.service. A name may occur twice.
+    """
     yield name
     if template := template_of(name):
         yield from drop_in_names(template)
@@ -163,7 +169,8 @@ class UnitFiles:
 
     def is_known(self, setting: Setting, kind: str) -> bool:
         """Whether systemd knows the setting in a unit of this kind. Adds a note if it is ignored
-        although it looks like a setting of systemd-oomd."""
+        although it looks like a setting of systemd-oomd.
+        """
         if setting.name == DURATION_OF_UNIT and self.version < OWN_DURATION:
             self.note(
                 f"{setting.place}: {setting.name} means nothing before systemd {OWN_DURATION}"
@@ -188,7 +195,8 @@ class UnitFiles:
 
     def named(self) -> list[str]:
         """Returns the sorted names of units and templates for which there is a file or a drop-in
-        folder."""
+        folder.
+        """
         found = set()
         for folder in self.folders:
             for name in os.listdir(os.path.join(self.root, folder)):
@@ -203,7 +211,8 @@ class UnitFiles:
 
 def shown_units(path: str, version: int) -> dict[str, tuple[str, Unit]]:
     """Parses the output of `systemctl show`, blocks of lines separated by empty lines. Returns
-    each unit's name and settings by its group's path."""
+    each unit's name and settings by its group's path.
+    """
     found: dict[str, tuple[str, Unit]] = {}
     block: list[Setting] = []
     for number, line in enumerate([*text_at(path).splitlines(), ""], 1):

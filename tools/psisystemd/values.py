@@ -27,7 +27,8 @@ UNITS = {
 
 def share(text: str) -> int | None:
     """Parses a number with its sign as hundredths of a percent. None if it is malformed or above
-    100 percent."""
+    100 percent.
+    """
     found = SHARE.fullmatch(text)
     if not found:
         return None
@@ -40,7 +41,8 @@ def share(text: str) -> int | None:
 
 def share_of_scale(text: str) -> int | None:
     """Parses a share, as `systemctl show` prints it or with a sign, as hundredths of a percent.
-    None if it is malformed."""
+    None if it is malformed.
+    """
     if re.fullmatch("[0-9]{1,10}", text) and int(text) <= SCALE:
         return (int(text) * WHOLE + SCALE // 2) // SCALE
     return share(text)
@@ -48,7 +50,8 @@ def share_of_scale(text: str) -> int | None:
 
 def duration(text: str) -> int | None:
     """Parses a duration in the format of systemd.time(7), in seconds if it has no unit, as ns.
-    None if it is malformed or infinite."""
+    None if it is malformed or infinite.
+    """
     place, ns = 0, 0
     while place < len(text):
         found = PART.match(text, place)

@@ -22,7 +22,8 @@ def extreme(
     most: Nearest, shown: str, limit: Optional[float], limit_shown: str, unit: str
 ) -> Optional[Extreme]:
     """Returns a detector's value that came nearest to its limit, or None if it was never
-    evaluated."""
+    evaluated.
+    """
     if most.value is None:
         return None
     word = "highest" if most.sign > 0 else "lowest"
@@ -71,7 +72,8 @@ def held(it: Plugin, wanted: str, found: Optional[Extreme], duration: Duration) 
 
 def miss_at(it: Measure) -> Optional[Miss]:
     """Returns how near a detector came to being true, or None if it has no threshold to compare
-    with."""
+    with.
+    """
     if it.extreme is None or not it.extreme.limit:
         return None
     value, limit = it.extreme.value, it.extreme.limit
@@ -84,7 +86,8 @@ def miss_at(it: Measure) -> Optional[Miss]:
 
 def miss_of(ruleset: Ruleset, groups: list[tuple[str, list[Measure]]]) -> Optional[Miss]:
     """Returns how near a ruleset that never fired came: a group of detectors is as near as its
-    farthest detector, and a ruleset is as near as its nearest group. None if it fired."""
+    farthest detector, and a ruleset is as near as its nearest group. None if it fired.
+    """
     if ruleset.fired:
         return None
     near = [[miss for miss in map(miss_at, measures) if miss] for _, measures in groups]

@@ -19,7 +19,8 @@ class Near(NamedTuple):
     """How near a detector, a group or a ruleset came to being true. `part` is how much of its
     threshold was reached, and `held` for how much of the duration the condition held, both from
     0 to 1. `watch` is the detector that was farthest from being true, and `hold` the longest
-    time (ns) for which its condition held. A greater key is nearer."""
+    time (ns) for which its condition held. A greater key is nearer.
+    """
 
     part: float
     held: float
@@ -36,7 +37,8 @@ NEVER, TRUE = Near(0.0, 0.0), Near(1.0, 1.0)
 
 def hold_of(judged: Judged, place: Place, detector: dict[str, Any]) -> int:
     """Returns the longest time (ns) for which a detector's condition held, regardless of its
-    duration."""
+    duration.
+    """
     if detector["name"] == "pressure_rising_beyond":
         return judged.watches[place[:3]].hold
     held = place._replace(held=True) if has_duration(detector) else place
@@ -45,7 +47,8 @@ def hold_of(judged: Judged, place: Place, detector: dict[str, Any]) -> int:
 
 def detector_near(judged: Judged, place: Place, detector: dict[str, Any]) -> Near:
     """Returns how near a detector came to being true. (`exists` is excluded: it has no
-    distance.)"""
+    distance.)
+    """
     watch = judged.watches[place[:3]]
     if judged.truths[place]:
         return TRUE._replace(watch=watch)
@@ -57,7 +60,8 @@ def detector_near(judged: Judged, place: Place, detector: dict[str, Any]) -> Nea
 
 def group_near(judged: Judged, ruleset: int, group: int) -> Near:
     """Returns how near a group of detectors came: as near as the farthest of them, without
-    `exists`."""
+    `exists`.
+    """
     detectors = judged.json[ruleset]["detectors"][group][1:]
     found = [
         detector_near(judged, Place(ruleset, group, which), it)
@@ -166,7 +170,8 @@ def parts(judged: Judged, kills: list[Kill]) -> list[Part]:
 
 def verdict(judged: Judged, found: list[Part]) -> str:
     """Says in a phrase why rules killed nobody: a ruleset fired without a victim, or the nearest
-    miss."""
+    miss.
+    """
     names = [f"ruleset {number} ‘{printable(it['name'])}’" for number, it in enumerate(judged.json)]
     for name, it in zip(names, found):
         if it.firings:

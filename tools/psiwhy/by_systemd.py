@@ -1,5 +1,6 @@
 """Explains why systemd-oomd killed or didn't, for memory pressure in each watched group and for
-swap."""
+swap.
+"""
 from __future__ import annotations
 
 from typing import Optional
@@ -76,7 +77,8 @@ def course_miss(it: Course) -> Miss:
 
 def pressure_part(engine: Engine, path: str) -> Part:
     """Describes the memory pressure of the watched group at `path`, with its decisions and
-    pauses."""
+    pauses.
+    """
     course = engine.pressure.courses[path]
     decided = [
         firing(it) for it in engine.decisions if it.by == MEMORY_PRESSURE and it.watched == path

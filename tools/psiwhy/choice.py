@@ -1,5 +1,6 @@
 """Explains why an action chooses a group or doesn't: the values of its candidates, each with a
-reason."""
+reason.
+"""
 from __future__ import annotations
 
 from fractions import Fraction
@@ -18,7 +19,8 @@ Numbers = dict[str, object]
 
 class Candidate(NamedTuple):
     """A group that an action matches: `text` has its values for people, `numbers` by name, and
-    `reason` says why it was or wasn't chosen."""
+    `reason` says why it was or wasn't chosen.
+    """
 
     path: str
     text: str
@@ -29,7 +31,8 @@ class Candidate(NamedTuple):
 
 class Choice(NamedTuple):
     """The outcome of an action: its victim, or the reason why there is none, and its candidates.
-    With `recursive` these are the candidates of all levels."""
+    With `recursive` these are the candidates of all levels.
+    """
 
     action: int
     plugin: str
@@ -40,7 +43,8 @@ class Choice(NamedTuple):
 
 class Measured(NamedTuple):
     """The value by which a candidate is ranked, as a number and for people. `lack` says why the
-    value is too small, and is empty if it suffices."""
+    value is too small, and is empty if it suffices.
+    """
 
     value: int
     text: str
@@ -128,7 +132,8 @@ def wish_of(now: Evaluation, path: str) -> str:
 
 class Sizes:
     """The candidates of `kill_by_memory_size_or_growth`: `live` are those with a live task,
-    `first` those of them with the best preference, by descending size."""
+    `first` those of them with the best preference, by descending size.
+    """
 
     def __init__(self, plugin: Plugin, now: Evaluation, paths: list[str]) -> None:
         args = plugin.args
@@ -174,7 +179,8 @@ class Sizes:
 
     def best(self) -> Optional[str]:
         """Returns the group that the action chooses: the largest if it is large, otherwise the
-        one that grew most, otherwise the largest. None without candidates."""
+        one that grew most, otherwise the largest. None without candidates.
+        """
         if not self.first or self.is_large(self.first[0]):
             return next(iter(self.first), None)
         growing = [it for it in self.first[: self.few] if self.is_growing(it)]
@@ -245,7 +251,8 @@ def best(plugin: Plugin, now: Evaluation, paths: list[str]) -> Optional[str]:
 
 def step_to(plugin: Plugin, now: Evaluation, paths: list[str], victim: str) -> Optional[str]:
     """Returns the group among `paths` that an action chose on its way to its victim: the victim
-    itself, or with `recursive` an ancestor of it."""
+    itself, or with `recursive` an ancestor of it.
+    """
     if plugin.args.get("recursive", "false") not in TRUTHS:
         return victim
     above = [it for it in paths if f"{victim}/".startswith(f"{it.rstrip('/')}/")]

@@ -1,5 +1,6 @@
 """Rebuilds the machine at each evaluation of the rules: its groups, their last samples, their
-pressure, and what the rules remember of earlier evaluations."""
+pressure, and what the rules remember of earlier evaluations.
+"""
 from __future__ import annotations
 
 import itertools
@@ -21,7 +22,8 @@ class Evaluation:
     """The machine at an evaluation, at the time `moment` (ns). `full` has full averages in
     hundredths of a percent, by path, resource and average. `sizes` has the sizes (bytes) at
     earlier evaluations, the newest first, and `scans` the scan counts (pages) at the previous
-    evaluation."""
+    evaluation.
+    """
 
     def __init__(self, world: World[Task]) -> None:
         self.moment = 0
@@ -60,14 +62,16 @@ class Evaluation:
 
     def rise(self, path: str) -> int:
         """Returns the pages scanned since the previous evaluation, 0 if the group wasn't live
-        then."""
+        then.
+        """
         group = self.world.live[path]
         scanned = self.sample(group).scanned
         return max(0, scanned - self.scans.get(group, scanned))
 
     def growth(self, path: str) -> tuple[int, int]:
         """Returns the growth as a fraction: the size divided by the mean of earlier sizes. The
-        denominator is 0 if there is no earlier size, or if all were 0."""
+        denominator is 0 if there is no earlier size, or if all were 0.
+        """
         group = self.world.live[path]
         past = self.sizes.get(group, [])
         return self.sample(group).memory * len(past), sum(past)
@@ -75,7 +79,8 @@ class Evaluation:
 
 def evaluations(printed: Iterable[bytes], asked: Asked) -> Iterator[Evaluation]:
     """Yields the evaluations of a replay that prints a report at each. It is one object, which
-    changes when the next evaluation is taken."""
+    changes when the next evaluation is taken.
+    """
     world = World(Task)
     found = Evaluation(world)
     reports = (it for it in read(printed) if isinstance(it, Report))

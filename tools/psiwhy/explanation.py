@@ -15,7 +15,8 @@ Span = tuple[int, int]
 class Extreme(NamedTuple):
     """The value that came nearest to a limit, the time (ns) at which it was first reached and
     the group that reached it, and the limit. Value and limit are in `unit`; `shown` and
-    `limit_shown` are for people."""
+    `limit_shown` are for people.
+    """
 
     word: str
     value: float
@@ -35,7 +36,8 @@ class Extreme(NamedTuple):
 class Measure(NamedTuple):
     """A detector: what it waits for (`wanted`), its nearest value or why there is none
     (`absent`), the longest time (ns) for which its condition held, the time (ns) for which it
-    must hold, and the spans (ns) in which it was true."""
+    must hold, and the spans (ns) in which it was true.
+    """
 
     plugin: str
     wanted: str
@@ -70,7 +72,8 @@ class Measure(NamedTuple):
 
 class Firing(NamedTuple):
     """A firing at the time `moment` (ns): what was true then, and what the actions did. No
-    action ran if the ruleset rested until a later time (ns) or was paused."""
+    action ran if the ruleset rested until a later time (ns) or was paused.
+    """
 
     moment: int
     by: list[str]
@@ -94,7 +97,8 @@ class Firing(NamedTuple):
 
 class Miss(NamedTuple):
     """How near a ruleset that never fired came: which part of the threshold and of the duration
-    it reached, from 0 to 1, and for people the value that was missing."""
+    it reached, from 0 to 1, and for people the value that was missing.
+    """
 
     part: float
     held: float
@@ -108,7 +112,8 @@ class Miss(NamedTuple):
 
 class Part(NamedTuple):
     """A ruleset, or a rule of systemd-oomd: its name, its groups of detectors by name, its
-    firings, and how near it came if it never fired."""
+    firings, and how near it came if it never fired.
+    """
 
     name: str
     groups: list[tuple[str, list[Measure]]]
@@ -174,7 +179,8 @@ def choice_lines(it: Choice, is_all: bool) -> list[str]:
 
 def firing_lines(found: list[Firing], is_all: bool) -> list[str]:
     """Returns the lines for firings with their actions. Consecutive firings during the same rest
-    are one line."""
+    are one line.
+    """
     lines: list[str] = []
     place = 0
     while place < len(found):

@@ -17,7 +17,8 @@ from .truths import Place
 
 class Firing(NamedTuple):
     """A firing of a ruleset at a time (ns), and the groups of detectors that were true. If it
-    rested until a later time (ns), no action ran."""
+    rested until a later time (ns), no action ran.
+    """
 
     moment: int
     ruleset: int
@@ -40,7 +41,8 @@ class Chains:
 
     def run(self, ruleset: int, now: Evaluation) -> Iterator[Choice]:
         """Yields what the actions of a firing ruleset did, up to the action that ended the
-        chain."""
+        chain.
+        """
         kills = self.kills[ruleset, now.moment]
         for number, plugin in enumerate(self.actions[ruleset]):
             victim = kills.get(number)
@@ -52,7 +54,8 @@ class Chains:
 
     def resting(self, ruleset: int, moment: int) -> Optional[int]:
         """Returns the time (ns) until which a ruleset rests, or None if it doesn't rest at
-        `moment` (ns)."""
+        `moment` (ns).
+        """
         until = self.rests.get(ruleset, 0)
         return until if moment < until else None
 

@@ -1,5 +1,6 @@
 """Evaluates a rules file on a trace: its kills, when detectors were true, and how near they
-came."""
+came.
+"""
 from __future__ import annotations
 
 import json
@@ -19,7 +20,8 @@ TICK_MS, INTERVAL_S = 2000, 5
 
 class Asked(NamedTuple):
     """The file names of a trace and of rules. `tick_ms` and `interval_s` (the interval of
-    evaluations) are None for the program's defaults."""
+    evaluations) are None for the program's defaults.
+    """
 
     trace: str
     rules: str
@@ -43,7 +45,8 @@ class Asked(NamedTuple):
 class Judged(NamedTuple):
     """The outcome of rules on a trace. `json` has the rules as the program parsed them, `asked`
     the runs that show when detectors were true, and `watches` how near each detector came, by
-    ruleset, group and detector. `host` is the machine's memory (bytes)."""
+    ruleset, group and detector. `host` is the machine's memory (bytes).
+    """
 
     of: Asked
     run: Done
@@ -73,7 +76,8 @@ def read_rules(runs: Runs, asked: Asked) -> tuple[list[dict[str, Any]], Rules]:
 
 def judge(runs: Runs, asked: Asked, run: Done) -> Judged:
     """Evaluates the rules' detectors on a trace. `run` is a replay that prints a report at each
-    evaluation."""
+    evaluation.
+    """
     values, rules = read_rules(runs, asked)
     before = len(runs.done)
     found = truths(runs, values, asked.trace, asked.pace)

@@ -1,5 +1,6 @@
 """Measures how near each detector came to its threshold, by the highest value at the
-evaluations."""
+evaluations.
+"""
 from __future__ import annotations
 
 from typing import Any, Iterable, NamedTuple, Optional
@@ -19,7 +20,8 @@ PRESSURE = {"pressure_above": 10, "pressure_rising_beyond": 60}
 class Group(NamedTuple):
     """A group at an evaluation: full averages of IO and of memory over 10 and 60 s (hundredths
     of a percent), its memory (bytes) or None without a sample, and the number of pages scanned
-    since the previous evaluation."""
+    since the previous evaluation.
+    """
 
     full: dict[tuple[str, str], int]
     memory: Optional[int]
@@ -28,7 +30,8 @@ class Group(NamedTuple):
 
 class Nearest(NamedTuple):
     """The value nearest to the threshold, the time (ns) at which it was first reached, and the
-    group."""
+    group.
+    """
 
     value: int
     moment: int
@@ -37,7 +40,8 @@ class Nearest(NamedTuple):
 
 class Memory:
     """The last samples of groups and of the host at an evaluation, and each group's scan count
-    (pages) at the previous one."""
+    (pages) at the previous one.
+    """
 
     def __init__(self, trace: str) -> None:
         self.groups, self.events = Groups(), Events(trace)
@@ -51,13 +55,15 @@ class Memory:
 
     def memory(self, path: str) -> Optional[int]:
         """Returns the memory (bytes) at the last sample of a live group, or None without a
-        sample."""
+        sample.
+        """
         sample = self.groups.live[path].sample
         return sample.memory if sample else None
 
     def rise(self, path: str) -> int:
         """Returns the pages scanned since the previous evaluation, 0 if the group wasn't live
-        then."""
+        then.
+        """
         group = self.groups.live[path]
         return max(0, scanned(group) - self.before.get(group, scanned(group)))
 
@@ -116,7 +122,8 @@ class Watch:
 
     def part(self, host: Optional[int]) -> float:
         """Returns how close the detector came to its threshold, as a fraction from 0 to 1.
-        `host` is the host's memory (bytes)."""
+        `host` is the host's memory (bytes).
+        """
         name, args = self.plugin
         if self.nearest is None or name == "exists":
             return 0.0
@@ -134,7 +141,8 @@ class Watch:
     def nearest_told(self, host: Optional[int], hold: int) -> str:
         """Says in a sentence's words the nearest value, and its distance from the threshold or,
         if it was above, by how much its hold was too short. `hold` is the longest time (ns) for
-        which the condition held."""
+        which the condition held.
+        """
         name, args = self.plugin
         if self.nearest is None or name in ("exists", "memory_reclaim"):
             return self.came(host)
@@ -218,7 +226,8 @@ def lasting(args: dict[str, str]) -> str:
 
 def short_of(args: dict[str, str], hold: int, is_above: bool) -> str:
     """Says by how much the longest `hold` (ns) above the threshold was too short. Empty if it
-    wasn't."""
+    wasn't.
+    """
     missing = int(args.get("duration", "0")) * SECOND - hold
     return (
         f" for {seconds(hold)} s at most, {seconds(missing)} s short of {args['duration']} s"
@@ -250,7 +259,8 @@ def watch(
     printed: Iterable[bytes], trace: str, evaluations: list[int], watches: list[Watch]
 ) -> Optional[int]:
     """Passes all evaluations of a replay with a report at each to `watches`. Returns the host's
-    memory (bytes), or None if the trace doesn't have it."""
+    memory (bytes), or None if the trace doesn't have it.
+    """
     memory, due = Memory(trace), set(evaluations)
     reports: list[Report] = []
     groups: Looked = {}

@@ -3,7 +3,8 @@ whenever the detector is true.
 
 A kill changes nothing else in a replay, and an action with a post-action delay of 0 s kills at
 each evaluation. So a ruleset kills exactly when its detector is true. The victim is the root,
-which is a candidate as long as some task is live; without a live task no rule can kill."""
+which is a candidate as long as some task is live; without a live task no rule can kill.
+"""
 from __future__ import annotations
 
 import json
@@ -24,7 +25,8 @@ Detector = dict[str, Any]
 
 class Place(NamedTuple):
     """A ruleset, one of its groups of detectors, and one detector of the group, by indices from
-    0; -1 stands for all of them. With `held` the detector is evaluated without its duration."""
+    0; -1 stands for all of them. With `held` the detector is evaluated without its duration.
+    """
 
     ruleset: int
     group: int = -1
@@ -43,7 +45,8 @@ def without_duration(detector: Detector) -> Detector:
 
 def has_duration(detector: Detector) -> bool:
     """Whether the condition must hold for a duration. The duration of memory_reclaim is
-    something else: it says how long a rise counts."""
+    something else: it says how long a rise counts.
+    """
     return bool(
         detector["name"] != "memory_reclaim" and detector["args"].get("duration", "0") != "0"
     )
