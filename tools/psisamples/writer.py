@@ -78,9 +78,7 @@ class Processor:
             del self.tasks[key]
 
     def change(self, time: int, wanted: dict[Key, str], out: list[Event]) -> None:
-        """Brings tasks into these states. A task that falls asleep, or enters or leaves a stall,
-        runs for zero time.
-        """
+        """Brings tasks into these states, by turns of zero length if they sleep or stall."""
         cpu, tasks, runs = self.number, self.tasks, self.runs
         changed, turns, last = list[Task](), list[Task](), None
         for key, state in wanted.items():
