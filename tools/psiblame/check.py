@@ -24,7 +24,8 @@ def states_of(parts: list[Sums], processor: int, group: Group) -> States:
 
 def must_add_up(parts: list[Sums], live: Iterable[Group], cpus: int, told: Stalls) -> None:
     """Checks that, for each processor and each group that is live at the end, the sums of the
-    stretches equal psi_oomd's times. Raises a Fault if they differ, or if the groups differ."""
+    stretches equal psi_oomd's times. Raises a Fault if they differ, or if the groups differ.
+    """
     groups = {(processor, group.path): group for processor in range(cpus) for group in live}
     if groups.keys() != told.keys():
         processor, path = min(groups.keys() ^ told.keys())

@@ -19,7 +19,8 @@ DEEPEST = 32
 
 class Part(NamedTuple):
     """A time (ns) attributed to `group`, or to no group if that is None, and its division among the
-    group's processes if they have names."""
+    group's processes if they have names.
+    """
 
     group: Optional[Group]
     time: int
@@ -31,7 +32,8 @@ class Figures(NamedTuple):
     processors; how long the group waited for each processor and for IO, and was in a memory stall;
     and which groups ran, waited or stalled meanwhile. `while_victim` is how long the victim ran
     while the group waited. `less` is the part of that in which the group wouldn't have waited
-    without the victim. Both are None for the victim itself and the groups below it."""
+    without the victim. Both are None for the victim itself and the groups below it.
+    """
 
     group: Group
     ran: int
@@ -78,7 +80,8 @@ def longest_first(times: Mapping[Optional[Group], int]) -> list[Part]:
 class Asker:
     """Computes figures from the sums of a stretch. A group deeper than `depth` counts as its
     ancestor at that depth. Processes have the names that they had at the end of the stretch, `to`
-    (ns)."""
+    (ns).
+    """
 
     def __init__(self, walk: Walk, cpus: int, depth: int, to: int) -> None:
         self.groups, self.runners, self.victims = walk.all, walk.runners, walk.victims.numbers
@@ -148,7 +151,8 @@ class Asker:
 
     def beside(self, group: Group, pairs: Pairs) -> list[Part]:
         """Returns the groups that were in the same state at the same time, except the group's
-        ancestors, which always are."""
+        ancestors, which always are.
+        """
         others = {
             self.groups[other]: time
             for (asked, other), time in pairs.items()

@@ -7,7 +7,8 @@ from typing import NamedTuple
 class Growth(NamedTuple):
     """The growth (bytes) of a group's memory in a time span, and the increase of its count of
     scanned pages. The growth is from the last sample before the span, or the first one in it if
-    there is none before, to the highest sample in it."""
+    there is none before, to the highest sample in it.
+    """
 
     grown: int
     scanned: int
@@ -15,7 +16,8 @@ class Growth(NamedTuple):
 
 class Samples:
     """The samples of each group, by its number, in the current stretch. The last sample before the
-    stretch counts as its first, since the group had that memory when the stretch began."""
+    stretch counts as its first, since the group had that memory when the stretch began.
+    """
 
     def __init__(self) -> None:
         self.first: dict[int, int] = {}

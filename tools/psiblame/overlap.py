@@ -1,5 +1,6 @@
 """The time in which other groups waited for IO or were in a memory stall while a requested group
-did."""
+did.
+"""
 from __future__ import annotations
 
 import collections
@@ -12,7 +13,8 @@ class Beside:
     """A requested group's clock: `total` is the time (ns) that the group was in the state, summed
     over processors, and `processors` the number of processors on which it is now. For each other
     group in the state, `since` is this clock's time when its stretch began; the difference at its
-    end is the overlap."""
+    end is the overlap.
+    """
 
     __slots__ = ("group", "total", "processors", "last", "since", "sums")
 
@@ -32,7 +34,8 @@ class Beside:
 
     def count(self, other: int, now: int) -> None:
         """Adds the overlap with the stretch of `other` that ends now. A group that didn't exist
-        when that stretch began counts from 0."""
+        when that stretch began counts from 0.
+        """
         total = self.at(now)
         self.sums[other] += total - self.since.get(other, 0)
         self.since[other] = total
@@ -40,7 +43,8 @@ class Beside:
 
 class Overlap:
     """For each requested group and each other group, the part of the requested group's time in
-    which the other one was in the same state, on any processor."""
+    which the other one was in the same state, on any processor.
+    """
 
     def __init__(self) -> None:
         self.asked: list[Beside] = []

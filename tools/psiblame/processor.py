@@ -1,5 +1,6 @@
 """A processor: the group whose task runs, the groups that wait for it, and the times (ns) of their
-waits."""
+waits.
+"""
 from __future__ import annotations
 
 import collections
@@ -24,7 +25,8 @@ Row = collections.defaultdict[int, int]
 
 class Task(world.Task):
     """A task, with the process or thread to which its time is attributed, if known, and the number
-    of this runner within its group."""
+    of this runner within its group.
+    """
 
     __slots__ = ("life", "runner")
 
@@ -40,7 +42,8 @@ class Held:
     (ns) for which each group had such tasks.
 
     An interval is counted when it ends or when the sums are taken. `overlap` is notified at both
-    ends."""
+    ends.
+    """
 
     __slots__ = ("counts", "since", "sums", "overlap")
 
@@ -84,7 +87,8 @@ class Held:
 
 class Rows(dict[int, Row]):
     """A row for each runner's number: the time (ns) that each group waited while that runner ran,
-    and under LENGTH the time of the row."""
+    and under LENGTH the time of the row.
+    """
 
     def __missing__(self, runner: int) -> Row:
         row = self[runner] = Row(int)
@@ -93,7 +97,8 @@ class Rows(dict[int, Row]):
 
 class Processor:
     """A processor's state between two events, when nothing changes: the running task, and the
-    number of ready tasks in each group that has any."""
+    number of ready tasks in each group that has any.
+    """
 
     __slots__ = ("number", "task", "ready", "rows", "row", "last", "io", "memory")
 
@@ -147,7 +152,8 @@ class Processor:
 class WatchedProcessor(Processor):
     """A processor that also tracks what would happen without the tasks of a victim: `others` is the
     number of ready tasks that aren't the victim's. While the victim runs and `others` is at most 1,
-    nobody would wait here without it."""
+    nobody would wait here without it.
+    """
 
     __slots__ = ("victims", "others")
 

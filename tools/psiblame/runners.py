@@ -1,5 +1,6 @@
 """The runners of a trace: groups, or processes within groups if the trace's companion file names
-its tasks."""
+its tasks.
+"""
 from __future__ import annotations
 
 from typing import NamedTuple, Optional
@@ -26,7 +27,8 @@ class Runners:
 
     def life(self, pid: str, now: int) -> Optional[Life]:
         """Returns the process or thread to which the time of a task created at `now` (ns) is
-        attributed; None if unknown."""
+        attributed; None if unknown.
+        """
         return self.tasks.runner(int(pid), now)
 
     def number(self, group: Group, life: Optional[Life]) -> int:

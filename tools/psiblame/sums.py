@@ -17,7 +17,8 @@ class Sums:
 
     `waited`, `io` and `memory` are keyed by processor and group. `pairs` is keyed by the group that
     waited for a processor and the runner there, which may be NOBODY. `alone` is the part of `pairs`
-    in which nobody would have waited without the victim that ran."""
+    in which nobody would have waited without the victim that ran.
+    """
 
     def __init__(self) -> None:
         self.length = 0

@@ -1,5 +1,6 @@
 """The output for people: a few lines about each requested group, or a table and a matrix of all
-groups."""
+groups.
+"""
 from __future__ import annotations
 
 from collections.abc import Callable, Sequence
@@ -48,7 +49,8 @@ def shortened(name: str) -> str:
 
 def columns(rows: list[list[str]], indent: str = "") -> list[str]:
     """Formats rows as a table whose first column is left-aligned and whose other columns are
-    right-aligned."""
+    right-aligned.
+    """
     widths = [max(len(row[place]) for row in rows) for place in range(len(rows[0]))]
     cells = (
         [row[0].ljust(widths[0]), *(cell.rjust(width) for cell, width in zip(row[1:], widths[1:]))]
@@ -59,7 +61,8 @@ def columns(rows: list[list[str]], indent: str = "") -> list[str]:
 
 def without_same(found: Sequence[Row], shown: Callable[[Row], object]) -> list[Row]:
     """Returns the rows without those of a group whose values all come from one child with the same
-    values."""
+    values.
+    """
     by_group = {it.group: it for it in found}
     hidden = {
         above
@@ -103,7 +106,8 @@ class Teller:
 
     def parts(self, of: Group, parts: list[Part], whole: int, head: str) -> list[str]:
         """Formats the longest parts, each with its share of `whole`, and the number of parts that
-        aren't shown."""
+        aren't shown.
+        """
         rows = [[head, "s", "of it"]]
         rows += [
             [self.name(of, it.group), three(it.time), f"{percent(it.time, whole)} %"]
@@ -117,7 +121,8 @@ class Teller:
 
     def group(self, it: Figures, growing: list[Figures]) -> list[str]:
         """Returns the lines about one group. The last block has the groups whose memory grew in
-        that time."""
+        that time.
+        """
         lines = [self.waited(it)]
         lines += (
             self.parts(it.group, it.while_ran, it.waited, "while there ran") if it.waited else []
@@ -157,7 +162,8 @@ class Teller:
 
     def beside(self, it: Figures, where: str, did: str, whole: int, parts: list[Part]) -> list[str]:
         """Returns the lines about the groups that were in the same state at the same time. This
-        isn't a cause: a trace doesn't contain causes."""
+        isn't a cause: a trace doesn't contain causes.
+        """
         if not whole:
             return []
         if not parts:
@@ -171,7 +177,8 @@ class Teller:
 
     def growth(self, it: Figures, growing: list[Figures]) -> list[str]:
         """Returns the lines about the groups whose memory grew in that time, or for which pages
-        were scanned."""
+        were scanned.
+        """
         if not growing:
             return []
         rows = [["", "grown", "pages scanned"]]
@@ -233,7 +240,8 @@ class Teller:
 
     def matrix(self, found: list[Figures]) -> list[str]:
         """Returns the matrix of waits: a row for each group that waited, and a column for each
-        group that ran meanwhile."""
+        group that ran meanwhile.
+        """
         waiting = without_same([it for it in found if it.waited], lambda it: it.while_ran)
         if not waiting:
             return ["no group waited for a processor"]
@@ -269,7 +277,8 @@ def as_text(
     groups: Groups, found: list[Figures], everyone: list[Figures], asked: Asked, known: Known
 ) -> str:
     """Returns the lines about the requested groups, or a table and a matrix of all groups if none
-    was requested."""
+    was requested.
+    """
     teller = Teller(groups, asked, known)
     if not found:
         return "\n".join([*teller.table(everyone), "", *teller.matrix(everyone), ""])

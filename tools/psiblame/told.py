@@ -15,7 +15,8 @@ from .figures import Figures, Part
 
 class Asked(NamedTuple):
     """The request: the trace's name and length, the time span (all in ns), the victim's path, and
-    the number of rows of each kind."""
+    the number of rows of each kind.
+    """
 
     trace: str
     end: int
@@ -79,7 +80,8 @@ def as_json(
     groups: Groups, found: list[Figures], everyone: list[Figures], asked: Asked, known: Known
 ) -> str:
     """Returns one JSON object: the request, and the requested groups, or all groups if none was
-    requested."""
+    requested.
+    """
     whole = {
         "trace": asked.trace,
         "end_ns": asked.end,

@@ -1,5 +1,6 @@
 """Reads a trace that psi_oomd accepts, and gets from psi_oomd how long each group was in each
-state."""
+state.
+"""
 from __future__ import annotations
 
 import contextlib
@@ -34,7 +35,8 @@ TOLD: dict[int, str] = {
 
 class States(NamedTuple):
     """The times (ns) that a group, on one processor, waited for IO, was in a memory stall, and
-    waited for the processor."""
+    waited for the processor.
+    """
 
     io: int
     memory: int
@@ -48,7 +50,8 @@ Stalls = dict[tuple[int, str], States]
 @contextlib.contextmanager
 def as_file(name: str) -> Iterator[str]:
     """Yields the name of a file with the trace's bytes. Standard input is stored in a temporary
-    file, since the trace is read twice."""
+    file, since the trace is read twice.
+    """
     if name != "-":
         yield name
         return
@@ -68,7 +71,8 @@ def program() -> str:
 
 def stalls(file: str, name: str) -> Stalls:
     """Returns the times that `psi_oomd stall` prints for the trace. A rejected trace is a Fault
-    with psi_oomd's message and status."""
+    with psi_oomd's message and status.
+    """
     path = program()
     try:
         done = subprocess.run([path, "stall", "--", file], capture_output=True, encoding="latin-1")
@@ -93,7 +97,8 @@ def stalls(file: str, name: str) -> Stalls:
 
 class Lines:
     """The lines of an accepted trace: `cpus` is the header's number of processors, `end` the time
-    (ns) of the last line."""
+    (ns) of the last line.
+    """
 
     def __init__(self, file: str) -> None:
         self.file, self.size = open(file, "rb"), os.path.getsize(file)
@@ -103,7 +108,8 @@ class Lines:
 
     def pieces(self) -> Iterator[list[str]]:
         """Yields the event lines in large pieces. On a terminal a progress line shows how many were
-        read."""
+        read.
+        """
         shown = time.monotonic()
         is_shown = sys.stderr.isatty()
         with self.file:

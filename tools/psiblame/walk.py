@@ -15,7 +15,8 @@ from .sums import Stretches
 
 class Named:
     """Arguments that name groups, by path or as PATH#N, and the numbers of the groups with these
-    names that were created up to now."""
+    names that were created up to now.
+    """
 
     def __init__(self, words: list[str], with_below: bool) -> None:
         self.words, self.with_below = set(words), with_below
@@ -23,7 +24,8 @@ class Named:
 
     def takes(self, group: Group) -> bool:
         """Checks whether the arguments name a group that was just created, and stores its number if
-        they do."""
+        they do.
+        """
         is_named = group.path in self.words or f"{group.path}#{group.life}" in self.words
         is_below = (
             self.with_below and group.parent is not None and group.parent.number in self.numbers

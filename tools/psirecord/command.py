@@ -49,7 +49,8 @@ LOCK_CURRENT, LOCK_FUTURE, LOCK_ON_FAULT = 1, 2, 4
 def tell(line: str) -> None:
     """Prints a line on standard error. A failed write is ignored, so that the recording continues
     if nobody reads it. The line is written unbuffered, since Python exits with its own status if it
-    can't flush a buffer."""
+    can't flush a buffer.
+    """
     if sys.stderr is not None:
         with contextlib.suppress(OSError, ValueError):
             os.write(sys.stderr.fileno(), f"record: {line}\n".encode(errors="backslashreplace"))
@@ -62,7 +63,8 @@ def choose_sources(
     machine: Machine, wanted: Wanted, group: str, folder: Folder, undoing: Undoing
 ) -> tuple[Sources, bool]:
     """Chooses the best available sources. Returns them, and whether the kernel's scheduler
-    statistics must be switched on for them."""
+    statistics must be switched on for them.
+    """
     if wanted.has_probes:
         sources = add_probes(machine, group, undoing, folder.say, wanted.has_wakeups)
     else:
@@ -88,7 +90,8 @@ def prepare(
     machine: Machine, wanted: Wanted, folder: Folder, undoing: Undoing
 ) -> tuple[Instance, Sources]:
     """Adds the probes and creates the tracing instance, with nothing traced yet. Returns the
-    instance and the sources of events."""
+    instance and the sources of events.
+    """
     name = recorder_name()
     sources, needs_statistics = choose_sources(machine, wanted, name, folder, undoing)
     instance = Instance(machine, name + (STATISTICS_SUFFIX if needs_statistics else ""), undoing)
@@ -112,7 +115,8 @@ def prepare(
 
 def say_machine(folder: Folder, machine: Machine, wanted: Wanted) -> None:
     """Writes the machine's name, processors and time zone, and the offset from event times to the
-    time of day."""
+    time of day.
+    """
     before, realtime, behind = time.monotonic(), time.time(), time.monotonic()
     folder.say(Key.UNAME, " ".join(os.uname()))
     folder.say(Key.PROCESSORS, str(machine.processors()))
@@ -169,7 +173,8 @@ def record(
 
 def check_statistics(machine: Machine, sources: Sources, folder: Folder, ending: Ending) -> None:
     """Reports if the kernel's scheduler statistics were switched off during the recording, perhaps
-    by another recorder: waits for IO then seem shorter than they were."""
+    by another recorder: waits for IO then seem shorter than they were.
+    """
     if sources.waits == BY_STATISTICS and statistics_of(machine) != Statistics.ON:
         what = "kernel.sched_schedstats was switched off meanwhile, so waits for IO are missing"
         tell(what)
@@ -180,7 +185,8 @@ def check_statistics(machine: Machine, sources: Sources, folder: Folder, ending:
 
 def closed(folder: Folder, ending: Ending | None, left: list[str]) -> Status:
     """Writes the last lines of `meta` and the operator's summary, and returns the exit status.
-    `left` names the changes that couldn't be undone."""
+    `left` names the changes that couldn't be undone.
+    """
     for what in left:
         tell(f"this couldn't be undone, and is left on the machine: {what}")
     if ending:
@@ -204,7 +210,8 @@ def closed(folder: Folder, ending: Ending | None, left: list[str]) -> Status:
 
 def finish_compressing(folder: Folder, ending: Ending) -> None:
     """Waits until all pages are compressed, and reports the processor time that this took. Pages
-    that couldn't be compressed stay as uncompressed files, so nothing is lost."""
+    that couldn't be compressed stay as uncompressed files, so nothing is lost.
+    """
     finished = folder.finish_compressing()
     if finished:
         seconds, is_done = finished
@@ -227,7 +234,8 @@ def summarize(folder: Folder, ending: Ending) -> None:
 def make_ready() -> None:
     """Prepares this process so that it isn't late when the machine is overloaded: it gets a high
     priority, and its memory is locked (mlockall(2)). Raises the limit of open files too, since each
-    processor needs two. Steps that aren't permitted are skipped."""
+    processor needs two. Steps that aren't permitted are skipped.
+    """
     _, most = resource.getrlimit(resource.RLIMIT_NOFILE)
     with contextlib.suppress(OSError, ValueError):
         resource.setrlimit(resource.RLIMIT_NOFILE, (most, most))
@@ -267,7 +275,8 @@ def record_once(
     is_compressed: bool,
 ) -> Status:
     """Records into the new folder `out`, and then updates the metrics and runs the hook. Returns
-    the exit status."""
+    the exit status.
+    """
     above = os.path.dirname(os.path.abspath(out))
     trigger = Trigger(machine, wanted.until, wanted.group) if wanted.until else None
     try:

@@ -3,7 +3,8 @@ priority.
 
 The recorder writes pages to parts; the compressor replaces each complete part by a gzip file. If
 the machine leaves no processor time for that, the recording temporarily needs more disk space, but
-nothing is late or lost. A recorder that is killed leaves parts that can be read."""
+nothing is late or lost. A recorder that is killed leaves parts that can be read.
+"""
 from __future__ import annotations
 
 import contextlib
@@ -44,7 +45,8 @@ class Compressor:
 
     def finish(self) -> tuple[float, bool]:
         """Waits until all parts are compressed. Returns the total processor time (s) of the
-        process, and whether all parts were compressed."""
+        process, and whether all parts were compressed.
+        """
         os.close(self.writer)
         _, status, usage = os.wait4(self.number, 0)
         return usage.ru_utime + usage.ru_stime, status == 0
@@ -53,7 +55,8 @@ class Compressor:
 def serve(folder: int, line: int) -> None:
     """Compresses complete parts until the other end of the pipe `line` is closed, and then the
     remaining ones. Ignores the signals that end a recording, since the recorder handles them, and
-    closes all files inherited from the recorder."""
+    closes all files inherited from the recorder.
+    """
     for number in ENDING:
         signal.signal(number, signal.SIG_IGN)
     first, second = sorted((folder, line))
@@ -72,7 +75,8 @@ def serve(folder: int, line: int) -> None:
 
 def whole_parts(folder: int, is_ended: bool) -> Iterator[str]:
     """Yields the names of the parts that are complete: for each processor all but its last part, or
-    all parts if `is_ended`."""
+    all parts if `is_ended`.
+    """
     parts = sorted(
         (int(it[1]), int(it[2]), it[0]) for it in map(PART.fullmatch, os.listdir(folder)) if it
     )
@@ -83,7 +87,8 @@ def whole_parts(folder: int, is_ended: bool) -> Iterator[str]:
 
 def opener_in(folder: int) -> Callable[[str, int], int]:
     """Returns an opener for `open` that opens names in the open folder `folder`. The opener follows
-    no link, and gives new files the mode 0600."""
+    no link, and gives new files the mode 0600.
+    """
     return lambda name, flags: os.open(
         name, flags | os.O_NOFOLLOW | os.O_CLOEXEC, 0o600, dir_fd=folder
     )

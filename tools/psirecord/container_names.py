@@ -2,7 +2,8 @@
 identifiers.
 
 A container runtime is asked, before and after the recording, only if the machine has groups of its
-containers."""
+containers.
+"""
 from __future__ import annotations
 
 import os

@@ -1,5 +1,6 @@
 """A limit of recordings per day. Nobody removes recordings, so without a limit a service that is
-restarted again and again would fill the disk."""
+restarted again and again would fill the disk.
+"""
 from __future__ import annotations
 
 import contextlib
@@ -29,14 +30,16 @@ def recording_times(folder: str) -> list[float]:
 
 def seconds_to_wait(folder: str, limit: int, now: float) -> float:
     """Returns the time (s) until fewer than `limit` recordings are younger than a day. Recordings
-    with times after `now`, from before a clock was set back, don't count."""
+    with times after `now`, from before a clock was set back, don't count.
+    """
     latest = sorted((it for it in recording_times(folder) if it <= now), reverse=True)
     return max(0.0, latest[limit - 1] + DAY_SECONDS - now) if len(latest) >= limit else 0.0
 
 
 def wait_for_room(out: str, limit: int, signals: Signals, tell: Callable[[str], None]) -> bool:
     """Waits until another recording next to `out` is within the daily limit. Returns False if a
-    signal came first."""
+    signal came first.
+    """
     folder = os.path.dirname(os.path.abspath(out))
     waiting, is_announced = Waiting(signals), False
     while signals.came is None:

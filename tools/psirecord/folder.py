@@ -3,7 +3,8 @@ nothing is lost if the recorder is killed.
 
 A recording shows which programs run on a machine, and addresses of its kernel, so only its owner
 may read it. All files are opened through the descriptor of the folder, since the owner of the
-parent folder may rename it and put something else in its place during the recording."""
+parent folder may rename it and put something else in its place during the recording.
+"""
 from __future__ import annotations
 
 import contextlib
@@ -47,7 +48,8 @@ def append(file: int, data: bytes) -> None:
 
 def made_folder(name: str, above: int | None = None) -> int:
     """Creates a folder and returns its descriptor. `name` is relative to the open folder `above`,
-    if that isn't None."""
+    if that isn't None.
+    """
     os.mkdir(name, FOLDER_MODE, dir_fd=above)
     folder = os.open(name, FOLDER_FLAGS, dir_fd=above)
     found = os.fstat(folder)
@@ -79,7 +81,8 @@ class Folder:
     def __init__(self, path: str, is_compressed: bool = False) -> None:
         """Creates the folder. Raises OSError if it already exists, and DiskFull if there isn't room
         for the first lines. The compressing process is started before other files are opened, since
-        it must not inherit them."""
+        it must not inherit them.
+        """
         self.path, self.bytes, self.page_bytes = path, 0, PAGE_BYTES
         self.raw: dict[int, int] = {}
         # The number of parts of each processor, and the bytes in the last part.
@@ -130,7 +133,8 @@ class Folder:
 
     def write_formats(self, machine: Machine, events: list[str]) -> None:
         """Stores the kernel's descriptions of ring buffer pages and of `events`, and sets the page
-        size."""
+        size.
+        """
         header = read_file(f"{machine.tracing}/events/header_page")
         parts = [b"== header_page\n" + header]
         for event in [*events, "ftrace/print"]:
@@ -167,13 +171,15 @@ class Folder:
 
     def finish_compressing(self) -> tuple[float, bool] | None:
         """Waits until all parts are compressed. Returns the processor time (s) that this took, and
-        whether all parts were compressed. None if the recording isn't compressed."""
+        whether all parts were compressed. None if the recording isn't compressed.
+        """
         compressor, self.compressor = self.compressor, None
         return compressor.finish() if compressor else None
 
     def append_pages(self, processor: int, pages: bytes) -> None:
         """Appends pages of a processor to its file. If the disk is full, truncates the file after
-        the last whole page and raises DiskFull."""
+        the last whole page and raises DiskFull.
+        """
         if self.compressor and self.part_bytes[processor] >= PART_BYTES:
             self.begin_part(processor)
         file = self.raw[processor]
@@ -211,7 +217,8 @@ class Folder:
 
     def discard(self) -> None:
         """Removes the folder, since nothing was recorded. Another folder that is now at the path
-        isn't removed."""
+        isn't removed.
+        """
         self.finish_compressing()
         remove_all(self.descriptor)
         mine = os.fstat(self.descriptor)
@@ -236,7 +243,8 @@ class Folder:
 
 def page_bytes(header: bytes) -> int:
     """Returns the size (bytes) of a ring buffer page: offset plus size of the field `data` in
-    `events/header_page`."""
+    `events/header_page`.
+    """
     for line in header.splitlines():
         words = {
             key: value for key, _, value in (it.strip().partition(b":") for it in line.split(b";"))

@@ -33,7 +33,8 @@ def why_not(path: str) -> str | None:
 
 def make_ordinary() -> None:
     """Gives the new process an ordinary priority, and lets the kernel's OOM killer choose it. The
-    recorder's own settings would be inherited otherwise."""
+    recorder's own settings would be inherited otherwise.
+    """
     with contextlib.suppress(OSError):
         os.setpriority(os.PRIO_PROCESS, 0, 0)
     with contextlib.suppress(OSError), open(
@@ -44,7 +45,8 @@ def make_ordinary() -> None:
 
 def wait_for(child: subprocess.Popen[bytes], signals: Signals) -> str | None:
     """Waits for the end of the hook. Returns why the hook was terminated or how it failed; None if
-    it succeeded."""
+    it succeeded.
+    """
     waiting, end = Waiting(signals), time.monotonic() + MOST_SECONDS
     while child.poll() is None:
         if signals.came or time.monotonic() > end:
@@ -61,7 +63,8 @@ def wait_for(child: subprocess.Popen[bytes], signals: Signals) -> str | None:
 
 def run_hook(path: str, folder: str, signals: Signals, tell: Callable[[str], None]) -> None:
     """Runs the program `path` with the recording's folder as its argument. A failure is reported
-    and has no other effect."""
+    and has no other effect.
+    """
     fault = why_not(path)
     if fault:
         tell(f"the hook {path} wasn't run: {fault}")

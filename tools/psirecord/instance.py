@@ -3,7 +3,8 @@ aren't affected.
 
 Documentation/trace/ftrace.rst describes the files of an instance. Pages are read in binary form
 (`trace_pipe_raw`): an event has about 40 bytes instead of 140 as text, reading takes a quarter of
-the time, and pages record the number of lost events."""
+the time, and pages record the number of lost events.
+"""
 from __future__ import annotations
 
 import contextlib
@@ -58,7 +59,8 @@ class Instance:
 
     def prepare(self, buffer_kb: int) -> None:
         """Sets the instance up, with nothing traced yet. Timestamps are CLOCK_MONOTONIC, and each
-        processor's buffer has `buffer_kb` KiB."""
+        processor's buffer has `buffer_kb` KiB.
+        """
         self.write("tracing_on", "0")
         self.write("trace_clock", "mono")
         self.write("buffer_size_kb", str(buffer_kb))
@@ -80,7 +82,8 @@ class Instance:
 
     def enable_all(self, sources: Sources, say: Say, tell: Tell) -> list[str]:
         """Switches on the available events. Reports each unavailable one and what the recording
-        lacks without it. Returns the events that are on."""
+        lacks without it. Returns the events that are on.
+        """
         events = []
         for event in sources.events:
             try:
@@ -99,7 +102,8 @@ class Instance:
 
     def open_files(self) -> None:
         """Opens the buffers and the marker file. Undoing closes them before any earlier step is
-        undone, since an instance can't be removed while one of its files is open."""
+        undone, since an instance can't be removed while one of its files is open.
+        """
         self.undoing.note("open files", self.close_files)
         self.marker = os.open(f"{self.folder}/trace_marker", os.O_WRONLY)
         for processor in range(self.machine.processors()):
@@ -116,7 +120,8 @@ class Instance:
 
     def mark(self, words: str) -> bool:
         """Writes a marker among the events. Returns False, and writes nothing, if it is so long
-        that the kernel might cut it."""
+        that the kernel might cut it.
+        """
         line = words.encode(errors="surrogateescape")
         if len(line) > MOST_MARKER_BYTES:
             return False
@@ -129,7 +134,8 @@ class Instance:
 
     def pages(self, processor: int, most_bytes: float) -> Iterator[bytes]:
         """Yields a processor's events in pieces of whole pages, about `most_bytes` at most, until
-        the buffer is empty."""
+        the buffer is empty.
+        """
         taken = 0
         while taken < most_bytes:
             try:
@@ -157,27 +163,31 @@ class Instance:
 
 def lost_events(statistics: dict[str, str], is_ring: bool) -> int:
     """Returns the number of lost events of a processor. Overwritten events of a flight recorder
-    don't count, since it overwrites its buffer on purpose."""
+    don't count, since it overwrites its buffer on purpose.
+    """
     return sum(int(statistics.get(it, 0)) for it in LOST_STATS if not (is_ring and it == "overrun"))
 
 
 def oldest_moment(statistics: dict[str, str]) -> float:
     """Returns the time (s) of the oldest event in a processor's buffer if older ones were
-    overwritten, and 0 otherwise."""
+    overwritten, and 0 otherwise.
+    """
     return float(statistics.get("oldest event ts", 0)) if int(statistics.get("overrun", 0)) else 0.0
 
 
 def start_time(proc: str, process: str) -> str:
     """Returns the start time of a process in clock ticks since boot. Empty if the process has
     ended, even if it hasn't been waited for. Fields are counted from the last bracket, since the
-    process's name may contain blanks."""
+    process's name may contain blanks.
+    """
     words = read_file(f"{proc}/{process}/stat").rpartition(b")")[2].split()
     return words[19].decode() if len(words) > 19 and words[0] not in ENDED else ""
 
 
 def recorder_name() -> str:
     """Returns the name of this recorder's instance and probe group. The start time is included
-    because a pid may be reused."""
+    because a pid may be reused.
+    """
     return f"{PREFIX}{os.getpid()}_{start_time('/proc', 'self')}"
 
 
@@ -188,7 +198,8 @@ def remover(remove: Callable[[str], None], name: str) -> Callable[[], None]:
 
 def remove_left_behind(machine: Machine, tell: Tell) -> None:
     """Removes the tracing instances and probes of recorders that were killed: those named after a
-    process that no longer exists."""
+    process that no longer exists.
+    """
 
     def is_left(found: re.Match[str]) -> bool:
         number, start = found["number"], found["start"]

@@ -3,7 +3,8 @@ in the kernel's type information (BTF).
 
 Documentation/bpf/btf.rst describes the format. Only a few names are needed from its 10 MB:
 searching for a name's bytes takes a tenth of a second, and a walk over all types takes seconds on a
-slow machine."""
+slow machine.
+"""
 from __future__ import annotations
 
 import struct
@@ -21,7 +22,8 @@ WORD_BITS = 32
 @dataclass(frozen=True)
 class Place:
     """The position of a member in its structure: its first bit, and its width in bits. The width is
-    0 unless the member is a bit field."""
+    0 unless the member is a bit field.
+    """
 
     bit: int
     width: int
@@ -29,7 +31,8 @@ class Place:
     def fetch(self, argument: int, plain_type: str) -> str:
         """Returns the words with which a probe fetches the member from the structure to which the
         function's argument number `argument` points (Documentation/trace/kprobetrace.rst).
-        `plain_type`, such as `s32`, is used unless the member is a bit field."""
+        `plain_type`, such as `s32`, is used unless the member is a bit field.
+        """
         if not self.width:
             return f"+{self.bit // 8}($arg{argument}):{plain_type}"
         offset, bit = self.bit // WORD_BITS * 4, self.bit % WORD_BITS
@@ -38,7 +41,8 @@ class Place:
 
 class KernelTypes:
     """The types of a kernel, parsed from the bytes of /sys/kernel/btf/vmlinux. There are none if
-    the bytes aren't valid."""
+    the bytes aren't valid.
+    """
 
     def __init__(self, data: bytes) -> None:
         self.data = data
@@ -52,7 +56,8 @@ class KernelTypes:
     def named(self, name: str, kind: int) -> Iterator[int]:
         """Yields the possible positions of types with this name and kind. Each name occurs once
         among the strings. Other bytes can look like a type, so the caller tries the positions until
-        one fits."""
+        one fits.
+        """
         found = self.data.find(b"\0" + name.encode() + b"\0", self.strings)
         if self.strings == 0 or found < 0:
             return
@@ -65,7 +70,8 @@ class KernelTypes:
 
     def members(self, structure: str, wanted: tuple[str, ...]) -> dict[str, Place]:
         """Returns the positions of the wanted members of a structure, or an empty dictionary if one
-        doesn't exist."""
+        doesn't exist.
+        """
         for place in self.named(structure, STRUCTURE):
             info = TYPE.unpack_from(self.data, place)[1]
             has_widths, count = bool(info >> 31), info & 0xFFFF
@@ -81,7 +87,8 @@ class KernelTypes:
 
     def member(self, place: int, has_widths: bool, wanted: tuple[str, ...]) -> tuple[str, Place]:
         """Returns the name and position of the member at `place`. The name is empty if the member
-        isn't wanted."""
+        isn't wanted.
+        """
         name_place, _, offset = MEMBER.unpack_from(self.data, place)
         known = [
             it
@@ -101,7 +108,8 @@ class KernelTypes:
 
     def prototype_parameters(self, number: int) -> int | None:
         """Returns the number of parameters of the prototype with the type number `number` (types
-        are numbered from 1); None if there is no such type."""
+        are numbered from 1); None if there is no such type.
+        """
         place = self.types
         for _ in range(number - 1):
             if place > self.types_end - TYPE.size:

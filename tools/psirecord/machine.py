@@ -21,7 +21,8 @@ FIRST_PROCESS_NAMESPACE = "pid:[4026531836]"
 
 def read_file(path: str) -> bytes:
     """Returns the contents of a file. Empty if it can't be read, for example because its group was
-    removed."""
+    removed.
+    """
     try:
         with open(path, "rb", buffering=0) as file:
             return file.readall() or b""
@@ -31,7 +32,8 @@ def read_file(path: str) -> bytes:
 
 def write_file(path: str, text: str, flags: int = 0) -> None:
     """Writes to an existing file, without O_TRUNC: truncating the kernel's list of probes would
-    remove the probes of all users."""
+    remove the probes of all users.
+    """
     file = os.open(path, os.O_WRONLY | flags)
     try:
         os.write(file, text.encode())
@@ -50,12 +52,14 @@ class Machine:
 
     def processors(self) -> int:
         """Returns the number of configured processors, including absent ones, whose buffers are
-        empty."""
+        empty.
+        """
         return os.sysconf("SC_NPROCESSORS_CONF")
 
     def missing(self) -> Iterator[str]:
         """Yields the requirements of a recording that this machine doesn't meet. Changes
-        nothing."""
+        nothing.
+        """
         if os.geteuid() != 0:
             yield "root: tracing a whole machine takes it"
         if (
@@ -92,7 +96,8 @@ class Machine:
 
     def remove_instance(self, name: str) -> None:
         """Removes a tracing instance, which switches its events off. Raises EBUSY while one of its
-        files is open."""
+        files is open.
+        """
         os.rmdir(f"{self.tracing}/instances/{name}")
 
     def add_probe(self, definition: str) -> None:
@@ -101,14 +106,16 @@ class Machine:
 
     def remove_probe(self, name: str) -> None:
         """Removes the probe `name`, in the form GROUP/EVENT. Raises EBUSY while its event is on in
-        any instance."""
+        any instance.
+        """
         write_file(f"{self.tracing}/kprobe_events", f"-:{name}\n", os.O_APPEND)
 
     def open_trigger(self, resource: str, words: str, group: str = "") -> tuple[int, int]:
         """Opens a trigger: a file that signals pressure of `group`, or of the machine if that is
         empty, as long as it is open. Returns its descriptor, and the condition of poll(2) for the
         signal. `words` are `some|full THRESHOLD WINDOW` in us
-        (Documentation/accounting/psi.rst)."""
+        (Documentation/accounting/psi.rst).
+        """
         path = (
             f"{self.groups}{group}/{resource}.pressure"
             if group

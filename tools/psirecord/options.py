@@ -89,7 +89,8 @@ def whole(word: str) -> int:
 
 def trigger(word: str) -> str:
     """Parses a trigger in the kernel's syntax (Documentation/accounting/psi.rst). Its window is 0.5
-    to 10 s."""
+    to 10 s.
+    """
     found = TRIGGER.fullmatch(" ".join(word.split()))
     if not found:
         raise argparse.ArgumentTypeError(
@@ -122,7 +123,8 @@ def hook(word: str) -> str:
 @dataclass(frozen=True)
 class Service:
     """What is done besides recording: the limit of recordings per day, the limits of stored
-    recordings, the program to run afterwards, and the file for metrics. None if not wanted."""
+    recordings, the program to run afterwards, and the file for metrics. None if not wanted.
+    """
 
     daily_limit: int | None
     limits: Limits

@@ -111,7 +111,8 @@ class PlainMachine(Machine):
 
     def open_trigger(self, resource: str, words: str, group: str = "") -> tuple[int, int]:
         """Opens the FIFO `trigger`, which signals when it is written to. The machine and all groups
-        share it."""
+        share it.
+        """
         return (
             os.open(f"{os.path.dirname(self.tracing)}/trigger", os.O_RDWR | os.O_NONBLOCK),
             select.POLLIN,

@@ -3,7 +3,8 @@
 Only sleeps that the kernel counts as waits for IO (`in_iowait`) are waits for IO. In state D a task
 sleeps more often: on a journaling file system a third to a half of these sleeps don't count. Three
 sources show the waits, the best first: a probe on `psi_task_switch` that reads the bit itself; the
-event `sched_stat_iowait`, which requires the sysctl kernel.sched_schedstats; and the state D."""
+event `sched_stat_iowait`, which requires the sysctl kernel.sched_schedstats; and the state D.
+"""
 from __future__ import annotations
 
 import enum
@@ -64,7 +65,8 @@ Tell = Callable[[str], None]
 @dataclass
 class Sources:
     """What is recorded: the events as SYSTEM/EVENT, the filters of some of them by event, and the
-    source of waits for IO."""
+    source of waits for IO.
+    """
 
     events: list[str] = field(default_factory=list)
     filters: dict[str, str] = field(default_factory=dict)
@@ -74,7 +76,8 @@ class Sources:
 @dataclass(frozen=True)
 class Plan:
     """A probe to add: the name of its event, the kernel's function, the values to fetch, and the
-    filter of its events."""
+    filter of its events.
+    """
 
     name: str
     function: str
@@ -88,7 +91,8 @@ class Plan:
 
 def stall_plans() -> list[Plan]:
     """Returns the probes at which a task enters and leaves a memory stall. Both functions run in
-    the task itself. On leaving the outermost stall the flags are 0."""
+    the task itself. On leaving the outermost stall the flags are 0.
+    """
     return [
         Plan(Probe.STALL_BEGINS, "psi_memstall_enter"),
         Plan(Probe.STALL_ENDS, "psi_memstall_leave", f"{Probe.FLAGS}=+0($arg1):u64"),
@@ -98,7 +102,8 @@ def stall_plans() -> list[Plan]:
 def switch_plan(types: KernelTypes) -> Plan | None:
     """Returns the probe on psi_task_switch(prev, next, sleep), which runs right before the event of
     the context switch. Without its filter it would account for a third of all events. None if the
-    kernel's types don't have the members."""
+    kernel's types don't have the members.
+    """
     places = types.members("task_struct", ("pid", "in_iowait"))
     if not places:
         return None
@@ -108,7 +113,8 @@ def switch_plan(types: KernelTypes) -> Plan | None:
 
 def interrupt_plan(machine: Machine, types: KernelTypes) -> Plan | None:
     """Returns the probe on psi_account_irqtime(task, delta); None if the kernel doesn't account
-    interrupts. Since Linux 6.10 the parameters differ, and none of them is the time."""
+    interrupts. Since Linux 6.10 the parameters differ, and none of them is the time.
+    """
     if not read_file(f"{machine.proc}/pressure/irq") or types.parameters("psi_account_irqtime") != 2:
         return None
     return Plan(Probe.INTERRUPT, "psi_account_irqtime", f"{Probe.DELTA}=$arg2:u32")
@@ -116,7 +122,8 @@ def interrupt_plan(machine: Machine, types: KernelTypes) -> Plan | None:
 
 def attach_plan(types: KernelTypes) -> Plan | None:
     """Returns the probe on cgroup_attach_task(group, task, whole); None if that isn't available.
-    The kernel's own event doesn't show whether the task moves without its process."""
+    The kernel's own event doesn't show whether the task moves without its process.
+    """
     places = types.members("task_struct", ("pid",))
     if not places or types.parameters("cgroup_attach_task") != 3:
         return None
@@ -127,7 +134,8 @@ def attach_plan(types: KernelTypes) -> Plan | None:
 def moment_plans(types: KernelTypes) -> list[Plan]:
     """Returns the probes on psi_show(file, group, resource) and psi_avgs_work(work), in which the
     kernel samples a group's times. That is a few events per second. There are none unless both are
-    available, since one of them alone shows half of the sampling times."""
+    available, since one of them alone shows half of the sampling times.
+    """
     if types.parameters("psi_show") != 3 or types.parameters("psi_avgs_work") != 1:
         return []
     shows = f"{Probe.GROUP}=$arg2:x64 {Probe.RES}=$arg3:u32"
@@ -136,7 +144,8 @@ def moment_plans(types: KernelTypes) -> list[Plan]:
 
 def ready_plan(types: KernelTypes) -> Plan | None:
     """Returns the probe on psi_task_change(task, clear, set); None if that isn't available. There
-    is one event for each wakeup, and for each task that moves to another processor or group."""
+    is one event for each wakeup, and for each task that moves to another processor or group.
+    """
     places = types.members("task_struct", ("pid",))
     if not places or types.parameters("psi_task_change") != 3:
         return None
@@ -146,7 +155,8 @@ def ready_plan(types: KernelTypes) -> Plan | None:
 
 def add_probes(machine: Machine, group: str, undoing: Undoing, say: Say, has_wakeups: bool) -> Sources:
     """Adds the available probes, and returns the events to record. Probes of wakeups are added only
-    if `has_wakeups`. Reports why a probe isn't available."""
+    if `has_wakeups`. Reports why a probe isn't available.
+    """
     types = KernelTypes(read_file(machine.types))
     switch, attach, moments = switch_plan(types), attach_plan(types), moment_plans(types)
     if not switch:
@@ -199,7 +209,8 @@ def statistics_of(machine: Machine) -> Statistics:
 
 def switch_statistics_on(machine: Machine, undoing: Undoing) -> None:
     """Switches the scheduler statistics on, and registers the undo step. Raises OSError if that
-    isn't permitted."""
+    isn't permitted.
+    """
     path = f"{machine.proc}/{SCHEDULER_STATISTICS}"
     undoing.note("the sysctl kernel.sched_schedstats, which was 0", lambda: write_file(path, "0"))
     try:

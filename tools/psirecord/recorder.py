@@ -2,7 +2,8 @@
 
 A plain recording empties the ring buffers four times a second or more often. A flight recorder lets
 the buffers be overwritten, waits for pressure, and writes their contents after the incident. The
-size of the buffers determines how much of the past they contain."""
+size of the buffers determines how much of the past they contain.
+"""
 from __future__ import annotations
 
 import collections
@@ -40,7 +41,8 @@ class Wanted:
     """The operator's request, with times in s and sizes in the units that the names have. `is_ring`
     requests a flight recorder. `until` is its trigger, `RESOURCE some|full THRESHOLD WINDOW`, or
     empty. `has_settings` requests the settings of systemd-oomd, and `has_containers` the names of
-    containers. `group` is the path of the trigger's group, or empty."""
+    containers. `group` is the path of the trigger's group, or empty.
+    """
 
     seconds: float
     buffer_kb: int
@@ -60,7 +62,8 @@ class Wanted:
 @dataclass
 class Ending:
     """The end of a recording: a reason of `layout.Reason`, the number of lost events of each
-    processor, the length in s, and whether everything else is complete."""
+    processor, the length in s, and whether everything else is complete.
+    """
 
     reason: str
     lost: dict[int, int]
@@ -98,7 +101,8 @@ class Recorder:
 
     def record(self) -> Ending:
         """Records from `begin` until the recording ends. What was recorded until an error is
-        written in any case."""
+        written in any case.
+        """
         try:
             reason = self.run()
         except DiskFull:
@@ -112,7 +116,8 @@ class Recorder:
 
     def begin(self) -> None:
         """Switches tracing on. Raises NotRecorded if no marker can be written, since a recording
-        without markers can't be interpreted."""
+        without markers can't be interpreted.
+        """
         self.instance.write("tracing_on", "1")
         self.usage = resource.getrusage(resource.RUSAGE_SELF)
         self.start = time.monotonic()
@@ -170,7 +175,8 @@ class Recorder:
 
     def is_signal(self) -> bool:
         """Returns whether pressure was signalled. The file of a removed group becomes ready too,
-        which isn't a signal."""
+        which isn't a signal.
+        """
         if self.trigger and self.trigger.is_current():
             return True
         self.follow_group()
@@ -178,7 +184,8 @@ class Recorder:
 
     def follow_group(self) -> None:
         """Opens the trigger again if its group was removed and has been created again, as the group
-        of a service is."""
+        of a service is.
+        """
         trigger = self.trigger
         if not trigger or trigger.is_current() or self.fired:
             return
@@ -197,7 +204,8 @@ class Recorder:
 
     def fire(self, jobs: list[Job]) -> None:
         """Handles the trigger's signal: records some seconds more. No further snapshots are taken,
-        since the ones from before the signal are needed."""
+        since the ones from before the signal are needed.
+        """
         self.waiting.unwatch()
         self.fired = time.monotonic()
         self.end = self.fired + self.wanted.after_seconds
@@ -209,7 +217,8 @@ class Recorder:
 
     def read_pressure(self) -> None:
         """Reads the pressure files. A flight recorder stores its readings in memory, since most of
-        them are older than its buffers when it ends."""
+        them are older than its buffers when it ends.
+        """
         reading = read_pressure(
             self.machine, self.instance.mark, self.reading_count, time.monotonic()
         )
@@ -222,7 +231,8 @@ class Recorder:
     def take_snapshot(self) -> None:
         """Takes a snapshot of all groups and tasks. Together with the events after it, it shows the
         group of each task. A flight recorder stores the last two, so that one lies within the time
-        of its buffers if these are large enough. Readings older than both are dropped."""
+        of its buffers if these are large enough. Readings older than both are dropped.
+        """
         self.instance.note_mark(layout.SNAPSHOT_BEGINS)
         self.snapshots.append(take_snapshot(self.machine, time.monotonic_ns()))
         self.instance.note_mark(layout.SNAPSHOT_ENDS)
@@ -237,7 +247,8 @@ class Recorder:
 
     def drain(self) -> None:
         """Reads the buffers, and adapts the period to the busiest processor. A busy processor may
-        fill its buffer as fast as it is read, so at most the buffer's size is read."""
+        fill its buffer as fast as it is read, so at most the buffer's size is read.
+        """
         size, before = self.wanted.buffer_kb * 1024, self.drained
         self.drained = time.monotonic()
         busiest = self.take_pages(size)
@@ -246,7 +257,8 @@ class Recorder:
 
     def take_pages(self, most_bytes: float) -> int:
         """Reads about `most_bytes` of each processor at most. Returns the bytes of the busiest
-        processor."""
+        processor.
+        """
         busiest = 0
         for processor in self.instance.buffers:
             before = self.folder.bytes
@@ -285,7 +297,8 @@ class Recorder:
 
     def has_snapshot_inside(self) -> bool:
         """Returns whether the buffers go back to the last snapshot. There is no snapshot if a
-        marker failed early."""
+        marker failed early.
+        """
         return bool(self.snapshots) and self.snapshots[-1].moment >= self.buffers_begin() * 1e9
 
     def buffers_begin(self) -> float:
@@ -300,7 +313,8 @@ class Recorder:
     def write_ring(self, begin: float) -> bool:
         """Writes the readings, and the snapshot with which a flight recorder's trace can begin.
         `begin` is the time (s) at which the buffers begin. Returns False if the buffers no longer
-        contain the time of the signal."""
+        contain the time of the signal.
+        """
         self.folder.say(Key.RING_START, f"{begin:.6f}")
         inside = [it for it in self.snapshots if it.moment >= begin * 1e9] or [*self.snapshots][-1:]
         for snapshot in inside[:1]:
@@ -328,7 +342,8 @@ class Recorder:
 
     def write_cost(self, seconds: float) -> None:
         """Writes the length of the recording, and the processor time and bytes that the recorder
-        used."""
+        used.
+        """
         usage = resource.getrusage(resource.RUSAGE_SELF)
         user, system = usage.ru_utime - self.usage.ru_utime, usage.ru_stime - self.usage.ru_stime
         self.folder.say(Key.SECONDS, f"{seconds:.3f}")

@@ -1,7 +1,8 @@
 """Reads groups, tasks and memory, which the events don't show.
 
 This happens while the recording runs, and markers among the events show when. Changes in between
-are known from the events. A group or a task that ends before it is read is skipped."""
+are known from the events. A group or a task that ends before it is read is skipped.
+"""
 from __future__ import annotations
 
 import os
@@ -29,7 +30,8 @@ Mark = Callable[[str], bool]
 @dataclass(frozen=True)
 class Group:
     """A control group: its folder, its path as written in a recording, and the folder's inode
-    number, which changes if a group is removed and created again."""
+    number, which changes if a group is removed and created again.
+    """
 
     folder: str
     path: str
@@ -37,7 +39,8 @@ class Group:
 
     def is_root(self) -> bool:
         """Returns whether this is the root group. It has no memory files, and its pressure files
-        are in /proc."""
+        are in /proc.
+        """
         return self.path == "/"
 
 
@@ -71,7 +74,8 @@ def memory_information(machine: Machine) -> dict[str, int]:
 
 def scanned_pages(group: Group) -> int:
     """Returns `pgscan` of `memory.stat`, the number of scanned pages; 0 if there is no such
-    line."""
+    line.
+    """
     for line in read_file(f"{group.folder}/memory.stat").splitlines():
         if line.startswith(b"pgscan "):
             return int(line.split()[1])
@@ -86,7 +90,8 @@ def number_in(path: str) -> int | None:
 
 def is_accounted(group: Group) -> bool | None:
     """Returns whether the group's pressure is accounted, according to `cgroup.pressure`. None if
-    there is no such file: the root may have none, and before Linux 6.1 no group has one."""
+    there is no such file: the root may have none, and before Linux 6.1 no group has one.
+    """
     number = number_in(f"{group.folder}/cgroup.pressure")
     return None if number is None else number != 0
 
@@ -95,7 +100,8 @@ def is_accounted(group: Group) -> bool | None:
 class MemorySampler:
     """Writes the memory of the machine and of each group as markers. Writes changes of
     `cgroup.pressure` too, since no event shows them. `unaccounted` are the groups whose pressure
-    wasn't accounted at the last check."""
+    wasn't accounted at the last check.
+    """
 
     machine: Machine
     mark: Mark
@@ -104,7 +110,8 @@ class MemorySampler:
 
     def sample(self) -> None:
         """Samples all groups once. The root's memory use is total minus available memory, so that
-        rules for the root have a value."""
+        rules for the root have a value.
+        """
         known = memory_information(self.machine)
         total, swap_total, swap_free = (
             known.get(it, 0) for it in ("MemTotal", "SwapTotal", "SwapFree")
@@ -124,7 +131,8 @@ class MemorySampler:
 
     def sample_memory(self, group: Group) -> None:
         """Writes a memory sample of a group. A group without memory files, such as the root, has
-        none."""
+        none.
+        """
         current = number_in(f"{group.folder}/memory.current")
         if current is not None:
             swap = number_in(f"{group.folder}/memory.swap.current") or 0
@@ -133,7 +141,8 @@ class MemorySampler:
     def sample_accounting(self, group: Group) -> bool | None:
         """Returns whether the group's pressure is accounted, and writes a change. A group that was
         created since the last check begins accounted, even if an unaccounted group had the same
-        path before."""
+        path before.
+        """
         is_on = is_accounted(group)
         if is_on is not None and is_on == (group in self.unaccounted):
             self.write(layout.accounting_marker(group.path, is_on))
@@ -141,7 +150,8 @@ class MemorySampler:
 
     def write(self, marker: str) -> None:
         """Writes a marker. Counts the markers that are too long, whose paths are too long for a
-        trace too."""
+        trace too.
+        """
         if not self.mark(marker):
             self.too_long += 1
 
@@ -152,7 +162,8 @@ class MemorySampler:
 @dataclass(frozen=True)
 class Reading:
     """The contents of the pressure files of all groups, read between two markers. `moment` is
-    CLOCK_MONOTONIC in s."""
+    CLOCK_MONOTONIC in s.
+    """
 
     moment: float
     text: bytes
@@ -160,7 +171,8 @@ class Reading:
 
 def read_pressure(machine: Machine, mark: Mark, number: int, moment: float) -> Reading:
     """Reads the pressure files of all groups. The kernel takes a sample at each reading, so the
-    totals depend on how often this is done."""
+    totals depend on how often this is done.
+    """
     mark(layout.pressure_marker(number, is_end=False))
     parts = []
     for group in groups(machine):
@@ -184,7 +196,8 @@ def read_pressure(machine: Machine, mark: Mark, number: int, moment: float) -> R
 @dataclass(frozen=True)
 class Snapshot:
     """The groups and tasks at one time, as lines. `moment` is CLOCK_MONOTONIC in ns, taken before
-    the first group is read."""
+    the first group is read.
+    """
 
     moment: int
     lines: list[str]
@@ -199,7 +212,8 @@ class Snapshot:
 
 def preference(group: Group) -> str:
     """Returns the preference that the group's owner set, which is that of the first attribute that
-    exists; `none` if there is no attribute."""
+    exists; `none` if there is no attribute.
+    """
     for attribute, word in PREFERENCES.items():
         try:
             os.getxattr(group.folder, attribute)
@@ -212,7 +226,8 @@ def preference(group: Group) -> str:
 def task_line(machine: Machine, number: bytes, group: Group) -> str | None:
     """Returns the line of a thread of `group`, from /proc/TID; None if the thread has ended. A
     thread's name may contain anything, so fields are counted from the last bracket: the state is
-    the first word after it, the processor the 37th (proc(5): fields 3 and 39)."""
+    the first word after it, the processor the 37th (proc(5): fields 3 and 39).
+    """
     folder = f"{machine.proc}/{number.decode()}"
     text = read_file(f"{folder}/stat")
     end = text.rfind(b")")

@@ -107,7 +107,8 @@ def metrics(folder: str) -> str:
 
 def write_textfile(path: str, folder: str) -> None:
     """Writes the metrics of `folder` to `path`. The file is replaced by renaming, so node_exporter
-    never reads an incomplete one."""
+    never reads an incomplete one.
+    """
     text, part = metrics(folder), f"{path}.{os.getpid()}"
     try:
         file = os.open(part, os.O_WRONLY | os.O_CREAT | os.O_EXCL | os.O_NOFOLLOW, 0o644)

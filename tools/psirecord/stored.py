@@ -29,7 +29,8 @@ class Limits:
 @dataclass(frozen=True)
 class Stored:
     """A stored recording: the name of its folder, the time of the last write (s since 1970), its
-    bytes, whether a recorder is writing it, and its `meta`."""
+    bytes, whether a recorder is writing it, and its `meta`.
+    """
 
     name: str
     ended: float
@@ -43,14 +44,16 @@ class Stored:
 
     def lost(self) -> int:
         """Returns the number of lost events. Overwritten events of a flight recorder don't count,
-        since it overwrites its buffers on purpose."""
+        since it overwrites its buffers on purpose.
+        """
         names = [it for it in layout.LOST_STATS if it != "overrun" or not self.meta.is_ring()]
         return sum(sum(self.meta.lost(name).values()) for name in names)
 
 
 def is_locked(file: int) -> bool:
     """Returns whether a recorder is still writing this `meta`. A recorder holds a lock on the file,
-    which ends with its process."""
+    which ends with its process.
+    """
     try:
         fcntl.flock(file, fcntl.LOCK_SH | fcntl.LOCK_NB)
     except OSError:
@@ -100,7 +103,8 @@ def recordings(folder: str) -> list[Stored]:
 def beyond(found: list[Stored], limits: Limits, own: str) -> Iterator[Stored]:
     """Yields the recordings to delete, which are the older ones beyond the limits. The newest one
     and those being written are never deleted. `own` is the recording that ends now and counts as
-    finished."""
+    finished.
+    """
     finished = [it for it in found if not it.is_written or it.name == own]
     total = 0
     for place, it in enumerate(finished):
@@ -113,7 +117,8 @@ def beyond(found: list[Stored], limits: Limits, own: str) -> Iterator[Stored]:
 
 def delete(folder: str, name: str) -> None:
     """Deletes a recording. Links aren't followed. Raises PermissionError if the folder belongs to
-    another user."""
+    another user.
+    """
     above = os.open(folder, FOLDER_FLAGS & ~os.O_NOFOLLOW)
     try:
         inner = os.open(name, FOLDER_FLAGS, dir_fd=above)
@@ -130,7 +135,8 @@ def delete(folder: str, name: str) -> None:
 
 def keep(folder: str, limits: Limits, tell: Callable[[str], None], own: str = "") -> None:
     """Deletes the oldest recordings beyond the limits, except those being written. `own` names the
-    recording that ends now, if any; it counts towards the limits."""
+    recording that ends now, if any; it counts towards the limits.
+    """
     if limits == Limits():
         return
     for it in beyond(recordings(folder), limits, own):

@@ -59,7 +59,8 @@ class Answer:
 @dataclass(frozen=True)
 class Place:
     """The root of the machine's files, and the command that queries systemd. On the real machine
-    the root is empty."""
+    the root is empty.
+    """
 
     root: str
     command: str
@@ -96,7 +97,8 @@ def place_of(machine: Machine) -> Place:
 
 def is_true(folder: str, attribute: str) -> bool:
     """Returns whether an attribute of a group's folder exists and is true by systemd's rules for
-    booleans."""
+    booleans.
+    """
     try:
         return os.getxattr(folder, attribute).strip(b"\0 \n").lower() in TRUE
     except OSError:
@@ -113,7 +115,8 @@ def owner(folder: str) -> int:
 
 def group_line(group: Group) -> str:
     """Returns the line of a group, with what systemd-oomd reads there and a trace doesn't
-    contain."""
+    contain.
+    """
     is_whole = number_in(f"{group.folder}/memory.oom.group") == 1
     avoid, omit = (is_true(group.folder, f"user.oomd_{it}") for it in ("avoid", "omit"))
     attributes = f"oom_group={is_whole:d} avoid={avoid:d} omit={omit:d}"
@@ -125,7 +128,8 @@ def group_line(group: Group) -> str:
 
 def files_below(root: str, folder: str) -> Iterator[str]:
     """Yields the paths, relative to `root`, of the unit files in `folder` and of their drop-in
-    files, which are one folder deeper."""
+    files, which are one folder deeper.
+    """
     try:
         names = sorted(os.listdir(f"{root}/{folder}"))
     except OSError:
@@ -153,7 +157,8 @@ def configurations(root: str) -> Iterator[str]:
 
 def unit_files(root: str, folders: tuple[str, ...]) -> Iterator[str]:
     """Yields the unit files that have a setting of systemd-oomd, and those that may override them:
-    files of the same name in other folders."""
+    files of the same name in other folders.
+    """
     found = {
         name: os.path.basename(name) for folder in folders for name in files_below(root, folder)
     }
@@ -163,7 +168,8 @@ def unit_files(root: str, folders: tuple[str, ...]) -> Iterator[str]:
 
 def settings_alone(text: bytes) -> bytes:
     """Returns a unit file with all other lines empty, so that line numbers are unchanged. A line
-    that ends in a backslash continues on the next one that isn't a comment."""
+    that ends in a backslash continues on the next one that isn't a comment.
+    """
     lines, is_kept, goes_on = [], False, False
     for line in text.splitlines():
         if line.lstrip()[:1] in (b"#", b";"):
@@ -205,7 +211,8 @@ def contents(machine: Machine, tell: Tell) -> Iterator[tuple[str, bytes]]:
 
 def store(machine: Machine, folder: Folder, tell: Tell) -> None:
     """Stores the settings in a recording's folder, if systemd runs. An error is reported, and the
-    recording continues, since no trace depends on the settings."""
+    recording continues, since no trace depends on the settings.
+    """
     if not place_of(machine).is_booted():
         return
     try:

@@ -1,5 +1,6 @@
 """The trigger of a flight recorder: pressure of the machine, or of one group. The group may be
-created later, or be removed and created again."""
+created later, or be removed and created again.
+"""
 from __future__ import annotations
 
 import os
@@ -10,7 +11,8 @@ from .machine import Machine
 class Trigger:
     """A trigger `words` in the kernel's syntax, `RESOURCE some|full THRESHOLD WINDOW`, for the
     group with the path `group`, or for the whole machine if that is empty. `file` is the descriptor
-    that signals pressure, or -1."""
+    that signals pressure, or -1.
+    """
 
     def __init__(self, machine: Machine, words: str, group: str = "") -> None:
         self.machine, self.words, self.group = machine, words, group
@@ -19,7 +21,8 @@ class Trigger:
 
     def open(self) -> int | None:
         """Opens the trigger. Returns the condition of poll(2) for its signal; None if the group
-        doesn't exist yet."""
+        doesn't exist yet.
+        """
         self.identity = self.found()
         if self.group and not self.identity:
             return None
@@ -29,7 +32,8 @@ class Trigger:
 
     def found(self) -> tuple[int, int] | None:
         """Returns the device and inode number of the group's folder; None if the group doesn't
-        exist."""
+        exist.
+        """
         try:
             it = os.stat(f"{self.machine.groups}{self.group}")
         except OSError:

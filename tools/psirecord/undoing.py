@@ -1,5 +1,6 @@
 """Undoes the changes to the machine. Each change is registered as soon as it is made, and changes
-are undone in reverse order."""
+are undone in reverse order.
+"""
 from __future__ import annotations
 
 from collections.abc import Callable
@@ -8,7 +9,8 @@ from types import TracebackType
 
 class Undoing:
     """The steps that restore the machine. If a step fails, the rest still run, and `left` names the
-    change that remains."""
+    change that remains.
+    """
 
     def __init__(self) -> None:
         self.steps: list[tuple[str, Callable[[], None]]] = []
@@ -16,7 +18,8 @@ class Undoing:
 
     def note(self, what: str, step: Callable[[], None]) -> None:
         """Registers a step. `what` names the change that remains on the machine if the step
-        fails."""
+        fails.
+        """
         self.steps.append((what, step))
 
     def __enter__(self) -> Undoing:

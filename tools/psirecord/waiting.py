@@ -1,5 +1,6 @@
 """Waits for the next job, a signal or pressure with a single poll(2), so that none of them is
-delayed."""
+delayed.
+"""
 from __future__ import annotations
 
 import os
@@ -15,7 +16,8 @@ ENDING = (signal.SIGINT, signal.SIGTERM, signal.SIGHUP)
 
 class Signals:
     """The signals that end a recording. A hangup that nohup ignores isn't one. The handler only
-    stores the signal, so that a change of the machine or an undo step is never interrupted."""
+    stores the signal, so that a change of the machine or an undo step is never interrupted.
+    """
 
     def __init__(self) -> None:
         self.came: signal.Signals | None = None
@@ -37,7 +39,8 @@ class Signals:
 
     def ignore(self) -> None:
         """Ignores further signals, so that they don't change the exit status after all work is
-        done."""
+        done.
+        """
         for number in ENDING:
             signal.signal(number, signal.SIG_IGN)
 
@@ -62,7 +65,8 @@ class Waiting:
 
     def until(self, moment: float) -> bool:
         """Waits until `moment` (CLOCK_MONOTONIC, s), a signal or pressure. Returns whether pressure
-        came."""
+        came.
+        """
         pause = max(0.0, moment - time.monotonic())
         found = [file for file, _ in self.poll.poll(int(pause * 1000 + 0.999))]
         return self.trigger in found and self.signals.came is None
@@ -80,7 +84,8 @@ class Job:
 
     def run_until(self, moment: float) -> None:
         """Runs the job once for each turn that is due at `moment`, or once for all if not each is
-        due."""
+        due.
+        """
         while self.due <= moment:
             self.run()
             self.due += self.period
