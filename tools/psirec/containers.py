@@ -20,8 +20,8 @@ KUBERNETES = "io.kubernetes."
 
 
 def names_in(text: str) -> dict[str, str]:
-    """The names in what one of the commands printed, or in lines `NUMBER NAME`. ValueError if it is
-    neither.
+    """Parses the output of one of the commands, or lines `NUMBER NAME`. Returns the names by
+    number. Raises ValueError if the text has neither form.
     """
     found: dict[str, str] = {}
     if text.lstrip()[:1] in ("{", "["):
@@ -38,7 +38,7 @@ def names_in(text: str) -> dict[str, str]:
 
 
 def values_in(text: str) -> Iterator[Any]:
-    """The objects of a JSON text, or of one with a value in each line."""
+    """Yields the objects of a JSON text, which has a single value or one value per line."""
     try:
         whole = json.loads(text)
     except ValueError:
@@ -49,7 +49,7 @@ def values_in(text: str) -> Iterator[Any]:
 
 
 def first_text(*values: Any) -> str:
-    """The first value that is a text, or a list that begins with one."""
+    """Returns the first non-empty string among the values. A list counts as its first element."""
     for value in values:
         value = value[0] if isinstance(value, list) and value else value
         if isinstance(value, str) and value:
@@ -58,12 +58,12 @@ def first_text(*values: Any) -> str:
 
 
 def part_of(value: Any, key: str) -> Any:
-    """The value of a key, if there is an object to have it."""
+    """Returns the value of `key` if `value` is an object; None otherwise."""
     return value.get(key) if isinstance(value, dict) else None
 
 
 def names_of(value: dict[str, Any]) -> Iterator[tuple[str, str]]:
-    """The numbers of a container or a pod with its names."""
+    """Yields the numbers of a container or a pod, each with the name."""
     own, labels = value.get("metadata"), value.get("labels") or value.get("Labels")
     number = first_text(value.get("id"), value.get("Id"), value.get("ID"))
     name = first_text(part_of(own, "name"), value.get("Names"), value.get("Name")).lstrip("/")

@@ -43,7 +43,7 @@ PRESSURE = "pressure"
 
 
 def raw_name(processor: int) -> str:
-    """The file of this processor's pages."""
+    """Returns the name of the file of a processor's pages, if they aren't compressed."""
     return f"cpu{processor}.raw"
 
 
@@ -52,8 +52,8 @@ PACKED = ".gz"
 
 
 def part_name(processor: int, part: int) -> str:
-    """The file of a part of a processor's pages, from 0, if they are compressed as they arrive; it
-    is compressed later.
+    """Returns the name of the file of a part of a processor's pages. Parts are numbered from 0, and
+    are compressed after they are complete.
     """
     return f"cpu{processor}.{part}.raw"
 
@@ -158,27 +158,27 @@ MOST_MARKER_BYTES = 1000
 
 
 def host_marker(memory_total: int, swap_total: int, swap_free: int) -> str:
-    """The machine's memory, in bytes."""
+    """Returns the marker of the machine's memory (bytes)."""
     return f"{MARK}host {memory_total} {swap_total} {swap_free}"
 
 
 def memory_marker(path: str, current: int, swap: int, scanned: int) -> str:
-    """A group's memory and swap in bytes, and its count of scanned pages (`pgscan`); `path` is
-    escaped.
+    """Returns the marker of a group's memory and swap (bytes) and its count of scanned pages
+    (`pgscan`). `path` is escaped.
     """
     return f"{MARK}mem {path} {current} {swap} {scanned}"
 
 
 def pressure_marker(number: int, is_end: bool) -> str:
-    """Written before and after the reading of all pressure files; `number` counts the readings from
-    0.
+    """Returns the marker before or after a reading of all pressure files. `number` counts the
+    readings from 0.
     """
     return f"{MARK}pressure {number} {'end' if is_end else 'begin'}"
 
 
 def accounting_marker(path: str, is_on: bool) -> str:
-    """A group's `cgroup.pressure` differs from the previous sample, or from that of a new group,
-    which is 1; `path` is escaped.
+    """Returns the marker of a change of a group's `cgroup.pressure` since the previous sample; a
+    new group begins with 1. `path` is escaped.
     """
     return f"{MARK}accounting {path} {'on' if is_on else 'off'}"
 
@@ -190,7 +190,7 @@ RESOURCES = ("io", "memory", "cpu")
 
 
 def at_line(moment_ns: int) -> str:
-    """The time at which a snapshot was begun: CLOCK_MONOTONIC in ns."""
+    """Returns the line with the time at which a snapshot was begun: CLOCK_MONOTONIC in ns."""
     return f"at {moment_ns}"
 
 
@@ -199,8 +199,8 @@ SNAPSHOT_END = "end"
 
 
 def group_line(path: str, preference: str) -> str:
-    """A group of the snapshot; `preference` is one of PREFERENCES, from the attributes that oomd
-    and systemd-oomd read.
+    """Returns the line of a group in a snapshot. `preference` is one of PREFERENCES, from the
+    attributes that oomd and systemd-oomd read.
     """
     return f"group {path} {preference}"
 
@@ -210,26 +210,26 @@ PLAIN_TYPE = "domain"
 
 
 def type_line(path: str, kind: str) -> str:
-    """A group's `cgroup.type`, its words joined by a dash: PLAIN_TYPE, `domain-threaded`,
-    `threaded` or `domain-invalid`.
+    """Returns the line of a group's `cgroup.type`, with its words joined by a dash: PLAIN_TYPE,
+    `domain-threaded`, `threaded` or `domain-invalid`.
     """
     return f"type {path} {'-'.join(kind.split())}"
 
 
 def unaccounted_line(path: str) -> str:
-    """A group whose pressure isn't accounted (`cgroup.pressure` is 0)."""
+    """Returns the line of a group whose pressure isn't accounted (`cgroup.pressure` is 0)."""
     return f"unaccounted {path}"
 
 
 def task_line(task: int, process: int, state: str, processor: int, path: str, name: str) -> str:
-    """A thread, its process (Tgid), its state's letter and its processor from /proc/TID/stat, and
-    its group. A newline in its name is written as a blank.
+    """Returns the line of a thread: its number, its process (Tgid), the letter of its state and its
+    processor from /proc/TID/stat, its group and its name. A newline in the name becomes a blank.
     """
     return f"task {task} {process} {state} {processor} {path} {' '.join(name.splitlines())}"
 
 
 def sample_line(number: int, path: str, resource: str) -> str:
-    """The head of one pressure file of a reading."""
+    """Returns the line before the contents of one pressure file of a reading."""
     return f"sample {number} {path} {resource}"
 
 

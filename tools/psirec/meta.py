@@ -8,7 +8,7 @@ from .layout import META, Key
 
 
 class Lines:
-    """The lines of a `meta`: the values of each key, in their order."""
+    """The lines of a `meta` file: the values of each key, in order."""
 
     def __init__(self, text: str) -> None:
         lines = [line.partition(" ") for line in text.splitlines() if line]
@@ -18,24 +18,26 @@ class Lines:
         self.last_key = lines[-1][0] if lines else ""
 
     def all(self, key: str) -> list[str]:
-        """The values of a key."""
+        """Returns all values of a key, in order."""
         return self.values.get(key, [])
 
     def one(self, key: str) -> str | None:
-        """The first value of a key, if it has one."""
+        """Returns the first value of a key; None if the key is absent."""
         return next(iter(self.all(key)), None)
 
     def is_ring(self) -> bool:
-        """Whether a flight recorder wrote this."""
+        """Returns whether a flight recorder made this recording."""
         return Key.RING in self.values
 
     def lost(self, line: str) -> dict[int, int]:
-        """The number of events that each processor lost, by this line of its `stats`."""
+        """Returns the number of lost events of each processor according to the line `line` of its
+        `stats`.
+        """
         form = re.compile(rf"cpu([0-9]{{1,5}}) {line}: ([0-9]{{1,19}})")
         found = (form.fullmatch(it) for it in self.all(Key.STATS))
         return {int(it[1]): int(it[2]) for it in found if it and int(it[2])}
 
 
 def is_recording(folder: str) -> bool:
-    """Whether a folder is a recording: it has a file `meta`."""
+    """Returns whether a folder is a recording, which has a file `meta`."""
     return os.path.isfile(os.path.join(folder, META))
