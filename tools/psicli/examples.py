@@ -9,7 +9,7 @@ from typing import NamedTuple
 
 
 class Example(NamedTuple):
-    """A command as it is typed, and what it is for."""
+    """An example command, and its purpose."""
 
     about: str
     command: str
@@ -196,19 +196,21 @@ READ_ON = {
 
 
 def tool_file() -> str:
-    """The file in `tools` of the tool that runs: installed tools have other names."""
+    """Returns the name of the running tool's file in `tools`. Installed tools are links with other
+    names.
+    """
     return os.path.basename(os.path.realpath(sys.argv[0]))
 
 
 def read_on_text() -> str:
-    """Where to read on about the tool that runs."""
+    """Returns where to read on about the tool that runs."""
     page = READ_ON.get(tool_file(), "docs/OPERATING.md")
     return f"Read on: {page}\n"
 
 
 def examples_text(prog: str) -> str:
-    """The examples of the tool that runs, or of its command if `prog` names one, as in `rules
-    expect`.
+    """Returns the examples of the tool that runs, or of its command if `prog` names one, as in
+    `rules expect`.
     """
     tool, command = tool_file(), prog.partition(" ")[2]
     shown = [it for it in EXAMPLES.get(tool, ()) if not command or f" {command} " in it.command]

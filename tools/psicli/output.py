@@ -1,4 +1,4 @@
-"""The file that a tool writes."""
+"""Checks of the file that a tool writes."""
 from __future__ import annotations
 
 import os
@@ -7,7 +7,9 @@ from .fault import Fault
 
 
 def must_be_writable(path: str) -> None:
-    """Rejects a path at which no file can be written, before the work whose result it gets."""
+    """Rejects a path at which no file can be written, so that a tool fails before its work and not
+    after it.
+    """
     if os.path.isdir(path):
         raise Fault(f"{path} is a folder: name a file in it")
     folder = os.path.dirname(path)

@@ -16,7 +16,9 @@ FORMS = {"?": "[{}]", "*": "[{} ..]", "+": "{} ..", "A...": "{} .."}
 
 
 def tool_name() -> str:
-    """The name by which the tool was called: installed tools have other names."""
+    """Returns the name by which the tool was called. Installed tools have other names than their
+    files.
+    """
     return os.path.basename(sys.argv[0])
 
 
@@ -49,7 +51,9 @@ class Parser(argparse.ArgumentParser):
         self.reads_input = reads_input
 
     def format_help(self) -> str:
-        """The help, with the tool's examples before the arguments, and a page at the end."""
+        """Returns the help, with the tool's examples before the arguments, and a page at the
+        end.
+        """
         text, examples = super().format_help(), examples_text(self.prog)
         first = next(group.title for group in self._action_groups if group._group_actions)
         if examples:
@@ -74,5 +78,7 @@ class Parser(argparse.ArgumentParser):
         return " ".join([self.prog, OPTIONS, *words])
 
     def values(self, words: Sequence[str] | None = None) -> dict[str, Any]:
-        """The parsed values by name; of the tool's own arguments if `words` is None."""
+        """Returns the parsed values by name. `words` are the arguments; None stands for those of
+        the process.
+        """
         return vars(self.parse_args(words))

@@ -1,4 +1,4 @@
-"""Runs a tool's work: reports what is wrong, and ends quietly if nobody reads any more."""
+"""Runs a tool's work: reports a fault, and ends quietly if nobody reads the output."""
 from __future__ import annotations
 
 import contextlib
@@ -49,7 +49,8 @@ def run(work: Callable[[], int]) -> int:
 
 
 def ended(work: Callable[[], int]) -> int:
-    """The status of the work, whose output is flushed: also after --help, which ends by SystemExit.
+    """Returns the status of the work, after flushing its output. --help, which raises SystemExit,
+    is flushed too.
     """
     try:
         return work()
@@ -58,7 +59,9 @@ def ended(work: Callable[[], int]) -> int:
 
 
 def drop_output() -> None:
-    """Lets the flush at the process's end succeed: the rest of the output has no reader."""
+    """Redirects standard output to /dev/null after its reader has closed it, so that the flush at
+    the end of the process succeeds.
+    """
     nothing = os.open(os.devnull, os.O_WRONLY)
     os.dup2(nothing, 1)
     os.close(nothing)

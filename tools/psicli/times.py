@@ -17,24 +17,24 @@ MONTHS = (
 
 
 def ns_of(number: str) -> int:
-    """The ns of a decimal number of seconds, up to its ninth decimal."""
+    """Converts a decimal number of seconds to ns. Decimals after the ninth are ignored."""
     whole, _, part = number.partition(".")
     return int(whole) * SECOND + int(part[:9].ljust(9, "0"))
 
 
 def seconds(ns: int) -> str:
-    """A number of seconds, without zeros after the last decimal."""
+    """Formats a time (ns) in seconds, without trailing zeros."""
     sign, ns = ("-", -ns) if ns < 0 else ("", ns)
     return sign + f"{ns // SECOND}.{ns % SECOND:09}".rstrip("0").rstrip(".")
 
 
 def seconds_to_ms(ns: int) -> str:
-    """A number of seconds with three decimals, rounded down."""
+    """Formats a time (ns) in seconds with three decimals, rounded down."""
     return f"{ns // SECOND}.{ns % SECOND // 10**6:03}"
 
 
 def duration(ns: int) -> str:
-    """A length of time as people say it: `1 h 2 min 3.5 s`."""
+    """Formats a length of time (ns) as people say it: `1 h 2 min 3.5 s`."""
     parts = []
     for unit, length in (("d", DAY), ("h", HOUR), ("min", MINUTE)):
         count, ns = divmod(ns, length)
@@ -44,13 +44,13 @@ def duration(ns: int) -> str:
 
 
 def nearest(ns: int, unit: int) -> int:
-    """The nearest multiple of the unit, the greater one of two."""
+    """Returns the multiple of `unit` that is nearest to `ns`; a tie is rounded up."""
     return (ns + unit // 2) // unit * unit
 
 
 def rounded(ns: int) -> str:
-    """A rounded length of time: to whole hours from a day, whole minutes from an hour, whole
-    seconds from a minute, else to three digits.
+    """Formats a length of time (ns), rounded to whole hours from a day on, to whole minutes from an
+    hour on, to whole seconds from a minute on, and to three digits otherwise.
     """
     three_digits = int(10 ** max(0, len(str(ns)) - 3))
     for length, unit in ((MINUTE, three_digits), (HOUR, SECOND), (DAY, MINUTE)):
@@ -80,7 +80,7 @@ class ClockTime(NamedTuple):
 
 
 def clock_time(local: int) -> ClockTime:
-    """The clock time `local` ns after the clock's 1970 began."""
+    """Returns the date and time that a clock shows `local` ns after its 1970 began."""
     whole, part = divmod(local, SECOND)
     date = time.gmtime(whole)
     decimals = f".{part:09}".rstrip("0") if part else ""
@@ -88,7 +88,7 @@ def clock_time(local: int) -> ClockTime:
 
 
 def zone(ahead: int) -> str:
-    """The name of a zone whose clocks are `ahead` ns ahead of UTC."""
+    """Returns the name of a zone whose clocks are `ahead` ns ahead of UTC."""
     minutes = abs(ahead) // MINUTE
     return f"UTC{'-' if ahead < 0 else '+'}{minutes // 60:02}:{minutes % 60:02}" if ahead else "UTC"
 
@@ -100,7 +100,7 @@ WALL_TIME = re.compile(
 
 
 def wall_time(word: str) -> WallTime:
-    """A time as ISO 8601 writes it, with its zone: `2026-11-28T13:58:12Z`,
+    """Parses a time with its zone in the format of ISO 8601: `2026-11-28T13:58:12Z`,
     `2026-11-28T14:58:12.5+01:00`.
     """
     found = WALL_TIME.fullmatch(word)

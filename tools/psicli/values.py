@@ -9,7 +9,7 @@ from .times import MINUTE, SECOND, WallTime, ns_of, wall_time
 
 
 def whole_number(least: int, most: int) -> Callable[[str], int]:
-    """A reader of whole numbers in a range."""
+    """Returns a reader of whole numbers from `least` to `most`."""
 
     def read(word: str) -> int:
         if not re.fullmatch("0|[1-9][0-9]{0,8}", word) or not least <= int(word) <= most:
@@ -20,21 +20,21 @@ def whole_number(least: int, most: int) -> Callable[[str], int]:
 
 
 def decimal(word: str) -> float:
-    """A number that is at least 0, with or without decimals."""
+    """Parses a number of at least 0, with or without decimals."""
     if not re.fullmatch(r"[0-9]{1,9}(\.[0-9]{1,9})?", word):
         raise Malformed(f"{word} isn't a number of at least 0")
     return float(word)
 
 
 def nanoseconds(word: str) -> int:
-    """A number of seconds, with at most nine decimals, in ns."""
+    """Parses a number of seconds with at most nine decimals. Returns ns."""
     if not re.fullmatch(r"[0-9]{1,9}(\.[0-9]{1,9})?", word):
         raise Malformed(f"{word} isn't a number of seconds with at most nine decimals")
     return ns_of(word)
 
 
 def length(word: str) -> int:
-    """A length of time in whole seconds or minutes, such as 720 or 12min, in ns."""
+    """Parses a length of time in whole seconds or minutes, such as 720 or 12min. Returns ns."""
     found = re.fullmatch(r"([1-9][0-9]{0,5})(s|min)?", word)
     if not found:
         raise Malformed(f"{word} isn't a length of time such as 720 or 12min")
@@ -42,7 +42,9 @@ def length(word: str) -> int:
 
 
 def point(word: str) -> int | WallTime:
-    """A time: seconds since the start of a trace (in ns), or a time with its zone."""
+    """Parses a time: seconds since the start of a trace (returned in ns), or a time of day with its
+    zone.
+    """
     if "T" in word:
         return wall_time(word)
     try:

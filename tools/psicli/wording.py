@@ -8,12 +8,12 @@ NAMED = 8
 
 
 def counted(number: int, what: str) -> str:
-    """`no kill`, `1 kill`, `2 kills`."""
+    """Returns a count with its noun: `no kill`, `1 kill`, `2 kills`."""
     return f"{number or 'no'} {what}{'' if number == 1 else 's'}"
 
 
 def quoted(text: str) -> str:
-    """The text between single quotes, on one line whatever is in it."""
+    """Quotes a text. Unprintable characters are escaped, so that the result is a single line."""
     plain = text.replace("\\", "\\\\").replace("'", "\\'")
     shown = (
         it if it.isprintable() else it.encode("unicode_escape", "surrogatepass").decode()
@@ -23,12 +23,13 @@ def quoted(text: str) -> str:
 
 
 def listed(names: list[str], last: str = "and") -> str:
-    """`a, b and c`."""
+    """Joins names to a list: `a, b and c`."""
     return f" {last} ".join(filter(None, [", ".join(names[:-1]), *names[-1:]]))
 
 
 def suggested(word: str, names: list[str]) -> str:
-    """The groups of these names that a word may have meant, the nearest first; else the first ones.
+    """Returns the names that are most similar to a mistyped word, as a list for a message; the
+    first names if none is similar.
     """
     near = difflib.get_close_matches(word, [it for it in names if it != "/"], NAMED)
     near = near or [it for it in names if it.endswith(f"/{word.strip('/')}")] or names[:NAMED]
