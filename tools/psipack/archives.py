@@ -17,7 +17,7 @@ AR_HEAD = "{name:<16}{time:<12}{owner:<6}{group:<6}{mode:<8}{size:<10}`\n"
 
 
 def folders_of(paths: list[str]) -> list[str]:
-    """All folders above these paths, each after its parent."""
+    """Returns all folders above these paths, each after its parent."""
     found = {""}
     for path in paths:
         while path := os.path.dirname(path):
@@ -26,7 +26,9 @@ def folders_of(paths: list[str]) -> list[str]:
 
 
 def tar_of(members: list[Member], top: str, seconds: int) -> bytes:
-    """A tar archive of the members below the folder `top`, all with this time (s since 1970)."""
+    """Returns a tar archive of the members below the folder `top`, all with this time (s since
+    1970).
+    """
     placed = {f"{top}/{member.path}": member for member in members}
     rows: list[tuple[str, Member | None]] = [(path, None) for path in folders_of(list(placed))]
     output = io.BytesIO()
@@ -45,7 +47,7 @@ def tar_of(members: list[Member], top: str, seconds: int) -> bytes:
 
 
 def gzipped(data: bytes, seconds: int) -> bytes:
-    """The bytes compressed by gzip, with this time and no name."""
+    """Returns the bytes compressed by gzip, with this time and no name."""
     output = io.BytesIO()
     with gzip.GzipFile(
         filename="", mode="wb", compresslevel=9, fileobj=output, mtime=seconds
@@ -55,12 +57,12 @@ def gzipped(data: bytes, seconds: int) -> bytes:
 
 
 def xz_of(data: bytes) -> bytes:
-    """The bytes compressed by xz, with the options that dpkg expects."""
+    """Returns the bytes compressed by xz, with the options that dpkg expects."""
     return lzma.compress(data, preset=6)
 
 
 def ar_of(members: dict[str, bytes], seconds: int) -> bytes:
-    """An ar archive, the format of a Debian package (deb(5))."""
+    """Returns an ar archive, the format of a Debian package (deb(5))."""
     parts = [b"!<arch>\n"]
     for name, data in members.items():
         head = AR_HEAD.format(

@@ -57,7 +57,7 @@ NUMBER = re.compile(r"[0-9][0-9A-Za-z.+-]*")
 
 
 def git(*words: str) -> str:
-    """The output of git in the repository."""
+    """Returns the output of git in the repository."""
     done = subprocess.run(["git", "-C", TOP, *words], capture_output=True, encoding="utf-8")
     if done.returncode:
         raise Fault(
@@ -68,10 +68,10 @@ def git(*words: str) -> str:
 
 
 def version_of(commit: str, is_changed: bool) -> str:
-    """The version of a package: that of CHANGELOG's top heading, as in `## 1.0 (2026-12-01)`. If
-    the heading has no number, or its tag is at another commit, the version is above the last
-    release and has the commit's day. The part after a hyphen gets a tilde, which sorts before the
-    release in Debian's order: 1.0-rc1 is 1.0~rc1.
+    """Returns the version of a package: that of CHANGELOG's top heading, as in `## 1.0
+    (2026-12-01)`. If the heading has no number, or its tag is at another commit, the version is
+    above the last release and has the commit's day. The part after a hyphen gets a tilde, which
+    sorts before the release in Debian's order: 1.0-rc1 is 1.0~rc1.
     """
     headings = re.findall(r"^## (.*)$", bytes_of(TOP, "CHANGELOG.md").decode(), re.MULTILINE)
     numbers = [found[0] if (found := NUMBER.match(it)) else "" for it in headings]
@@ -86,7 +86,8 @@ def version_of(commit: str, is_changed: bool) -> str:
 
 
 def kit_of(given: argparse.Namespace) -> str:
-    """The kit that proved the programs: that of --kit, or the present one; empty with --unproved.
+    """Returns the line on what proved the programs: the kit named by --kit, or the installed one.
+    With --unproved the line says that they are unproved.
     """
     if given.unproved:
         return UNPROVED
@@ -101,8 +102,8 @@ def kit_of(given: argparse.Namespace) -> str:
 
 
 def programs_named(given: argparse.Namespace) -> dict[str, bytes]:
-    """The bytes of both programs, built if no paths are given. A program that is given must be
-    identical to the one that the gate built.
+    """Returns the bytes of both programs, which are built if no paths are given. A program given by
+    its path must be identical to the one that the gate built.
     """
     paths = dict(zip(PROGRAMS, (given.program, given.observer)))
     found = {
@@ -123,18 +124,20 @@ def programs_named(given: argparse.Namespace) -> dict[str, bytes]:
 
 
 def built_path(name: str) -> str:
-    """The path where the launcher and the gate write a program that they built."""
+    """Returns the path to which the launcher and the gate write a built program."""
     return os.path.join("crates", f"{name}_main", "out", f"{name}_main")
 
 
 def built_bytes(name: str) -> bytes:
-    """The bytes of the program that was built; empty if there is none."""
+    """Returns the bytes of a built program; empty if it wasn't built."""
     path = os.path.join(TOP, built_path(name))
     return bytes_of(path) if os.path.exists(path) else b""
 
 
 def check_name(name: str, path: str) -> None:
-    """Without words each program prints its own usage: another one isn't packed by its name."""
+    """Checks that the program at `path` is the one called `name`, by the usage that it prints
+    without arguments.
+    """
     try:
         done = subprocess.run(
             [os.path.abspath(path)],
@@ -153,7 +156,7 @@ def check_name(name: str, path: str) -> None:
 
 
 def write(members: list[Member], folder: str) -> None:
-    """Installs these files in a folder."""
+    """Writes the members of the package into a folder."""
     for member in members:
         path = os.path.join(folder, member.path)
         os.makedirs(os.path.dirname(path), exist_ok=True)
@@ -166,7 +169,7 @@ def write(members: list[Member], folder: str) -> None:
 
 
 def helps_of(folder: str) -> dict[str, tuple[Help, dict[str, Help]]]:
-    """The --help of each installed tool, and of each of its commands."""
+    """Returns the --help of each installed tool, and of each of its commands."""
     found = {}
     for tool in TOOLS:
         path = os.path.join(folder, LIBRARY, "tools", tool.file)
@@ -176,8 +179,8 @@ def helps_of(folder: str) -> dict[str, tuple[Help, dict[str, Help]]]:
 
 
 def completions(folder: str, helps: dict[str, tuple[Help, dict[str, Help]]]) -> list[Member]:
-    """The completions of both shells: one file, and links with the name of each command, since bash
-    looks for a file of the command's name.
+    """Returns the completions of both shells. For bash there is one file, and a link to it with the
+    name of each command, since bash looks for a file of that name.
     """
     offered = []
     for name in PROGRAMS:
@@ -197,7 +200,7 @@ def completions(folder: str, helps: dict[str, tuple[Help, dict[str, Help]]]) -> 
 
 
 def pages(helps: dict[str, tuple[Help, dict[str, Help]]], facts: Facts) -> list[Member]:
-    """The manual pages, compressed as in Debian."""
+    """Returns the manual pages, compressed as in Debian."""
     date = time.strftime("%Y-%m-%d", time.gmtime(facts.seconds))
     source = f"{NAME} {facts.version}, commit {facts.commit[:12]}"
     found = pages_of_programs(TOP, source)
@@ -213,7 +216,7 @@ def pages(helps: dict[str, tuple[Help, dict[str, Help]]], facts: Facts) -> list[
 
 
 def files_of(programs: dict[str, bytes], facts: Facts, kit: str) -> list[Member]:
-    """All files that are installed."""
+    """Returns all files that are installed."""
     origin = ORIGIN.format(commit=facts.commit, version=facts.version, kit=kit)
     members = [
         *programs_of(TOP, programs, origin),
@@ -232,7 +235,7 @@ def files_of(programs: dict[str, bytes], facts: Facts, kit: str) -> list[Member]
 
 
 def facts_of(programs: dict[str, bytes]) -> Facts:
-    """The metadata of the package."""
+    """Returns the metadata of the package."""
     commit, is_changed = git("rev-parse", "HEAD"), bool(
         git("status", "--porcelain", "--untracked-files=no")
     )
@@ -249,7 +252,7 @@ def facts_of(programs: dict[str, bytes]) -> Facts:
 
 
 def parser() -> Parser:
-    """The parser of the command line."""
+    """Returns the parser of the command line."""
     words = Parser(ABOUT, STATUS)
     words.add_argument("--program", metavar="FILE", help="the built psi_oomd")
     words.add_argument("--observer", metavar="FILE", help="the built psi_observe")

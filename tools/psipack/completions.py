@@ -11,8 +11,8 @@ FILES = re.compile(r"FILE|FOLDER|DIR|OUT|TRACE|TEXT")
 
 @dataclass(frozen=True)
 class Words:
-    """What can be typed after a name: its commands, each with its options and their values as in
-    the usage. A program without commands has one with an empty name.
+    """The words that can follow a program's name: its commands, each with its options and their
+    values as in the usage. A program without commands has one command with an empty name.
     """
 
     name: str
@@ -112,7 +112,7 @@ _psi_oomd "$@"
 
 
 def offered(program: Words) -> dict[str, list[str]]:
-    """The words offered after each name, and after each name with a command."""
+    """Returns the words offered after each name, and after each name with a command."""
     named = [command for command in program.commands if command]
     found = {program.name: [*named, *program.commands.get("", {})]}
     return {
@@ -122,7 +122,9 @@ def offered(program: Words) -> dict[str, list[str]]:
 
 
 def valued(program: Words) -> dict[str, str]:
-    """The value of each option, by the words up to that option: FILE, or the possible values."""
+    """Returns the value of each option, by the words up to that option: FILE, or the possible
+    values.
+    """
     found: dict[str, str] = {}
     for command, options in program.commands.items():
         front = f"{program.name} {command}".rstrip()
@@ -135,7 +137,8 @@ def valued(program: Words) -> dict[str, str]:
 
 
 def cases(rows: dict[str, str]) -> str:
-    """The rows as branches of a shell's `case`, which print the words. Equal values share a branch.
+    """Returns the rows as branches of a shell's `case`, each of which prints its words. Keys with
+    equal words share a branch.
     """
     alike: dict[str, list[str]] = {}
     for key, text in rows.items():
@@ -146,7 +149,7 @@ def cases(rows: dict[str, str]) -> str:
 
 
 def script_of(template: str, programs: list[Words]) -> bytes:
-    """The completions of the programs, from the template for one of the shells."""
+    """Returns the completions of the programs, from the template for one of the shells."""
     words = {
         key: " ".join(found) for program in programs for key, found in offered(program).items()
     }

@@ -117,16 +117,16 @@ class Facts:
     seconds: int
 
     def date(self) -> str:
-        """The time in the format of a Debian changelog."""
+        """Returns the time in the format of a Debian changelog."""
         return time.strftime("%a, %d %b %Y %H:%M:%S +0000", time.gmtime(self.seconds))
 
     def year(self) -> int:
-        """The year of that time."""
+        """Returns the year of that time."""
         return time.gmtime(self.seconds).tm_year
 
 
 def own_documents(facts: Facts) -> list[Member]:
-    """The files that Debian requires in the documentation folder."""
+    """Returns the files that Debian requires in the documentation folder."""
     owner = facts.maintainer.partition(" <")[0]
     said = COPYRIGHT.format(maintainer=facts.maintainer, owner=owner, year=facts.year())
     changes = CHANGES.format(
@@ -144,7 +144,7 @@ def own_documents(facts: Facts) -> list[Member]:
 
 
 def control_of(members: list[Member], facts: Facts) -> list[Member]:
-    """The control files: the description of the package, and the scripts."""
+    """Returns the control files: the description of the package, and the scripts."""
     sums = [
         f"{hashlib.md5(it.data).hexdigest()}  usr/{it.path}\n" for it in members if not it.target
     ]
@@ -169,7 +169,7 @@ def control_of(members: list[Member], facts: Facts) -> list[Member]:
 
 
 def package_of(members: list[Member], facts: Facts) -> bytes:
-    """The package, with its files below /usr."""
+    """Returns the package, with its files below /usr."""
     members = sorted(members, key=lambda member: member.path)
     parts = {
         "debian-binary": b"2.0\n",

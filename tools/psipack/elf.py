@@ -16,7 +16,9 @@ PREFIX = "GLIBC_"
 
 
 def least_libc(name: str, data: bytes) -> str:
-    """The lowest version of the C library that has all symbols of this program, as 2.34."""
+    """Returns the lowest version of the C library, such as 2.34, that has all symbols that a
+    program uses.
+    """
     if not data:
         raise Fault(f"{name} is no program: the file is empty")
     if (
@@ -40,7 +42,7 @@ def least_libc(name: str, data: bytes) -> str:
 
 
 def needed_versions(data: bytes) -> list[tuple[str, str]]:
-    """Each library for which the program requires a version of its symbols, and that version."""
+    """Returns the pairs of a library and a version of its symbols that the program requires."""
     offset, size, count = struct.unpack_from("<Q", data, 40)[0], *struct.unpack_from(
         "<HH", data, 58
     )
@@ -56,8 +58,8 @@ def needed_versions(data: bytes) -> list[tuple[str, str]]:
 
 
 def versions_at(data: bytes, at: int, libraries: int, names: int) -> list[tuple[str, str]]:
-    """The versions in a table (Elf64_Verneed, Elf64_Vernaux) at this offset, with this number of
-    libraries.
+    """Returns the pairs of library and version in the tables (Elf64_Verneed, Elf64_Vernaux) at
+    offset `at`, which have `libraries` libraries.
     """
     found: list[tuple[str, str]] = []
     for _ in range(libraries):
@@ -72,5 +74,5 @@ def versions_at(data: bytes, at: int, libraries: int, names: int) -> list[tuple[
 
 
 def text_at(data: bytes, at: int) -> str:
-    """The text at this offset, up to its zero byte."""
+    """Returns the string at offset `at`, up to its zero byte."""
     return data[at : data.index(b"\0", at)].decode()

@@ -32,7 +32,7 @@ STATUS = re.compile(r"(?:The )?status\b")
 
 
 def page_of(tool: Tool, about: Help, commands: dict[str, Help], date: str, source: str) -> bytes:
-    """The page of a tool, with a section for each of its commands."""
+    """Returns the page of a tool, with a section for each of its commands."""
     name = escaped(tool.command)
     lines = [
         HEAD.format(
@@ -69,19 +69,21 @@ def page_of(tool: Tool, about: Help, commands: dict[str, Help], date: str, sourc
 
 
 def without_places(paragraphs: list[str]) -> list[str]:
-    """The paragraphs without those that have places of their own in a page."""
+    """Returns the paragraphs without the examples and the reference, which have sections of their
+    own in a manual page.
+    """
     return [it for it in paragraphs if not it.startswith((EXAMPLES, READ_ON))]
 
 
 def parted(paragraphs: list[str]) -> tuple[list[str], list[str]]:
-    """The paragraphs that don't concern the exit status, and those that do."""
+    """Splits the paragraphs into those that don't concern the exit status and those that do."""
     return [it for it in paragraphs if not STATUS.match(it)], [
         it for it in paragraphs if STATUS.match(it)
     ]
 
 
 def paragraph(text: str) -> str:
-    """A paragraph as roff: if a line is indented or aligned, its layout is kept."""
+    """Returns a paragraph in roff. The layout is preserved if a line is indented or aligned."""
     lines = text.split("\n")
     if any(line.startswith(" ") or re.search(r"\S {2,}\S", line) for line in lines):
         return ".PP\n.nf\n" + "".join(f"{escaped(line)}\n" for line in lines) + ".fi\n"
@@ -89,11 +91,13 @@ def paragraph(text: str) -> str:
 
 
 def items_of(items: list[Item]) -> list[str]:
-    """A list of arguments or options."""
+    """Returns a list of arguments or options in roff."""
     return [f".TP\n.B {escaped(item.words)}\n{escaped(item.about)}\n" for item in items]
 
 
 def escaped(text: str) -> str:
-    """The text escaped for roff: a hyphen stays a hyphen, and no line is a request."""
+    """Escapes a text for roff, so that hyphens aren't replaced and no line is taken for a
+    request.
+    """
     text = text.replace("\\", "\\e").replace("-", "\\-")
     return "\\&" + text if text.startswith((".", "'")) else text

@@ -48,7 +48,8 @@ class Member:
 
 
 def tracked(top: str, *names: str) -> list[tuple[str, int]]:
-    """The files below these names that git tracks, with their modes: untracked files aren't packed.
+    """Returns the files below these names that git tracks, with their modes: untracked files aren't
+    packed.
     """
     words = ["git", "-C", top, "ls-files", "-sz", "--", *names]
     listed = subprocess.run(words, check=True, stdout=subprocess.PIPE, encoding="utf-8").stdout
@@ -57,7 +58,7 @@ def tracked(top: str, *names: str) -> list[tuple[str, int]]:
 
 
 def bytes_of(*path: str) -> bytes:
-    """The bytes of a file; if it can't be read, that is an error."""
+    """Returns the bytes of a file. Raises a Fault if it can't be read."""
     name = os.path.join(*path)
     try:
         with open(name, "rb") as file:
@@ -67,21 +68,23 @@ def bytes_of(*path: str) -> bytes:
 
 
 def renamed(text: str) -> str:
-    """A text with the commands' installed names."""
+    """Replaces the commands of a checkout in a text by their installed names."""
     text = NAMED_TOOL.sub(lambda found: COMMANDS[found[1]], text)
     text = re.sub(rf"\./({'|'.join(PROGRAMS)})\b", r"\1", text)
     return re.sub(rf"man -l docs/({'|'.join(PROGRAMS)})\.1", r"man \1", text)
 
 
 def renamed_code(text: str) -> str:
-    """The source of a tool, whose messages and usage begin with its installed name."""
+    """Rewrites a tool's source so that its messages and usage begin with the installed command
+    name.
+    """
     text = MESSAGE.sub(lambda found: f"{found[1]}{COMMANDS[found[2]]}", text)
     text = ECHOED.sub(lambda found: COMMANDS[found[1]], text)
     return PROGRAM_NAME.sub(lambda found: f"{found[1]}{COMMANDS[found[2]]}", text)
 
 
 def with_whole_paths(text: str) -> str:
-    """A text with the full paths of documents."""
+    """Replaces the paths of documents in a text by their installed paths."""
     text = re.sub(rf"docs/({'|'.join(PROGRAMS)})\.1", r"\1(1)", text)
     return re.sub(r"(?<![\w/-])docs/(?=[A-Z]+\.md)", f"/usr/{DOCUMENTS}/docs/", text)
 
@@ -90,7 +93,7 @@ def with_whole_paths(text: str) -> str:
 
 
 def programs_of(top: str, programs: dict[str, bytes], origin: str) -> list[Member]:
-    """The programs, their launcher, and the text for `--version`."""
+    """Returns the programs, their launcher, and the text for `--version`."""
     members = [Member(f"{LIBRARY}/origin", origin.encode())]
     for name, data in programs.items():
         members.append(Member(f"{LIBRARY}/programs/{name}", data, 0o755))
@@ -100,7 +103,7 @@ def programs_of(top: str, programs: dict[str, bytes], origin: str) -> list[Membe
 
 
 def by_installed_python(data: bytes) -> bytes:
-    """The text of a file of tools, which is run by Debian's Python if it is a command."""
+    """Rewrites the first line of a tool, if it is a command, so that Debian's Python runs it."""
     if data.startswith(PYTHON):
         return INSTALLED_PYTHON + data[len(PYTHON) :]
     if data.startswith(BY_SHELL):
@@ -109,7 +112,7 @@ def by_installed_python(data: bytes) -> bytes:
 
 
 def tools_of(top: str) -> list[Member]:
-    """The tools with their modules, and their commands."""
+    """Returns the tools with their modules, and their commands."""
     members = []
     for path, mode in tracked(top, "tools"):
         if path.split("/")[1] not in OF_CHECKOUTS:
@@ -125,7 +128,7 @@ def tools_of(top: str) -> list[Member]:
 
 
 def documents_of(top: str) -> list[Member]:
-    """The documents and the examples, without links to files that aren't installed."""
+    """Returns the documents and the examples, without links to files that aren't installed."""
     files = tracked(top, "README.md", "CHANGELOG.md", "LICENSE", "docs", "examples")
     paths = {path for path, mode in files if mode == 0o644 and not path.endswith(".1")}
     members = []
@@ -140,7 +143,9 @@ def documents_of(top: str) -> list[Member]:
 
 
 def without_dead_links(text: str, path: str, paths: set[str]) -> str:
-    """The text of a document, keeping only links to these paths or below them."""
+    """Replaces the links in a document to files that aren't in `paths` or below them by their
+    text.
+    """
 
     def link(found: re.Match[str]) -> str:
         target = os.path.normpath(os.path.join(os.path.dirname(path), found[3]))
@@ -151,7 +156,7 @@ def without_dead_links(text: str, path: str, paths: set[str]) -> str:
 
 
 def pages_of_programs(top: str, source: str) -> dict[str, bytes]:
-    """The manual pages that `docs` has, by their names; the foot of each has `source`."""
+    """Returns the manual pages that `docs` has, by their names; the foot of each has `source`."""
     found = {}
     for name in PROGRAMS:
         text = (

@@ -51,7 +51,7 @@ class Help:
 
 
 def said_by(words: list[str]) -> str:
-    """The standard output of this command; its failure is an error."""
+    """Returns the standard output of a command. Raises a Fault if the command fails."""
     done = subprocess.run(
         words, capture_output=True, encoding="utf-8", env={**os.environ, **ENVIRONMENT}
     )
@@ -61,7 +61,7 @@ def said_by(words: list[str]) -> str:
 
 
 def help_of(path: str, *command: str) -> Help:
-    """The help of a tool, or of one of its commands."""
+    """Returns the help of a tool, or of one of its commands."""
     return help_in(said_by([sys.executable, "-B", path, *command, "--help"]))
 
 
@@ -85,8 +85,8 @@ def help_in(text: str) -> Help:
 
 
 def usage_without_name(words: str) -> str:
-    """The words of a usage after the tool's name, and after its command's if there is one: from the
-    first that isn't a plain word.
+    """Returns the part of a usage after the name of the tool, and of its command if there is
+    one.
     """
     _, *rest = words.split(" ")
     while rest and re.fullmatch("[a-z][a-z-]*", rest[0]):
@@ -111,7 +111,9 @@ def read_items(text: str, items: list[Item], commands: list[Item]) -> None:
 
 
 def options_in(items: list[Item]) -> dict[str, str]:
-    """The options in these items, each with its value as in the usage: empty if it takes none."""
+    """Returns the options among these items, each with its value as in the usage. The value is
+    empty if the option takes none.
+    """
     found: dict[str, str] = {}
     for item in items:
         written = OPTION.findall(item.words)
@@ -121,8 +123,8 @@ def options_in(items: list[Item]) -> dict[str, str]:
 
 
 def commands_in(text: str, program: str) -> dict[str, dict[str, str]]:
-    """The commands of a program in the launcher's --help, with the options of each and their
-    values. A program without commands has one with an empty name.
+    """Returns the commands of a program in the launcher's --help, with the options of each and
+    their values. A program without commands has one with an empty name.
     """
     joined = re.sub(r"\n {10,}(?=\[)", " ", text)
     found: dict[str, dict[str, str]] = {}
