@@ -40,24 +40,28 @@ class Mark(NamedTuple):
 
 
 def round_steps() -> Iterator[int]:
-    """The round numbers: 1, 2 and 5 times each power of ten."""
+    """Returns the round numbers: 1, 2 and 5 times each power of ten."""
     return (digit * int(10**power) for power in itertools.count() for digit in (1, 2, 5))
 
 
 def share_step(most: int) -> int:
-    """The least round step, in hundredths of a percent, such that five steps reach `most`."""
+    """Returns the least round step, in hundredths of a percent, such that five steps reach
+    `most`.
+    """
     return next(step for step in round_steps() if 5 * step >= most)
 
 
 def byte_step(most: int) -> int:
-    """The least round number of bytes, KiB, MiB and so on such that five of them reach `most`."""
+    """Returns the least round number of bytes, KiB, MiB and so on such that five of them reach
+    `most`.
+    """
     counts = (1, 2, 5, 10, 20, 50, 100, 200, 500)
     steps = (count * int(1024**size) for size in itertools.count() for count in counts)
     return next(step for step in steps if 5 * step >= most)
 
 
 def told_bytes(number: int, step: int) -> str:
-    """A number of bytes, in the unit in which the step is a whole number."""
+    """Returns a number of bytes, in the unit in which the step is a whole number."""
     size = next(it for it in reversed(range(len(SIZES))) if step >= 1024**it)
     return f"{number // 1024**size} {SIZES[size]}"
 
@@ -80,8 +84,8 @@ class TimeAxis:
         )
 
     def x(self, moment: int) -> float:
-        """The x coordinate (pixels) of a time: rounded as it is written, so that it is in the pixel
-        column in which it is counted.
+        """Returns the x coordinate (pixels) of a time: rounded as it is written, so that it is in
+        the pixel column in which it is counted.
         """
         return round(LEFT + (moment - self.start) * (RIGHT - LEFT) / (self.end - self.start), 2)
 
@@ -98,7 +102,7 @@ class TimeAxis:
         return f"{self.unit} since the start of the trace"
 
     def told(self, moment: int) -> str:
-        """A time in the format of this axis: `146 s`, `2 h 1 min`."""
+        """Returns a time in the format of this axis: `146 s`, `2 h 1 min`."""
         return f"{seconds(moment)} s" if self.unit == "seconds" else duration(moment)
 
 
@@ -117,7 +121,7 @@ class WallAxis(TimeAxis):
         return steps <= MOST_STEPS and steps * width <= RIGHT - LEFT
 
     def text(self, local: int, step: int) -> str:
-        """The label of a time of day: the beginning of a day has its date."""
+        """Returns the label of a time of day: the beginning of a day has its date."""
         at = clock_time(local)
         if step >= DAY or (local % DAY == 0 and self.has_days()):
             return f"{at.date.tm_mday} {MONTHS[at.date.tm_mon - 1][:3]}"
@@ -139,7 +143,7 @@ class WallAxis(TimeAxis):
         return clock_time(self.first + self.start), clock_time(self.first + self.end)
 
     def has_days(self) -> bool:
-        """Whether the chart spans more than one day."""
+        """Returns whether the chart spans more than one day."""
         first, last = self.days()
         return first.date[:3] != last.date[:3]
 

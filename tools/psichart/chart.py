@@ -106,7 +106,8 @@ class Chart:
     # ------------------------------------------------------------ what is drawn
 
     def panels_of(self, resource: str) -> list[Panel]:
-        """A panel of the resource for each group; for `use` a memory panel, if there are samples.
+        """Returns a panel of the resource for each group; for `use` a memory panel, if there are
+        samples.
         """
         return [panel for path in self.replay.groups for panel in self.panel(resource, path)]
 
@@ -125,7 +126,9 @@ class Chart:
         return [MemoryPanel(name, self.axis, thresholds, samples.lives[path])]
 
     def places_of(self) -> list[Place]:
-        """The positions of the panels, one below the other; those without pressure are low."""
+        """Returns the positions of the panels, one below the other; those without pressure are
+        low.
+        """
         full = [it for it in self.panels if not it.is_flat()]
         height = 300 if len(full) == 1 else 132 if len(full) <= 5 else 96
         places, top = list[Place](), self.top
@@ -135,7 +138,7 @@ class Chart:
         return places
 
     def moments(self) -> list[Moment]:
-        """The kills, and the removals of groups."""
+        """Returns the kills, and the removals of groups."""
         return [self.kill(it) for it in self.replay.kills] + [
             self.end(it) for it in self.replay.gone()
         ]
@@ -178,13 +181,15 @@ class Chart:
         )
 
     def fitting_title(self) -> str:
-        """The title with the longest paths that fit into the picture."""
+        """Returns the title with the longest paths that fit into the picture."""
         most = PATHS_ROOM // min(TITLED, len(self.replay.groups))
         titles = [self.title(it) for it in range(most, most // 2, -1)]
         return next((it for it in titles if len(it) <= TITLE_ROOM), short(titles[-1], TITLE_ROOM))
 
     def killers(self) -> str:
-        """The killers: a ruleset's name, or the number of rulesets, if the rules are known."""
+        """Returns the killers: a ruleset's name, or the number of rulesets, if the rules are
+        known.
+        """
         rules = self.wanted.rules
         names = {it.ruleset: rules.killer(it).ruleset for it in self.replay.kills} if rules else {}
         if len(names) > 1:
@@ -192,7 +197,7 @@ class Chart:
         return "".join(f" by '{name}'" for name in names.values())
 
     def has_events(self) -> bool:
-        """Whether there are ticks for events, so that the legend must explain them."""
+        """Returns whether there are ticks for events, so that the legend must explain them."""
         return any(panel.has_events() for panel in self.panels)
 
     # ------------------------------------------------------------ the drawing

@@ -73,7 +73,7 @@ class Given(NamedTuple):
 
 
 def parser() -> Parser:
-    """The parser of the command line."""
+    """Returns the parser of the command line."""
     words = Parser(ABOUT, AFTER)
     option = words.add_argument
     option("replayed", nargs="?", metavar="TRACE", help=TRACE_HELP)
@@ -121,7 +121,8 @@ def read_words() -> Given:
 
 
 def resources_of(replay: Replay, given: Given) -> list[str]:
-    """The resources to draw. Interrupts are included only if some drawn group has reports of them.
+    """Returns the resources to draw. Interrupts are included only if some drawn group has reports
+    of them.
     """
     if given.resource:
         return [given.resource]
@@ -150,7 +151,7 @@ def must_have_reports(
 
 
 def read_recorded(name: str, groups: list[str], replay: Replay) -> Replay:
-    """The replay in a file, which must be of the same trace as the other one."""
+    """Returns the replay in a file, which must be of the same trace as the other one."""
     with opened(name) as printed:
         try:
             recorded = read_replay(printed, groups)
@@ -196,7 +197,7 @@ def read_printed(printed: IO[bytes], given: Given, known: Known) -> tuple[list[s
 
 
 def span_of(given: Given, known: Known, replay: Replay) -> tuple[int, int]:
-    """The drawn time in ns. Without options it begins where the recording does."""
+    """Returns the drawn time in ns. Without options it begins where the recording does."""
     span = span_in(given.values, known.wall, replay.end.moment, "replay")
     begins = (
         given.summary.begins if given.summary else known.companion.begins if known.companion else 0
@@ -205,7 +206,7 @@ def span_of(given: Given, known: Known, replay: Replay) -> tuple[int, int]:
 
 
 def samples_of(given: Given, groups: list[str], end: int) -> Optional[Samples]:
-    """The samples of the groups' memory: of a trace that is replayed, if it has some."""
+    """Returns the samples of the groups' memory: of a trace that is replayed, if it has some."""
     if given.trace is None:
         return None
     samples = Samples(given.trace, groups, end)

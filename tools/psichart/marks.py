@@ -41,20 +41,20 @@ class Mark:
         self.text = short(self.moments[0].texts[length], 96 if length == 0 else 64) + more
 
     def told(self) -> str:
-        """The description of each event, or only of the first ones if there are many."""
+        """Returns the description of each event, or only of the first ones if there are many."""
         lines = [it.hint for it in self.moments[:NAMED]]
         return "\n".join(
             lines + ([f"and {len(self.moments) - NAMED} more"] if len(self.moments) > NAMED else [])
         )
 
     def span(self, is_left: bool) -> tuple[float, float]:
-        """The left and right end of the label, beside the line."""
+        """Returns the left and right end of the label, beside the line."""
         width = MONOSPACE * len(self.text)
         return (self.x - 7 - width, self.x - 7) if is_left else (self.x + 7, self.x + 7 + width)
 
     def is_free(self, row: int, is_left: bool, placed: list[Mark]) -> bool:
-        """Whether the label covers no other label and no line to one, and its own line crosses no
-        label.
+        """Returns whether the label covers no other label and no line to one, and its own line
+        crosses no label.
         """
         left, right = self.span(is_left)
         for other in placed:
@@ -84,7 +84,7 @@ class Mark:
 
 
 def marks_of(moments: Iterable[Moment], x_of: Callable[[int], float]) -> list[Mark]:
-    """A mark for each pixel column and kind of event."""
+    """Returns a mark for each pixel column and kind of event."""
 
     def column_of(it: Moment) -> tuple[int, str]:
         return int(x_of(it.moment)), it.kind

@@ -74,15 +74,15 @@ class Panel:
         raise NotImplementedError
 
     def is_flat(self) -> bool:
-        """Whether it has nothing that needs height."""
+        """Returns whether it has nothing that needs height."""
         return False
 
     def has_events(self) -> bool:
-        """Whether it has ticks for events."""
+        """Returns whether it has ticks for events."""
         return False
 
     def name_end(self) -> float:
-        """How far the name may extend to the right (pixels)."""
+        """Returns how far the name may extend to the right (pixels)."""
         return RIGHT
 
     def draw_name(self, panel: Element, y: float) -> None:
@@ -101,7 +101,7 @@ class Panel:
         raise NotImplementedError
 
     def apart(self, most: int) -> int:
-        """The distance between its lines: a low panel has none between its ends."""
+        """Returns the distance between its lines: a low panel has none between its ends."""
         return most if self.is_flat() else self.step(most)
 
     def number(self, value: int, step: int) -> str:
@@ -138,7 +138,7 @@ class Curves:
         self.shown = [place for place, moment in enumerate(series.moments) if axis.holds(moment)]
 
     def most(self) -> int:
-        """The greatest value, in hundredths of a percent."""
+        """Returns the greatest value, in hundredths of a percent."""
         shares = (
             shares[place]
             for shares in self.series.shares.values()
@@ -160,8 +160,8 @@ class Curves:
                 add_line(lines, thinned(points), **look)
 
     def does_climb(self, average: str) -> bool:
-        """Whether the chart only shows an average climbing from 0, where averages begin: its value
-        on a machine that ran before isn't known then.
+        """Returns whether the chart only shows an average climbing from 0, where averages begin:
+        its value on a machine that ran before isn't known then.
         """
         period = int(average[len("avg") :]) * SECOND
         if self.axis.start >= period or self.axis.end >= SETTLED * period:
@@ -176,7 +176,9 @@ class Curves:
         )
 
     def unbroken(self) -> Iterator[list[int]]:
-        """The places of the reports, split if the group didn't exist for two pixels or more."""
+        """Yields the places of the reports, split if the group didn't exist for two pixels or
+        more.
+        """
         rounds, moments = self.series.rounds, self.series.moments
         run: list[int] = []
         for place in self.shown:
@@ -224,7 +226,7 @@ class PressurePanel(Panel):
         )
 
     def is_flat(self) -> bool:
-        """Whether it has no pressure, no event, and no threshold of a rule."""
+        """Returns whether it has no pressure, no event, and no threshold of a rule."""
         return (
             not any(it.most() for it in self.curves)
             and not self.has_events()
@@ -249,7 +251,7 @@ class PressurePanel(Panel):
         self.draw_events(panel, frame.bottom + 5)
 
     def caveat(self) -> str:
-        """Which averages only climb from 0, to the right of the name."""
+        """Returns which averages only climb from 0, to the right of the name."""
         climbing = [it for it in AVERAGES if self.curves[0].does_climb(it)]
         verb = "climbs" if len(climbing) == 1 else "climb"
         averages = " and ".join(climbing)
@@ -269,7 +271,7 @@ class PressurePanel(Panel):
         add(panel, "text", self.counts(), class_="small", x=LEFT - 7, y=top + 10, text_anchor="end")
 
     def counts(self) -> str:
-        """The number of events in the chart, and the recorded number if it differs."""
+        """Returns the number of events in the chart, and the recorded number if it differs."""
         count, *was = (sum(map(len, events)) for events in self.events)
         text = counted(count, "event")
         if was in ([], [count]):
@@ -294,8 +296,8 @@ class MemoryPanel(Panel):
         self.has_swap = any(it.swap for samples in self.lives for it in samples)
 
     def shown(self, life: Life) -> list[Sample]:
-        """The samples in the shown time. The last sample before it is continued from its start, and
-        the last one in it up to its end.
+        """Returns the samples in the shown time. The last sample before it is continued from its
+        start, and the last one in it up to its end.
         """
         end = self.axis.end if life.end is None else min(life.end, self.axis.end)
         inside = [it for it in life.samples if self.axis.start <= it.moment <= end]
@@ -333,7 +335,7 @@ class MemoryPanel(Panel):
             text_anchor="middle")  # fmt: skip
 
     def steps(self, samples: list[Sample], is_swap: bool, frame: Frame) -> Iterator[Point]:
-        """A constant value up to the next sample, and then a step to that one's."""
+        """Yields a constant value up to the next sample, and then a step to that one's."""
         last: Optional[float] = None
         for sample in samples:
             x, y = (

@@ -92,7 +92,7 @@ class Replay:
             )
 
     def gone(self) -> list[Gone]:
-        """The removals of the drawn groups, and of groups that would be killed."""
+        """Returns the removals of the drawn groups, and of groups that would be killed."""
         named = {*self.groups, *(kill.path for kill in self.kills)}
         return [gone for gone in self.rounds.gone if gone.path in named]
 

@@ -41,7 +41,7 @@ class Summary(NamedTuple):
 
 
 def summary_of(name: str) -> Summary:
-    """The summary in a file."""
+    """Returns the summary in a file."""
     with opened(name) as file:
         said = file.read().decode("utf-8", "replace")
     if not re.search("^psitrace: ", said, re.MULTILINE):

@@ -78,7 +78,7 @@ STYLE_BESIDE = """.series.some { stroke-width: 2.5; }
 
 
 def decimal(value: float) -> str:
-    """A number with at most two decimals, and no trailing zeros."""
+    """Returns a number with at most two decimals, and no trailing zeros."""
     return f"{value:.2f}".rstrip("0").rstrip(".")
 
 
@@ -114,7 +114,7 @@ def counted(number: int, what: str) -> str:
 
 
 def short(text: str, most: int) -> str:
-    """The text, or its beginning and its end if it is longer than `most`."""
+    """Returns the text, or its beginning and its end if it is longer than `most`."""
     return (
         text
         if len(text) <= most
@@ -123,13 +123,13 @@ def short(text: str, most: int) -> str:
 
 
 def columns(points: Iterable[Point]) -> Iterator[list[Point]]:
-    """The points of each pixel column."""
+    """Yields the points of each pixel column."""
     for _, column in itertools.groupby(points, key=lambda point: int(point[0])):
         yield list(column)
 
 
 def thinned(points: Iterable[Point]) -> Iterator[Point]:
-    """The highest and the lowest point of each pixel column, in order."""
+    """Yields the highest and the lowest point of each pixel column, in order."""
     for column in columns(points):
         yield from sorted(
             {min(column, key=lambda point: point[1]), max(column, key=lambda point: point[1])}
@@ -137,8 +137,8 @@ def thinned(points: Iterable[Point]) -> Iterator[Point]:
 
 
 def thinned_steps(points: Iterable[Point]) -> Iterator[Point]:
-    """The first point, the highest, the lowest and the last of each pixel column, since a step
-    continues from the last.
+    """Yields the first point, the highest, the lowest and the last of each pixel column, since a
+    step continues from the last.
     """
     for column in columns(points):
         places = range(len(column))

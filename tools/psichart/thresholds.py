@@ -52,7 +52,7 @@ def of_memory(ruleset: Ruleset, detector: Plugin, host: Optional[int]) -> Iterat
 
 
 def pressure_thresholds(rules: Optional[Rules], path: str, resource: str) -> list[Threshold]:
-    """The thresholds of the detectors that check this group's pressure on the resource."""
+    """Returns the thresholds of the detectors that check this group's pressure on the resource."""
     return [
         of_pressure(ruleset, detector)
         for ruleset in (rules.rulesets if rules else [])
@@ -64,8 +64,8 @@ def pressure_thresholds(rules: Optional[Rules], path: str, resource: str) -> lis
 
 
 def memory_thresholds(rules: Optional[Rules], path: str, host: Optional[int]) -> list[Threshold]:
-    """The thresholds of the detectors that check this group's memory, on a host with `host` bytes
-    of it.
+    """Returns the thresholds of the detectors that check this group's memory, on a host with `host`
+    bytes of it.
     """
     return [
         threshold
@@ -102,12 +102,12 @@ class Box(NamedTuple):
         )
 
     def is_crossed(self, points: list[Point]) -> bool:
-        """Whether a line through these points crosses it."""
+        """Returns whether a line through these points crosses it."""
         return any(self.meets(one, other) for one, other in zip(points, points[1:] or points))
 
     def meets(self, one: Point, other: Point) -> bool:
-        """Whether the segment between two points crosses it: it doesn't if the part between the
-        left and right side is entirely above or below.
+        """Returns whether the segment between two points crosses it: it doesn't if the part between
+        the left and right side is entirely above or below.
         """
         (x, y), (end, level) = sorted([one, other])
         if end < self.left or x > self.right:
@@ -138,9 +138,9 @@ class Label(NamedTuple):
 
 
 def labels_of(it: Threshold, y: float) -> Iterator[Label]:
-    """The possible labels of a threshold at this height, the best first: at the right end or the
-    left, in the middle or at a quarter, above the line or below it; and the whole text rather than
-    just the part before the ruleset's name.
+    """Yields the possible labels of a threshold at this height, the best first: at the right end or
+    the left, in the middle or at a quarter, above the line or below it; and the whole text rather
+    than just the part before the ruleset's name.
     """
     for text in dict.fromkeys((short(it.text, 100), short(it.text.partition(":")[0], 60))):
         for part, anchor in (
@@ -186,7 +186,7 @@ def draw_thresholds(
 
 
 def points_of(line: Element) -> list[Point]:
-    """The points of a drawn line."""
+    """Returns the points of a drawn line."""
     return [
         (float(x), float(y))
         for x, y in (it.split(",") for it in (line.get("points") or "").split())
