@@ -48,7 +48,7 @@ class Asked(NamedTuple):
     machine: dict[str, tuple[int, int]]
 
     def ends(self) -> tuple[int, int]:
-        """The earliest start and the latest end."""
+        """Returns the earliest start and the latest end."""
         return min(begin for begin, _ in self.spans.values()), max(
             end for _, end in self.spans.values()
         )
@@ -64,10 +64,10 @@ class Sampling(NamedTuple):
 
 
 def asked_of(readings: Sequence[dict[File, Totals]], clocks: Clocks, start: int) -> list[Asked]:
-    """The groups that have files at the last of these readings and are in the trace, which begins
-    at `start` (ns of the recording's clock). Growth is counted from the first reading; for a group
-    that wasn't accounted then, from the first that has its files; and for a group that was created
-    later, from 0 at its creation.
+    """Returns the groups that have files at the last of these readings and are in the trace, which
+    begins at `start` (ns of the recording's clock). Growth is counted from the first reading; for a
+    group that wasn't accounted then, from the first that has its files; and for a group that was
+    created later, from 0 at its creation.
     """
     began = max(it.moment for it in readings[0].values()) - start
     found = []
@@ -93,7 +93,7 @@ def asked_of(readings: Sequence[dict[File, Totals]], clocks: Clocks, start: int)
 
 
 def growths_of(asked: Asked, clocks: Clocks, sampling: Sampling, hertz: int) -> list[Growth]:
-    """The growth according to the clocks, if the group is sampled at these times."""
+    """Returns the growth according to the clocks, if the group is sampled at these times."""
     totals = Sums(clocks, asked.number, sampling.moments, hertz).at(sampling.moments)
     found = []
     for resource, (begin, end) in asked.spans.items():
@@ -104,7 +104,9 @@ def growths_of(asked: Asked, clocks: Clocks, sampling: Sampling, hertz: int) -> 
 
 
 def grown(before: Sequence[int], after: Sequence[int], resource: str, path: str) -> tuple[int, int]:
-    """The growth of some and full of a resource, us. The root's full line of cpu has zeros."""
+    """Returns the growth of some and full of a resource, us. The root's full line of cpu has
+    zeros.
+    """
     place = LEVELS * RESOURCES.index(resource)
     some, full = (
         (after[place + level] - before[place + level]) // MICROSECOND for level in range(LEVELS)
@@ -113,7 +115,7 @@ def grown(before: Sequence[int], after: Sequence[int], resource: str, path: str)
 
 
 def has_no_full(path: str, resource: str) -> bool:
-    """Whether the kernel shows zeros in this file's full line."""
+    """Returns whether the kernel shows zeros in this file's full line."""
     return path == "/" and resource == "cpu"
 
 
@@ -123,8 +125,8 @@ def has_no_full(path: str, resource: str) -> bool:
 def sampling_of(
     asked: Asked, clocks: Clocks, told: Moments, inside: Sequence[int], start: int, hertz: int
 ) -> Sampling:
-    """When the group was sampled: according to the recording, or fitted. `inside` has the numbers
-    of the readings that are compared.
+    """Returns when the group was sampled: according to the recording, or fitted. `inside` has the
+    numbers of the readings that are compared.
     """
     begin, end = asked.ends()
     own = {moment for span in asked.spans.values() for moment in span}
@@ -144,7 +146,7 @@ def sampling_of(
 
 
 def shifted(files: dict[File, Totals], path: str, start: int) -> dict[str, Totals]:
-    """A group's totals in a reading, by resource, at times of the trace."""
+    """Returns a group's totals in a reading, by resource, at times of the trace."""
     return {
         file.resource: it._replace(moment=it.moment - start)
         for file, it in files.items()
@@ -155,9 +157,9 @@ def shifted(files: dict[File, Totals], path: str, start: int) -> dict[str, Total
 def fitted_phase(
     asked: Asked, clocks: Clocks, files: Sequence[dict[str, Totals]], own: Sequence[int], hertz: int
 ) -> int:
-    """The phase for which the totals of a group come nearest to those of its files, by the squared
-    differences of growth from reading to reading. The readings are samplings too, at the times
-    `own`.
+    """Returns the phase for which the totals of a group come nearest to those of its files, by the
+    squared differences of growth from reading to reading. The readings are samplings too, at the
+    times `own`.
     """
     (begin, end), period = asked.ends(), period_of(hertz)
     grids = [range(begin + period * place // PHASES, end, period) for place in range(PHASES)]
@@ -167,7 +169,7 @@ def fitted_phase(
 
     @lru_cache(maxsize=None)
     def distance(place: int) -> int:
-        """The error of the totals for the grid with this phase."""
+        """Returns the error of the totals for the grid with this phase."""
         return distance_of(asked.path, files, sums.at(sorted({*own, *grids[place]})))
 
     best, step = min(range(0, PHASES, COARSE), key=distance), COARSE
@@ -178,8 +180,8 @@ def fitted_phase(
 
 
 def distance_of(path: str, files: Sequence[dict[str, Totals]], totals: dict[int, Grown]) -> int:
-    """The sum of the squared differences (us^2) between the growth of the totals and of the files,
-    from reading to reading.
+    """Returns the sum of the squared differences (us^2) between the growth of the totals and of the
+    files, from reading to reading.
     """
     whole = 0
     for before, after in zip(files, files[1:]):

@@ -95,7 +95,7 @@ class Clocks(World[Task]):
         self.clocks.append({})
 
     def number_at(self, path: str, moment: int) -> int | None:
-        """The number of the group that has this path at a time (ns), if any."""
+        """Returns the number of the group that has this path at a time (ns), if any."""
         for group in reversed([it for it in self.all if it.path == path]):
             if group.made <= moment:
                 is_live = group.removed is None or moment <= group.removed
@@ -103,7 +103,7 @@ class Clocks(World[Task]):
         return None
 
     def clock(self, group: int, processor: int) -> Clock:
-        """The group's clock on this processor."""
+        """Returns the group's clock on this processor."""
         clocks = self.clocks[group]
         if processor not in clocks:
             clocks[processor] = Clock(self.all[group].made)
@@ -148,7 +148,7 @@ class Clocks(World[Task]):
 
 
 def times_of(clock: Clock, moments: Sequence[int]) -> list[tuple[int, ...]]:
-    """The ns in each state between these times."""
+    """Returns the ns in each state between these times."""
     changes, masks = clock.moments, clock.masks
     place = bisect_right(changes, moments[0])
     mask, found = masks[place - 1] if place else 0, []

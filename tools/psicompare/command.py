@@ -72,7 +72,7 @@ class Options(NamedTuple):
 
 
 def parser() -> Parser:
-    """The parser of the command line."""
+    """Returns the parser of the command line."""
     words = Parser(__doc__)
     words.add_argument("folder", metavar="FOLDER", help="the recording")
     words.add_argument("trace", metavar="TRACE", help="the trace that was made from it")
@@ -120,13 +120,13 @@ def options_of() -> Options:
 
 
 def start_of(options: Options, source: Source) -> int:
-    """The start of the trace, in ns of the recording's clock."""
+    """Returns the start of the trace, in ns of the recording's clock."""
     must_be_in("--from", options.start, source.stop - source.start, "recording")
     return source.start + options.start - options.lead_in
 
 
 def span_line(first: int, last: int, length: int) -> str:
-    """The readings that are compared, and the time between them (ns)."""
+    """Returns the readings that are compared, and the time between them (ns)."""
     return f"from reading {first} to {last} of the machine's files, {length / SECOND:.3f} s, in us"
 
 
@@ -134,8 +134,8 @@ def span_line(first: int, last: int, length: int) -> str:
 
 
 def end_of(trace: str) -> int:
-    """The length of a trace in ns, from its last line. A trace made from samples is rejected: it
-    can't be compared with the events of a recording.
+    """Returns the length of a trace in ns, from its last line. A trace made from samples is
+    rejected: it can't be compared with the events of a recording.
     """
     found = sampled(trace)
     if found:
@@ -160,7 +160,7 @@ def end_of(trace: str) -> int:
 
 
 def replayed(trace: str, tick_ms: int) -> str:
-    """The output of psi_oomd for the trace, with a report each second."""
+    """Returns the output of psi_oomd for the trace, with a report each second."""
     program = named_program()
     words = [program, "replay", trace, "--tick-ms", str(tick_ms), "--report-s", "1"]
     try:
@@ -193,8 +193,8 @@ def by_replay(options: Options, tick_ms: int) -> tuple[list[Row], Shown]:
 
 
 def clocks_of(trace: str, edited: Callable[[Iterable[str]], Iterable[str]] = iter) -> Clocks:
-    """The clocks of a trace whose lines were edited. psi_oomd checks that the trace is valid; lines
-    that can't be followed are errors here too.
+    """Returns the clocks of a trace whose lines were edited. psi_oomd checks that the trace is
+    valid; lines that can't be followed are errors here too.
     """
     number = 1
 
@@ -222,8 +222,8 @@ def clocks_of(trace: str, edited: Callable[[Iterable[str]], Iterable[str]] = ite
 
 
 def extremes_of(options: Options, source: Source) -> list[Clocks]:
-    """The clocks of the trace with each wakeup as late as it may have been counted, and as early;
-    none if that is unknown.
+    """Returns the clocks of the trace with each wakeup as late as it may have been counted, and as
+    early; none if that is unknown.
     """
     if not source.has_ready_probe and options.lag is None:
         return []
@@ -242,8 +242,8 @@ def extremes_of(options: Options, source: Source) -> list[Clocks]:
 
 
 def row_of(growth: Growth, phase: int | None, extremes: Sequence[Growth] = ()) -> Row:
-    """A file's row; `phase` (ns) is None if the sampling times are known, and `extremes` are the
-    bounds of the trace's growth.
+    """Returns a file's row; `phase` (ns) is None if the sampling times are known, and `extremes`
+    are the bounds of the trace's growth.
     """
     right = growth.true if growth.true != growth.told else None
     note = "" if phase is None else f"{phase // 10**6} ms"
@@ -253,7 +253,7 @@ def row_of(growth: Growth, phase: int | None, extremes: Sequence[Growth] = ()) -
 
 
 def is_shown(machine: dict[str, tuple[int, int]], options: Options) -> bool:
-    """Whether a group's files grew enough for a fit to be worthwhile."""
+    """Returns whether a group's files grew enough for a fit to be worthwhile."""
     return max(max(it) for it in machine.values()) >= min(options.shown, options.limits.least)
 
 
@@ -326,7 +326,7 @@ def sampling_lines(told: Moments, fitted: bool, hertz: int, options: Options) ->
 
 
 def cause_lines(rows: Sequence[Row], limits: Limits) -> list[str]:
-    """The known causes of totals that exceed their limits."""
+    """Returns the known causes of totals that exceed their limits."""
     cells = [(row, cell_of(row, level, limits)) for row in rows for level in range(len(LEVELS))]
     beyond = [(row, cell) for row, cell in cells if cell.is_beyond]
     short = [

@@ -27,8 +27,8 @@ LEAST_PERIOD, MOST_PERIOD = 1_950_000_000, 2_050_000_000
 
 
 def period_of(hertz: int) -> int:
-    """The ns after which the kernel samples a group on its own (`PSI_FREQ`), if its timer has this
-    rate.
+    """Returns the ns after which the kernel samples a group on its own (`PSI_FREQ`), if its timer
+    has this rate.
     """
     return (2 * hertz + 1) * SECOND // hertz
 
@@ -95,14 +95,15 @@ class Moments:
             }
 
     def knows(self, path: str, number: int) -> bool:
-        """Whether the sampling times are known for the group that has this path at the reading of
-        this number.
+        """Returns whether the sampling times are known for the group that has this path at the
+        reading of this number.
         """
         return self.addresses.get(number, {}).get(path, 0) in self.sampled
 
     def between(self, path: str, number: int, begin: int, end: int) -> list[int]:
-        """The times from `begin` to `end` at which the group was sampled that has this path at the
-        reading of this number; the ends of the stretch are included; ns of the recording's clock.
+        """Returns the times from `begin` to `end` at which the group was sampled that has this path
+        at the reading of this number; the ends of the stretch are included; ns of the recording's
+        clock.
         """
         moments = self.sampled.get(self.addresses.get(number, {}).get(path, 0), [])
         return sorted(
@@ -111,7 +112,9 @@ class Moments:
 
 
 def offset_of(groups: dict[int, list[int]], works: dict[int, list[int]]) -> int:
-    """The offset of the work in a group's accounts: the commonest difference among all pairs."""
+    """Returns the offset of the work in a group's accounts: the commonest difference among all
+    pairs.
+    """
     found = Counter(
         work - group for work in works for group in groups if 0 <= work - group < MOST_ACCOUNTS
     )
@@ -119,8 +122,8 @@ def offset_of(groups: dict[int, list[int]], works: dict[int, list[int]]) -> int:
 
 
 def rate_of(works: dict[int, list[int]]) -> int | None:
-    """The rate of the kernel's timer, from the length of the periods in each group's longest run of
-    them; None if there is no run.
+    """Returns the rate of the kernel's timer, from the length of the periods in each group's
+    longest run of them; None if there is no run.
     """
     runs = [run for run in map(longest_run, works.values()) if run[0]]
     if not runs:
@@ -131,7 +134,7 @@ def rate_of(works: dict[int, list[int]]) -> int | None:
 
 
 def longest_run(moments: Sequence[int]) -> tuple[int, float]:
-    """The largest number of consecutive periods, and their mean length, ns."""
+    """Returns the largest number of consecutive periods, and their mean length, ns."""
     best, length, run = 0, 0.0, 0
     for place, moment in enumerate(moments):
         is_next = place > 0 and LEAST_PERIOD <= moment - moments[place - 1] <= MOST_PERIOD

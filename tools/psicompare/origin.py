@@ -30,7 +30,7 @@ def must_be_in_order(folder: str, trace: str) -> None:
 
 
 def processors_of(trace: str) -> int:
-    """The number of a trace's processors; 0 if it has no header."""
+    """Returns the number of a trace's processors; 0 if it has no header."""
     try:
         with open(trace, "rb") as file:
             return cpus_in(file) or 0
@@ -64,7 +64,7 @@ def must_be_of(source: Source, trace: str, start: int, length: int, lead_in: int
 
 
 def groups_in(source: Source) -> set[str]:
-    """All groups that a recording names, and their ancestors."""
+    """Returns all groups that a recording names, and their ancestors."""
     made = {
         escaped_path(event.path)
         for event in source.events
@@ -99,5 +99,5 @@ def must_have_switches_of(source: Source, trace: str, start: int, lead_in: int) 
 
 
 def other(trace: str, why: str) -> str:
-    """The message that rejects a trace."""
+    """Returns the message that rejects a trace."""
     return f"{trace}: this trace isn't of this recording: {why}"

@@ -32,7 +32,7 @@ class Step(NamedTuple):
 
 
 def shares(processors: Sequence[Times], hertz: int) -> list[int]:
-    """The growth of each state but `nonidle` in an interval, ns; `hertz` is the rate of the
+    """Returns the growth of each state but `nonidle` in an interval, ns; `hertz` is the rate of the
     kernel's timer.
     """
     weights = [times[NONIDLE] * hertz // SECOND for times in processors]
@@ -44,7 +44,7 @@ def shares(processors: Sequence[Times], hertz: int) -> list[int]:
 
 
 def step_of(processors: Sequence[Times], hertz: int) -> Step:
-    """The growth in an interval."""
+    """Returns the growth in an interval."""
     true = shares(processors, hertz)
     if all(times[NONIDLE] < WIDTH for times in processors):
         return Step(true, true)
@@ -75,7 +75,7 @@ class Sums:
         self.steps: dict[tuple[int, int], Step] = {}
 
     def step(self, first: int, last: int) -> Step:
-        """The growth between the times with these indexes, which is computed once."""
+        """Returns the growth between the times with these indexes, which is computed once."""
         if (first, last) not in self.steps:
             grown = [
                 [after - before for before, after in zip(times[first], times[last])]
@@ -85,7 +85,7 @@ class Sums:
         return self.steps[first, last]
 
     def at(self, chosen: Sequence[int]) -> dict[int, Totals]:
-        """The totals at each chosen time, in order, counted from the first."""
+        """Returns the totals at each chosen time, in order, counted from the first."""
         told = true = [0] * NONIDLE
         found = {chosen[0]: Totals(told, true)}
         for before, after in zip(chosen, chosen[1:]):
@@ -98,5 +98,5 @@ class Sums:
 
 
 def added(times: Times, more: Times) -> tuple[int, ...]:
-    """The sums, element by element."""
+    """Returns the sums, element by element."""
     return tuple(map(add, times, more))

@@ -21,7 +21,7 @@ class Limits(NamedTuple):
     least: int
 
     def most(self, file: File) -> float:
-        """The allowed error of this file's totals, in percent."""
+        """Returns the allowed error of this file's totals, in percent."""
         return self.root if file.path == "/" else self.groups
 
 
@@ -57,12 +57,12 @@ class Cell(NamedTuple):
 
 
 def bar_of(row: Row, level: int) -> Span:
-    """The range of the trace's some (0) or full (1)."""
+    """Returns the range of the trace's some (0) or full (1)."""
     return row.bars[level] if row.bars else Span(row.trace[level], row.trace[level])
 
 
 def cell_of(row: Row, level: int, limits: Limits) -> Cell:
-    """The result for a row's some (0) or full (1)."""
+    """Returns the result for a row's some (0) or full (1)."""
     machine, bar, most = row.machine[level], bar_of(row, level), limits.most(row.file)
     is_asked = max(machine, bar.high) >= limits.least
     if not machine:
@@ -72,7 +72,9 @@ def cell_of(row: Row, level: int, limits: Limits) -> Cell:
 
 
 def words_of(row: Row, level: int, cell: Cell) -> list[str]:
-    """The three cells of a table's row: the machine's growth, the trace's, and the error."""
+    """Returns the three cells of a table's row: the machine's growth, the trace's, and the
+    error.
+    """
     words = "-"
     if cell.off:
         low, high = (f"{it:+.1f}" for it in cell.off)
@@ -86,7 +88,7 @@ def words_of(row: Row, level: int, cell: Cell) -> list[str]:
 
 
 def table_of(rows: Sequence[Sequence[str]]) -> str:
-    """A table in Markdown with aligned columns; the first two are aligned left."""
+    """Returns a table in Markdown with aligned columns; the first two are aligned left."""
     widths = [max(len(row[place]) for row in rows) for place in range(len(rows[0]))]
     columns = list(enumerate(widths))
     lines = [
@@ -107,7 +109,7 @@ def table_of(rows: Sequence[Sequence[str]]) -> str:
 
 
 def wrap_lines(rows: Sequence[Row]) -> list[str]:
-    """What the machine's files should have contained if its sums have lost something."""
+    """Returns what the machine's files should have contained if its sums have lost something."""
     lines = [
         f"  {row.file.path} {row.file.resource}: some {row.right[0]}, full {row.right[1]}"
         for row in rows
@@ -121,7 +123,7 @@ def wrap_lines(rows: Sequence[Row]) -> list[str]:
 
 
 def verdict_of(cells: Sequence[Cell], limits: Limits, has_bars: bool) -> str:
-    """The number of totals that are within their limits."""
+    """Returns the number of totals that are within their limits."""
     asked, beyond = sum(it.is_asked for it in cells), sum(it.is_beyond for it in cells)
     least, said = (
         f"{limits.least / MICROSECONDS:g} s",
@@ -149,7 +151,7 @@ class Shown(NamedTuple):
 
 
 def report(rows: Sequence[Row], limits: Limits, shown: Shown) -> tuple[str, int]:
-    """The table with its remarks, and the number of totals that exceed their limits."""
+    """Returns the table with its remarks, and the number of totals that exceed their limits."""
     notes = [shown.notes] if shown.notes else []
     table = [
         [
