@@ -43,7 +43,7 @@ HELP = {
 
 
 def parser() -> Parser:
-    """The parser of the command line."""
+    """Returns the parser of the command line."""
     words = Parser(ABOUT, AFTER)
     option = words.add_argument
     option("trace", metavar="TRACE", help="a trace")

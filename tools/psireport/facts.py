@@ -56,7 +56,7 @@ class Given(NamedTuple):
         return words + ([f"--drop-in={self.drop_in}"] if self.drop_in is not None else [])
 
     def names_words(self) -> list[str]:
-        """The options about names, for blame."""
+        """Returns the options about names, for blame."""
         words = (
             [f"--containers={self.values['containers']}"]
             if self.values["containers"] is not None
@@ -126,7 +126,7 @@ class Facts(NamedTuple):
 
 
 def sum_of(path: str) -> str:
-    """The SHA-256 of a file."""
+    """Returns the SHA-256 of a file."""
     found = hashlib.sha256()
     with open(path, "rb") as file:
         while piece := file.read(1 << 20):
@@ -135,7 +135,7 @@ def sum_of(path: str) -> str:
 
 
 def sums(facts_of: Given) -> Iterator[tuple[str, str]]:
-    """The files that were read, with their sums."""
+    """Yields the files that were read, with their sums."""
     for name in (facts_of.trace, facts_of.rules, facts_of.drop_in):
         if name is not None:
             yield name, sum_of(name)
@@ -146,7 +146,9 @@ def sums(facts_of: Given) -> Iterator[tuple[str, str]]:
 
 
 def began(summary: str) -> Optional[WallTime]:
-    """When the trace began, as psitrace's summary says it."""
+    """Returns the time of day at which the trace began, from psitrace's summary; None if it isn't
+    known.
+    """
     found = BEGAN.search(summary)
     if not found:
         return None
@@ -170,7 +172,7 @@ def recorded(runs: Runs, given: Given) -> Optional[Recorded]:
 
 
 def judge(runs: Runs, given: Given, run: Done) -> Optional[Judged]:
-    """What the rules did, if rules are given."""
+    """Returns how the rules evaluated; None if no rules are given."""
     if given.rules is None:
         return None
     return judged_of(
@@ -179,7 +181,7 @@ def judge(runs: Runs, given: Given, run: Done) -> Optional[Judged]:
 
 
 def suppose(runs: Runs, given: Given, replay: Replay, subject: Subject) -> Optional[Supposed]:
-    """What would have been, where somebody would have been killed."""
+    """Returns the results of a replay without the killed groups; None if nothing is killed."""
     if not replay.kills:
         return None
     run = runs.program(
@@ -199,8 +201,8 @@ def suppose(runs: Runs, given: Given, replay: Replay, subject: Subject) -> Optio
 def drawn_of(
     peaks: Peaks, subject: Subject, greatest: Optional[Subject], given: Given
 ) -> list[tuple[str, str]]:
-    """Which groups and resources are drawn, the subject's first: of each resource the subject's
-    group, and those that stalled most, or those that the words name.
+    """Returns which groups and resources are drawn, the subject's first: of each resource the
+    subject's group, and those that stalled most, or those that the words name.
     """
     resources = [it for it in RESOURCES if it in peaks.resources]
     resources.sort(key=lambda it: it != subject.resource)
@@ -217,7 +219,7 @@ def drawn_of(
 
 
 def stretch_in(replay: Replay, subject: Subject) -> Stretch:
-    """The worst stretch of a group that is drawn."""
+    """Returns the stretch of time with the highest pressure of the subject."""
     return (
         stretch_of(replay.series[subject], subject.level)
         if subject in replay.series
@@ -231,7 +233,9 @@ def blamed(runs: Runs, given: Given, *words: str) -> tuple[Done, dict[str, Any]]
 
 
 def blamed_of(runs: Runs, given: Given, subject: Subject, stretch: Stretch) -> Blamed:
-    """What blame says."""
+    """Returns the output of tools/blame for all groups in the whole trace, and for the subject in
+    its stretch.
+    """
     whole = blamed(runs, given)
     words = [f"--group={subject.path}"]
     if stretch.end > stretch.start:
@@ -240,7 +244,7 @@ def blamed_of(runs: Runs, given: Given, subject: Subject, stretch: Stretch) -> B
 
 
 def samples_of(given: Given, groups: list[str], end: int) -> Optional[Samples]:
-    """The samples of memory of drawn groups, where the trace has some."""
+    """Returns the samples of memory of drawn groups, where the trace has some."""
     samples = Samples(given.trace, groups, end)
     return (
         samples if any(life.samples for lives in samples.lives.values() for life in lives) else None
@@ -266,12 +270,12 @@ def must_be_files(given: Given) -> None:
 
 
 def zoned(wall: Optional[WallTime], given: Given) -> Optional[WallTime]:
-    """The same time in the zone that was asked for."""
+    """Returns the time in the requested zone."""
     return in_zone(wall, given.values["tz"]) if wall else None
 
 
 def with_paths(words: list[str], peaks: Peaks, names: GroupNames) -> list[str]:
-    """The paths of the groups that the words name."""
+    """Returns the paths of the groups that the words name."""
     paths = sorted({path for path, _, _ in peaks.found})
     return list(dict.fromkeys(names.find(word, paths, "in the replay") for word in words))
 

@@ -14,7 +14,7 @@ Words = Union[str, Element]
 
 
 def say(parent: Element, tag: str, *words: Words, **attributes: str) -> Element:
-    """A new element with text and elements in it, in this order."""
+    """Returns a new element with text and elements in it, in this order."""
     element = add(parent, tag, None, **attributes)
     for word in words:
         if isinstance(word, ElementTree.Element):
@@ -27,7 +27,7 @@ def say(parent: Element, tag: str, *words: Words, **attributes: str) -> Element:
 
 
 def word(tag: str, text: str, **attributes: str) -> Element:
-    """An element of a line."""
+    """Returns an element that contains `text`."""
     element = ElementTree.Element(
         tag, {name.rstrip("_").replace("_", "-"): value for name, value in attributes.items()}
     )
@@ -42,8 +42,8 @@ def table(
     rows: Iterable[Iterable[str]],
     named: int = 1,
 ) -> Element:
-    """A table whose first cells are texts, and the others numbers; in a box of its own, which can
-    be moved where it is too wide.
+    """Returns a table whose first cells are texts, and the others numbers; in a box of its own,
+    which can be moved where it is too wide.
     """
     box = add(parent, "div", class_="wide", tabindex="0", role="region", aria_label=caption)
     found = add(box, "table")
@@ -62,7 +62,7 @@ def table(
 
 
 def folded(parent: Element, summary: str) -> Element:
-    """What is shown when it is asked for."""
+    """Adds a collapsed block with this summary, and returns it."""
     found = add(parent, "details")
     say(found, "summary", summary)
     return found
@@ -96,5 +96,5 @@ def escape_controls(page: Element) -> None:
 
 
 def data_of(value: Any) -> str:
-    """A value for the script, in which nothing ends the element that has it."""
+    """Returns a value for the script, in which nothing ends the element that has it."""
     return json.dumps(value, separators=(",", ":")).replace("<", "\\u003c")

@@ -87,7 +87,9 @@ def truth_text(judged: Judged, place: Place) -> str:
 
 
 def supposed_kills(section: Element, facts: Facts) -> Picture:
-    """What whatif says of what came after the kills."""
+    """Adds the part of the page on the time after the kills, from the output of `whatif`. Returns
+    its picture.
+    """
     supposed = facts.supposed
     assert supposed
     say(section, "h3", "Had the kills happened ", source(supposed.run))

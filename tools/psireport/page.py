@@ -20,13 +20,13 @@ FOLDER = os.path.dirname(os.path.abspath(__file__))
 
 
 def file_of(name: str) -> str:
-    """A file beside this one."""
+    """Returns the contents of a file of this package."""
     with open(os.path.join(FOLDER, name), encoding="utf-8") as file:
         return file.read()
 
 
 def when(facts: Facts) -> str:
-    """How long the trace is, and when it was."""
+    """Returns the sentence with the trace's name, its length, and its time of day if known."""
     length = f"{os.path.basename(facts.given.trace)}, {rounded(facts.replay.end.moment)}"
     if not facts.wall:
         return length
@@ -76,7 +76,9 @@ def made(page: Element, facts: Facts, runs: Runs) -> None:
 
 
 def report_line(facts: Facts) -> str:
-    """How the highest share of the first sentence is found in the output of its command."""
+    """Returns a grep command that finds, in the output of its command, the report with the highest
+    share, which the first sentence quotes.
+    """
     head = f"report {facts.stretch.at} {facts.subject.path} {facts.subject.resource}"
     return f"grep -A2 '^{head}$'"
 

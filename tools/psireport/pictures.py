@@ -62,14 +62,14 @@ class Figure(Chart):
         self.bottom = self.top + self.height + EVENTS
 
     def most(self) -> int:
-        """The value at the upper edge of its panel."""
+        """Returns the value at the upper edge of its panel."""
         panel = self.panels[0]
         most = panel.most()
         step = panel.apart(most)
         return -(-most // step) * step
 
     def drawn(self) -> Element:
-        """Its picture, which a reader of the screen knows by its name."""
+        """Returns the finished picture, with a name for screen readers."""
         height = self.bottom + BOTTOM
         self.svg = ElementTree.Element(
             "svg",
@@ -96,11 +96,11 @@ class Figure(Chart):
         return f"scale to {decimal(self.most() / 100)} %"
 
     def has_events(self) -> bool:
-        """Whether any picture has some: the legend is that of all."""
+        """Returns whether any picture has some: the legend is that of all."""
         return any(self.replay.events.values())
 
     def legend(self) -> Element:
-        """What the lines of all pictures mean."""
+        """Returns the legend of all pictures."""
         self.svg = ElementTree.Element(
             "svg", {"viewBox": f"0 38 {WIDTH} {46 if self.wanted.recorded else 26}", "role": "img"}
         )
@@ -112,8 +112,8 @@ class Figure(Chart):
 
 
 def pressure_data(replay: Replay, path: str, resource: str) -> dict[str, Any]:
-    """The values of a group's reports: moments in ms, shares in hundredths of a percent, and
-    nothing where it wasn't there.
+    """Returns the values of a group's reports for the script: times in ms, and shares in hundredths
+    of a percent. Values are null while the group doesn't exist.
     """
     series = replay.series[path, resource]
     shares = {
@@ -140,7 +140,7 @@ def pressure_data(replay: Replay, path: str, resource: str) -> dict[str, Any]:
 
 
 def memory_data(panel: MemoryPanel) -> dict[str, Any]:
-    """The samples of a group: moments in ms, and bytes."""
+    """Returns the samples of a group: moments in ms, and bytes."""
     rows: list[tuple[Optional[int], Optional[int], Optional[int]]] = []
     for life in panel.lives:
         rows += [(None, None, None)] if rows else []
@@ -154,7 +154,7 @@ def memory_data(panel: MemoryPanel) -> dict[str, Any]:
 
 
 def picture(wanted: Wanted, has_labels: bool) -> Picture:
-    """The picture of a group's pressure, or of its memory if that is wanted."""
+    """Returns the picture of a group's pressure, or of its memory, as `wanted` requests."""
     figure = Figure(wanted, has_labels)
     panel, path = figure.panels[0], wanted.replay.groups[0]
     if isinstance(panel, PressurePanel):
@@ -172,7 +172,7 @@ def picture(wanted: Wanted, has_labels: bool) -> Picture:
 
 
 def of_group(replay: Replay, path: str) -> Replay:
-    """The same replay, with one group drawn."""
+    """Returns a replay with the same data, in which only the group `path` is drawn."""
     found = Replay([path])
     found.series, found.events, found.kills, found.rounds, found.end = (
         replay.series, replay.events, replay.kills, replay.rounds, replay.end,
@@ -219,8 +219,8 @@ class Album:
 def strip(
     what: str, axis: TimeAxis, evaluations: list[int], kinds: dict[str, list[int]], marks: list[int]
 ) -> Element:
-    """When something was true: a rectangle of each kind's look from its first evaluation to the one
-    after its last, and upright lines.
+    """Returns when something was true: a rectangle of each kind's look from its first evaluation to
+    the one after its last, and upright lines.
     """
     said = "; ".join(
         told_spans(spans(moments, evaluations)) for moments in list(kinds.values())[-1:]

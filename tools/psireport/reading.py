@@ -42,8 +42,8 @@ class Peaks:
         return self.found.get((path, resource, level), Peak(0, 0))
 
     def worst(self, resource: str) -> list[str]:
-        """The groups that stalled most for a resource, the worst first; some that stalled next to
-        nothing only if all did.
+        """Returns the groups that stalled most for a resource, the worst first; some that stalled
+        next to nothing only if all did.
         """
         level = "full" if resource == "irq" else "some"
         peaks = {
@@ -81,8 +81,8 @@ def kept_rows(series: Series, start: int, end: int) -> list[int]:
 
 
 def thinned(series: Series, start: int, end: int) -> Series:
-    """The series of those rows. Its rounds go on by one from row to row, and by more where the
-    group wasn't there between.
+    """Returns the series of those rows. Its rounds go on by one from row to row, and by more where
+    the group wasn't there between.
     """
     found, last, number = Series(), -1, 0
     for place in kept_rows(series, start, end):

@@ -43,7 +43,7 @@ PRESSURES = {"io": "IO pressure", "memory": "memory pressure", "cpu": "CPU press
 
 
 def source(run: Done) -> Element:
-    """Which command says so."""
+    """Returns the reference to the command that a statement comes from."""
     number_ = run.number
     return word("a", f"[{number_}]", href=f"#command-{number_}", class_="from", aria_label=f"by command {number_}")
 
@@ -62,13 +62,16 @@ def killer(facts: Facts, kill: Kill) -> str:
 
 
 def sampling(mark: Sampled) -> str:
-    """How the first sentence begins if the trace was made of samples: what such a trace can't say.
+    """Returns the beginning of the first sentence for a trace that was made from samples, which
+    says what such a trace can't show.
     """
     return f"By {mark.interval()}, so that short stalls may be missed and nobody knows who ran when: "
 
 
 def lead(facts: Facts) -> list[Words]:
-    """What the machine went through, and what the rules would have done."""
+    """Returns the first sentences of the page: what happened on the machine, and what the rules
+    would have done.
+    """
     end = facts.replay.end.moment
     found: list[Words] = [sampling(facts.sampled)] if facts.sampled else []
     if facts.greatest:
@@ -93,7 +96,7 @@ def lead(facts: Facts) -> list[Words]:
 
 
 def outcome(path: str, later: After) -> str:
-    """What the kill would have changed for a group."""
+    """Returns the words on the effect of the first kill on a group's pressure."""
     was, most, at = percent(later.was), percent(later.most), f"at {seconds(later.moment)} s"
     if was != most:
         return f"without it {path} would have had at most {most} percent in place of {was} {at}"
@@ -103,7 +106,9 @@ def outcome(path: str, later: After) -> str:
 
 
 def title(facts: Facts) -> str:
-    """What the page is about: the group that stalled most, and the one that the rules watch."""
+    """Returns what the page is about: the group that stalled most, and the one that the rules
+    watch.
+    """
     subjects = [facts.greatest[0], facts.subject] if facts.greatest else [facts.subject]
     kinds = [PRESSURES[it.resource] for it in subjects]
     if len(subjects) == 2 and kinds[0] == kinds[1]:
@@ -132,8 +137,8 @@ class Near(NamedTuple):
 
 
 def nearness(judged: Judged, number_: int) -> Near:
-    """How near a ruleset came. A group without detectors always holds, so of a ruleset that never
-    fired each has some.
+    """Returns how near a ruleset came. A group without detectors always holds, so of a ruleset that
+    never fired each has some.
     """
     best = Near(0, 0, 0)
     for place, (_, *detectors) in enumerate(judged.json[number_]["detectors"]):
@@ -147,7 +152,7 @@ def nearness(judged: Judged, number_: int) -> Near:
 
 
 def stretches_of(picture: Picture) -> list[list[str]]:
-    """The rows of the table of a picture: the highest values of equal stretches of time."""
+    """Returns the rows of the table of a picture: the highest values of equal stretches of time."""
     moments = [it for it in picture.data["t"] if it is not None]
     if not moments:
         return []
@@ -201,7 +206,9 @@ def controls(parent: Element, pictures: list[Picture], first: set[str]) -> None:
 
 
 def time_lines(page: Element, facts: Facts) -> list[Picture]:
-    """A picture for each group that stalled most, resource by resource, and of its memory."""
+    """Returns a picture for each group that stalled most, resource by resource, and of its
+    memory.
+    """
     axis = time_axis(0, facts.replay.end.moment, facts.wall)
     album = Album(facts.replay, axis, facts.judged.rules if facts.judged else None, facts.samples)
     pictures = [album.pressure(path, resource) for path, resource in facts.drawn if (path, resource) in facts.replay.series]
@@ -235,8 +242,8 @@ MEASURED = ("ran_ns", "waited_ns", "io_ns", "memory_ns", "memory_grown_bytes", "
 
 
 def without_same(rows: list[dict[str, Any]], keys: tuple[str, ...]) -> list[dict[str, Any]]:
-    """The rows without those of groups that have what a group right below them has: all that they
-    have is of that one.
+    """Returns the rows without those of groups that have what a group right below them has: all
+    that they have is of that one.
     """
     found = []
     for it in rows:
@@ -247,7 +254,7 @@ def without_same(rows: list[dict[str, Any]], keys: tuple[str, ...]) -> list[dict
 
 
 def longest_wait(group: dict[str, Any]) -> int:
-    """The longest of a group's times of waiting (ns)."""
+    """Returns the longest of a group's times of waiting (ns)."""
     return max(int(group[key]) for key in ("waited_ns", "io_ns", "memory_ns"))
 
 
@@ -277,7 +284,7 @@ def part_name(group: Optional[str], of: str) -> str:
 
 
 def with_processes(name: str, it: dict[str, Any]) -> str:
-    """A group's name, and the processes of it that ran, if they have names."""
+    """Returns a group's name, and the processes of it that ran, if they have names."""
     shares = [Share(part["name"], tuple(part["pids"]), part["ns"]) for part in it.get("processes", [])]
     return f"{name}: {shares_text(shares)}" if shares else name
 

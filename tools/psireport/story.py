@@ -53,7 +53,7 @@ class After(NamedTuple):
 
 
 def watched(rules: Rules, kill: Kill, peaks: Peaks) -> Optional[Subject]:
-    """What the ruleset that kills looks at: of the groups and resources of its detectors of
+    """Returns what the ruleset that kills looks at: of the groups and resources of its detectors of
     pressure the group that stalled most. Where that is the victim, or below it, nothing of it would
     be left: then it is the group above the victim.
     """
@@ -76,14 +76,16 @@ def watched(rules: Rules, kill: Kill, peaks: Peaks) -> Optional[Subject]:
 
 
 def subject_of(peaks: Peaks, rules: Optional[Rules], kills: list[Kill]) -> Subject:
-    """What the first kill's ruleset looks at, or else what stalled most."""
+    """Returns the group and resource that the page is about: those that the first kill's ruleset
+    checks, or those with the highest pressure if there is no kill.
+    """
     return (watched(rules, kills[0], peaks) if rules and kills else None) or worst_of(peaks)
 
 
 def worst_of(peaks: Peaks) -> Subject:
-    """The group all of whose work stood still most. If next to nothing of any group did, it is the
-    root, for what some of its work waited for, since its `full` of cpu says nothing; or else who
-    was held up by interrupts.
+    """Returns the group all of whose work stood still most. If next to nothing of any group did, it
+    is the root, for what some of its work waited for, since its `full` of cpu says nothing; or else
+    who was held up by interrupts.
     """
     best: Optional[tuple[int, Subject]] = None
     for found in (ranked(peaks, False), ranked(peaks, True), interrupted(peaks)):
@@ -95,8 +97,8 @@ def worst_of(peaks: Peaks) -> Subject:
 
 
 def ranked(peaks: Peaks, is_root: bool) -> Optional[tuple[int, Subject]]:
-    """The worst of the groups below the root, or the root: its highest share, in hundredths of a
-    percent, and what it is.
+    """Returns the worst of the groups below the root, or the root: its highest share, in hundredths
+    of a percent, and what it is.
     """
     levels = ("some", "full") if is_root else ("full", "some")
     order = [
@@ -120,8 +122,8 @@ def interrupted(peaks: Peaks) -> Optional[tuple[int, Subject]]:
 
 
 def greater_than(subject: Subject, peaks: Peaks) -> Optional[Subject]:
-    """What stalled most, if that is another stall than the subject's: of another resource, or of a
-    group neither above nor below.
+    """Returns what stalled most, if that is another stall than the subject's: of another resource,
+    or of a group neither above nor below.
     """
     worst = worst_of(peaks)
     paths = [f"{it.path.rstrip('/')}/" for it in (worst, subject)]
@@ -135,7 +137,9 @@ def greater_than(subject: Subject, peaks: Peaks) -> Optional[Subject]:
 
 
 def stretch_of(series: Series, level: str) -> Stretch:
-    """The worst stretch of a group's reports."""
+    """Returns the longest stretch of reports in which the average over 10 s is at least half of its
+    highest value.
+    """
     shares = series.shares[level, "avg10"]
     highest = max(shares, default=0)
     at = series.moments[list(shares).index(highest)] if shares else 0
@@ -149,7 +153,9 @@ def stretch_of(series: Series, level: str) -> Stretch:
 
 
 def value_at(series: Series, level: str, moment: int) -> tuple[int, int]:
-    """The first report from a moment on, or the last one: its moment, and its share over 10 s."""
+    """Returns the first report from a moment on, or the last one: its moment, and its share over 10
+    s.
+    """
     place = next(
         (place for place, it in enumerate(series.moments) if it >= moment), len(series.moments) - 1
     )
@@ -157,7 +163,9 @@ def value_at(series: Series, level: str, moment: int) -> tuple[int, int]:
 
 
 def after(subject: Subject, kill: Kill, recorded: Replay, supposed: Replay) -> Optional[After]:
-    """What became of the subject after a kill, where it was still there in both."""
+    """Returns the subject's pressure some time after a kill, as recorded and without the killed
+    group. None unless the subject has reports after the kill in both replays.
+    """
     one, other = (it.series.get(subject) for it in (recorded, supposed))
     if not one or not other or one.moments[-1] <= kill.moment or other.moments[-1] <= kill.moment:
         return None
@@ -178,7 +186,7 @@ def percent(hundredths: int) -> str:
 
 
 def caveat(end: int) -> str:
-    """What a short trace can't say of averages, to follow the first sentence."""
+    """Returns what a short trace can't say of averages, to follow the first sentence."""
     if end < SETTLED:
         return "; averages mean little before 30 s, those over 60 and 300 s before 3 min"
     return "; averages over 60 and 300 s mean little before 3 min" if end < ALL_SETTLED else ""
@@ -192,7 +200,9 @@ def early(moment: int) -> str:
 def machine_sentence(
     subject: Subject, stretch: Stretch, end: int, caveat_: str = "", aside: str = ""
 ) -> str:
-    """What the machine went through; times in ns. What is said aside follows the group's name."""
+    """Returns what the machine went through; times in ns. What is said aside follows the group's
+    name.
+    """
     if not stretch.highest:
         return f"No group stalled in the {seconds(end)} s of this trace{caveat_}."
     who = "The machine" if subject.path == "/" else subject.path
