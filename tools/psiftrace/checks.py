@@ -127,7 +127,7 @@ class Check:
     # ------------------------------------------------------------ what follows
 
     def findings(self) -> list[str]:
-        """The defects that make a trace of the text wrong; empty if it can be trusted."""
+        """Returns the defects that make a trace of the text wrong; empty if it can be trusted."""
         return [
             *self.form_findings(),
             *self.missing_findings(),
@@ -160,7 +160,7 @@ class Check:
         return found
 
     def missing_findings(self) -> list[str]:
-        """What is missing."""
+        """Returns what is missing."""
         found = []
         if self.lost:
             found.append(f"{sum(self.lost)} events were lost, at {len(self.lost)} places")
@@ -187,7 +187,7 @@ class Check:
         return found
 
     def order_findings(self) -> list[str]:
-        """What is at the wrong place or has a different number."""
+        """Returns what is at the wrong place or has a different number."""
         found = []
         if self.backs:
             number, back = self.backs[0]
@@ -222,7 +222,7 @@ class Check:
         return []
 
     def remarks(self) -> list[str]:
-        """What deserves attention but makes nothing wrong by itself."""
+        """Returns what deserves attention but makes nothing wrong by itself."""
         said = [f"--cpus {max(self.firsts) + 1}"] if self.firsts else []
         said += [f"{kind} {count}" for kind, count in sorted(self.kinds.items())]
         absent = [kind for kind in KINDS if not self.kinds[kind]]

@@ -46,7 +46,7 @@ class Line(NamedTuple):
 
 
 def head_of(line: bytes) -> Line | None:
-    """The line of an event, or None if it isn't one."""
+    """Returns the line of an event, or None if it isn't one."""
     for head in HEADS:
         found = head.match(line)
         if found:
@@ -74,12 +74,14 @@ class Form(NamedTuple):
 
 
 def form(pattern: bytes, make: Callable[[Line, tuple[bytes, ...]], Event]) -> Form:
-    """A form whose pattern must match all of the fields; a name in it may contain newlines."""
+    """Returns a form whose pattern must match all of the fields; a name in it may contain
+    newlines.
+    """
     return Form(re.compile(pattern, re.DOTALL), make)
 
 
 def numbers(kind: type) -> Callable[[Line, tuple[bytes, ...]], Event]:
-    """A function that creates an event of this kind from decimal fields."""
+    """Returns a function that creates an event of this kind from decimal fields."""
 
     def make(line: Line, fields: tuple[bytes, ...]) -> Event:
         event: Event = kind(line.moment, line.processor, line.current, *map(int, fields))
@@ -89,7 +91,7 @@ def numbers(kind: type) -> Callable[[Line, tuple[bytes, ...]], Event]:
 
 
 def switch(line: Line, fields: tuple[bytes, ...]) -> Event:
-    """A switch; if a state has several letters, the first counts, and `R+` is ready."""
+    """Returns a switch; if a state has several letters, the first counts, and `R+` is ready."""
     previous, state, following = fields
     return Switch(
         line.moment,
@@ -102,12 +104,12 @@ def switch(line: Line, fields: tuple[bytes, ...]) -> Event:
 
 
 def new_task(line: Line, fields: tuple[bytes, ...]) -> Event:
-    """A new task, whose flags are hexadecimal."""
+    """Returns a new task, whose flags are hexadecimal."""
     return NewTask(line.moment, line.processor, line.current, int(fields[0]), int(fields[1], 16))
 
 
 def attach(line: Line, fields: tuple[bytes, ...]) -> Event:
-    """A task moves to a group."""
+    """Returns the event of a task that moves to a group."""
     return Attach(
         line.moment, line.processor, line.current, int(fields[0]), fields[1], int(fields[2])
     )
@@ -123,12 +125,12 @@ def group(
 
 
 def stall_ends(line: Line, fields: tuple[bytes, ...]) -> Event:
-    """The end of a memory stall, whose flags are hexadecimal."""
+    """Returns the end of a memory stall, whose flags are hexadecimal."""
     return StallEnds(line.moment, line.processor, line.current, int(fields[0], 16))
 
 
 def marker(line: Line, fields: tuple[bytes, ...]) -> Event:
-    """A line of `trace_marker`."""
+    """Returns a line of `trace_marker`."""
     return Marker(line.moment, line.processor, line.current, fields[0])
 
 
@@ -183,7 +185,7 @@ PROBES = {
 
 
 def forms_of(line: Line) -> tuple[Form, ...]:
-    """The possible forms of this line's fields; empty if the event isn't needed."""
+    """Returns the possible forms of this line's fields; empty if the event isn't needed."""
     forms = FORMS.get(line.kind, ())
     if not forms and line.fields.startswith((b"(psi_", b"(cgroup_")):
         forms = tuple(
@@ -193,7 +195,7 @@ def forms_of(line: Line) -> tuple[Form, ...]:
 
 
 def event_of(line: Line, forms: tuple[Form, ...]) -> Event | None:
-    """The event of the line, or None if its fields aren't complete."""
+    """Returns the event of the line, or None if its fields aren't complete."""
     for one in forms:
         found = one.pattern.fullmatch(line.fields)
         if found:

@@ -34,7 +34,7 @@ MOST_BACK = 10**6
 
 
 def bytes_of(name: str) -> bytes:
-    """The contents of a file, possibly gzipped, or of the standard input, which is `-`."""
+    """Returns the contents of a file, possibly gzipped, or of the standard input, which is `-`."""
     try:
         if name == "-":
             data = sys.stdin.buffer.read()
@@ -49,7 +49,7 @@ def bytes_of(name: str) -> bytes:
 
 
 def unpacked(name: str, data: bytes) -> bytes:
-    """The decompressed bytes."""
+    """Returns the decompressed bytes."""
     with gzip.GzipFile(fileobj=io.BytesIO(data)) as file:
         pieces, size = [], 0
         while piece := file.read(PIECE):
@@ -87,7 +87,7 @@ class Text:
         ]
 
     def line_at(self, place: int) -> bytes:
-        """A line without its ending."""
+        """Returns a line without its ending."""
         line = self.lines[place]
         if line.endswith(b"\r"):
             self.mended["carriage return at a line's end"] += 1
@@ -145,8 +145,8 @@ class Text:
 
 
 def parts_of(events: list[Event]) -> list[list[Event]]:
-    """The events of each recording in the text: a new one begins when the time of a processor goes
-    back.
+    """Returns the events of each recording in the text: a new one begins when the time of a
+    processor goes back.
     """
     parts: list[list[Event]] = [[]]
     lasts: dict[int, int] = {}
@@ -160,8 +160,8 @@ def parts_of(events: list[Event]) -> list[list[Event]]:
 
 
 def ordered(text: Text, source: Source) -> list[Event]:
-    """The events in order of time. If there are several recordings, the longest is taken, and the
-    rest is a loss.
+    """Returns the events in order of time. If there are several recordings, the longest is taken,
+    and the rest is a loss.
     """
     parts = parts_of(text.events)
     longest = max(
@@ -216,7 +216,7 @@ def tell_missing(source: Source) -> None:
 
 
 def processors_of(text: Text, given: int | None, greatest: int) -> int:
-    """The number of processors: the given one, or what follows from the text."""
+    """Returns the number of processors: the given one, or what follows from the text."""
     if given is not None and greatest >= given:
         raise Fault(
             f"--cpus {given}: there are events of processor {greatest}, and they count from 0"
