@@ -45,14 +45,14 @@ DONE = (RecordStatus.RECORDED, RecordStatus.NOT_WHOLE, RecordStatus.LEFT_BEHIND)
 
 
 def host_name(word: str) -> str:
-    """A host's name for ssh, which isn't an option of it."""
+    """Returns a host's name for ssh, which isn't an option of it."""
     if word.startswith("-") or not word.strip():
         raise Malformed(f"'{word}' isn't a host's name")
     return word
 
 
 def page_name(word: str) -> str:
-    """A page's file, whose name without .html is that of the other files."""
+    """Returns a page's file, whose name without .html is that of the other files."""
     if not word.endswith(".html") or os.path.basename(word) == ".html":
         raise Malformed(f"{word} isn't a name such as incident.html")
     return word
@@ -99,7 +99,7 @@ def add_shared(words: Parser) -> None:
 
 
 def parser() -> Parser:
-    """The parser of the way that records."""
+    """Returns the parser of the way that records."""
     words = Parser(ABOUT, AFTER)
     words.add_argument(
         "host",
@@ -126,7 +126,7 @@ def parser() -> Parser:
 
 
 def open_parser() -> Parser:
-    """The parser of `incident open`."""
+    """Returns the parser of `incident open`."""
     words = Parser("Writes the page of an existing recording.", prog=f"{Parser('').prog} {OPEN}")
     words.add_argument("source", metavar="FOLDER|ARCHIVE|HOST:FOLDER", help="a recording")
     add_shared(words)
@@ -134,7 +134,7 @@ def open_parser() -> Parser:
 
 
 def report_words(options: argparse.Namespace) -> list[str]:
-    """The words for tools/report."""
+    """Returns the words for tools/report."""
     named = (("--rules", options.rules), ("--oomd", options.oomd))
     return [f"{name}={value}" for name, value in named if value is not None]
 

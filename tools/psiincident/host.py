@@ -46,7 +46,7 @@ class Host:
             complain(f"{self.folder} may be left on {self.name}; this removes it: {line}")
 
     def line(self, command: str, options: str = "") -> str:
-        """The line that runs a command there."""
+        """Returns the line that runs a command there."""
         return f"{self.ssh} {options}{shlex.quote(self.name)} {shlex.quote(command)}"
 
     def copy_recorder(self) -> None:

@@ -19,13 +19,13 @@ DEEPEST = 2
 
 
 def remote_of(source: str) -> tuple[str, str] | None:
-    """The host and the folder of HOST:FOLDER, unless there is a file of that name."""
+    """Returns the host and the folder of HOST:FOLDER, unless there is a file of that name."""
     found = REMOTE.fullmatch(source)
     return (found[1], found[2]) if found and not os.path.exists(source) else None
 
 
 def recordings_in(folder: str, depth: int = 0) -> Iterator[str]:
-    """The recordings in a folder, which may be one itself. Links aren't followed."""
+    """Yields the recordings in a folder, which may be one itself. Links aren't followed."""
     if is_recording(folder):
         yield folder
         return
@@ -40,7 +40,7 @@ def recordings_in(folder: str, depth: int = 0) -> Iterator[str]:
 
 
 def only_recording(folder: str, name: str) -> str:
-    """The one recording in a folder; `name` is for messages."""
+    """Returns the one recording in a folder; `name` is for messages."""
     found = list(recordings_in(folder))
     if not found:
         raise Fault(
@@ -68,7 +68,7 @@ def is_archive(source: str) -> bool:
 
 
 def folder_of(source: str) -> str:
-    """A folder that is a recording."""
+    """Returns a folder that is a recording."""
     if os.path.isdir(source):
         return only_recording(source, source)
     if os.path.isfile(source):

@@ -13,7 +13,9 @@ SHELL = ("bash", "-o", "pipefail", "-c")
 
 
 def tools_path(*names: str) -> str:
-    """A path in the folder of tools, relative if that is below the working directory; quoted."""
+    """Returns a path in the folder of tools, relative if that is below the working directory;
+    quoted.
+    """
     path = os.path.join(TOP, "tools", *names)
     near = os.path.relpath(path)
     return shlex.quote(path if near.startswith("..") else near)
