@@ -46,7 +46,7 @@ def kinds(word: str) -> tuple[str, ...]:
 
 
 def parser() -> Parser:
-    """The parser of the command line."""
+    """Returns the parser of the command line."""
     words = Parser(__doc__)
     option = words.add_argument
     option("trace", nargs="?", metavar="TRACE", help=TRACE_HELP)
@@ -64,7 +64,9 @@ def parser() -> Parser:
 
 
 def in_groups(lines: Iterable[Line], words: list[str], known: Known) -> Iterator[Line]:
-    """The lines of the groups that the words name. A word that names none is a Fault at the end."""
+    """Yields the lines of the groups that the words name. A word that names none is a Fault at the
+    end.
+    """
     paths: dict[str, bool] = {}
     for line in lines:
         if isinstance(line, End):
@@ -79,7 +81,7 @@ def in_groups(lines: Iterable[Line], words: list[str], known: Known) -> Iterator
 
 
 def as_json(rows: Iterable[Row]) -> Iterator[str]:
-    """Each row as a line of JSON."""
+    """Yields each row as a line of JSON."""
     for row in rows:
         yield json.dumps(row, ensure_ascii=False, separators=(",", ":")) + "\n"
 
@@ -98,7 +100,7 @@ def as_table(rows: Iterable[Row]) -> Iterator[str]:
 
 
 def cell(value: Any) -> Any:
-    """A value of a table. No text is a formula."""
+    """Returns a value of a table. No text is a formula."""
     return f"'{value}" if isinstance(value, str) and value.startswith(FORMULAS) else value
 
 

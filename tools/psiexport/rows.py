@@ -25,14 +25,14 @@ COLUMNS = (
 
 
 def kind_of(line: Line) -> str:
-    """The kind of a line's row; empty for the last line, which has none."""
+    """Returns the kind of a line's row; empty for the last line, which has none."""
     if isinstance(line, Report):
         return REPORT
     return SIGNAL if isinstance(line, Event) else KILL if isinstance(line, Kill) else ""
 
 
 def pressure_of(level: str, pressure: Optional[Pressure]) -> Row:
-    """A line of a pressure file: averages in percent, the total in us."""
+    """Returns a line of a pressure file: averages in percent, the total in us."""
     if not pressure:
         return {}
     shares = {f"{level}_{name}": getattr(pressure, name) / 100 for name in AVERAGES}
@@ -48,7 +48,7 @@ class Exporter:
         self.wall, self.groups, self.rules = wall, groups, rules
 
     def row(self, line: Union[Report, Event, Kill]) -> Row:
-        """The row of a line."""
+        """Returns the row of a line."""
         row: Row = {"kind": kind_of(line), "time_s": line.moment / SECOND}
         if self.wall:
             row["time"] = wall_text(self.wall._replace(epoch=self.wall.epoch + line.moment))
@@ -65,7 +65,7 @@ class Exporter:
         return {**row, "ruleset": line.ruleset, "action": line.action, **self.killer(line)}
 
     def killer(self, kill: Kill) -> Row:
-        """The names of a ruleset and an action, if the rules are known."""
+        """Returns the names of a ruleset and an action, if the rules are known."""
         if not self.rules:
             return {}
         killer = self.rules.killer(kill)
