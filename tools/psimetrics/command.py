@@ -29,7 +29,7 @@ Label = tuple[str, str]
 
 
 def label(word: str) -> Label:
-    """A name and a value, with `=` between them."""
+    """Returns a name and a value, with `=` between them."""
     name, _, value = word.partition("=")
     if (
         not re.fullmatch("(?!__)[a-zA-Z_][a-zA-Z0-9_]*", name)
@@ -43,7 +43,7 @@ def label(word: str) -> Label:
 
 
 def parser() -> Parser:
-    """The parser of the command line."""
+    """Returns the parser of the command line."""
     words = Parser(ABOUT, AFTER, reads_input=True)
     option = words.add_argument
     add_start(words, "", is_required=True)

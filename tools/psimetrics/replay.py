@@ -82,8 +82,8 @@ class Metrics:
         )
 
     def close(self) -> Families:
-        """All families. Counts are 0 at the start, and have a point at the time of each event and
-        at each report.
+        """Returns all families. Counts are 0 at the start, and have a point at the time of each
+        event and at each report.
         """
         for family, metrics in self.happened.items():
             for labels, moments in metrics.items():
@@ -94,7 +94,9 @@ class Metrics:
 
 
 def counted(moments: list[int], rounds: Iterable[int]) -> list[tuple[int, int]]:
-    """The number of events up to the start, up to each of their times (ns) and up to each round."""
+    """Returns the number of events up to the start, up to each of their times (ns) and up to each
+    round.
+    """
     value_at = {0: 0}
     done = 0
     for moment in sorted({*moments, *rounds}):
@@ -105,7 +107,7 @@ def counted(moments: list[int], rounds: Iterable[int]) -> list[tuple[int, int]]:
 
 
 def metrics_of(printed: Iterable[bytes], rules: Optional[Rules], labels: Labels) -> Families:
-    """The families of a replay's output. If it has no report, that is an error."""
+    """Returns the families of a replay's output. If it has no report, that is an error."""
     metrics = Metrics(rules, labels)
     for line in read(printed):
         if isinstance(line, Report):

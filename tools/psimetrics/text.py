@@ -43,7 +43,7 @@ class Counter(NamedTuple):
     per_unit: int
 
     def text(self, value: int) -> str:
-        """The value in the family's unit, exactly."""
+        """Returns the value in the family's unit, exactly."""
         return seconds(value * (SECOND // self.per_unit))
 
 
@@ -51,7 +51,7 @@ Families = dict[Counter, dict[Labels, Points]]
 
 
 def escaped(value: str) -> str:
-    """A label's value, escaped for quotes."""
+    """Returns a label's value, escaped for quotes."""
     return value.replace("\\", "\\\\").replace('"', '\\"').replace("\n", "\\n")
 
 
@@ -66,7 +66,7 @@ def braced(labels: Labels) -> str:
 def lines_of(
     family: Counter, metrics: dict[Labels, Points], when: Callable[[int], str]
 ) -> Iterator[str]:
-    """The points of a family: one metric after the other, each in order of time."""
+    """Yields the points of a family: one metric after the other, each in order of time."""
     for labels in sorted(metrics):
         points = metrics[labels]
         head = f"{family.name}_total{braced(labels)}"
@@ -77,7 +77,7 @@ def lines_of(
 
 
 def openmetrics(families: Families, start: WallTime) -> Iterator[str]:
-    """The lines of the OpenMetrics text."""
+    """Yields the lines of the OpenMetrics text."""
     for family in sorted(families):
         yield f"# TYPE {family.name} counter"
         if family.name.endswith("_seconds"):
@@ -88,7 +88,7 @@ def openmetrics(families: Families, start: WallTime) -> Iterator[str]:
 
 
 def prometheus(families: Families, start: WallTime) -> Iterator[str]:
-    """The lines of the older text."""
+    """Yields the lines of the older text."""
     for family in sorted(families):
         yield f"# HELP {family.name}_total {family.help}"
         yield f"# TYPE {family.name}_total counter"
