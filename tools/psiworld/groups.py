@@ -14,12 +14,12 @@ ROOT = "/"
 
 
 def parent_of(path: str) -> str:
-    """The parent; for the root the root."""
+    """Returns the parent; for the root the root."""
     return path.rpartition("/")[0] or ROOT
 
 
 def prefixes_of(path: str) -> list[str]:
-    """The groups from the one below the root down to this one."""
+    """Returns the groups from the one below the root down to this one."""
     ends = [place for place, letter in enumerate(path) if letter == "/" and place] + [len(path)]
     return [path[:end] for end in ends] if path != ROOT else []
 
@@ -42,7 +42,7 @@ class Groups:
         self.limits: dict[str, list[str]] = {}
 
     def limit_of(self, path: str) -> str | None:
-        """The limit that this new path would exceed, if any."""
+        """Returns the limit that this new path would exceed, if any."""
         if path.count("/") > MOST_LEVELS:
             return f"more than {MOST_LEVELS} levels"
         if len(path) > MOST_BYTES:
@@ -50,8 +50,8 @@ class Groups:
         return f"more than {MOST_GROUPS} groups" if self.made >= MOST_GROUPS else None
 
     def make(self, path: str) -> tuple[str, list[str]]:
-        """The path that replaces this one in the trace (usually itself), and the groups to create
-        for it, parents first.
+        """Returns the path that replaces this one in the trace (usually itself), and the groups to
+        create for it, parents first.
         """
         if path in self.live:
             return path, []
@@ -78,24 +78,26 @@ class Groups:
         return place, made
 
     def is_folded(self, path: str) -> bool:
-        """Whether this group was folded into another one."""
+        """Returns whether this group was folded into another one."""
         return self.folded.get(path) in self.live
 
     def place_of(self, path: str) -> str | None:
-        """The path that replaces this one in the trace, if it exists."""
+        """Returns the path that replaces this one in the trace, if it exists."""
         return path if path in self.live else self.folded[path] if self.is_folded(path) else None
 
     def enter(self, path: str) -> None:
-        """A task enters the group."""
+        """Adds a task to a group."""
         self.tasks[path] += 1
 
     def leave(self, path: str) -> list[str]:
-        """A task leaves the group; returns the groups that this removes."""
+        """Removes a task from a group. Returns the paths of the groups that this removes."""
         self.tasks[path] -= 1
         return self.swept(path)
 
     def remove(self, path: str) -> list[str]:
-        """The kernel removed the group; returns the groups that are removed from the trace."""
+        """Notes that the kernel removed the group. Returns the paths of the groups that are
+        removed from the trace.
+        """
         self.folded.pop(path, None)
         if path not in self.live or path == ROOT:
             return []
@@ -114,7 +116,7 @@ class Groups:
         return gone
 
     def is_leaving(self, path: str) -> bool:
-        """Whether the kernel removed it, but the trace still has it."""
+        """Returns whether the kernel removed it, but the trace still has it."""
         return path in self.leaving
 
     def leaving_below(self, path: str) -> list[str]:

@@ -55,11 +55,11 @@ class Task:
         self.state, self.is_stalled = State.READY, False
 
     def is_on(self, processor: int, state: State) -> bool:
-        """Whether it is in this state on the processor."""
+        """Returns whether it is in this state on the processor."""
         return self.state is state and self.processor == processor
 
     def is_blocked(self) -> bool:
-        """Whether it sleeps or waits for IO."""
+        """Returns whether it sleeps or waits for IO."""
         return self.state in (State.ASLEEP, State.WAITING)
 
 
@@ -97,7 +97,7 @@ class World:
         self.lines.append(f"{self.now} {words}")
 
     def version(self) -> int:
-        """The version of the trace: the first that allows all of its lines."""
+        """Returns the version of the trace: the first that allows all of its lines."""
         return 2 if self.has_interrupts or self.switches else 1
 
     # ------------------------------------------------------------ groups
@@ -192,7 +192,7 @@ class World:
         return task
 
     def begun_life(self, label: int, number: int, process: int) -> Life:
-        """The life of a new task."""
+        """Returns the life of a new task."""
         first = self.tasks.get(process) if process != number else None
         life = Life(label, self.now, number, process, first.life.leader if first else None)
         name = self.names.pop(number, None)
@@ -202,8 +202,8 @@ class World:
         return life
 
     def free_label(self, number: int) -> int:
-        """A label for a task in the trace: the kernel's number, unless another task has it or a
-        trace can't have it.
+        """Returns a label for a task in the trace: the kernel's number, unless another task has it
+        or a trace can't have it.
         """
         if not 0 < number <= MOST_LABEL:
             self.mended["number of a task that a trace can't have, replaced"] += 1
@@ -213,14 +213,14 @@ class World:
         return label
 
     def place_of(self, processor: int) -> int:
-        """The processor, or the first one if the machine doesn't have this one."""
+        """Returns the processor, or the first one if the machine doesn't have this one."""
         if 0 <= processor < self.processors:
             return processor
         self.mended["processor that the machine doesn't have, taken to be the first"] += 1
         return 0
 
     def running(self, processor: int) -> int:
-        """The task that runs there, 0 for none."""
+        """Returns the task that runs there, 0 for none."""
         return self.runs.get(processor, 0)
 
     def ready(self, number: int, processor: int) -> None:
