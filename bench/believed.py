@@ -71,13 +71,13 @@ class Module:
 
 
 def without_comments(text: str, mark: str) -> str:
-    """A text without its comments, which begin with `mark`."""
+    """Returns a text without its comments, which begin with `mark`."""
     return "\n".join(re.sub(rf"(^| ){mark}.*", "", line) for line in text.splitlines())
 
 
 def imports_of(text: str) -> tuple[dict[str, tuple[str, str]], dict[str, str]]:
-    """The imports of a text: each name with its module and its name there; and modules by their
-    aliases.
+    """Returns the imports of a text: each name with its module and its name there; and modules by
+    their aliases.
     """
     names: dict[str, tuple[str, str]] = {}
     aliases: dict[str, str] = {}
@@ -91,7 +91,7 @@ def imports_of(text: str) -> tuple[dict[str, tuple[str, str]], dict[str, str]]:
 
 
 def bodies_of(text: str) -> dict[str, str]:
-    """The body of each definition of a file: all lines from its declaration to the next
+    """Returns the body of each definition of a file: all lines from its declaration to the next
     declaration.
     """
     bodies: dict[str, list[str]] = {}
@@ -111,7 +111,9 @@ def bodies_of(text: str) -> dict[str, str]:
 
 
 def types_of(text: str) -> dict[str, str]:
-    """The body of each type of a file of code: its declaration, or its `Model` if it has one."""
+    """Returns the body of each type of a file of code: its declaration, or its `Model` if it has
+    one.
+    """
     found = {}
     for one in re.finditer(r"^pub (?:struct|enum) (\w+)[^\n]*(?:;\n|(?:\n[^\n}][^\n]*|\n)*\n\})", text, re.MULTILINE):
         model = re.search(rf"^impl(?:<[^>]*>)? Model for {one[1]}\b.*?^\}}", text, re.MULTILINE | re.DOTALL)
@@ -120,7 +122,9 @@ def types_of(text: str) -> dict[str, str]:
 
 
 def code_imports(text: str) -> dict[str, tuple[str, str]]:
-    """The types that a file of code imports, each with its crate: `crate` for the file's own."""
+    """Returns the types that a file of code imports, each with its crate: `crate` for the file's
+    own.
+    """
     found = {}
     for crate, listed, one in re.findall(r"^use (\w+)(?:::\w+)*::(?:\{([^}]*)\}|(\w+));", text, re.MULTILINE):
         for name in filter(None, map(str.strip, (listed or one).split(","))):
@@ -143,21 +147,21 @@ def module_at(path: pathlib.Path) -> Module:
 
 @functools.cache
 def file_of_type(crate: pathlib.Path, name: str) -> pathlib.Path | None:
-    """The file of a crate that declares a type."""
+    """Returns the file of a crate that declares a type."""
     files = sorted((crate / "src").rglob("*.rt"))
     return next((path for path in files if name in module_at(path).bodies), None)
 
 
 @functools.cache
 def kit_libraries() -> pathlib.Path | None:
-    """The folder of the installed kit's libraries, or None if no kit is installed."""
+    """Returns the folder of the installed kit's libraries, or None if no kit is installed."""
     command = shutil.which("rt")
     folder = pathlib.Path(command).resolve().parents[1] / "rlibs" if command else None
     return folder if folder and folder.is_dir() else None
 
 
 def source_of(path: pathlib.Path) -> pathlib.Path | None:
-    """The path on disk: a file of the kit is in its library, if the kit is installed."""
+    """Returns the path on disk: a file of the kit is in its library, if the kit is installed."""
     if not path.is_relative_to(KIT):
         return path
     _, crate, _, name = path.parts
@@ -166,14 +170,18 @@ def source_of(path: pathlib.Path) -> pathlib.Path | None:
 
 
 def folder_of(crate: str) -> pathlib.Path | None:
-    """The folder of a library of this repository or of the kit, or None if it isn't listed."""
+    """Returns the folder of a library of this repository or of the kit, or None if it isn't
+    listed.
+    """
     if crate in PLAIN:
         return None
     return CRATES / crate if (CRATES / crate).is_dir() else KIT / crate
 
 
 def item_at(module: str, name: str, own: pathlib.Path) -> Item | None:
-    """The item that a name of a module refers to, seen from a file, or None if it isn't listed."""
+    """Returns the item that a name of a module refers to, seen from a file, or None if it isn't
+    listed.
+    """
     if module.startswith("type "):
         crate = own if module == "type crate" else folder_of(module.removeprefix("type "))
         path = file_of_type(crate, name) if crate and crate.is_relative_to(CRATES) else None
@@ -193,7 +201,9 @@ def item_at(module: str, name: str, own: pathlib.Path) -> Item | None:
 
 
 def found_in(path: pathlib.Path, name: str) -> Item | None:
-    """The definition with this name in a file, or the definition that the file imports by it."""
+    """Returns the definition with this name in a file, or the definition that the file imports by
+    it.
+    """
     module = module_at(path)
     if name in module.bodies:
         return Item(path, name)
@@ -205,7 +215,7 @@ def found_in(path: pathlib.Path, name: str) -> Item | None:
 
 
 def cited_in(body: str, module: Module) -> Iterator[tuple[str, str]]:
-    """The names that a body cites, each with its module: '' for the file's own."""
+    """Yields the names that a body cites, each with its module: '' for the file's own."""
     for alias, there in module.aliases.items():
         yield from ((there, name) for name in re.findall(rf"(?<![\w.]){re.escape(alias)}\.([\w']+)", body))
     known = module.imports.keys() | module.bodies.keys()
@@ -218,7 +228,7 @@ def cited_in(body: str, module: Module) -> Iterator[tuple[str, str]]:
 
 
 def cited_by(item: Item) -> Iterator[Item]:
-    """The definitions and types that an item cites."""
+    """Yields the definitions and types that an item cites."""
     source = source_of(item.path)
     if source is None:
         return
@@ -235,7 +245,7 @@ def cited_by(item: Item) -> Iterator[Item]:
 
 
 def roots(starts: tuple[Root, ...]) -> Iterator[Item]:
-    """The items that the clauses of these top calls and traits cite."""
+    """Yields the items that the clauses of these top calls and traits cite."""
     for name, begins in starts:
         path = CRATES / name
         text = without_comments(path.read_text(encoding="utf-8"), "//")
@@ -249,7 +259,7 @@ def roots(starts: tuple[Root, ...]) -> Iterator[Item]:
 
 @functools.cache
 def believed(starts: tuple[Root, ...] = ROOTS) -> frozenset[Item]:
-    """All definitions and types that the contracts of the top calls rest on."""
+    """Returns all definitions and types that the contracts of the top calls rest on."""
     reached: set[Item] = set()
     ahead = list(roots(starts))
     while ahead:
@@ -261,11 +271,11 @@ def believed(starts: tuple[Root, ...] = ROOTS) -> frozenset[Item]:
 
 
 def unreached(path: pathlib.Path) -> list[str]:
-    """The definitions of a file that no such contract rests on."""
+    """Returns the definitions of a file that no such contract rests on."""
     names = {item.name for item in believed() if item.path == path}
     return [name for name in module_at(path).bodies if name not in names]
 
 
 def has_model(item: Item) -> bool:
-    """Whether contracts see only the `Model` of a type."""
+    """Returns whether contracts see only the `Model` of a type."""
     return item.path.suffix == ".rt" and "Model for" in module_at(item.path).bodies.get(item.name, "")

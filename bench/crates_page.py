@@ -23,20 +23,20 @@ One line for each crate: the first sentence of its own header. The groups and th
 
 
 def root_file(crate: str) -> pathlib.Path:
-    """The root file of a crate."""
+    """Returns the root file of a crate."""
     library = ROOT / "crates" / crate / "src" / "lib.rt"
     return library if library.exists() else library.with_name("main.rt")
 
 
 def header_of(crate: str) -> list[str]:
-    """The lines of a crate's header, without comment marks."""
+    """Returns the lines of a crate's header, without comment marks."""
     lines = root_file(crate).read_text(encoding="utf-8").splitlines()
     end = next((i for i, line in enumerate(lines) if not line.startswith("//!")), len(lines))
     return [line[3:].strip() for line in lines[:end]]
 
 
 def summary_of(crate: str) -> str:
-    """The first sentence of a crate's header."""
+    """Returns the first sentence of a crate's header."""
     lines = header_of(crate)
     paragraph = " ".join(lines[: lines.index("")] if "" in lines else lines)
     sentence = re.split(r"(?<=[.])\s+(?=[A-Z`\[])", paragraph)[0]
@@ -44,7 +44,7 @@ def summary_of(crate: str) -> str:
 
 
 def groups() -> list[tuple[str, list[str]]]:
-    """The headings of crates.txt, each with its crates."""
+    """Returns the headings of crates.txt, each with its crates."""
     found: list[tuple[str, list[str]]] = []
     for line in (ROOT / "crates.txt").read_text(encoding="utf-8").splitlines()[1:]:
         if line.startswith("#"):
@@ -55,7 +55,7 @@ def groups() -> list[tuple[str, list[str]]]:
 
 
 def page() -> str:
-    """The whole page."""
+    """Returns the whole page."""
     parts = [HEAD]
     for title, crates in groups():
         rows = "".join(f"| [{crate}]({crate}) | {summary_of(crate)} |\n" for crate in crates)

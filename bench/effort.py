@@ -74,8 +74,8 @@ def run_to_end(words: list[str], status: int = 0) -> None:
 
 
 def instructions_of(words: list[str], room: str) -> int:
-    """The number of instructions of all threads of a run, by callgrind. What runs before an `exec`
-    isn't counted.
+    """Returns the number of instructions of all threads of a run, by callgrind. What runs before an
+    `exec` isn't counted.
     """
     counted = os.path.join(room, "callgrind")
     tool = ["valgrind", "--quiet", "--tool=callgrind", "--trace-children=yes", "--fair-sched=try"]
@@ -88,7 +88,7 @@ def instructions_of(words: list[str], room: str) -> int:
 
 
 def calls_of(words: list[str], room: str, status: int = 0) -> dict[str, int]:
-    """The number of system calls of each kind in all threads of a run, by strace."""
+    """Returns the number of system calls of each kind in all threads of a run, by strace."""
     counted = os.path.join(room, "strace")
     run_to_end(["strace", "-f", "-q", "-c", "-o", counted, *words], status)
     times = {}
@@ -100,8 +100,8 @@ def calls_of(words: list[str], room: str, status: int = 0) -> dict[str, int]:
 
 
 def peak_of(words: list[str], room: str) -> int:
-    """The peak resident memory (KB) of a run. It is run by `time`, since the system counts the
-    parent's memory as its own, and `time` has little.
+    """Returns the peak resident memory (KB) of a run. It is run by `time`, since the system counts
+    the parent's memory as its own, and `time` has little.
     """
     counted = os.path.join(room, "time")
     peaks = []
@@ -113,7 +113,7 @@ def peak_of(words: list[str], room: str) -> int:
 
 
 def costs_of(run: Run) -> list[str]:
-    """The names of a run's two instruction figures."""
+    """Returns the names of a run's two instruction figures."""
     return [f"instructions a {run.step.value}", "thousands of instructions"]
 
 
@@ -132,14 +132,16 @@ def figures_of(run: Run, program: str, loading: dict[str, int], room: str) -> Fi
 
 
 def may_differ(name: str, before: float, run: Run) -> float:
-    """How much a figure may differ from the stored one."""
+    """Returns how much a figure may differ from the stored one."""
     if name in CALLS:
         return 0.0
     return before * (MAY_RISE_PERCENT + run.varies_percent) / 100 + (MAY_RISE_KB if name == PEAK else 0)
 
 
 def faults_of(run: Run, stored: Figures, found: Figures) -> tuple[list[str], list[str]]:
-    """The faults of a run's figures, and the figures that are lower and may be stored again."""
+    """Returns the faults of a run's figures, and the figures that are lower and may be stored
+    again.
+    """
     wrong: list[str] = []
     lower: list[str] = []
     for name in [*found, *(name for name in stored if name not in found)]:
@@ -155,12 +157,12 @@ def faults_of(run: Run, stored: Figures, found: Figures) -> tuple[list[str], lis
 
 
 def system() -> str:
-    """The machine's architecture and C library, which the figures depend on."""
+    """Returns the machine's architecture and C library, which the figures depend on."""
     return ", ".join([platform.machine(), " ".join(platform.libc_ver())])
 
 
 def read_stored() -> tuple[str, dict[str, Figures]]:
-    """The system on which the figures were stored, and the figures of each run."""
+    """Returns the system on which the figures were stored, and the figures of each run."""
     if not os.path.exists(STORED):
         return system(), {}
     with open(STORED, encoding="utf-8") as file:
@@ -219,7 +221,7 @@ def words_of(given: list[str]) -> tuple[list[str], bool, list[Run]]:
 
 
 def programs_of(named: list[str], runs: list[Run]) -> dict[str, str]:
-    """The programs of the runs by name, and psi_oomd, which generates what they read."""
+    """Returns the programs of the runs by name, and psi_oomd, which generates what they read."""
     others = {run.program for run in runs} - {"psi_oomd"}
     return {"psi_oomd": program_of(named)[0], **{name: program_of([], name)[0] for name in others}}
 

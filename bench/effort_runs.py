@@ -60,7 +60,9 @@ class Run:
     program: str = "psi_oomd"
 
     def words_for(self, size: int, room: str) -> list[str]:
-        """The arguments, with the paths of the files that `write_inputs` wrote to this folder."""
+        """Returns the arguments, with the paths of the files that `write_inputs` wrote to this
+        folder.
+        """
         stands = {"TRACE": trace_path(room, self.trace, size), "RULES": rules_path(room), "SIZE": str(size)}
         return [stands.get(word, word) for word in self.words]
 
@@ -101,7 +103,9 @@ def rules_path(room: str) -> str:
 
 
 def quiet_trace(ticks: int) -> str:
-    """A trace of two processors with events only at its beginning, and then none for `ticks` ticks."""
+    """Returns a trace of two processors with events only at its beginning, and then none for
+    `ticks` ticks.
+    """
     lines = ["psitrace 1 cpus=2"]
     for cpu in (0, 1):
         lines += [f"0 fork {cpu + 1} / {cpu}", f"0 switch {cpu} {cpu + 1} idle"]

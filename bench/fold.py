@@ -60,7 +60,7 @@ class Services:
                 yield from (f"fork {number} {path} {cpu}", f"switch {cpu} {number} idle", f"switch {cpu} 0 sleep")
 
     def lines(self, end: int) -> Iterator[Line]:
-        """The lines of the trace up to the end (ns)."""
+        """Yields the lines of the trace up to the end (ns)."""
         yield from ((0, words) for words in self.begin())
         for token in range(self.services * 3 // 4):
             yield from self.call(token % self.services, 0)
@@ -94,7 +94,7 @@ class Services:
             self.later(moment + self.draw.randrange(1000, 6000), "schedule", cpu)
 
     def schedule(self, cpu: int, moment: int) -> Iterator[Line]:
-        """An idle processor starts a ready thread."""
+        """Yields the lines by which an idle processor starts a ready thread."""
         if not self.running[cpu] and self.ready[cpu]:
             number = self.ready[cpu].popleft()
             yield moment, f"switch {cpu} {number} idle"
@@ -148,19 +148,19 @@ class Services:
 
 
 def lines_of(seconds: float, cpus: int, services: int, least: int, most: int) -> Iterator[str]:
-    """The lines of a trace, after its header."""
+    """Yields the lines of a trace, after its header."""
     for moment, words in Services(cpus, services, least, most).lines(round(seconds * 10**9)):
         yield f"{moment} {words}"
 
 
 def processor_seconds() -> float:
-    """The processor time (s) of this process and of the children that it waited for."""
+    """Returns the processor time (s) of this process and of the children that it waited for."""
     used = [resource.getrusage(who) for who in (resource.RUSAGE_SELF, resource.RUSAGE_CHILDREN)]
     return sum(it.ru_utime + it.ru_stime for it in used)
 
 
 def measure(lines: list[str], cpus: int, window: float, seconds: float) -> str:
-    """A row of the table."""
+    """Returns a row of the table."""
     start, begun = processor_seconds(), time.monotonic()
     fold = Fold(cpus, round(window * 10**9), lambda _: None)
     fold.take(lines)

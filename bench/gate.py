@@ -48,7 +48,7 @@ Works = dict[tuple[str, str], Work]
 
 
 def words_of(process: pathlib.Path) -> list[str]:
-    """The arguments that a process was started with; empty if it has ended."""
+    """Returns the arguments that a process was started with; empty if it has ended."""
     try:
         return process.joinpath("cmdline").read_text(errors="replace").split("\0")
     except OSError:
@@ -56,7 +56,7 @@ def words_of(process: pathlib.Path) -> list[str]:
 
 
 def check_of(process: pathlib.Path, gate: int) -> tuple[str, str] | None:
-    """The crate that a process checks and the kind of check, if the gate started it.
+    """Returns the crate that a process checks and the kind of check, if the gate started it.
 
     A check's own child processes don't count: once they have ended, their time is part of its own.
     """
@@ -74,7 +74,9 @@ def check_of(process: pathlib.Path, gate: int) -> tuple[str, str] | None:
 
 
 def numbers_of(process: pathlib.Path) -> list[str]:
-    """The fields of a process from its state on (proc(5), `stat`); empty if it has ended."""
+    """Returns the fields of a process from its state on (proc(5), `stat`); empty if it has
+    ended.
+    """
     try:
         return process.joinpath("stat").read_text().rpartition(")")[2].split()
     except OSError:
@@ -82,13 +84,13 @@ def numbers_of(process: pathlib.Path) -> list[str]:
 
 
 def parent_of(process: pathlib.Path) -> int | None:
-    """The number of the process that started this one, or None if it has ended."""
+    """Returns the number of the process that started this one, or None if it has ended."""
     numbers = numbers_of(process)
     return int(numbers[1]) if numbers else None
 
 
 def processor_time(process: pathlib.Path) -> float:
-    """The processor time (s) of a process so far, with its children that have ended."""
+    """Returns the processor time (s) of a process so far, with its children that have ended."""
     return sum(map(int, numbers_of(process)[11:15])) / TICKS
 
 
@@ -115,8 +117,8 @@ def watch(gate: subprocess.Popen[bytes], start: float) -> Works:
 
 
 def row(name: str, works: dict[str, Work]) -> str:
-    """A crate's row: minutes of processor time by kind, and when its first check began, its proofs
-    ended and all ended.
+    """Returns a crate's row: minutes of processor time by kind, and when its first check began, its
+    proofs ended and all ended.
     """
     minutes = [works[kind].seconds / 60 if kind in works else 0.0 for kind in KINDS]
     begun = min(work.begun for work in works.values()) / 60
@@ -126,7 +128,7 @@ def row(name: str, works: dict[str, Work]) -> str:
 
 
 def table(works: Works) -> str:
-    """A row for each crate, the costliest first, and a row for the total."""
+    """Returns a row for each crate, the costliest first, and a row for the total."""
     crates: dict[str, dict[str, Work]] = collections.defaultdict(dict)
     for (crate, kind), work in works.items():
         crates[crate][kind] = work
@@ -138,7 +140,9 @@ def table(works: Works) -> str:
 
 
 def dear_walks() -> list[tuple[int, str, str]]:
-    """The stored walks of at least DEAR bytes, the largest first: bytes, crate and function."""
+    """Returns the stored walks of at least DEAR bytes, the largest first: bytes, crate and
+    function.
+    """
     found: dict[tuple[str, str], int] = {}
     for kept in ROOT.glob("crates/*/out/incremental/*/*.Lts.oantt"):
         crate, size = kept.parts[len(ROOT.parts) + 1], kept.stat().st_size
@@ -149,7 +153,7 @@ def dear_walks() -> list[tuple[int, str, str]]:
 
 
 def keeps_between_runs() -> bool:
-    """Whether this `rt` keeps proofs for the next gate, and so has `--anew`."""
+    """Returns whether this `rt` keeps proofs for the next gate, and so has `--anew`."""
     said = subprocess.run(["rt", "help"], stdout=subprocess.PIPE, stderr=subprocess.STDOUT, text=True, check=False).stdout
     return "--anew" in said
 

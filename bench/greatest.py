@@ -13,8 +13,8 @@ Plugin = dict[str, "str | dict[str, str]"]
 
 
 def patterns() -> str:
-    """The largest number of patterns that an argument may have: the groups of each depth from 1 to
-    16.
+    """Returns the largest number of patterns that an argument may have: the groups of each depth
+    from 1 to 16.
     """
     return ",".join("/".join(["*"] * depth) for depth in range(1, 17))
 
@@ -45,7 +45,9 @@ def greatest_rules() -> str:
 
 
 def greatest_lines(events: int) -> Iterator[str]:
-    """An hour of 64 processors, 1,024 groups up to 32 deep, 65,536 tasks and 256 triggers."""
+    """Yields an hour of 64 processors, 1,024 groups up to 32 deep, 65,536 tasks and 256
+    triggers.
+    """
     draw = random.Random(1)
     paths, homes = group_paths(1023, 32)
     machine = Machine(draw, 64, 65536, homes)

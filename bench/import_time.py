@@ -26,7 +26,7 @@ MOMENT = re.compile(rb" ([0-9]+)(\.[0-9]{6}: )")
 
 
 def later(data: bytes, seconds: int) -> bytes:
-    """The text with `seconds` added to each of its times."""
+    """Returns the text with `seconds` added to each of its times."""
     return MOMENT.sub(lambda it: b" %d%b" % (int(it[1]) + seconds, it[2]), data)
 
 

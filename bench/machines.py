@@ -37,7 +37,7 @@ class Service:
             at += length + rng.randrange(5, 90)
 
     def episode(self, time: int) -> tuple[str, float]:
-        """What goes on at a time, and how hard."""
+        """Returns the kind of the load at `time`, and its intensity from 0 to 1."""
         return next(((kind, force) for begin, end, kind, force in self.episodes if begin <= time < end), ("calm", 0.1))
 
     def sample(self, time: int) -> None:
@@ -95,7 +95,7 @@ class Machine:
         heapq.heappush(self.events, (time, self.count, kind, what))
 
     def lines(self) -> Iterator[str]:
-        """The whole trace."""
+        """Yields the whole trace."""
         yield f"psitrace 1 cpus={self.processors}"
         yield from (f"0 group {it}" for it in self.paths)
         number = 1
@@ -168,7 +168,7 @@ class Machine:
             yield from self.start(time, cpu, "iowait" if waits else "sleep")
 
     def sample(self, time: int) -> Iterator[str]:
-        """All samples of memory."""
+        """Yields all samples of memory."""
         for service in self.services:
             service.sample(time)
         used = sum(it.swap for it in self.services)
@@ -180,7 +180,7 @@ class Machine:
 
 
 def small_tree(services: int) -> list[str]:
-    """A few slices with services."""
+    """Returns a few slices with services."""
     slices = ("/system.slice", "/batch.slice", "/user.slice")
     return [*slices, *(f"{slices[number % 3]}/s{number}.service" for number in range(services))]
 

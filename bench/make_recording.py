@@ -36,7 +36,7 @@ class Record:
         self.layouts = [(struct.Struct("<" + INTEGERS[it.size, it.is_signed]).pack_into, it.offset) for it in fields]
 
     def bytes(self, *values: int) -> bytes:
-        """The bytes of a record with these values."""
+        """Returns the bytes of a record with these values."""
         data = bytearray(self.size)
         for (pack, offset), value in zip(self.layouts, (self.number, *values)):
             pack(data, offset, value)
@@ -126,7 +126,7 @@ class Recording:
 
 
 def later(data: bytes, times: int, length: int) -> Iterator[bytes]:
-    """The pages `times` times, each copy later than the previous one by `length` ns."""
+    """Yields the pages `times` times, each copy later than the previous one by `length` ns."""
     heads = [struct.unpack_from("<Q", data, at)[0] for at in range(0, len(data), PAGE)]
     for turn in range(times):
         found = bytearray(data)

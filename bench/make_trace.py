@@ -17,7 +17,7 @@ from collections.abc import Iterator
 
 
 def group_paths(groups: int, depth: int) -> tuple[list[str], list[str]]:
-    """The paths, parents first, and the deepest path of each chain."""
+    """Returns the paths, parents first, and the deepest path of each chain."""
     paths: list[str] = []
     lowest: list[str] = []
     while len(paths) < groups:
@@ -97,7 +97,7 @@ class Machine:
         return None
 
     def line(self, tasks: int) -> str:
-        """A random line, of any processor."""
+        """Returns a random line, of any processor."""
         cpu = self.draw.randrange(self.cpus)
         line = self.rare(cpu, tasks) if self.draw.randrange(8) == 0 else None
         if line is not None:
@@ -107,7 +107,7 @@ class Machine:
 
 
 def lines(events: int, tasks: int, cpus: int, groups: int, depth: int, seed: int) -> Iterator[str]:
-    """The lines of a trace, without their newlines."""
+    """Yields the lines of a trace, without their newlines."""
     draw = random.Random(seed)
     paths, homes = group_paths(groups, depth)
     machine = Machine(draw, cpus, tasks, homes)

@@ -90,7 +90,9 @@ def in_turns(runs: dict[str, list[str]], rounds: int) -> dict[str, list[Taken]]:
 
 
 def row(name: str, counted: float | None, peak: int, taken: list[Taken], count: list[Taken]) -> str:
-    """A row of the table: a command's figures, relative to `wc -lw`, and its peak memory (KB)."""
+    """Returns a row of the table: a command's figures, relative to `wc -lw`, and its peak memory
+    (KB).
+    """
     best = min(it.clock for it in taken) / min(it.clock for it in count)
     clock = statistics.median(it.clock for it in taken) / statistics.median(it.clock for it in count)
     processor = statistics.median(it.processor for it in taken) / statistics.median(it.processor for it in count)

@@ -65,7 +65,7 @@ def read_greatest(self: Above, look: Look) -> None:
 
 
 def reclaim_run(self: Reclaim, look: Look) -> Result:
-    """Whether a group that existed at the previous look scanned pages."""
+    """Returns whether a group that existed at the previous look scanned pages."""
     machine = look.machine
     paths = machine.among(self.args["cgroup"])
     if any(machine.scanned(it) > look.scanned.get(machine.group(it), machine.scanned(it)) for it in paths):
@@ -148,7 +148,7 @@ class Case:
         return self.rules[:1] == self.oomd[:1]
 
     def cause(self) -> str:
-        """Why the first kills differ."""
+        """Returns why the first kills differ."""
         names = [*SWITCHES, FIRST_LOOK]
         for count in (1, 2):
             for some in itertools.combinations(names, count):
@@ -163,7 +163,7 @@ def kills_of(run: Run) -> list[Kill]:
 
 
 def case(folder: str, seed: int, tick_ms: int | None, interval: int) -> Case:
-    """The case of a generated incident and usual rules."""
+    """Returns the case of a generated incident and usual rules."""
     names = [os.path.join(folder, it) for it in ("t.trace", "r.json")]
     plugins = usual_rules(seed)
     for name, text in zip(names, (incident(seed // 2), plugins)):
@@ -240,7 +240,7 @@ def main() -> int:
 
 
 def remade(folder: str, seed: int, it: Case) -> Case:
-    """The case, with its files written again."""
+    """Returns the case, with its files written again."""
     own = os.path.join(folder, str(seed))
     os.mkdir(own)
     return case(own, seed, TICK_MS, it.run.interval)

@@ -139,7 +139,7 @@ class Incident:
 
 
 def incident(seed: int) -> str:
-    """The trace of a seed."""
+    """Returns the trace of a seed."""
     draw = random.Random(f"incident {seed}")
     return Incident(draw, draw.choice((*KINDS, "leak")), draw.choice((90, 150))).text()
 
@@ -164,7 +164,7 @@ def debian(draw: random.Random) -> list[Rules]:
 
 
 def own(draw: random.Random) -> list[Rules]:
-    """A rule like those that people write."""
+    """Returns a rule like those that people write."""
     resource, watched = draw.choice(("io", "memory", "memory", "memory")), draw.choice(WATCHED)
     pressure = {"cgroup": watched, "resource": resource, "threshold": draw.choice((5, 10, 20, 40, 60)), "duration": draw.choice((5, 10, 20))}
     detectors = [
@@ -188,6 +188,8 @@ def own(draw: random.Random) -> list[Rules]:
 
 
 def usual_rules(seed: int) -> str:
-    """The rules of a seed, which mean the same to psi_oomd and to oomd as far as one file can."""
+    """Returns the rules of a seed, which mean the same to psi_oomd and to oomd as far as one file
+    can.
+    """
     draw = random.Random(f"rules {seed}")
     return json.dumps({"rulesets": draw.choice((debian, own, own, own))(draw)})

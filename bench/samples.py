@@ -41,7 +41,7 @@ Averages = dict[tuple[int, str, int], float]
 
 
 def run(*words: str) -> bytes:
-    """What a command prints; a fault of it is one of the measurement."""
+    """Returns what a command prints; a fault of it is one of the measurement."""
     return subprocess.run(words, check=True, capture_output=True).stdout
 
 
@@ -69,7 +69,9 @@ class Recording:
             self.machine[int(number), path, base], self.machine[int(number), path, base + 1] = float(some), float(full)
 
     def errors(self, replayed: Averages, start: int) -> list[float]:
-        """How far avg10 is from each reading, of a trace that begins at a time (ns of the recording's clock)."""
+        """Returns how far avg10 is from each reading, of a trace that begins at a time (ns of the
+        recording's clock).
+        """
         found: dict[tuple[str, int], list[tuple[float, float]]] = {}
         for (number, path, level), value in self.machine.items():
             if number in self.times and self.times[number] >= self.first and (level, path) != (5, "/"):
@@ -81,7 +83,7 @@ class Recording:
         return [abs(one - other) for one, other in pairs]
 
     def chosen(self, every: int) -> set[int]:
-        """The readings that are the first at or after each multiple of an interval."""
+        """Returns the readings that are the first at or after each multiple of an interval."""
         found, due = set(), 0
         for number, at in sorted(self.times.items()):
             if at - self.first >= due - SECOND // 2:
@@ -91,7 +93,7 @@ class Recording:
 
 
 def sampled_recording(recording: Recording, every: int, room: str) -> str:
-    """A trace of the readings of a recording that are chosen."""
+    """Returns a trace of the readings of a recording that are chosen."""
     name, lines = os.path.join(room, "samples.csv"), []
     pattern = r"sample (\d+) (\S+) (\w+)\nsome (\S+) (\S+) (\S+) total=(\d+)\nfull (\S+) (\S+) (\S+) total=(\d+)\n"
     keep = recording.chosen(every)
@@ -165,7 +167,7 @@ def rules() -> dict[str, tuple[list[dict[str, object]], dict[str, object]]]:
 
 
 def rules_file() -> str:
-    """All of them in one file, without rests after kills."""
+    """Returns all of them in one file, without rests after kills."""
     found = [
         {"name": name, "post_action_delay": "0", "detectors": [["it", *detectors]], "actions": [action]}
         for name, (detectors, action) in rules().items()
@@ -174,7 +176,7 @@ def rules_file() -> str:
 
 
 def kills_of(trace: str, file: str, *words: str) -> dict[tuple[int, int], str]:
-    """The victims by ruleset and time (s)."""
+    """Returns the victims by ruleset and time (s)."""
     printed = run(program_path(), "replay", f"--rules={file}", "--report-s=0", *words, "--", trace).decode()
     kills = re.findall(r"^kill (\d+) ruleset=(\d+) action=0 (\S+)$", printed, re.MULTILINE)
     return {(int(ruleset), int(at) // SECOND // 5): path for at, ruleset, path in kills}
@@ -208,7 +210,7 @@ def by_rule(kills: dict[tuple[int, int], str], rule: int) -> dict[int, str]:
 
 
 def simulated(seed: int, seconds: int, room: str) -> str:
-    """The trace of a simulated machine of four processors and ten groups."""
+    """Returns the trace of a simulated machine of four processors and ten groups."""
     trace = os.path.join(room, "machine.trace")
     with open(trace, "w", encoding="ascii") as file:
         file.writelines(f"{it}\n" for it in Machine(seed, seconds, 4, small_tree(7), 7).lines())
@@ -216,7 +218,7 @@ def simulated(seed: int, seconds: int, room: str) -> str:
 
 
 def sampled_trace(trace: str, every: int, room: str) -> str:
-    """A trace of the samples of another one."""
+    """Returns a trace of the samples of another one."""
     name, output = os.path.join(room, "samples.csv"), os.path.join(room, f"{every}.trace")
     with open(name, "w", encoding="ascii") as file:
         file.write(csv_of(program_path(), trace, every))
@@ -225,7 +227,9 @@ def sampled_trace(trace: str, every: int, room: str) -> str:
 
 
 def replayed(given: argparse.Namespace, intervals: list[int]) -> Iterator[dict[str, dict[tuple[int, int], str]]]:
-    """The kills of each machine: by events at ticks of a second (`truth`) and of two, and by samples."""
+    """Yields the kills of each machine: by events at ticks of a second (`truth`) and of two, and by
+    samples.
+    """
     for seed in range(given.seed, given.seed + given.machines):
         with tempfile.TemporaryDirectory() as room:
             file, trace = os.path.join(room, "rules.json"), simulated(seed, given.seconds, room)
@@ -263,8 +267,9 @@ def rules_table(given: argparse.Namespace) -> None:
 
 
 def peak(length: float, begin: float, every: int) -> float:
-    """The highest avg10 (percent) of one full stall, by samples at an interval (s), or by the machine if it is 0. The formula is
-    docs/PRESSURE.md's."""
+    """Returns the highest avg10 (percent) of one full stall, by samples at an interval (s), or by
+    the machine if it is 0. The formula is docs/PRESSURE.md's.
+    """
 
     def total(at: float) -> float:
         return min(max(at - begin, 0.0), length)

@@ -24,14 +24,16 @@ class Sample(NamedTuple):
     averages: tuple[str, ...]
 
     def line(self, start: int, has_averages: bool) -> str:
-        """A line of CSV; `start` is ns since 1970."""
+        """Returns a line of CSV; `start` is ns since 1970."""
         time = start + self.time
         more = "," + ",".join(self.averages) if has_averages else ""
         return f"{time // SECOND}.{time % SECOND:09},{self.group},{self.resource},{self.some},{self.full}{more}\n"
 
 
 def samples_of(program: str, trace: str, every: int) -> Iterator[Sample]:
-    """The files of a trace each `every` seconds, as the program prints them at ticks of a second."""
+    """Yields the files of a trace each `every` seconds, as the program prints them at ticks of a
+    second.
+    """
     words = [program, "replay", "--tick-ms=1000", f"--report-s={every}", "--", trace]
     printed = subprocess.run(words, check=True, capture_output=True, text=True).stdout
     for it in REPORT.finditer(printed):
@@ -40,7 +42,7 @@ def samples_of(program: str, trace: str, every: int) -> Iterator[Sample]:
 
 
 def memory_of(trace: str, every: int, start: int) -> Iterator[str]:
-    """The samples of memory of a trace at the same times, as lines of CSV."""
+    """Yields the samples of memory of a trace at the same times, as lines of CSV."""
     with open(trace, encoding="ascii") as file:
         for line in file:
             words = line.split()
@@ -51,7 +53,7 @@ def memory_of(trace: str, every: int, start: int) -> Iterator[str]:
 
 
 def csv_of(program: str, trace: str, every: int, start: int = 1_700_000_000 * SECOND, has_averages: bool = False) -> str:
-    """The whole file, in the order of time. The first sample is at 0: zeros."""
+    """Returns the whole file, in the order of time. The first sample is at 0: zeros."""
     samples = list(samples_of(program, trace, every))
     rows = [(it.time, it.line(start, has_averages)) for it in samples]
     first = sorted({(it.group, it.resource) for it in samples if it.time == every * SECOND})

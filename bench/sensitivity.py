@@ -28,7 +28,9 @@ PAST, LEAST_GROWTH = 4, 1.25
 
 
 def sampled(values: Sequence[float], every: int) -> Callable[[int], float]:
-    """The values of each second as samples each `every` s show them: on the lines between samples."""
+    """Returns the values of each second as samples each `every` s show them: on the lines between
+    samples.
+    """
 
     def at(time: int) -> float:
         start = time // every * every
@@ -39,7 +41,7 @@ def sampled(values: Sequence[float], every: int) -> Callable[[int], float]:
 
 
 def percent(parts: Iterable[tuple[int, int]]) -> str:
-    """The share of the first numbers in the second ones."""
+    """Returns the share of the first numbers in the second ones."""
     both, either = (sum(it) for it in zip(*parts))
     return f"{100 * both / max(1, either):.1f} %"
 
@@ -48,7 +50,7 @@ def percent(parts: Iterable[tuple[int, int]]) -> str:
 
 
 def totals_of(rng: random.Random, low: float, high: float) -> list[float]:
-    """The stalled time (s) at each second of a group with stalls of these heights."""
+    """Returns the stalled time (s) at each second of a group with stalls of these heights."""
     shares, at = [0.0] * LENGTH, rng.randrange(5, 60)
     while at < LENGTH:
         end, height = at + rng.randrange(3, 80), rng.uniform(low, high)
@@ -69,7 +71,7 @@ def averages(total: Callable[[int], float], tick: int) -> list[float]:
 
 
 def holds(found: Sequence[float], tick: int, threshold: float, duration: int) -> set[int]:
-    """The evaluations (s) at which an average has been above a threshold for a duration."""
+    """Returns the evaluations (s) at which an average has been above a threshold for a duration."""
     times, since = set(), None
     for at in range(EVALUATED, LENGTH + 1, EVALUATED):
         if found[at // tick] <= threshold:
@@ -106,7 +108,9 @@ def heights() -> None:
 
 
 def memories(seed: int, growth: float) -> tuple[dict[str, list[float]], list[bool]]:
-    """The memory (bytes) of each service of a machine at each second, and in which seconds one thrashes."""
+    """Returns the memory (bytes) of each service of a machine at each second, and in which seconds
+    one thrashes.
+    """
     paths = [it for it in small_tree(7) if it.count("/") == 2]
     services = [Service(it, random.Random(f"{seed} {it}"), LENGTH, True) for it in paths]
     found = {it.path: [float(it.memory)] for it in services}
@@ -122,7 +126,9 @@ def memories(seed: int, growth: float) -> tuple[dict[str, list[float]], list[boo
 
 
 def victim(sizes: dict[str, float], past: dict[str, list[float]]) -> str:
-    """The largest group if it has half of all memory; else of the two largest the one that grew most, if it grew enough."""
+    """Returns the largest group if it has half of all memory; else of the two largest the one that
+    grew most, if it grew enough.
+    """
     order = sorted(sizes, key=lambda it: (-sizes[it], it))
     if 2 * sizes[order[0]] >= sum(sizes.values()):
         return order[0]
@@ -132,7 +138,7 @@ def victim(sizes: dict[str, float], past: dict[str, list[float]]) -> str:
 
 
 def victims(found: dict[str, list[float]], every: int) -> list[str]:
-    """The victim at each evaluation, by memory that is sampled each `every` s."""
+    """Returns the victim at each evaluation, by memory that is sampled each `every` s."""
     past: dict[str, list[float]] = {it: [] for it in found}
     chosen = []
     for at in range(EVALUATED, LENGTH, EVALUATED):

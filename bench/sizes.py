@@ -24,20 +24,20 @@ BELIEVED_TITLE = "## The files that have to be believed"
 
 
 def counted(lines: Iterable[str], comment: str) -> Iterator[str]:
-    """The lines that count, stripped: neither empty nor comments."""
+    """Yields the lines that count, stripped: neither empty nor comments."""
     for line in map(str.strip, lines):
         if line and not line.startswith(comment):
             yield line
 
 
 def definition_lines(path: pathlib.Path) -> int:
-    """The number of lines of an .antt file that define something."""
+    """Returns the number of lines of an .antt file that define something."""
     lines = path.read_text(encoding="utf-8").splitlines()
     return sum(1 for line in counted(lines, "--") if not line.startswith(("use ", "pub use ")))
 
 
 def rust_lines(path: pathlib.Path) -> tuple[int, int]:
-    """The numbers of lines of code and of contracts in an .rt file."""
+    """Returns the numbers of lines of code and of contracts in an .rt file."""
     code = contracts = depth = 0
     for line in counted(path.read_text(encoding="utf-8").splitlines(), "//"):
         if depth == 0 and not CONTRACT.match(line):
@@ -49,7 +49,7 @@ def rust_lines(path: pathlib.Path) -> tuple[int, int]:
 
 
 def believed_section() -> str:
-    """The section of docs/ARCHITECTURE.md on the files that have to be believed."""
+    """Returns the section of docs/ARCHITECTURE.md on the files that have to be believed."""
     text = (TOP / "docs" / "ARCHITECTURE.md").read_text(encoding="utf-8")
     return text[text.index(BELIEVED_TITLE) :].partition("\n## ")[0]
 
@@ -75,15 +75,15 @@ def believed_files() -> tuple[list[pathlib.Path], list[pathlib.Path]]:
 
 
 def is_told(item: believed.Item, types: list[pathlib.Path]) -> bool:
-    """Whether the list covers a type: by its file, by its name if contracts see only its `Model`,
-    or as a trait's.
+    """Returns whether the list covers a type: by its file, by its name if contracts see only its
+    `Model`, or as a trait's.
     """
     by_name = believed.has_model(item) and f"`{item.name}`" in believed_section()
     return by_name or item.path in (*types, *(CRATES / name for name, _ in believed.ROOTS))
 
 
 def list_faults() -> Iterator[str]:
-    """What the list lacks, and what it contains needlessly."""
+    """Yields what the list lacks, and what it contains needlessly."""
     definitions, types = believed_files()
     reached: dict[pathlib.Path, list[str]] = {}
     for item in sorted(believed.believed()):
@@ -99,7 +99,7 @@ def list_faults() -> Iterator[str]:
 
 
 def sum_of(pairs: Iterable[tuple[int, int]]) -> tuple[int, int]:
-    """The sums of the first numbers and of the second numbers."""
+    """Returns the sums of the first numbers and of the second numbers."""
     first = second = 0
     for one, other in pairs:
         first, second = first + one, second + other
@@ -107,7 +107,7 @@ def sum_of(pairs: Iterable[tuple[int, int]]) -> tuple[int, int]:
 
 
 def sizes() -> Iterator[tuple[str, int]]:
-    """Each size by name."""
+    """Yields each size by name."""
     definitions, types = believed_files()
     specs, proofs = (sorted(CRATES.glob(f"*/{kind}/**/*.antt")) for kind in ("specs", "proofs"))
     rust = sorted(CRATES.glob("*/src/**/*.rt"))
@@ -126,7 +126,7 @@ def sizes() -> Iterator[tuple[str, int]]:
 
 
 def cases() -> Iterator[str]:
-    """The cases of tests/run: a folder, or each of its rows."""
+    """Yields the cases of tests/run: a folder, or each of its rows."""
     for folder in (TOP / "tests" / "run" / "cases").iterdir():
         rows = folder / "rows"
         yield from rows.read_text(encoding="latin-1").splitlines() if rows.exists() else [folder.name]
