@@ -76,7 +76,7 @@ def check_groups_above(_: str) -> None:
 
 
 def printed_averages(program: str, trace: str) -> dict[tuple[str, str, str], tuple[float, ...]]:
-    """The averages of all files at the recording's start, by path, resource and level."""
+    """Returns the averages of all files at the recording's start, by path, resource and level."""
     out = subprocess.run([program, "replay", trace, "--report-s", "2"], capture_output=True, text=True, check=True).stdout
     found = {}
     for path, resource, some, full in re.findall(rf"^report {LEAD}000000000 (\S+) (\w+)\nsome (.*)\nfull (.*)$", out, re.MULTILINE):

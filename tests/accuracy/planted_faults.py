@@ -58,7 +58,7 @@ def check_causes_that_are_known(program: str) -> None:
 
 
 def marked(program: str, folder: str, trace: bytes, *words: str) -> str:
-    """The files with totals beyond their limits; there must be some."""
+    """Returns the files with totals beyond their limits; there must be some."""
     done = compared(program, folder, trace, *words)
     must_be(f"the status: {done.output.decode()}", done.status, 1)
     return "\n".join(line for line in done.output.decode().splitlines() if line.startswith("| /") and "!" in line)

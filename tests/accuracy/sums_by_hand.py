@@ -36,8 +36,8 @@ SPREAD = """\
 
 
 def probed(reads: list[int], averages: list[int]) -> Source:
-    """A recording in which the files of the root and the group were read at `reads`, and the kernel
-    itself sampled the group at `averages` (ns).
+    """Returns a recording in which the files of the root and the group were read at `reads`, and
+    the kernel itself sampled the group at `averages` (ns).
     """
     events: list[Event] = [Marker(0, 0, READER, b"psirec start")]
     for number, moment in enumerate(reads):
@@ -51,8 +51,8 @@ def probed(reads: list[int], averages: list[int]) -> Source:
 
 
 def readings_of(reads: list[int], totals: dict[File, list[int]]) -> Readings:
-    """The machine's files at each reading (us), with some and full equal; files without totals have
-    0.
+    """Returns the machine's files at each reading (us), with some and full equal; files without
+    totals have 0.
     """
     readings: Readings = {number: {} for number in range(len(reads))}
     for file in [File(path, resource) for path in ("/", "/a") for resource in RESOURCES]:
@@ -62,7 +62,7 @@ def readings_of(reads: list[int], totals: dict[File, list[int]]) -> Readings:
 
 
 def growth_in(trace: str, reads: list[int], averages: list[int], totals: dict[File, list[int]]) -> dict[File, Growth]:
-    """The computed growth of each file, by name."""
+    """Returns the computed growth of each file, by name."""
     clocks, told = Clocks(trace.splitlines()), Moments(probed(reads, averages), readings_of(reads, totals))
     inside = list(told.readings)
     found = {}

@@ -17,7 +17,7 @@ GUESSED = "psitrace: mended: first thread of a process moved, the others taken t
 
 
 def rows_of(printed: bytes, group: str) -> list[str]:
-    """The rows of a comparison for this group and its descendants."""
+    """Returns the rows of a comparison for this group and its descendants."""
     return [line for line in printed.decode().splitlines() if re.match(rf"\| {group}[ /]", line)]
 
 

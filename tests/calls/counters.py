@@ -64,7 +64,7 @@ def start(words: list[str]) -> int:
 
 
 def told_in(child: int, name: str) -> dict[str, str]:
-    """The lines of a file of /proc about a program, by name."""
+    """Returns the lines of a file of /proc about a program, by name."""
     try:
         with open(f"/proc/{child}/{name}", encoding="utf-8") as file:
             return dict(line.rstrip("\n").split(":", 1) for line in file)

@@ -21,7 +21,7 @@ SHADED = "after the first kill: others as recorded"
 
 @functools.lru_cache(maxsize=None)
 def supposed(program: str) -> bytes:
-    """The output of a replay of the story without the tasks of its victim."""
+    """Returns the output of a replay of the story without the tasks of its victim."""
     (kill,) = kills_of(story(program).decode())
     with open(os.path.join(TOP, "examples", "runaway.trace"), encoding="ascii") as file:
         left = without(trace_of(file.read()), kill)
@@ -29,7 +29,7 @@ def supposed(program: str) -> bytes:
 
 
 def drawn_beside(printed: bytes, recorded: bytes, *words: str) -> Drawn:
-    """The chart of this output with the recorded one for comparison."""
+    """Returns the chart of this output with the recorded one for comparison."""
     with tempfile.NamedTemporaryFile() as file:
         file.write(recorded)
         file.flush()

@@ -52,18 +52,18 @@ class Box(NamedTuple):
     bottom: float
 
     def overlaps(self, other: Box) -> bool:
-        """Whether both share more than a pixel in each direction."""
+        """Returns whether both share more than a pixel in each direction."""
         width = min(self.right, other.right) - max(self.left, other.left)
         return width > 1 and min(self.bottom, other.bottom) - max(self.top, other.top) > 1
 
     def is_crossed(self, one: tuple[float, float], other: tuple[float, float]) -> bool:
-        """Whether the line between two points goes through it."""
+        """Returns whether the line between two points goes through it."""
         steps = [[a + (b - a) * part / PARTS for a, b in zip(one, other)] for part in range(PARTS)]
         return any(self.left < x < self.right and self.top < y < self.bottom for x, y in steps)
 
 
 def width_of(text: str, look: str, size: float) -> float:
-    """The width of a text (pixels)."""
+    """Returns the width of a text (pixels)."""
     if look == "path":
         return len(text) * size * MONOSPACE / 1000
     widths = BOLD if look in ("title", "name") else PLAIN
@@ -72,7 +72,7 @@ def width_of(text: str, look: str, size: float) -> float:
 
 
 def box_of(text: str, look: str, element: Element, size: float) -> Box:
-    """The box of a text at the position of an element."""
+    """Returns the box of a text at the position of an element."""
     x, y, anchor = (element.get(it) or "" for it in ("x", "y", "text-anchor"))
     width, base = width_of(text, look, size), float(y)
     base += 0.35 * size if element.get("dy") == ".35em" else 0
@@ -81,8 +81,8 @@ def box_of(text: str, look: str, element: Element, size: float) -> Box:
 
 
 def boxes_in(element: Element, group: str, is_phone: bool) -> Iterator[Box]:
-    """The boxes of the texts in an element, which is in a group of this class. Turned texts are
-    left out.
+    """Yields the boxes of the texts in an element, which is in a group of this class. Turned texts
+    are left out.
     """
     texts = 0
     for child in element:
@@ -106,7 +106,7 @@ def boxes_in(element: Element, group: str, is_phone: bool) -> Iterator[Box]:
 
 
 def curves_of(svg: Element) -> Iterator[tuple[tuple[float, float], tuple[float, float]]]:
-    """The segments of all curves."""
+    """Yields the segments of all curves."""
     for group in svg.iter(f"{SVG}g"):
         if (group.get("class") or "").startswith("series"):
             for line in group.iter(f"{SVG}polyline"):
@@ -116,7 +116,7 @@ def curves_of(svg: Element) -> Iterator[tuple[tuple[float, float], tuple[float, 
 
 
 def faults_of(svg: Element, is_phone: bool) -> Iterator[str]:
-    """What is wrong with the texts of a picture."""
+    """Yields what is wrong with the texts of a picture."""
     left, top, width, height = map(float, (svg.get("viewBox") or "").split())
     boxes = [it for it in boxes_in(svg, "", is_phone) if it.text]
     must(bool(boxes), "the picture has texts")

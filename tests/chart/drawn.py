@@ -25,7 +25,7 @@ LEFT, RIGHT = 112, 936
 
 
 def piped(words: Sequence[str], chart_words: Sequence[str] = (), given: bytes = b"") -> bytes:
-    """The chart of this replay, drawn through a pipe."""
+    """Returns the chart of this replay, drawn through a pipe."""
     with subprocess.Popen(words, cwd=TOP, stdin=subprocess.PIPE, stdout=subprocess.PIPE) as first:
         assert first.stdin and first.stdout
         with subprocess.Popen([CHART, *chart_words], cwd=TOP, stdin=first.stdout, stdout=subprocess.PIPE) as second:
@@ -43,7 +43,7 @@ def drawn_of(printed: bytes, *words: str) -> bytes:
 
 
 def scale_of(marks: Sequence[tuple[float, float]]) -> Scale:
-    """The position of a number, from the first and the last mark of an axis."""
+    """Returns the position of a number, from the first and the last mark of an axis."""
     (first, first_place), (last, last_place) = marks[0], marks[-1]
     must(first != last, "an axis has two numbers")
     scale = (last_place - first_place) / (last - first)
@@ -53,14 +53,14 @@ def scale_of(marks: Sequence[tuple[float, float]]) -> Scale:
 
 
 def number_at(element: Element, name: str) -> float:
-    """The number in an attribute."""
+    """Returns the number in an attribute."""
     value = element.get(name)
     must(value is not None, f"{element.tag} has {name}")
     return float(value or 0)
 
 
 def inner(element: Element, tag: str) -> Element:
-    """The first child of an element with this tag."""
+    """Returns the first child of an element with this tag."""
     found = element.find(SVG + tag)
     if found is None:
         raise Wrong(f"{element.get('class')} has no {tag}")
@@ -110,11 +110,11 @@ class Drawn:
         return [self.texts(panel)[0] for panel in self.panels()]
 
     def panel(self, resource: str, number: int = 0) -> Element:
-        """The panel of the resource for the group with this number."""
+        """Returns the panel of the resource for the group with this number."""
         return self.all("g", f"panel {resource}")[number]
 
     def numbers(self, panel: Element) -> list[tuple[str, float]]:
-        """The texts at a panel's axis, and their positions."""
+        """Returns the texts at a panel's axis, and their positions."""
         return [(it.text or "", number_at(it, "y")) for it in self.one("g", "share", panel).iter(f"{SVG}text")]
 
     def share_scale(self, resource: str, number: int = 0) -> Scale:
@@ -128,7 +128,7 @@ class Drawn:
         return scale_of(marks)
 
     def lines(self, panel: Element, classes: str) -> list[list[tuple[float, float]]]:
-        """The points of each line of a series. A doubled point is a single report."""
+        """Returns the points of each line of a series. A doubled point is a single report."""
         found = []
         for line in self.one("g", f"series {classes}", panel).iter(f"{SVG}polyline"):
             points = [(float(x), float(y)) for x, y in (it.split(",") for it in (line.get("points") or "").split(" "))]
@@ -140,25 +140,25 @@ class Drawn:
         return [(float(x), float(y)) for x, y in re.findall(r"M([0-9.]+) ([0-9.]+)v6", paths)]
 
     def marks(self, kind: str) -> list[Element]:
-        """The vertical lines for kills, or for removals of groups."""
+        """Returns the vertical lines for kills, or for removals of groups."""
         return self.all("g", kind, self.one("g", "marks"))
 
     def places(self, kind: str) -> list[float]:
-        """The positions of the lines."""
+        """Returns the positions of the lines."""
         for mark in self.marks(kind):
             must_be("a line is upright", inner(mark, "line").get("x1"), inner(mark, "line").get("x2"))
         return [number_at(inner(mark, "line"), "x1") for mark in self.marks(kind)]
 
     def mark_texts(self, kind: str) -> list[list[str]]:
-        """The text beside each of the lines, if it has one."""
+        """Returns the text beside each of the lines, if it has one."""
         return [self.texts(mark) for mark in self.marks(kind)]
 
     def hints(self, kind: str) -> list[list[str]]:
-        """The tooltip of each of the lines."""
+        """Returns the tooltip of each of the lines."""
         return [(inner(mark, "title").text or "").split("\n") for mark in self.marks(kind)]
 
     def rules(self, panel: Element) -> Iterator[tuple[str, float, str]]:
-        """The thresholds of a panel: the class, the height and the text of each."""
+        """Yields the thresholds of a panel: the class, the height and the text of each."""
         for group in self.all("g", "rule", panel):
             line = inner(group, "polyline")
             (left, y), (right, other) = (it.split(",") for it in (line.get("points") or "").split(" "))
@@ -167,7 +167,7 @@ class Drawn:
 
 
 def spans_of(drawn: Drawn) -> list[tuple[float, float, float, str]]:
-    """The left end, the right end and the height of each text beside a vertical line.
+    """Returns the left end, the right end and the height of each text beside a vertical line.
 
     The letters of usual monospaced fonts are up to 0.61 of their size wide, which is 11 pixels
     here.

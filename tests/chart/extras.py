@@ -38,7 +38,7 @@ MEMORY_TRACE = """psitrace 1 cpus=1
 
 
 def pressure(cgroup: str, threshold: Any, **others: Any) -> dict[str, Any]:
-    """A detector of pressure; `rises` replaces the name."""
+    """Returns a detector of pressure; `rises` replaces the name."""
     name = "pressure_rising_beyond" if others.pop("rises", False) else "pressure_above"
     return {"name": name, "args": {"cgroup": cgroup, "resource": "memory", "threshold": threshold, "duration": 20, **others}}
 
@@ -55,7 +55,7 @@ def rules_of(*detectors: dict[str, Any], name: str = "R") -> dict[str, Any]:
 
 
 def drawn_with(printed: bytes, rules: dict[str, Any], *words: str) -> Drawn:
-    """The chart drawn with this rules file."""
+    """Returns the chart drawn with this rules file."""
     with tempfile.NamedTemporaryFile("w", suffix=".json") as file:
         json.dump(rules, file)
         file.flush()
@@ -63,7 +63,7 @@ def drawn_with(printed: bytes, rules: dict[str, Any], *words: str) -> Drawn:
 
 
 def without_kill(program: str) -> bytes:
-    """The story's replay without the kill, whose ruleset other rules don't have."""
+    """Returns the story's replay without the kill, whose ruleset other rules don't have."""
     return b"".join(line for line in story(program).splitlines(keepends=True) if not line.startswith(b"kill"))
 
 
@@ -152,7 +152,9 @@ def check_thresholds_that_are_near(program: str) -> None:
 
 
 def boxes_of(panel: Element) -> list[tuple[str, float, float, float, float]]:
-    """Each label of a threshold: its text, and its left, right, top and bottom. Letters of 11 pixels are 6 wide on average."""
+    """Returns each label of a threshold: its text, and its left, right, top and bottom. Letters of
+    11 pixels are 6 wide on average.
+    """
     found = []
     for it in panel.iter(f"{SVG}text"):
         if it.get("class") == "note":
@@ -214,7 +216,7 @@ def check_texts_fit(program: str) -> None:
 
 
 def drawn_memory(program: str, *words: str, trace: str = MEMORY_TRACE) -> Drawn:
-    """The chart of a replay of this trace, with its memory."""
+    """Returns the chart of a replay of this trace, with its memory."""
     with tempfile.NamedTemporaryFile("w", suffix=".trace") as file:
         file.write(trace)
         file.flush()
@@ -223,13 +225,13 @@ def drawn_memory(program: str, *words: str, trace: str = MEMORY_TRACE) -> Drawn:
 
 
 def byte_marks(drawn: Drawn, number: int = 0) -> list[tuple[float, float]]:
-    """The bytes at the axis of a group's memory, and their positions."""
+    """Returns the bytes at the axis of a group's memory, and their positions."""
     numbers = [(text.partition(" "), place) for text, place in drawn.numbers(drawn.panel("use", number))]
     return [(float(count) * UNITS[unit], place) for (count, _, unit), place in numbers]
 
 
 def steps_of(drawn: Drawn, what: str, number: int = 0) -> list[Steps]:
-    """A group's memory line: seconds and bytes, by the numbers of its axes."""
+    """Returns a group's memory line: seconds and bytes, by the numbers of its axes."""
     panel = drawn.panel("use", number)
     scale = scale_of(byte_marks(drawn, number))
     place, size = scale(0), scale(1) - scale(0)

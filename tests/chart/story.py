@@ -168,7 +168,7 @@ def columns_of(drawn: Drawn, moments: list[int]) -> set[int]:
 
 
 def ends_of_columns(points: list[tuple[float, float]]) -> dict[int, tuple[float, float]]:
-    """The least and the greatest height in each pixel's column."""
+    """Returns the least and the greatest height in each pixel's column."""
     heights = collections.defaultdict(list)
     for x, y in points:
         heights[int(round(x, 2))].append(round(y, 2))

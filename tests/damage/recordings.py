@@ -74,7 +74,7 @@ class Damage:
         self.odd: dict[str, str] = {}
 
     def raw(self) -> str:
-        """The name of a random file of pages."""
+        """Returns the name of a random file of pages."""
         return self.draw.choice(sorted(name for name in self.files if name.endswith(".raw")))
 
     def put(self, name: str, at: int, data: bytes) -> None:
@@ -205,7 +205,7 @@ class Damage:
 
 @functools.lru_cache(maxsize=None)
 def kernel_page() -> Any:
-    """The page layout of the stored recordings."""
+    """Returns the page layout of the stored recordings."""
     with recording("exec-2") as folder:
         return kernel_of(folder).page
 

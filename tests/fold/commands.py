@@ -142,7 +142,9 @@ def check_the_limit(_: str) -> None:
 
 
 def limited(large: int) -> list[bytes]:
-    """The lines of a trace that ends at a limit, if a recording of `large` bytes counts as large."""
+    """Returns the lines of a trace that ends at a limit, if a recording of `large` bytes counts as
+    large.
+    """
     before = folded.MOST_EVENTS, command.LARGE
     try:
         folded.MOST_EVENTS, command.LARGE = 900, large

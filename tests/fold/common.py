@@ -19,7 +19,7 @@ from psifold.victims import Victim  # noqa: E402
 
 
 def folded(trace: str, window: int, victims: Sequence[Victim] = ()) -> tuple[str, Fold]:
-    """The folded trace, with windows of `window` ns, and the fold that made it."""
+    """Returns the folded trace, with windows of `window` ns, and the fold that made it."""
     header, *lines = trace.splitlines()
     found = [header]
     fold = Fold(int(header.partition("cpus=")[2]), window, found.extend, victims)
@@ -28,7 +28,7 @@ def folded(trace: str, window: int, victims: Sequence[Victim] = ()) -> tuple[str
 
 
 def printed(program: str, trace: str, *words: str) -> bytes:
-    """The output of a command of psi_oomd on a trace."""
+    """Returns the output of a command of psi_oomd on a trace."""
     done = run([program, words[0], "-", *words[1:]], trace.encode())
     must_be(f"the status of {' '.join(words)}, which said {done.said}", done.status, 0)
     return done.output
@@ -93,24 +93,24 @@ class Wide(Maker):
 
 
 def window_of(maker: Maker, number: int) -> int:
-    """A window (ns) for a generated trace: mostly the tick that it was made for."""
+    """Returns a window (ns) for a generated trace: mostly the tick that it was made for."""
     return random.Random(number).choice((1, 1, 2, 3)) * maker.tick
 
 
 def files_of(folder: str) -> list[str]:
-    """The small traces of a folder of the repository."""
+    """Returns the small traces of a folder of the repository."""
     names = (os.path.join(folder, name) for name in sorted(os.listdir(folder)) if name.endswith(".trace"))
     return [name for name in names if "refused" not in name]
 
 
 def text_of(name: str) -> str:
-    """The text of a file."""
+    """Returns the text of a file."""
     with open(name, encoding="ascii") as file:
         return file.read()
 
 
 def lines_between(trace: str, start: int, end: int) -> list[str]:
-    """The lines of a trace later than `start` and up to `end` (ns)."""
+    """Returns the lines of a trace later than `start` and up to `end` (ns)."""
     found = [line for line in trace.splitlines()[1:] if start < int(line.split(" ")[0]) <= end]
     must(trace.endswith("\n"), "the trace ends with a newline")
     return found

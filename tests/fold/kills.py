@@ -44,7 +44,7 @@ class Found(NamedTuple):
 
 
 def whatif() -> ModuleType:
-    """The random rules of tests/whatif."""
+    """Returns the random rules of tests/whatif."""
     if "whatif" not in sys.modules:
         loader = SourceFileLoader("whatif", os.path.join(TOP, "tests", "whatif", "test"))
         spec = spec_from_loader("whatif", loader)
@@ -55,20 +55,20 @@ def whatif() -> ModuleType:
 
 
 def kills_of(program: str, trace: str, rules: str, tick: int) -> list[str]:
-    """The kill lines of a replay at a tick (ns)."""
+    """Returns the kill lines of a replay at a tick (ns)."""
     words = ("replay", f"--rules={rules}", f"--tick-ms={tick // MS}", "--report-s=0", "--interval-s=1")
     return [line for line in printed(program, trace, *words).decode().splitlines() if line.startswith("kill ")]
 
 
 def packed(rules: list[list[Any]]) -> Iterator[list[Any]]:
-    """All rulesets, in as few lists as a rules file may have."""
+    """Yields all rulesets, in as few lists as a rules file may have."""
     rulesets = [ruleset for one in rules for ruleset in one]
     for start in range(0, len(rulesets), MOST_RULESETS):
         yield rulesets[start : start + MOST_RULESETS]
 
 
 def difference(rules: list[Any], wanted: list[str], found: list[str]) -> str:
-    """The first kill line that is in one list only, and its ruleset."""
+    """Returns the first kill line that is in one list only, and its ruleset."""
     lines = sorted({*wanted} ^ {*found})
     kill = KILL.match(lines[0]) if lines else None
     return f"{lines[0]}; ruleset {json.dumps(rules[int(kill[1])])}" if kill else "in another order"
@@ -92,7 +92,7 @@ def compare(program: str, what: str, traces: tuple[str, str], rules: list[list[A
 
 
 def total(parts: Iterator[Found]) -> Found:
-    """The sums of all parts."""
+    """Returns the sums of all parts."""
     found = list(parts)
     rulesets, replays, kills = (sum(it[at] for it in found) for at in range(3))
     return Found(rulesets, replays, kills, [line for it in found for line in it.differing])
@@ -139,8 +139,8 @@ def rules_of(trace: str, draw: random.Random) -> list[Any]:
 
 
 def pair_of(name: str) -> tuple[bytes, bytes]:
-    """The trace of a stored recording, of a recording's folder or of a file, and the trace folded
-    into windows of a second.
+    """Returns the trace of a stored recording, of a recording's folder or of a file, and the trace
+    folded into windows of a second.
     """
     if os.path.isdir(name):
         return both_of_folder(name)
@@ -171,7 +171,7 @@ def recordings(
 
 
 def stored() -> list[str]:
-    """The names of all stored recordings and texts."""
+    """Returns the names of all stored recordings and texts."""
     return [*names_of(FOLDERS), *names_of(TEXTS)]
 
 

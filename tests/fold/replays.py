@@ -34,7 +34,7 @@ GROUPS = "*,*/*,*/*/*"
 
 
 def ruleset(resource: str, action: str, args: dict[str, str]) -> dict[str, object]:
-    """A ruleset that acts on any group that stalls for the resource at all."""
+    """Returns a ruleset that acts on any group that stalls for the resource at all."""
     stalls = {"name": "pressure_above", "args": {"cgroup": "/," + GROUPS, "resource": resource, "threshold": "0", "duration": "1"}}
     taken = {"name": action, "args": {"cgroup": GROUPS, **args}}
     return {"name": resource, "post_action_delay": "3", "detectors": [["stalls", stalls]], "actions": [taken]}
@@ -57,12 +57,12 @@ def watching() -> Iterator[tuple[str, ...]]:
 
 
 def names_of(suffix: str) -> list[str]:
-    """The stored recordings with this suffix."""
+    """Returns the stored recordings with this suffix."""
     return sorted(name[: -len(suffix)] for name in os.listdir(STORED) if name.endswith(suffix))
 
 
 def both_of(name: str) -> tuple[bytes, bytes]:
-    """The trace of a stored recording, and the folded one, with triggers."""
+    """Returns the trace of a stored recording, and the folded one, with triggers."""
     if name in names_of(FOLDERS):
         with recording(name) as folder:
             return both_of_folder(folder, name in LOSSY)
@@ -70,12 +70,12 @@ def both_of(name: str) -> tuple[bytes, bytes]:
 
 
 def both_of_folder(folder: str, is_lossy: bool = False) -> tuple[bytes, bytes]:
-    """The trace of a recording's folder, and the folded one, with triggers."""
+    """Returns the trace of a recording's folder, and the folded one, with triggers."""
     return both_by([folder], is_lossy)
 
 
 def both_by(source: list[str], is_lossy: bool, given: bytes = b"") -> tuple[bytes, bytes]:
-    """The trace that psitrace makes of a source, and the folded one, with triggers."""
+    """Returns the trace that psitrace makes of a source, and the folded one, with triggers."""
     words = [*source, *TRIGGERS, *(["--force"] if is_lossy else [])]
     plain, made = (tool("psitrace", *words, *more, given=given) for more in ((), ("--fold=1",)))
     status = 3 if is_lossy else 0
@@ -117,7 +117,9 @@ def check_examples_and_kernel_cases(program: str) -> None:
 
 
 def is_near_whole(fold: Fold) -> bool:
-    """Whether a sum has a remainder of rounding, so that a total might round to another whole us."""
+    """Returns whether a sum has a remainder of rounding, so that a total might round to another
+    whole us.
+    """
     return any(fold.check.behind.values())
 
 

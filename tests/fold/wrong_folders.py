@@ -19,7 +19,7 @@ SECOND = 1000 * MS
 
 
 def wrong_lines(change: Callable[[list[Line]], list[Line]]) -> Callable[[Any], Any]:
-    """A folder whose lines of states are changed by `change`."""
+    """Returns a folder whose lines of states are changed by `change`."""
 
     def wrap(write: Any) -> Any:
         return lambda self, *given: change(write(self, *given))

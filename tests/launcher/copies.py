@@ -78,7 +78,7 @@ class Copy:
                 os.symlink(found, os.path.join(self.path, tool))
 
     def run(self, *words: str, place: str = "/", given: str = "", **more: str) -> tuple[int, str, str]:
-        """The status and both streams of a run; in this folder, with this input and these
+        """Returns the status and both streams of a run; in this folder, with this input and these
         variables.
         """
         words = (os.path.join(self.top, self.name), *words)
@@ -113,7 +113,7 @@ class Copy:
         return place
 
     def other(self, room: str) -> str:
-        """A program like that of `give_program`, at another path."""
+        """Returns a program like that of `give_program`, at another path."""
         place = os.path.join(room, f"a {self.name}")
         with open(place, "w", encoding="utf-8") as file:
             file.write(PROGRAM)
@@ -121,8 +121,8 @@ class Copy:
         return place
 
     def trial(self, *words: str, **more: str) -> tuple[list[str], list[str]]:
-        """What `rt try` gets for these arguments: the files with their contents, and the program's
-        arguments.
+        """Returns what `rt try` gets for these arguments: the files with their contents, and the
+        program's arguments.
         """
         status, said, error = self.run("--try", *words, SAID="own words\n" + ENDED.format(3), STATUS="3", **more)
         told = "".join(f"{self.name}: {line}\n" for line in (WARNED, BUILDS.format(self.name)))
@@ -134,7 +134,7 @@ class Copy:
         return [line[1:-1] for line in lines[2:end:2]], [line[1:-1] for line in lines[end + 1 :]]
 
     def git(self, *words: str) -> str:
-        """The output of git in this folder, with an author of its own."""
+        """Returns the output of git in this folder, with an author of its own."""
         author = [word for name in ("user.name=a", "user.email=a@example.org") for word in ("-c", name)]
         return subprocess.run(["git", *author, *words], cwd=self.top, check=True, capture_output=True, text=True).stdout.strip()
 
@@ -151,7 +151,7 @@ class Copy:
         os.utime(os.path.join(self.top, "crates.txt"), (0, 0))
 
     def program(self) -> str:
-        """The launcher's path for the program."""
+        """Returns the launcher's path for the program."""
         return os.path.join(self.top, "crates", f"{self.name}_main", "out", f"{self.name}_main")
 
 
@@ -162,7 +162,7 @@ def must_match(what: str, lines: list[str], patterns: list[str]) -> None:
 
 
 def copies(room: str, has_git: bool = True) -> Iterator[Copy]:
-    """The launcher of each program."""
+    """Yields the launcher of each program."""
     for name in PROGRAMS:
         yield Copy(room, name, has_git)
 

@@ -94,7 +94,7 @@ exit 7
 
 
 def run_kept(copy: Copy, cache: str, *words: str, **more: str) -> tuple[int, str, str]:
-    """A trial with its own cache."""
+    """Returns a trial with its own cache."""
     return copy.run("--try", *words, XDG_CACHE_HOME=cache, **more)
 
 

@@ -29,7 +29,7 @@ MALFORMED = ("24:00", "14:60", "14:03:60", "14", "1e3", "14:3", "2026-11-28T14:0
 
 
 def said_by(call: object, *words: object) -> str:
-    """The message of the fault that a call raises; empty if it raises none."""
+    """Returns the message of the fault that a call raises; empty if it raises none."""
     try:
         call(*words)  # type: ignore[operator]
     except Fault as fault:

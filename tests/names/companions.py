@@ -18,7 +18,9 @@ def first_process(label: int) -> int:
 
 
 def companion(trace: str, names: dict[int, str], begins: str = BEGAN, processes: dict[int, int] = {}) -> Companion:  # noqa: B006
-    """The companion of a trace: `names` by label, and `processes` of labels that are threads."""
+    """Returns the companion of a trace: `names` by label, and `processes` of labels that are
+    threads.
+    """
     size, digest = digest_of([trace.encode()])
     lives: dict[int, Life] = {}
     groups: dict[int, str] = {}

@@ -20,7 +20,7 @@ ESCAPED = ("<script>alert(1)</script>", r"a\x1b[31mb", r"\xff\xfe", r"\xe2\x80\x
 
 
 def runaway() -> str:
-    """The trace of the example."""
+    """Returns the trace of the example."""
     with open(RUNAWAY, encoding="ascii") as file:
         return file.read()
 

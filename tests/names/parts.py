@@ -26,12 +26,12 @@ class Load(Maker):
 
 
 def process_of(label: int) -> int:
-    """The process of a label."""
+    """Returns the process of a label."""
     return THREADS.get(label, first_process(label))
 
 
 def with_groups_of_processes(trace: str) -> str:
-    """The trace with each process in a group of its own, inside its group."""
+    """Returns the trace with each process in a group of its own, inside its group."""
     lines, live = [], set[str]()
 
     def group_of(now: str, path: str, label: str) -> str:
@@ -57,7 +57,7 @@ def with_groups_of_processes(trace: str) -> str:
 
 
 def groups_in(room: Room, *words: str) -> list[dict[str, Any]]:
-    """What blame says of all groups."""
+    """Returns what blame says of all groups."""
     done = room.run(BLAME, *words, "--json")
     must_be(f"the status of blame {words}, which said {done.error}", done.status, 0)
     found: list[dict[str, Any]] = json.loads(done.output)["groups"]
@@ -65,7 +65,7 @@ def groups_in(room: Room, *words: str) -> list[dict[str, Any]]:
 
 
 def base(name: str) -> str:
-    """The group above a process's group, without the number of its life."""
+    """Returns the group above a process's group, without the number of its life."""
     return name.partition("#")[0].rpartition("/")[0] or "/"
 
 

@@ -17,7 +17,7 @@ START = "2026-11-28T14:00:00+01:00"
 
 
 def made(room: Room, folder: str, *words: str) -> tuple[str, Companion, str]:
-    """The trace of a recording, its companion and its summary."""
+    """Returns the trace of a recording, its companion and its summary."""
     done = room.run(PSITRACE, folder, "-o", "x.trace", *words)
     must_be(f"the status of psitrace, which said {done.error}", done.status, 0)
     found = find(f"{room.path}/x.trace")

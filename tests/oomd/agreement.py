@@ -114,7 +114,7 @@ def check_examples(room: Room) -> None:
 
 
 def traces(room: Room) -> Iterator[tuple[str, str]]:
-    """The stored recordings as traces."""
+    """Yields the stored recordings as traces."""
     for name in RECORDINGS:
         with recording(name) as folder:
             done = tool("psitrace", folder, program=room.program)

@@ -26,7 +26,7 @@ ABSENT = "oomd 0.5.0 isn't installed (Debian's package oomd): only the stored an
 
 @functools.lru_cache(maxsize=None)
 def has_oomd() -> bool:
-    """Whether the version of oomd that the emulation follows is installed."""
+    """Returns whether the version of oomd that the emulation follows is installed."""
     path = shutil.which("oomd")
     if not path or not shutil.which("cc"):
         return False
@@ -53,7 +53,7 @@ def alone(check: Callable[[Room], None]) -> Callable[[Room], None]:
 
 @functools.lru_cache(maxsize=None)
 def sandbox() -> str:
-    """The sandbox in which oomd runs here; none in a container that allows neither kind."""
+    """Returns the sandbox in which oomd runs here; none in a container that allows neither kind."""
     for kind in ("bwrap", "unshare"):
         if shutil.which(kind) and not binary.Sandbox(kind, "/tmp", "/usr/bin/true").fault():
             return kind

@@ -55,7 +55,7 @@ def grow(cgroup: str, delay: int = 600, **more: object) -> Config:
 
 
 def above(cgroup: str, threshold: object, duration: object = 0) -> list[Config]:
-    """The detector of memory pressure."""
+    """Returns the detector of memory pressure."""
     return [plugin("pressure_above", cgroup, resource="memory", threshold=threshold, duration=duration)]
 
 
@@ -68,7 +68,7 @@ def scans(cgroup: str, duration: int) -> list[Config]:
 
 
 def one(group: str = "/a", host: str = "0 0 0") -> Story:
-    """A group with a task."""
+    """Returns a group with a task."""
     return Story(group, host=host).task(group)
 
 

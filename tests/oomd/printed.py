@@ -29,7 +29,7 @@ def put(room: Room, story: Story, end: float, config: object) -> tuple[str, str,
 
 
 def kills(room: Room, *words: str) -> list[tuple[int, str]]:
-    """The kills in the JSON output: seconds and victims."""
+    """Returns the kills in the JSON output: seconds and victims."""
     done = room.run(OOMD, *words, "--interval-s", "1", "--json")
     must_be(f"the status, where standard error was {done.error!r}", done.status, 0)
     found = json.loads(done.output)["decisions"]

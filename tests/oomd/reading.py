@@ -106,7 +106,7 @@ TEXTS = (
 
 
 def reason(data: bytes) -> str | None:
-    """Why the emulation of oomd rejects a configuration, or None."""
+    """Returns why the emulation of oomd rejects a configuration, or None."""
     try:
         engine(configuration("c.json", data), [], Machine(Extras(), Host(GIB, GIB, 0)), 0)
     except Refused as refused:
@@ -200,7 +200,7 @@ GLOB_ERR, GLOB_NOSORT, GLOB_BRACE, GLOB_ONLYDIR = 1, 4, 1 << 10, 1 << 13
 
 
 def by_glob(folder: str, pattern: str) -> list[str]:
-    """The folders that glob(3) itself finds, called as oomd does."""
+    """Returns the folders that glob(3) itself finds, called as oomd does."""
     libc, found = ctypes.CDLL(None), Glob()
     names: set[str] = set()
     for one in filter(None, pattern.split(",")):

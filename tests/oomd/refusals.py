@@ -90,7 +90,7 @@ def check_programs_that_arent_oomd(room: Room) -> None:
 
 
 def static(room: Room) -> str:
-    """The path of a statically linked program."""
+    """Returns the path of a statically linked program."""
     source, made = os.path.join(room.path, room.file("s.c", "int main(void){return 0;}")), os.path.join(room.path, "static")
     done = subprocess.run(["cc", "-static", "-o", made, source], capture_output=True)
     return made if done.returncode == 0 else "/usr/bin/true"

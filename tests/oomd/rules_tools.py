@@ -137,7 +137,7 @@ def must_be_taken(room: Room, what: str, text: str) -> None:
 
 
 def converted(room: Room, command: str, config: Any) -> tuple[Any, int]:
-    """A command's output for a file, and its status."""
+    """Returns a command's output for a file, and its status."""
     if command == "from-oomd":
         nearest = Nearest(configuration("in.json", json.dumps(config).encode()))
         return nearest.data, int(any(is_lost for _, is_lost in nearest.told))

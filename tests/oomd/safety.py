@@ -25,7 +25,7 @@ RESTART = "systemd_restart"
 
 
 def sandboxes() -> list[str]:
-    """The sandboxes that work here."""
+    """Returns the sandboxes that work here."""
     return [
         it
         for it in SANDBOXES

@@ -56,7 +56,7 @@ class Story:
 
 
 def plugin(name: str, cgroup: str | None = None, **args: object) -> Config:
-    """A plugin, with its arguments as strings."""
+    """Returns a plugin, with its arguments as strings."""
     found = {} if cgroup is None else {"cgroup": cgroup}
     return {"name": name, "args": {**found, **{key: str(it) for key, it in args.items()}}}
 
@@ -66,7 +66,7 @@ def ruleset(detectors: list[Config], *actions: Config, **more: object) -> Config
 
 
 def rules(detectors: list[Config], *actions: Config, **more: object) -> Config:
-    """A configuration with one ruleset."""
+    """Returns a configuration with one ruleset."""
     return {"rulesets": [ruleset(detectors, *actions, **more)]}
 
 

@@ -44,7 +44,7 @@ def unescaped(found: re.Match[str]) -> str:
 
 
 def labels_of(text: Optional[str]) -> Labels:
-    """The labels between braces. No name may be repeated."""
+    """Returns the labels between braces. No name may be repeated."""
     found = re.findall(rf"({NAME})={TEXT}", text or "")
     must_be(f"names of {text}, how many", len({name for name, _ in found}), len(found))
     return frozenset((name, ESCAPED.sub(unescaped, value)) for name, value in found)
@@ -100,6 +100,6 @@ class Exposition:
         points.append((sample.moment, sample.value))
 
     def points(self, name: str, **labels: str) -> list[Point]:
-        """The points of a metric, by the name of its samples and all of its labels."""
+        """Returns the points of a metric, by the name of its samples and all of its labels."""
         family = self.families.get(name[: -len("_total")], Family(name))
         return family.metrics.get(frozenset(labels.items()), [])

@@ -28,7 +28,7 @@ PATIENCE = 60
 
 
 def is_there(program: str, what: str) -> bool:
-    """Whether a program is installed; if not, prints what is skipped."""
+    """Returns whether a program is installed; if not, prints what is skipped."""
     if shutil.which(program):
         return True
     print(f"{program} isn't installed ({PACKAGE}): {what} is skipped")
@@ -51,7 +51,7 @@ def free_port() -> int:
 
 
 def answer_of(url: str) -> Any:
-    """A server's answer, or None if there is none yet."""
+    """Returns a server's answer, or None if there is none yet."""
     try:
         with urllib.request.urlopen(url, timeout=PATIENCE) as answer:
             return json.load(answer) if "/api/" in url else answer.read()
@@ -85,7 +85,7 @@ def tail_of(data: str) -> str:
 
 
 def asked(address: str, query: str, moment: Decimal) -> Any:
-    """The result of a query at a time."""
+    """Returns the result of a query at a time."""
     words = urllib.parse.urlencode({"query": query, "time": str(moment)})
     answer = answer_of(f"{address}/api/v1/query?{words}")
     must(bool(answer) and answer["status"] == "success", f"{query} is answered: {answer}")

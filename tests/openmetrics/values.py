@@ -35,7 +35,7 @@ def metrics_of(printed: bytes, *words: str) -> Exposition:
 
 
 def totals_of(printed: bytes) -> dict[tuple[str, str, str], list[Point]]:
-    """The printed totals, in s, by group, resource and level."""
+    """Returns the printed totals, in s, by group, resource and level."""
     totals = collections.defaultdict(list)
     head: list[str] = []
     for words in (line.split(" ") for line in printed.decode().splitlines()):
@@ -48,7 +48,7 @@ def totals_of(printed: bytes) -> dict[tuple[str, str, str], list[Point]]:
 
 
 def moments_of(printed: bytes, verb: str, *words: str) -> list[Decimal]:
-    """The times of lines with this verb and these words."""
+    """Returns the times of lines with this verb and these words."""
     lines = [line.split(" ") for line in printed.decode().splitlines() if line.startswith(f"{verb} ")]
     return [EPOCH + Decimal(line[1]) / 10**9 for line in lines if set(words) <= set(line)]
 

@@ -37,7 +37,7 @@ def make_machine(top: str, group: str, command: str, script: str) -> None:
 
 
 def asked(top: str, command: str) -> list[str]:
-    """The arguments with which the command was called."""
+    """Returns the arguments with which the command was called."""
     name = f"{top}.bin/{command}.words"
     if not os.path.exists(name):
         return []

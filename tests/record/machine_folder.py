@@ -68,9 +68,9 @@ def write(path: str, text: str | bytes) -> None:
 
 
 def kernel_types(wait_name: str = "in_iowait", functions: dict[str, int] = FUNCTIONS) -> bytes:
-    """The kernel's types in the format of Documentation/bpf/btf.rst: a structure that only has the
-    name's number somewhere, a structure with the right name but without the members, and the right
-    one; then functions with these numbers of parameters, each before its prototype.
+    """Returns the kernel's types in the format of Documentation/bpf/btf.rst: a structure that only
+    has the name's number somewhere, a structure with the right name but without the members, and
+    the right one; then functions with these numbers of parameters, each before its prototype.
     """
     names, text = {}, b"\0"
     for name in ("int", "task_struct", "other", "pid", wait_name, *functions):
@@ -160,7 +160,7 @@ def make_machine(top: str, overrun: int = 0, oldest: str = "1.000000", pages: in
 
 
 def listing(top: str) -> dict[str, tuple[int, str | bytes | None]]:
-    """The contents of the folder: the mode of each path, and what it contains."""
+    """Returns the contents of the folder: the mode of each path, and what it contains."""
     found: dict[str, tuple[int, str | bytes | None]] = {}
     for folder, folders, files in os.walk(top):
         for name in folders + files:

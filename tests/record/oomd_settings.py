@@ -51,7 +51,7 @@ def make_booted(top: str) -> None:
 
 
 def stored_files(run: Run) -> dict[str, str]:
-    """All files of the recording's folder `systemd`."""
+    """Returns all files of the recording's folder `systemd`."""
     top = f"{run.out}/systemd"
     names = [os.path.relpath(f"{at}/{it}", top) for at, _, files in os.walk(top) for it in files]
     return {it: run.file(f"systemd/{it}").decode() for it in names}

@@ -23,7 +23,7 @@ DAY = 86400
 
 
 def module(name: str) -> Any:
-    """A module of the recorder under test."""
+    """Returns a module of the recorder under test."""
     tools = os.path.dirname(RECORD)
     if tools not in sys.path:
         sys.path.insert(0, tools)
@@ -31,7 +31,7 @@ def module(name: str) -> Any:
 
 
 def modes(top: str) -> set[str]:
-    """The modes of a folder and of everything below it."""
+    """Returns the modes of a folder and of everything below it."""
     found = [top, *(f"{at}/{it}" for at, folders, files in os.walk(top) for it in folders + files)]
     return {stat.filemode(os.lstat(it).st_mode) for it in found}
 
@@ -50,7 +50,9 @@ def check_only_its_owner_reads_it(top: str) -> None:
 
 
 def swapped(top: str, is_swapped: Callable[[str], None]) -> tuple[Any, str]:
-    """A recorder's folder, moved to the returned path; `is_swapped` puts something at its old path."""
+    """Returns a recorder's folder, moved to the returned path; `is_swapped` puts something at its
+    old path.
+    """
     os.makedirs(top)
     made = module("folder").Folder(f"{top}/out")
     os.rename(f"{top}/out", f"{top}/elsewhere")
@@ -170,7 +172,7 @@ def check_a_ring_whose_markers_end(top: str) -> None:
 
 
 def run_has_begun(reader: int) -> bool:
-    """Whether a marker was written."""
+    """Returns whether a marker was written."""
     with contextlib.suppress(BlockingIOError):
         return bool(os.read(reader, 1 << 16))
     return False
@@ -186,7 +188,7 @@ def make_recordings(top: str, ages: tuple[float, ...]) -> None:
 
 
 def limited(top: str, limit: int) -> tuple[subprocess.Popen[str], str]:
-    """A recorder that may make `limit` recordings a day."""
+    """Returns a recorder that may make `limit` recordings a day."""
     out = f"{top}.state/new"
     words = [RECORD, "--root", top, out, "--seconds", "0.2", "--daily-limit", str(limit)]
     STARTED[out] = subprocess.Popen(words, stdout=subprocess.DEVNULL, stderr=subprocess.PIPE, text=True)
@@ -194,7 +196,7 @@ def limited(top: str, limit: int) -> tuple[subprocess.Popen[str], str]:
 
 
 def ended(child: subprocess.Popen[str]) -> str:
-    """Its messages up to its end."""
+    """Returns its messages up to its end."""
     try:
         return child.communicate(timeout=WAIT_S)[1]
     except subprocess.TimeoutExpired:

@@ -30,7 +30,7 @@ def stored(above: str) -> list[str]:
 
 
 def record(top: str, out: str, *words: str) -> subprocess.CompletedProcess[str]:
-    """A whole short recording into this folder."""
+    """Returns a whole short recording into this folder."""
     command = [RECORD, "--root", top, out, "--seconds", "0.3", *words]
     return subprocess.run(command, stdin=subprocess.DEVNULL, capture_output=True, text=True, timeout=60)
 
@@ -117,7 +117,7 @@ def check_status(top: str) -> None:
 
 
 def values(text: str) -> dict[str, float]:
-    """The samples of a textfile. Each has its help and its type before it."""
+    """Returns the samples of a textfile. Each has its help and its type before it."""
     lines, found = text.splitlines(), {}
     for help_, kind, sample in zip(lines[::3], lines[1::3], lines[2::3]):
         name = sample.partition("{")[0]

@@ -108,14 +108,14 @@ EDITS: tuple[Edit, ...] = (
 
 
 def edited(top: str, edit: Edit) -> str | None:
-    """The file with this edit, or None if the text isn't in it exactly once."""
+    """Returns the file with this edit, or None if the text isn't in it exactly once."""
     with open(f"{top}/tools/psirecord/{edit[0]}", encoding="utf-8") as file:
         text = file.read()
     return text.replace(edit[1], edit[2]) if text.count(edit[1]) == 1 else None
 
 
 def is_found(top: str, edit: Edit) -> bool:
-    """Whether the case fails on the wrong recorder."""
+    """Returns whether the case fails on the wrong recorder."""
     with tempfile.TemporaryDirectory(prefix="wrong") as scratch:
         shutil.copytree(f"{top}/tools", f"{scratch}/tools")
         with open(f"{scratch}/tools/psirecord/{edit[0]}", "w", encoding="utf-8") as file:

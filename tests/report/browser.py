@@ -23,7 +23,7 @@ NAMES = ("chromium", "chromium-browser", "google-chrome")
 
 
 def browser_path() -> Optional[str]:
-    """The path of the browser, or None if none is installed."""
+    """Returns the path of the browser, or None if none is installed."""
     return next((path for path in map(shutil.which, NAMES) if path), None)
 
 
@@ -48,7 +48,7 @@ class Socket:
         self.stream.sendall(b"\x81" + length + mask + bytes(it ^ mask[place % 4] for place, it in enumerate(data)))
 
     def receive(self) -> str:
-        """The next text, from one frame or several."""
+        """Returns the next text, from one frame or several."""
         whole = b""
         while True:
             first, second = self.file.read(2)
@@ -120,7 +120,7 @@ class Page:
             time.sleep(0.02)
 
     def value(self, script: str) -> Any:
-        """The value of an expression on the page."""
+        """Returns the value of an expression on the page."""
         found = self.ask("Runtime.evaluate", expression=script, returnByValue=True)
         must("exceptionDetails" not in found, f"{script}: {found.get('exceptionDetails')}")
         return found["result"].get("value")
@@ -131,7 +131,7 @@ class Page:
         self.ask("Emulation.setEmulatedMedia", media=media, features=[{"name": "prefers-color-scheme", "value": scheme}])
 
     def picture(self, clip: Optional[dict[str, float]] = None) -> bytes:
-        """A PNG of the window, or of a part of the page."""
+        """Returns a PNG of the window, or of a part of the page."""
         more = {"clip": {**clip, "scale": 1}, "captureBeyondViewport": True} if clip else {}
         return base64.b64decode(self.ask("Page.captureScreenshot", format="png", **more)["data"])
 
@@ -156,8 +156,8 @@ class Page:
 
 
 def flags(folder: str) -> list[str]:
-    """The browser's arguments: no requests to the network, and no sandbox if run as root, since
-    Chromium would refuse.
+    """Returns the browser's arguments: no requests to the network, and no sandbox if run as root,
+    since Chromium would refuse.
     """
     found = ["--headless", "--disable-gpu", "--hide-scrollbars", "--no-first-run", "--disable-extensions", "--disable-dev-shm-usage"]
     found += ["--disable-background-networking", "--disable-component-update", "--disable-sync", f"--user-data-dir={folder}"]

@@ -28,7 +28,9 @@ class Node:
         self.children: list[Node | str] = []
 
     def find(self, tag: str, **wanted: str) -> list[Node]:
-        """All descendants with this name and these attributes (one class among several suffices)."""
+        """Returns all descendants with this name and these attributes (one class among several
+        suffices).
+        """
         found = []
         for it in self.children:
             if isinstance(it, Node):
@@ -74,7 +76,7 @@ def run(program: str, *words: str, folder: str = TOP) -> subprocess.CompletedPro
 
 
 def page_of(program: str, *words: str, folder: str = TOP) -> bytes:
-    """A page; the run must succeed."""
+    """Returns a page; the run must succeed."""
     done = run(program, *words, folder=folder)
     must_be(f"the status of report {words}, which said {done.stderr!r}", done.returncode, 0)
     return done.stdout
@@ -82,7 +84,7 @@ def page_of(program: str, *words: str, folder: str = TOP) -> bytes:
 
 @functools.lru_cache(maxsize=None)
 def story(program: str) -> bytes:
-    """The page of the story, made as in README."""
+    """Returns the page of the story, made as in README."""
     with tempfile.TemporaryDirectory() as folder:
         os.symlink(os.path.join(TOP, "examples"), os.path.join(folder, "examples"))
         page_of(program, "examples/runaway.trace", "--rules", "examples/runaway.json", "-o", "runaway.html", folder=folder)
@@ -91,7 +93,7 @@ def story(program: str) -> bytes:
 
 
 def data_of(page: Node) -> dict[str, Any]:
-    """The data for the script."""
+    """Returns the data for the script."""
     (found,) = page.find("script", id="data")
     told: dict[str, Any] = json.loads(found.text())
     must(told["panels"], "there are panels")

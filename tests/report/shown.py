@@ -61,13 +61,15 @@ def is_skipped() -> bool:
 
 
 def place_of(page: Page, seconds: float) -> tuple[float, float]:
-    """The position in the window of a time (s) in the first picture, if it shows all 300 s."""
+    """Returns the position in the window of a time (s) in the first picture, if it shows all 300
+    s.
+    """
     x, y, width, height = page.value(BOX)
     return x + (112 + seconds / 300 * (936 - 112)) * width / 960, y + height * 0.6
 
 
 def values_of(program: str, seconds: int) -> str:
-    """The values below the first picture at a time (s), from psi_oomd's output."""
+    """Returns the values below the first picture at a time (s), from psi_oomd's output."""
     printed = Printed(run([program, "replay", "examples/runaway.trace", "--report-s", "2"]))
     looks = [(level, average) for level in ("some", "full") for average in ("avg10", "avg60", "avg300")]
     cells = [f"{' '.join(look)} {dict(printed.shares['/batch', 'memory', *look])[seconds * SECOND]:.2f} %" for look in looks]
@@ -229,7 +231,7 @@ def check_texts_of_pictures_fit(program: str) -> None:
 
 
 def rules_of_style(page: bytes, medium: str) -> dict[str, str]:
-    """The declarations for a medium on a page, by selector."""
+    """Returns the declarations for a medium on a page, by selector."""
     (style,) = re.findall(r"(?s)<style>(.*?)</style>", page.decode())[:1]
     found, start = {}, style.index(f"@media {medium} {{") + len(f"@media {medium} {{")
     end = next(at for at in range(start, len(style)) if style[start : at + 1].count("}") > style[start : at + 1].count("{"))

@@ -29,7 +29,7 @@ def lead_of(page: Node) -> str:
 
 
 def rows_of(section: Node) -> list[list[str]]:
-    """The rows of a section's tables."""
+    """Returns the rows of a section's tables."""
     return [[cell.text() for cell in row.find("th") + row.find("td")] for row in section.find("tr")]
 
 

@@ -31,8 +31,8 @@ INTERRUPTS = "psitrace 2 cpus=1\n0 group /a\n0 fork 1 /a 0\n0 switch 0 1 idle\n"
 
 
 def stalled(task: int, start: int, end: int) -> list[tuple[int, str]]:
-    """A task that stalls for memory on processor `task` - 1 from `start` to `end` (s), and sleeps
-    during the stall and after it.
+    """Returns a task that stalls for memory on processor `task` - 1 from `start` to `end` (s), and
+    sleeps during the stall and after it.
     """
     cpu = task - 1
     begin = [(0, f"switch {cpu} {task} idle"), (start, f"stall {task}"), (start, f"switch {cpu} 0 sleep")]
@@ -40,7 +40,7 @@ def stalled(task: int, start: int, end: int) -> list[tuple[int, str]]:
 
 
 def two_stalls(end: int, other: int = 14, first: int = 10, host: str = "host 1000000 0 0") -> str:
-    """A trace in which /a/b stalls from 2 s to `first`, and /x from 2 s to `other` (s)."""
+    """Returns a trace in which /a/b stalls from 2 s to `first`, and /x from 2 s to `other` (s)."""
     made = [(0, host)] if host else []
     made += [(0, it) for it in ("group /a", "group /a/b", "group /x", "fork 1 /a/b 0", "fork 2 /x 1")]
     events = sorted([*stalled(1, 2, first), *stalled(2, 2, other)], key=lambda it: it[0])
@@ -64,7 +64,7 @@ def ruleset(name: str, cgroup: str, *detectors: dict[str, Any]) -> dict[str, Any
 
 
 def page(program: str, trace: str, rulesets: Optional[list[dict[str, Any]]] = None, *words: str) -> Node:
-    """The page of a trace, passed as text or as a path, with rules."""
+    """Returns the page of a trace, passed as text or as a path, with rules."""
     with tempfile.TemporaryDirectory() as folder:
         if trace.startswith("psitrace"):
             with open(os.path.join(folder, "a.trace"), "w", encoding="ascii") as file:
@@ -84,7 +84,7 @@ def title_of(found: Node) -> str:
 
 
 def highest(program: str, trace: str, *key: str) -> float:
-    """The highest printed share, in percent."""
+    """Returns the highest printed share, in percent."""
     return max(it for _, it in Printed(run([program, "replay", "-", "--report-s", "1"], trace.encode())).shares[key])  # type: ignore[index]
 
 
@@ -212,7 +212,7 @@ def check_words_that_name_nothing(program: str) -> None:
 
 
 def trust_text(compared: str, said: str) -> str:
-    """The page's part on a recording, for these messages of compare and psitrace."""
+    """Returns the page's part on a recording, for these messages of compare and psitrace."""
     run_ = SimpleNamespace(number=1, text=lambda: compared, said=said)
     element = ElementTree.Element("body")
     recording(element, SimpleNamespace(recorded=SimpleNamespace(compared=run_, summary=run_, is_same=True)))  # type: ignore[arg-type]

@@ -50,7 +50,8 @@ class Room:
 
     def run(self, *words: str, program: str = "", status: int | None = None, text: str = "") -> Done:
         """Runs a tool, or the program if the first word is psi_oomd, with a text as standard input. If a status is named, it must
-        come."""
+        come.
+        """
         first = self.program if words[0] == "psi_oomd" else os.path.join(TOP, "tools", words[0])
         environment = {**os.environ, "PSI_OOMD": program or self.program, "PYTHONDONTWRITEBYTECODE": "1"}
         done = subprocess.run([first, *words[1:]], cwd=self.path, input=text.encode(), capture_output=True, env=environment)
@@ -64,7 +65,7 @@ class Room:
         return self.run("samples", *words, "-o", "it.trace", status=status)
 
     def totals(self, trace: str = "it.trace") -> Totals:
-        """What a replay at ticks of 2 s prints."""
+        """Returns what a replay at ticks of 2 s prints."""
         printed = self.run("psi_oomd", "replay", trace, "--report-s=2", status=0).output
         return {(int(it[1]) // SECOND, it[2], it[3]): (int(it[4]), int(it[5])) for it in REPORT.finditer(printed)}
 
@@ -86,18 +87,20 @@ class Row(NamedTuple):
 
 
 def csv(rows: Iterable[Row], more: Iterable[str] = ()) -> str:
-    """The rows as CSV, in the order of time, and more lines after them."""
+    """Returns the rows as CSV, in the order of time, and more lines after them."""
     lines = [f"{START + it.at:.3f},{it.group},{it.resource},{it.some},{it.full}\n" for it in sorted(rows, key=lambda it: it.at)]
     return "time,group,what,values\n" + "".join(lines) + "".join(f"{it}\n" for it in more)
 
 
 def steady(group: str, resource: str, times: Iterable[float], some: float, full: float, start: float = 0.0, base: int = 0) -> list[Row]:
-    """A total that grows by a share (0 to 1) of the time from `start` on, from `base` us."""
+    """Returns a total that grows by a share (0 to 1) of the time from `start` on, from `base`
+    us.
+    """
     return [Row(at, group, resource, base + round(some * (at - start) * 1e6), base + round(full * (at - start) * 1e6)) for at in times]
 
 
 def exact(_path: str, _resource: str) -> int:
-    """How far totals may be off, us."""
+    """Returns how far totals may be off, us."""
     return 2
 
 
@@ -105,7 +108,8 @@ def must_match(
     found: Totals, rows: Iterable[Row], near: Callable[[str, str], int] = exact, made: dict[str, float] | None = None
 ) -> int:
     """Each sample at an even second is in the replay, as its growth since the group's first sample, or in full if `made` says that the
-    group was made; how many were compared."""
+    group was made; how many were compared.
+    """
     first: dict[tuple[str, str], Row] = {}
     count = 0
     for row in sorted(rows, key=lambda it: it.at):

@@ -14,7 +14,7 @@ KINDS = {"some": "waiting", "full": "stalled"}
 
 
 def rows() -> list[Row]:
-    """A machine with a slice and two services. cAdvisor's label id is a group's path."""
+    """Returns a machine with a slice and two services. cAdvisor's label id is a group's path."""
     found = steady("/", "io", TIMES, 0.2, 0.05, base=1000) + steady("/", "cpu", TIMES, 0.3, 0.0) + steady("/", "memory", TIMES, 0.1, 0.02)
     for path, share in (("/a.slice", 0.3), ("/a.slice/b.service", 0.5), ("/a.slice/c.service", 0.1)):
         found += steady(path, "io", TIMES, share, share / 2, base=77)
@@ -74,7 +74,7 @@ def json_lines() -> str:
 
 
 def loop() -> str:
-    """What a loop of date and grep prints."""
+    """Returns what a loop of date and grep prints."""
     lines = []
     for at in TIMES:
         lines.append(f"{START + at}.000000000")
@@ -86,7 +86,7 @@ def loop() -> str:
 
 
 def traces(room: Room, texts: Iterable[tuple[str, str | bytes]]) -> dict[str, str]:
-    """The traces that come of texts."""
+    """Returns the traces that come of texts."""
     found = {}
     for name, text in texts:
         room.file("samples", text)

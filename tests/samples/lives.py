@@ -13,7 +13,7 @@ EVENT = re.compile(r"^([0-9]+) (group|rmgroup) (/[^p].*)$", re.MULTILINE)
 
 
 def events(trace: str) -> list[tuple[float, str, str]]:
-    """When groups were made and removed (s)."""
+    """Returns when groups were made and removed (s)."""
     return [(int(at) / 1e9, verb, path) for at, verb, path in EVENT.findall(trace)]
 
 

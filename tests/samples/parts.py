@@ -43,7 +43,7 @@ def rules() -> str:
 
 
 def make(room: Room) -> list[str]:
-    """The names of several traces, of which it.trace is the first."""
+    """Returns the names of several traces, of which it.trace is the first."""
     room.file("rules.json", rules())
     room.file("samples", csv(rows()))
     done = room.make("samples", "--lines", "100000")

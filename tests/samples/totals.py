@@ -28,14 +28,15 @@ READING = re.compile(r"sample (\d+) (\S+) (io|memory|cpu)\nsome [^\n]*total=(\d+
 
 class Summary(NamedTuple):
     """What the tool says of a trace: how many totals it compared, how many it reports to be off, and by how much (us) at most by group
-    and resource."""
+    and resource.
+    """
 
     compared: int
     off: int
     most: dict[tuple[str, str], int]
 
     def near(self, path: str, resource: str) -> int:
-        """How far a total may be off, us."""
+        """Returns how far a total may be off, us."""
         return max(2, self.most.get((path, resource), 0))
 
 
@@ -62,7 +63,7 @@ def growths(text: str) -> dict[tuple[str, str], tuple[int, int]]:
 
 
 def recordings(room: Room) -> Iterator[tuple[str, str]]:
-    """Each stored recording, and its folder."""
+    """Yields each stored recording, and its folder."""
     for name in RECORDINGS:
         with tarfile.open(os.path.join(STORED, f"{name}.tar.xz")) as archive:
             archive.extractall(room.path)

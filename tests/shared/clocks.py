@@ -69,5 +69,5 @@ class Clocks:
 
 
 def opened(times: list[int], holds: Iterable[int], length: int) -> list[int]:
-    """The times (ns) after these states held for `length` ns more."""
+    """Returns the times (ns) after these states held for `length` ns more."""
     return [time + length if is_held else time for time, is_held in zip(times, holds)]

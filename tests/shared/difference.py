@@ -12,12 +12,12 @@ MOST_LINES = 80
 
 
 def wrapped(line: str) -> list[str]:
-    """The pieces of a line of at most COLUMNS each."""
+    """Returns the pieces of a line of at most COLUMNS each."""
     return [line[at : at + COLUMNS] for at in range(0, len(line), COLUMNS)] or [""]
 
 
 def text_lines(text: str) -> list[str]:
-    """The lines of a text, with control characters escaped."""
+    """Returns the lines of a text, with control characters escaped."""
     lines = text.split("\n")
     ends = lines.pop() == ""
     shown = [
@@ -31,7 +31,9 @@ def text_lines(text: str) -> list[str]:
 
 
 def lines_of(value: object) -> list[str]:
-    """A value as lines: a text's own lines, and those of each item of a sequence or mapping."""
+    """Returns a value as lines: a text's own lines, and those of each item of a sequence or
+    mapping.
+    """
     if isinstance(value, (bytes, bytearray)):
         return lines_of(value.decode("utf-8", "backslashreplace"))
     if isinstance(value, str):
@@ -48,7 +50,7 @@ def lines_of(value: object) -> list[str]:
 
 
 def item_lines(name: str, item: object) -> list[str]:
-    """The lines of an item, after its name if it has one."""
+    """Returns the lines of an item, after its name if it has one."""
     lines = lines_of(item) if isinstance(item, (str, bytes)) else [repr(item)]
     lines = [piece for line in lines for piece in wrapped(line)]
     head = f"{name}: " if name else ""
@@ -68,7 +70,7 @@ def cut(lines: list[str]) -> list[str]:
 
 
 def difference(expected: object, actual: object) -> str:
-    """How the actual value differs from the expected one."""
+    """Returns how the actual value differs from the expected one."""
     old, new = lines_of(expected), lines_of(actual)
     if len(old) <= 1 and len(new) <= 1 or old == new:
         return f"  expected: {expected!r}\n  actual:   {actual!r}"

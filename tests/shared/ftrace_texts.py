@@ -46,16 +46,18 @@ class Scheduler:
     others: tuple[bytes, ...] = OTHERS
 
     def line(self, cpu: int, event: bytes) -> bytes:
-        """A line on this processor, with a random form of head."""
+        """Returns a line on this processor, with a random form of head."""
         moment = b"%d.%06d" % divmod(self.now, 10**6)
         return self.rng.choice(HEADS) % (self.name(), self.runs.get(cpu, 0), cpu, moment) + event + b"\n"
 
     def name(self) -> bytes:
-        """A random task name; names aren't compared."""
+        """Returns a random task name; names aren't compared."""
         return self.rng.choice(self.names)
 
     def switch(self, cpu: int, state: bytes, pid: int) -> bytes:
-        """The running task leaves the processor, and task `pid` runs, or none if it is 0."""
+        """Returns the line of a context switch: the running task leaves the processor `cpu` in the
+        state `state`, and task `pid` runs next, or none if that is 0.
+        """
         before = self.runs.pop(cpu, 0)
         left = b"prev_comm=%b prev_pid=%d prev_prio=120 prev_state=%b" % (self.name(), before, state)
         line = self.line(cpu, b"sched_switch: %b ==> next_comm=%b next_pid=%d next_prio=120" % (left, self.name(), pid))
@@ -90,14 +92,14 @@ class Scheduler:
         return self.switch(cpu, self.rng.choice(STATES) if self.runs.get(cpu) else b"R", pid)
 
     def text(self, count: int) -> bytes:
-        """A text of `count` events, with other lines among them."""
+        """Returns a text of `count` events, with other lines among them."""
         is_other = [bool(self.others) and self.rng.random() < 0.05 for _ in range(count)]
         return b"".join(self.rng.choice(self.others) if it else self.step() for it in is_other)
 
 
 def spoiled(rng: random.Random, text: bytes) -> bytes:
-    """The text with a few faults: changed bytes, pieces inserted or removed, lines moved, doubled
-    or dropped.
+    """Returns the text with a few faults: changed bytes, pieces inserted or removed, lines moved,
+    doubled or dropped.
     """
     data = text
     for _ in range(rng.choice((0, 1, 1, 2, 3))):
@@ -118,7 +120,7 @@ def spoiled(rng: random.Random, text: bytes) -> bytes:
 
 
 def swapped(rng: random.Random, line: bytes) -> bytes:
-    """The line with two of its words swapped."""
+    """Returns the line with two of its words swapped."""
     words = line.split(b" ")
     one, other = rng.randrange(len(words)), rng.randrange(len(words))
     words[one], words[other] = words[other], words[one]

@@ -36,18 +36,18 @@ class Machine:
         self.interrupts = collections.Counter[tuple[int, int]]()
 
     def is_under(self, group: int | None, top: int) -> bool:
-        """Whether a group is this one or below it."""
+        """Returns whether a group is this one or below it."""
         while group is not None and group != top:
             group = self.parents[group]
         return group == top
 
     def running(self, cpu: int) -> list[str]:
-        """The numbers of the tasks that run on the processor: one or none."""
+        """Returns the numbers of the tasks that run on the processor: one or none."""
         return [pid for pid, task in self.tasks.items() if task.cpu == cpu and task.at == "running"]
 
     def holds(self, cpu: int, group: int) -> list[bool]:
-        """Whether each of the seven states holds for the group on the processor: none while its
-        account is off.
+        """Returns whether each of the seven states holds for the group on the processor: none while
+        its account is off.
         """
         if group in self.off:
             return [False] * 7
@@ -140,5 +140,5 @@ class Machine:
 
 
 def parent_of(path: str) -> str:
-    """The path of the parent group."""
+    """Returns the path of the parent group."""
     return path.rpartition("/")[0] or "/"

@@ -20,7 +20,7 @@ RUNAWAY = (
 
 
 def run(words: Sequence[str], given: bytes = b"") -> bytes:
-    """The output of a run, which must succeed."""
+    """Returns the output of a run, which must succeed."""
     done = subprocess.run(words, cwd=TOP, input=given, capture_output=True)
     must_be(f"the status of {words}, which said {done.stderr!r}", done.returncode, 0)
     return done.stdout
@@ -28,13 +28,13 @@ def run(words: Sequence[str], given: bytes = b"") -> bytes:
 
 @functools.lru_cache(maxsize=None)
 def story(program: str) -> bytes:
-    """The output of a replay of the story."""
+    """Returns the output of a replay of the story."""
     return run([program, *RUNAWAY])
 
 
 def fault_of(tool: str, printed: bytes, *words: str, status: int = 2, **variables: str) -> str:
-    """The tool's message for a fault: the tool must print nothing else, and exit with this status.
-    The variables are added to the environment.
+    """Returns the tool's message for a fault: the tool must print nothing else, and exit with this
+    status. The variables are added to the environment.
     """
     at = {**os.environ, **variables}
     done = subprocess.run([tool, *words], cwd=TOP, input=printed, capture_output=True, env=at)

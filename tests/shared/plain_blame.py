@@ -31,14 +31,14 @@ class Plain(NamedTuple):
 
 
 def runner_of(machine: Machine, cpu: int) -> Optional[int]:
-    """The group of the task that runs on the processor."""
+    """Returns the group of the task that runs on the processor."""
     running = machine.running(cpu)
     return machine.tasks[running[0]].group if running else None
 
 
 def would_wait(machine: Machine, cpu: int, victims: set[int]) -> bool:
-    """Whether a task would wait there if the tasks of these groups, one of which runs, didn't
-    exist: one more task could run.
+    """Returns whether a task would wait there if the tasks of these groups, one of which runs,
+    didn't exist: one more task could run.
     """
     ready = [task for task in machine.tasks.values() if task.cpu == cpu and task.at == "ready" and task.group not in victims]
     return len(ready) > 1
@@ -68,7 +68,9 @@ def add_stretch(plain: Plain, machine: Machine, victims: set[int], length: int) 
 
 
 def walk(trace: str, start: int, to: int, victim: str) -> Plain:
-    """The sums from `start` to `to` (ns). The victim is all groups with this path, and those below."""
+    """Returns the sums from `start` to `to` (ns). The victim is all groups with this path, and
+    those below.
+    """
     header, *lines = trace.splitlines()
     machine = Machine(int(header.partition("cpus=")[2]))
     plain = Plain(

@@ -11,14 +11,16 @@ from psiread.table import fields_of
 
 
 def value_text(value: Any) -> str:
-    """A value of an event as a word."""
+    """Returns a value of an event as a word."""
     if not isinstance(value, bytes):
         return str(value)
     return "".join(chr(byte) if 32 < byte < 127 and byte != 92 else f"\\{byte:03o}" for byte in value)
 
 
 def least_of(form: Format) -> int:
-    """The least size in bytes of a record with the fields that are read: a text may be empty."""
+    """Returns the least size in bytes of a record with the fields that are read: a text may be
+    empty.
+    """
     fields = [form.fields[name] for name in (CURRENT, *(fields_of(form.name) or ()))]
     is_text = [field.size == 0 or "[" in field.type and not field.type.startswith("__data_loc") for field in fields]
     return max(field.offset + (0 if text else field.size) for field, text in zip(fields, is_text))
@@ -35,7 +37,7 @@ class Lines:
         self.least = {number: least_of(self.forms[number]) for number in self.decoders}
 
     def page_lines(self, data: bytes, at: int, processor: int) -> Iterator[str]:
-        """The lines of one page; PageFault with the cause if it is malformed."""
+        """Yields the lines of one page; PageFault with the cause if it is malformed."""
         try:
             page = page_at(data, at, self.page)
         except PageFault:
@@ -53,7 +55,9 @@ class Lines:
                 yield " ".join(map(str, words))
 
     def file_lines(self, data: bytes, processor: int) -> tuple[list[str], str]:
-        """The lines of a file's whole pages, and the first fault: its page and cause, or nothing."""
+        """Returns the lines of a file's whole pages, and the first fault: its page and cause, or
+        nothing.
+        """
         lines: list[str] = []
         for page in range(len(data) // self.page.size):
             try:

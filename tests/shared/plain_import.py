@@ -73,7 +73,7 @@ class Result(NamedTuple):
 
 
 def after_last(key: bytes, part: bytes) -> bytes:
-    """The part after the last occurrence of the key."""
+    """Returns the part after the last occurrence of the key."""
     before, found, after = part.rpartition(key)
     if not found:
         raise Bad("BadLine")
@@ -81,7 +81,7 @@ def after_last(key: bytes, part: bytes) -> bytes:
 
 
 def number(key: bytes, part: bytes) -> int:
-    """The number after the last occurrence of the key, up to a space or the end."""
+    """Returns the number after the last occurrence of the key, up to a space or the end."""
     digits = after_last(key, part).partition(b" ")[0]
     if not DIGITS.fullmatch(digits) or int(digits) >= 2**32:
         raise Bad("BadLine")
@@ -89,7 +89,7 @@ def number(key: bytes, part: bytes) -> int:
 
 
 def head_of(head: bytes) -> tuple[int, int]:
-    """The time of a head, and its processor: the last number in brackets."""
+    """Returns the time of a head, and its processor: the last number in brackets."""
     time = TIME.fullmatch(after_last(b" ", head))
     processors = BRACKET.findall(head)
     if not time or not processors or len(processors[-1]) > 3:
@@ -109,7 +109,7 @@ def switch_of(cpu: int, tail: bytes) -> Switch:
 
 
 def task_and_cpu(tail: bytes, key: bytes) -> tuple[int, int]:
-    """The task in a tail, which mustn't be 0, and the processor after the key."""
+    """Returns the task in a tail, which mustn't be 0, and the processor after the key."""
     pid = number(b" pid=", tail)
     if pid == 0:
         raise Bad("BadLine")
@@ -117,7 +117,9 @@ def task_and_cpu(tail: bytes, key: bytes) -> tuple[int, int]:
 
 
 def read_line(line: bytes) -> tuple[int, Seen] | None:
-    """The event of a line, with its time; None for a line without an event, or that begins with #."""
+    """Returns the event of a line, with its time; None for a line without an event, or that begins
+    with #.
+    """
     mark = None if line.startswith(b"#") else MARK.search(line)
     if mark is None:
         return None
@@ -145,7 +147,7 @@ class Importer:
         self.lines: list[bytes] = []
 
     def acts_of(self, seen: Seen) -> list[str]:
-        """The verbs and fields that a line becomes."""
+        """Returns the verbs and fields that a line becomes."""
         if isinstance(seen, Switch):
             return [] if seen.next and self.runs.get(seen.cpu) == seen.next else self.arrival(seen) + self.turn(seen)
         task = self.tasks.get(seen.pid)
@@ -156,7 +158,7 @@ class Importer:
         return [f"wake {seen.pid} {seen.cpu}"] if task.mode == "asleep" else []
 
     def arrival(self, seen: Switch) -> list[str]:
-        """The events that make the next task ready on its processor."""
+        """Returns the events that make the next task ready on its processor."""
         pid, cpu = seen.next, seen.cpu
         task = self.tasks.get(pid)
         if not pid:
@@ -170,7 +172,7 @@ class Importer:
         return [f"migrate {pid} {cpu}"] if task.cpu != cpu else []
 
     def turn(self, seen: Switch) -> list[str]:
-        """The events that make the next task run."""
+        """Returns the events that make the next task run."""
         runner = self.runs.get(seen.cpu)
         if runner is None:
             return [f"switch {seen.cpu} {seen.next} idle"] if seen.next else []
@@ -212,7 +214,7 @@ class Importer:
 
 
 def imported(text: bytes, cpus: int) -> Result:
-    """The result that `import - --cpus N` must give for this text."""
+    """Returns the result that `import - --cpus N` must give for this text."""
     importer = Importer(cpus)
     lines = text.split(b"\n")
     for place, line in enumerate(lines, 1):

@@ -66,7 +66,9 @@ class Observed:
         return f"sample observer={observer} {self.texts[key]}".encode()
 
     def last_lines(self, observers: int) -> list[bytes]:
-        """The lines after all samples: each observer's last reading of the board, and the end."""
+        """Returns the lines after all samples: each observer's last reading of the board, and the
+        end.
+        """
         board = f"tick={len(self.clocks.ticks)} events={self.signals} kills=0"
         lines = [f"board observer={observer} {board}" for observer in range(observers)]
         return [line.encode() for line in (*lines, f"end {self.end} samples={observers * len(self.due)}")]
@@ -114,7 +116,7 @@ def compare(printed: bytes, observed: Observed, observers: int) -> None:
 
 
 def is_too_many(cpus: int, ticks: int, observers: int) -> bool:
-    """Whether this many observers are rejected for a trace with this many
-    processors and ticks, for any path.
+    """Returns whether this many observers are rejected for a trace with this many processors and
+    ticks, for any path.
     """
     return ticks * observers * cpus > MOST_SAMPLES

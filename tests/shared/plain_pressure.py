@@ -23,7 +23,7 @@ PRESSURES, NONIDLE, INTERRUPTS, TIMES = 6, 6, 7, 8
 
 
 def formulas_of(page: str) -> dict[str, Any]:
-    """The definitions in the page's blocks of Python."""
+    """Returns the definitions in the page's blocks of Python."""
     names: dict[str, Any] = {}
     for block in re.findall(r"^```python\n(.*?)^```$", page, re.DOTALL | re.MULTILINE):
         exec(compile(block, str(PAGE), "exec"), names)
@@ -68,7 +68,9 @@ class Group:
             averages.tick(now, self.totals[place])
 
     def file_line(self, place: int, level: str) -> str:
-        """The line of a pressure file for a state, or for interrupts, by the index of its time."""
+        """Returns the line of a pressure file for a state, or for interrupts, by the index of its
+        time.
+        """
         is_zero = self.path == "/" and place == PRESSURES - 1
         averages = [0] * 3 if is_zero else self.averages[place].averages.values()
         texts = [PRESSURE["percent_text"](average) for average in averages]
@@ -109,7 +111,7 @@ class Replay:
         self.now, self.ticks, self.signals = 0, 0, 0
 
     def output(self) -> Iterator[str]:
-        """The lines that `replay` prints, without kills."""
+        """Yields the lines that `replay` prints, without kills."""
         for moment, verb, *fields in self.lines:
             yield from self.go_to(int(moment), False)
             self.take(verb, fields)
@@ -117,7 +119,7 @@ class Replay:
         yield f"end {self.end} ticks={self.ticks} events={self.signals}"
 
     def stall(self) -> Iterator[str]:
-        """The lines that `stall` prints, once all of `output` has been taken."""
+        """Yields the lines that `stall` prints, once all of `output` has been taken."""
         shown = TIMES if self.version == 2 else INTERRUPTS
         for cpu in range(self.machine.cpus):
             for path in sorted(self.live):
@@ -179,7 +181,9 @@ class Replay:
 
 
 def difference(run: Run, words: list[str], wanted: list[str]) -> str:
-    """The first difference between the program's output for the trace and these lines, or ''."""
+    """Returns the first difference between the program's output for the trace and these lines, or
+    ''.
+    """
     done = subprocess.run(words, input=run.trace, capture_output=True, encoding="utf-8")
     if done.returncode != 0:
         return f"the status of {words[1]} is {done.returncode}: {done.stderr}"
@@ -191,7 +195,7 @@ def difference(run: Run, words: list[str], wanted: list[str]) -> str:
 
 
 def fault_of(run: Run, program: str) -> str:
-    """The first difference between `replay` or `stall` and the page's formulas, or ''."""
+    """Returns the first difference between `replay` or `stall` and the page's formulas, or ''."""
     replay = Replay(run)
     wanted = list(replay.output())
     words = [program, "replay", "-", f"--tick-ms={run.tick // 10**6}", f"--report-s={run.period // 10**9}"]

@@ -62,12 +62,12 @@ Form = Callable[[str], Optional[str]]
 
 
 def number(most: int) -> Form:
-    """A form: a decimal number of at most `most`, without leading zeros."""
+    """Returns a form: a decimal number of at most `most`, without leading zeros."""
     return lambda text: text if re.fullmatch(NUMBER, text, re.ASCII) and int(text) <= most else None
 
 
 def ratio(text: str) -> Optional[str]:
-    """A number of at most 1000 with up to three decimals; it is printed with three."""
+    """Returns a number of at most 1000 with up to three decimals; it is printed with three."""
     found = re.fullmatch(NUMBER + PART, text, re.ASCII)
     return f"{found[1]}.{(found[2] or '').ljust(3, '0')}" if found and int(found[1]) <= 1000 else None
 
@@ -95,7 +95,7 @@ def resource(text: str) -> Optional[str]:
 
 
 def pattern(text: str) -> Optional[str]:
-    """The root, or components separated by slashes; a leading slash isn't printed."""
+    """Returns the root, or components separated by slashes; a leading slash isn't printed."""
     parts = text.removeprefix("/").split("/")
     is_good = all(re.fullmatch(r"[A-Za-z0-9_.@:\\*-]+", part, re.ASCII) and part not in (".", "..") for part in parts)
     return text if text == "/" else text.removeprefix("/") if is_good else None
@@ -130,7 +130,7 @@ ACTIONS: dict[str, Arguments] = {
 
 
 def of_each_action(delay: str) -> Arguments:
-    """The arguments that every action has, if this is the ruleset's own delay (seconds)."""
+    """Returns the arguments that every action has, if this is the ruleset's own delay (seconds)."""
     truths: Arguments = tuple((name, truth, "false") for name in ("recursive", "always_continue"))
     return (*truths, ("post_action_delay", SECONDS, delay))
 
@@ -143,14 +143,14 @@ def refuse(_: str) -> None:
 
 
 def float_token(text: str) -> Token:
-    """A number with a point or an exponent, which must fit a 64-bit float."""
+    """Returns a number with a point or an exponent, which must fit a 64-bit float."""
     if float(text) in (float("inf"), float("-inf")):
         raise ValueError("no number")
     return Token(text)
 
 
 def texts_in(value: Any) -> Iterator[str]:
-    """All strings of a JSON value, including keys."""
+    """Yields all strings of a JSON value, including keys."""
     if isinstance(value, str):
         yield value
     elif isinstance(value, dict):
@@ -163,14 +163,16 @@ def texts_in(value: Any) -> Iterator[str]:
 
 
 def depth_of(value: Any) -> int:
-    """The nesting depth of lists and objects."""
+    """Returns the nesting depth of lists and objects."""
     if not isinstance(value, (dict, list)):
         return 0
     return 1 + max(map(depth_of, value.values() if isinstance(value, dict) else value), default=0)
 
 
 def json_of(data: bytes) -> Any:
-    """The JSON value of a file, with tokens for numbers; if a key is repeated, the last one counts."""
+    """Returns the JSON value of a file, with tokens for numbers; if a key is repeated, the last one
+    counts.
+    """
     try:
         value = json.loads(data.decode("utf-8"), parse_int=float_token, parse_float=float_token, parse_constant=refuse)
         for text in texts_in(value):
@@ -186,7 +188,7 @@ def json_of(data: bytes) -> Any:
 
 
 def member(value: dict[str, Any], key: str, kind: type, place: Place) -> Any:
-    """The value of a required key."""
+    """Returns the value of a required key."""
     if key not in value:
         raise Refused(place, "MissingKey")
     return of_kind(value[key], kind, place)
@@ -205,7 +207,9 @@ def short(items: list[Any], most: int, place: Place) -> list[Any]:
 
 
 def argument(value: Any, form: Form, place: Place) -> str:
-    """The printed text of an argument; a string, a whole number or a boolean may give it."""
+    """Returns the printed text of an argument; a string, a whole number or a boolean may give
+    it.
+    """
     if isinstance(value, bool):
         value = "true" if value else "false"
     if isinstance(value, Token):
@@ -221,7 +225,7 @@ def argument(value: Any, form: Form, place: Place) -> str:
 
 
 def plugin(value: Any, known: dict[str, Arguments], more: Arguments, place: Place) -> Plugin:
-    """A plugin with one of these names, and with these arguments besides its own."""
+    """Returns a plugin with one of these names, and with these arguments besides its own."""
     value = of_kind(value, dict, place)
     name = member(value, "name", str, place)
     if name not in known:
@@ -262,7 +266,7 @@ def ruleset(value: Any, is_part: bool, place: Place) -> Ruleset:
 
 
 def read(data: bytes, is_drop_in: bool = False) -> list[Ruleset]:
-    """The rulesets of a rules file, or the parts of a drop-in file, from its bytes."""
+    """Returns the rulesets of a rules file, or the parts of a drop-in file, from its bytes."""
     if len(data) > LONGEST:
         raise Refused((), "TooLong")
     rulesets = short(member(of_kind(json_of(data), dict, ()), "rulesets", list, ()), MOST_RULESETS, ())
@@ -273,7 +277,7 @@ def read(data: bytes, is_drop_in: bool = False) -> list[Ruleset]:
 
 
 def joined(base: list[Ruleset], parts: list[Ruleset]) -> list[Ruleset]:
-    """The rulesets; what a part gives replaces that of the first ruleset with its name."""
+    """Returns the rulesets; what a part gives replaces that of the first ruleset with its name."""
     rulesets = list(base)
     for i, part in enumerate(parts):
         if part.groups is None and part.actions is None:
@@ -287,19 +291,21 @@ def joined(base: list[Ruleset], parts: list[Ruleset]) -> list[Ruleset]:
 
 
 def value_of(it: Ruleset) -> dict[str, Any]:
-    """A ruleset as a JSON value."""
+    """Returns a ruleset as a JSON value."""
     groups = [[group.name, *(one._asdict() for one in group.detectors)] for group in it.groups or []]
     return {"name": it.name, "detectors": groups, "actions": [one._asdict() for one in it.actions or []]}
 
 
 def text_of(rulesets: list[Ruleset]) -> str:
-    """The line that `rules` prints, without its newline."""
+    """Returns the line that `rules` prints, without its newline."""
     value = {"rulesets": [value_of(it) for it in rulesets]}
     return json.dumps(value, ensure_ascii=False, sort_keys=True, separators=(",", ":"))
 
 
 def run(rules: bytes, drop_in: Optional[bytes]) -> tuple[int, str, str]:
-    """The result of `rules` for these files: its status, its output, and its standard error."""
+    """Returns the result of `rules` for these files: its status, its output, and its standard
+    error.
+    """
     try:
         base = read(rules)
     except Refused as fault:

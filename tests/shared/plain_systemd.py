@@ -40,7 +40,7 @@ class State:
         return [sum(it) for it in zip(*parts, [0, 0, self.gone.get(path, 0)])] if parts else None
 
     def read(self, path: str) -> list[int] | None:
-        """The figures that systemd-oomd reads for it."""
+        """Returns the figures that systemd-oomd reads for it."""
         found = self.sample(path)
         return [found[0] if found else 0, 0, 0] if path == "/" else None if path in self.off else found
 
@@ -83,7 +83,7 @@ def state_at(lines: list[Line], moment: int) -> State:
 
 
 def first_of(state: State, ranked: list[str]) -> str | None:
-    """The first candidate with a task in it."""
+    """Returns the first candidate with a task in it."""
     return ranked[0] if ranked and state.runs(ranked[0]) else None
 
 
@@ -155,8 +155,8 @@ def by_pressure(lines: list[Line], end: int, averages: dict[tuple[int, str], int
 
 
 def most_scanned(state: State, above: str, risen: dict[str, int]) -> str | None:
-    """The victim below a group, by new scans; by all scans if the group wasn't a leaf at the
-    previous look.
+    """Returns the victim below a group, by new scans; by all scans if the group wasn't a leaf at
+    the previous look.
     """
     inside = [it for it in state.leaves() if is_inside(it, above)]
     found = {it: state.read(it) or [0, 0, 0] for it in inside}
@@ -169,12 +169,12 @@ def is_inside(path: str, above: str) -> bool:
 
 
 def is_first(lines: list[Line], key: tuple[str, int]) -> bool:
-    """Whether a group existed at the start of the trace."""
+    """Returns whether a group existed at the start of the trace."""
     return not key[1] or lines[key[1] - 1][0] == 0
 
 
 def decisions(text: str, printed: str, limit: int, length: int) -> list[Decision]:
-    """The decisions for a trace, from psi_oomd's output for it, in order of time."""
+    """Returns the decisions for a trace, from psi_oomd's output for it, in order of time."""
     lines = [(int(it.split()[0]), it.split()[1:]) for it in text.splitlines()[1:-1]]
     end = int(text.splitlines()[-1].split()[0])
     found = re.findall(r"^report (\d+) (\S+) memory\nsome .*\nfull avg10=(\d+)\.(\d\d)", printed, re.MULTILINE)

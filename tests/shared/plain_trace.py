@@ -31,7 +31,7 @@ Form = Callable[[str], bool]
 
 
 def number(least: int, most: int) -> Form:
-    """A form: a decimal number in a range, without leading zeros."""
+    """Returns a form: a decimal number in a range, without leading zeros."""
     return lambda text: bool(re.fullmatch("0|[1-9][0-9]{0,19}", text, re.ASCII)) and least <= int(text) <= most
 
 
@@ -40,8 +40,8 @@ def word(*words: str) -> Form:
 
 
 def is_path(text: str) -> bool:
-    """Whether a text is the root, or 1 to 32 components, each after a slash, with at most 255 bytes
-    in total.
+    """Returns whether a text is the root, or 1 to 32 components, each after a slash, with at most
+    255 bytes in total.
     """
     parts = text[1:].split("/")
     are_names = all(re.fullmatch(r"[A-Za-z0-9_.@:\\-]+", part, re.ASCII) and part not in (".", "..") for part in parts)
@@ -73,7 +73,7 @@ LATER_VERBS = ("irq", "pressure")
 
 
 def fault_of_spelling(version: int, line: str) -> Optional[str]:
-    """The first fault in the spelling of an event line, or None."""
+    """Returns the first fault in the spelling of an event line, or None."""
     moment, *rest = line.split(" ")
     if not TIME(moment):
         return "BadTime"
@@ -87,7 +87,7 @@ def fault_of_spelling(version: int, line: str) -> Optional[str]:
 
 
 def header_of(line: str) -> Optional[tuple[int, int]]:
-    """The version and the number of processors in a header."""
+    """Returns the version and the number of processors in a header."""
     found = re.fullmatch("psitrace ([12]) cpus=([1-9][0-9]?)", line, re.ASCII)
     return (int(found[1]), int(found[2])) if found and int(found[2]) <= 64 else None
 
@@ -113,7 +113,7 @@ class World:
             self.interrupted[int(fields[0])] = moment
 
     def causes(self, moment: int, verb: str, fields: list[str], most: int) -> Iterator[str]:
-        """All causes against the event, if times may be up to `most` ns."""
+        """Yields all causes against the event, if times may be up to `most` ns."""
         limits = (moment < self.last, "TimeBack"), (moment > most, "TimeTooLate"), (self.events >= MOST_EVENTS, "TooManyEvents")
         yield from (cause for stands, cause in limits if stands)
         against = getattr(self, f"against_{verb}", None)
@@ -126,7 +126,7 @@ class World:
         return int(cpu) < self.machine.cpus
 
     def is_at(self, pid: str, *at: str) -> bool:
-        """Whether the task exists and has one of these states."""
+        """Returns whether the task exists and has one of these states."""
         return pid in self.machine.tasks and self.machine.tasks[pid].at in at
 
     def is_stalled(self, pid: str) -> bool:
@@ -213,8 +213,8 @@ class World:
 
 
 def lines_of(data: bytes) -> Iterator[tuple[int, bytes, Optional[str]]]:
-    """The lines with their numbers from 1, each with its fault if it is too long or cut off; such a
-    line is the last. The last newline is followed by an empty line, which is cut off.
+    """Yields the lines with their numbers from 1, each with its fault if it is too long or cut off;
+    such a line is the last. The last newline is followed by an empty line, which is cut off.
     """
     at, count = 0, 1
     while True:
@@ -230,8 +230,8 @@ def lines_of(data: bytes) -> Iterator[tuple[int, bytes, Optional[str]]]:
 
 
 def refusal_of(data: bytes, most: int = MOST_MOMENT) -> Optional[Refusal]:
-    """The first bad line of a trace and its cause, if times may be up to `most` ns; None if the
-    trace is valid.
+    """Returns the first bad line of a trace and its cause, if times may be up to `most` ns; None if
+    the trace is valid.
     """
     version, world, is_ended = 0, World(1), False
     for count, line, fault in lines_of(data):

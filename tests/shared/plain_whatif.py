@@ -39,7 +39,7 @@ class Trace(NamedTuple):
     events: list[Event]
 
     def machine(self) -> Machine:
-        """The trace's machine before any event."""
+        """Returns the trace's machine before any event."""
         return Machine(int(self.header.partition("cpus=")[2]))
 
     def text(self) -> str:
@@ -55,7 +55,7 @@ def trace_of(text: str) -> Trace:
 
 
 def kills_of(printed: str) -> list[Kill]:
-    """The kills that a replay printed, in order: by tick, ruleset and action."""
+    """Returns the kills that a replay printed, in order: by tick, ruleset and action."""
     found = re.findall(r"^kill ([0-9]+) ruleset=[0-9]+ action=[0-9]+ (\S+)$", printed, re.MULTILINE)
     return [Kill(int(moment), path) for moment, path in found]
 
@@ -64,14 +64,15 @@ def kills_of(printed: str) -> list[Kill]:
 
 
 def members(machine: Machine, path: str) -> list[str]:
-    """The numbers of the tasks in the live group with this path and below it, ascending."""
+    """Returns the numbers of the tasks in the live group with this path and below it, ascending."""
     top = machine.live[path]
     return sorted((pid for pid, task in machine.tasks.items() if machine.is_under(task.group, top)), key=int)
 
 
 def exit_of(machine: Machine, pid: str, moment: int) -> list[Event]:
-    """The events by which a task exits at a time (ns): it wakes if it sleeps, runs if it doesn't,
-    ends its stall, and exits. The task that ran there stops for it, and runs on after it.
+    """Returns the events by which a task exits at a time (ns): it wakes if it sleeps, runs if it
+    doesn't, ends its stall, and exits. The task that ran there stops for it, and runs on after
+    it.
     """
     task = machine.tasks[pid]
     cpu, others = str(task.cpu), [other for other in machine.running(task.cpu) if other != pid]
@@ -86,7 +87,9 @@ def exit_of(machine: Machine, pid: str, moment: int) -> list[Event]:
 
 
 def left_of(machine: Machine, dead: set[str], event: Event) -> list[Event]:
-    """What remains of an event if these tasks are dead. `machine` is the trace's before the event."""
+    """Returns what remains of an event if these tasks are dead. `machine` is the trace's before the
+    event.
+    """
     if event.verb in OF_A_TASK:
         return [] if event.fields[0] in dead else [event]
     if event.verb != "switch":
@@ -99,8 +102,8 @@ def left_of(machine: Machine, dead: set[str], event: Event) -> list[Event]:
 
 
 def rest_of(machine: Machine, dead: set[str], events: list[Event]) -> Iterator[Event]:
-    """The events without these tasks. Once a dead task has exited in the trace, its number may be
-    another task's.
+    """Yields the events without these tasks. Once a dead task has exited in the trace, its number
+    may be another task's.
     """
     for event in events:
         yield from left_of(machine, dead, event)
@@ -110,8 +113,8 @@ def rest_of(machine: Machine, dead: set[str], events: list[Event]) -> Iterator[E
 
 
 def without(trace: Trace, kill: Kill) -> Trace:
-    """The trace without the victim's tasks: it is unchanged up to the kill, they exit a nanosecond
-    later, and the rest follows. A kill at the end changes nothing.
+    """Returns the trace without the victim's tasks: it is unchanged up to the kill, they exit a
+    nanosecond later, and the rest follows. A kill at the end changes nothing.
     """
     if kill.moment >= trace.events[-1].moment:
         return trace
@@ -143,8 +146,8 @@ class Round(NamedTuple):
 
 
 def rounds(trace: Trace, replay: Callable[[str], str]) -> Iterator[Round]:
-    """The traces up to the one whose output `whatif` prints: in the trace after N kills, the kill
-    with index N is applied, up to 64 times.
+    """Yields the traces up to the one whose output `whatif` prints: in the trace after N kills, the
+    kill with index N is applied, up to 64 times.
     """
     for number in range(MOST_ROUNDS + 1):
         printed = replay(trace.text())

@@ -48,8 +48,9 @@ def must_be_program(path: str, name: str) -> None:
 
 
 def program_of(words: list[str], name: str = "psi_oomd") -> tuple[str, list[str]]:
-    """The program of this name, built if none is named, and the arguments after `--program PATH`.
-    Tools that a test runs use it too. `--help` prints the test's own docstring, and builds nothing.
+    """Returns the program of this name, built if none is named, and the arguments after `--program
+    PATH`. Tools that a test runs use it too. `--help` prints the test's own docstring, and builds
+    nothing.
     """
     if words[:1] == ["--help"]:
         print((sys.modules["__main__"].__doc__ or "").strip())

@@ -28,14 +28,16 @@ class Done:
     error: str
 
     def json(self) -> object:
-        """The output, parsed as JSON."""
+        """Returns the output, parsed as JSON."""
         words = [sys.executable, "-m", "json.tool"]
         read = subprocess.run(words, input=self.output, capture_output=True, text=True, check=False)
         must_be("what json.tool says", (read.returncode, read.stderr), (0, ""))
         return json.loads(read.stdout)
 
     def without_notes(self) -> "Done":
-        """The run without the notes of lint. tests/oomd tests notes on oomd's differences."""
+        """Returns the run without the notes of lint. tests/oomd tests notes on oomd's
+        differences.
+        """
         kept = [it for it in self.output.splitlines(True) if ": note: " not in it]
         return Done(self.status, "".join(kept), self.error)
 
@@ -76,8 +78,8 @@ class Room:
         return Done(done.returncode, done.stdout.decode(), done.stderr.decode())
 
     def kills(self, *words: str, given: str = "") -> list[tuple[int, int, int, str]]:
-        """The kills that psi_oomd itself prints for this replay: time (ns), ruleset, action and
-        path.
+        """Returns the kills that psi_oomd itself prints for this replay: time (ns), ruleset, action
+        and path.
         """
         done = self.run("psi_oomd", "replay", *words, given=given)
         must_be(f"the status of replay {words}, which said {done.error}", done.status, 0)

@@ -65,13 +65,13 @@ def recording(name: str) -> Iterator[str]:
 
 
 def text(name: str) -> bytes:
-    """A stored text of ftrace."""
+    """Returns a stored text of ftrace."""
     with gzip.open(os.path.join(STORED, f"{name}.ftrace.gz")) as file:
         return file.read()
 
 
 def stored(name: str) -> str:
-    """A stored expected text."""
+    """Returns a stored expected text."""
     with open(os.path.join(STORED, name), encoding="utf-8") as file:
         return file.read()
 
@@ -95,29 +95,29 @@ def count_bytes(folder: str) -> None:
 
 
 def end_of(trace: bytes) -> int:
-    """The end of a trace, in ns."""
+    """Returns the end of a trace, in ns."""
     return int(trace.splitlines()[-1].split(b" ")[0])
 
 
 def digest_of(trace: bytes) -> str:
-    """The sha256 of a trace."""
+    """Returns the sha256 of a trace."""
     return hashlib.sha256(trace).hexdigest()
 
 
 def digests() -> dict[str, str]:
-    """The stored sha256 of each recording's trace."""
+    """Returns the stored sha256 of each recording's trace."""
     return {name: digest for digest, name in (line.split() for line in stored("traces.sha256").splitlines())}
 
 
 def converted(folder: str, *words: str, status: int = 0) -> Done:
-    """The result of psitrace for a recording."""
+    """Returns the result of psitrace for a recording."""
     done = tool("psitrace", folder, *words)
     must_be(f"the status of psitrace {' '.join(words)}, which said {done.said}", done.status, status)
     return done
 
 
 def compared(program: str, folder: str, trace: bytes, *words: str) -> Done:
-    """The result of compare for a trace."""
+    """Returns the result of compare for a trace."""
     with tempfile.NamedTemporaryFile(suffix=".trace") as file:
         file.write(trace)
         file.flush()

@@ -124,7 +124,7 @@ def check_bad_settings(room: Room) -> None:
 
 
 def fault_of(room: Room, folder: str) -> str:
-    """The message about a faulty folder of settings."""
+    """Returns the message about a faulty folder of settings."""
     try:
         settings = Settings(os.path.join(room.path, folder))
         settings.watched(SLICE)

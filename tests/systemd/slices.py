@@ -88,7 +88,7 @@ def told(room: Room, trace: Trace, *words: str) -> Done:
 
 
 def decided(room: Room, trace: Trace, folder: str, version: int | None = None) -> tuple[Decisions, list[str]]:
-    """The times (s) and victims for a folder of settings, and the messages."""
+    """Returns the times (s) and victims for a folder of settings, and the messages."""
     file = os.path.join(room.path, room.file(f"{folder}.trace", trace.text()))
     settings = Settings(os.path.join(room.path, folder), version)
     program = Program()
@@ -99,7 +99,7 @@ def decided(room: Room, trace: Trace, folder: str, version: int | None = None) -
 
 
 def decisions(room: Room, trace: Trace, files: dict[str, str], version: int | None = None, said: str = "") -> Decisions:
-    """The times (s) and victims; there must be no other message than `said`."""
+    """Returns the times (s) and victims; there must be no other message than `said`."""
     put(room, files)
     found, notes = decided(room, trace, "settings", version)
     must_be("what is said", "\n".join(notes), said)
@@ -115,8 +115,8 @@ def stalled(seconds: int = 45, **more: Leaf) -> Trace:
 
 
 def swap_trace(memory: int, free: int, *leaves: tuple[str, int]) -> Trace:
-    """A machine with 1000 bytes of memory and of swap; at 2.1 s `memory` bytes are used and `free`
-    bytes of swap are free.
+    """Returns a machine with 1000 bytes of memory and of swap; at 2.1 s `memory` bytes are used and
+    `free` bytes of swap are free.
     """
     extra = [(0.0, "host 1000 1000 1000"), (0.0, "mem / 100 0 0"), (2.1, f"host 1000 1000 {free}"), (2.1, f"mem / {memory} 0 0")]
     tops = {path[: path.index("/", 1)] for path, _ in leaves}
