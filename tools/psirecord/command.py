@@ -162,8 +162,7 @@ def record(
                 names.store(folder)
             check_statistics(machine, sources, folder, ending)
     if ending:
-        # Old recordings are deleted before the lock on this one is released, so that there are
-        # never more than the limit allows.
+        # This happens before the lock on `folder` is released, so that the limit always holds.
         keep(
             os.path.dirname(os.path.abspath(folder.path)), service.limits, tell,
             os.path.basename(folder.path),
