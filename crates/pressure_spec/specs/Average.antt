@@ -24,16 +24,16 @@ load average factor active = (average * factor + active * (2048 - factor) + (if 
 abbrev pub product : ℕ → ℕ → ℕ
 product x y = (x * y + 1024) / 2048
 
--- `result` times `x` to the power `n`, by squaring: it processes the binary digits of `n` from the
--- lowest digit, at most `digits` of them
+-- `result` times `x` to the power `n`, in fixed point and by squaring. It processes the binary
+-- digits of `n` from the lowest digit, at most `digits` of them.
 abbrev pub power_within : ℕ → ℕ → ℕ → ℕ → ℕ
 power_within zero result x n = result
 power_within (suc digits) result x n =
     if n == 0 then result else
     if n % 2 == 1 then power_within digits (product result x) (product x x) (n / 2) else power_within digits result (product x x) (n / 2)
 
--- `result` times `x` to the power `n`; `n` digits are enough, because `n` has at most `n` binary
--- digits
+-- `result` times `x` to the power `n`, in fixed point. `n` is a sufficient bound on the number of
+-- its binary digits.
 unfoldable pub power_from : ℕ → ℕ → ℕ → ℕ
 power_from result x n = power_within n result x n
 
@@ -59,16 +59,17 @@ new_averages at = record {
   averages = map (λ place. map (λ factor. 0) factors) pressure_places;
 }
 
--- the number of whole periods that passed since the update was due
+-- The number of whole periods that have passed at time `now` (ns) since the update was due.
 abbrev pub missed : AverageState → ℕ → ℕ
 missed old now = (now - old.next) / period
 
--- the time (ns) that an update covers: the time since the last update, without the missed periods
+-- The time (ns) that an update at time `now` covers: the time since the last update, minus the
+-- missed periods.
 abbrev pub sampled_time : AverageState → ℕ → ℕ
 sampled_time old now = now - (old.last + missed old now * period)
 
--- the sample (ns) that an update takes of a total: the part that wasn't sampled before, but at most
--- the covered time. The remainder is left for later updates.
+-- The stall time (ns) that an update samples: the part of `total` that earlier updates haven't
+-- sampled, but at most the covered time `time`. The remainder is left to later updates.
 abbrev pub sample_of : ℕ → ℕ → ℕ → ℕ
 sample_of time sampled total = min (total - sampled) time
 
@@ -76,17 +77,19 @@ sample_of time sampled total = min (total - sampled) time
 abbrev pub percent_of : ℕ → ℕ → ℕ
 percent_of time sample = sample * 100 / time
 
--- an average after an update: it decays over the missed periods as if they were idle, and then
--- takes in the sample's percentage
+-- An average after an update: it decays over the missed periods as if the group had been idle, and
+-- then decays over one period with the pressure `percent` (whole percent).
 abbrev pub average_after : ℕ → ℕ → ℕ → ℕ → ℕ
 average_after missed_periods percent average factor =
     load (if nat_lt 0 missed_periods then load average (power factor missed_periods) 0 else average) factor (percent * 2048)
 
--- the three averages of a quantity after an update
+-- The three averages of a quantity after an update, given its sample (ns) and the covered time
+-- `time` (ns).
 abbrev pub row_after : ℕ → ℕ → List ℕ → ℕ → List ℕ
 row_after missed_periods time averages sample = zip_with (average_after missed_periods (percent_of time sample)) averages factors
 
--- the samples (ns) that an update takes of all pressure quantities
+-- The samples (ns) that an update takes of all pressure quantities, given the covered time, the
+-- parts already sampled, and the totals (ns).
 abbrev pub samples_of : ℕ → List ℕ → List ℕ → List ℕ
 samples_of time sampled totals = zip_with (sample_of time) sampled totals
 
@@ -100,16 +103,15 @@ updated old now totals = record {
       zip_with (row_after (missed old now) (sampled_time old now)) old.averages (samples_of (sampled_time old now) old.sampled totals);
 }
 
--- the averages after a tick at time `now` (ns): updated if an update is due, and unchanged if none
--- is
+-- The averages after a tick at time `now` (ns): updated if an update is due, otherwise unchanged.
 unfoldable pub average_step : AverageState → ℕ → List ℕ → AverageState
 average_step old now totals = if nat_lt now old.next then old else updated old now totals
 
--- the averages after a list of ticks; each tick is a time (ns) and the totals (ns) of the pressure
--- quantities
+-- The averages after a list of ticks. Each tick is a time (ns) with the totals (ns) of the pressure
+-- quantities at that time.
 abbrev pub averages_from : AverageState → List (ℕ × List ℕ) → AverageState
 averages_from old ticks = fold (λ state tick. average_step state tick.0 tick.1) old ticks
 
--- the averages of a group that is created at time `at` (ns), after a list of ticks
+-- The averages of a group that is created at time `at` (ns) after a list of ticks.
 abbrev pub averages_after : ℕ → List (ℕ × List ℕ) → AverageState
 averages_after at ticks = averages_from (new_averages at) ticks

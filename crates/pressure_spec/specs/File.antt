@@ -9,7 +9,7 @@ use Rattle.psi_spec.specs.Fields.{level_word}
 use Rattle.psi_spec.specs.Stall.{state_number}
 use Rattle.pressure_spec.specs.Samples.{state_of}
 
--- a number below 100 as two decimal digits
+-- The text of a number below 100 as two decimal digits.
 abbrev pub two_digits : ℕ → List ℕ
 two_digits n = decimal (n / 10) ++ decimal (n % 10)
 
@@ -17,12 +17,13 @@ two_digits n = decimal (n / 10) ++ decimal (n % 10)
 abbrev pub hundredths : ℕ → ℕ
 hundredths average = (average % 2048) * 100 / 2048
 
--- an average in percent with two decimals, as the kernel's LOAD_INT and LOAD_FRAC print it
+-- The text of an average in percent with two decimals, as the kernel's LOAD_INT and LOAD_FRAC print
+-- it.
 abbrev pub percent_text : ℕ → List ℕ
 percent_text average = decimal (average / 2048) ++ codes "." ++ two_digits (hundredths average)
 
--- a line of a pressure file: the averages over 10, 60 and 300 s in percent, and the total (given in
--- ns) in whole microseconds
+-- A line of a pressure file: the averages over 10, 60 and 300 s in percent, and the total (an
+-- argument in ns) in whole microseconds.
 abbrev pub file_line : Level → List ℕ → ℕ → List ℕ
 file_line level averages total =
     level_word level ++ codes " avg10=" ++ percent_text (slice_index averages 0)
@@ -30,28 +31,29 @@ file_line level averages total =
     ++ codes " avg300=" ++ percent_text (slice_index averages 2)
     ++ codes " total=" ++ decimal (total / 1000) ++ codes "\n"
 
--- the line of a resource at level `some` or `full`, from the totals (ns) and averages of all states
+-- The line of a resource at level `some` or `full`, given the totals (ns) and averages of all
+-- states.
 abbrev pub state_line : Res → Level → List ℕ → List (List ℕ) → List ℕ
 state_line res level totals averages =
     file_line level (slice_index_or averages (state_number (state_of res level)) [])
     (slice_index totals (state_number (state_of res level)))
 
--- the resource is CPU
+-- Whether the resource is CPU.
 abbrev pub is_cpu : Res → Bool
 is_cpu Io = false
 is_cpu Memory = false
 is_cpu Cpu = true
 
--- the `full` line of a resource; for CPU of the root it is all zeros, as in the kernel
+-- The `full` line of a resource. For CPU of the root group, all numbers are zero, as in the kernel.
 abbrev pub full_line : Res → Bool → List ℕ → List (List ℕ) → List ℕ
 full_line res is_root totals averages =
     if is_root && is_cpu res then file_line FullStalled [] 0 else state_line res FullStalled totals averages
 
--- the pressure file of a resource: the `some` line and the `full` line
+-- The text of the pressure file of a resource: the `some` line and the `full` line.
 unfoldable pub file_text : Res → Bool → List ℕ → List (List ℕ) → List ℕ
 file_text res is_root totals averages = state_line res SomeStalled totals averages ++ full_line res is_root totals averages
 
--- the pressure file of interrupts, from its averages and total (ns). It has only the `full` line,
--- because no task runs on a processor during an interrupt.
+-- The text of irq.pressure, given the averages and the total (ns) of interrupt time. The file has
+-- only the `full` line, because no task runs on a processor during an interrupt.
 abbrev pub irq_text : List ℕ → ℕ → List ℕ
 irq_text averages total = file_line FullStalled averages total

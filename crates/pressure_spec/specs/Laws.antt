@@ -1,5 +1,5 @@
--- Laws of pressure: of shares, averages and signals, and of groups over any list of ticks. A
--- *place* is the index of a quantity in a list of times.
+-- Laws of shares, averages and signals, and laws of groups over any list of ticks. A *place* is the
+-- index of a quantity in a list of times.
 use Rattle.std.specs.Prelude.{◌≡◌, ℕ, ◌+◌, ◌-◌, ◌*◌, ◌≤◌, ◌<◌, List, [], ◌∷◌, ◌++◌, length, map, slice_index, sum_by, true, if◌then◌else◌, ◌/◌, ◌^◌, All, min, slice_index_or, Bool, false, Some}
 use Rattle.std.specs.List.{range_with_len}
 use Rattle.std.specs.List.Sorted.{IsNonDecreasingBy}
@@ -19,14 +19,14 @@ use Rattle.pressure_spec.specs.Signal.{TriggerState, fires, is_free, new_trigger
 
 -- ---- shares
 
--- A share is a mean of the processors' times: it is at most any upper bound of them, and at least
--- any lower bound of them if some processor has weight.
+-- A share lies between bounds of the processors' times: it is at most any upper bound of them, and
+-- at least any lower bound of them if some processor has weight.
 abbrev pub ShareIsMean : Type 0
 ShareIsMean = (rows : List (List ℕ)) (place least most : ℕ) →
     All (λ times. (least ≤ slice_index times place) × (slice_index times place ≤ most)) rows →
     (share_of rows place ≤ most) × (0 < total_weight rows → least ≤ share_of rows place)
 
--- A share is at most any upper bound of the processors' times.
+-- Upper bounds of the processors' times are upper bounds of the shares.
 abbrev pub SharesWithin : Type 0
 SharesWithin =
     (rows : List (List ℕ)) (most most_irq : ℕ) → All (AreTimesWithin most most_irq) rows → AreAmountsWithin most most_irq (shares rows)
@@ -35,34 +35,34 @@ SharesWithin =
 abbrev pub ShareWithinSum : Type 0
 ShareWithinSum = (rows : List (List ℕ)) (place : ℕ) → share_of rows place ≤ time_sum rows place
 
--- The weighted sum in a share fits in 64 bits. There are at most 64 processors, each with a time of
--- at most the longest tick (for interrupts a second more), and with a weight of at most the longest
--- tick in ms.
+-- The weighted sum from which a share is computed fits in 64 bits. There are at most 64 processors,
+-- each with a time of at most the longest tick (for interrupts a second more), and with a weight of
+-- at most the longest tick in ms.
 abbrev pub ShareSumFits : Type 0
 ShareSumFits =
     (rows : List (List ℕ)) (place : ℕ) → length rows ≤ 64 → place ≤ irq_place
     → All (AreTimesWithin longest_tick (longest_tick + longest_irq)) rows →
     (weighted_time rows place ≤ 64 * (longest_tick + longest_irq) * (longest_tick / 1000000)) × (weighted_time rows place < 2 ^ 64)
 
--- If no processor has weight (less than 1 ms of nonidle time on each), all shares are 0.
+-- All shares are 0 if no processor has weight: each was nonidle for less than 1 ms.
 abbrev pub IdleHasNone : Type 0
 IdleHasNone = (rows : List (List ℕ)) (place : ℕ) → total_weight rows ≡ 0 → share_of rows place ≡ 0
 
 -- ---- averages
 
--- an average, by the indexes of its quantity and of its averaging window
+-- The average with index `factor` (for 10, 60 or 300 s) of the quantity with index `place`.
 abbrev pub average_of : AverageState → ℕ → ℕ → ℕ
 average_of s place factor = slice_index (slice_index_or s.averages place []) factor
 
--- the part (ns) of a quantity's total that was sampled, by the index of the quantity
+-- The part (ns) of the total of the quantity with index `place` that updates have sampled.
 abbrev pub sampled_of : AverageState → ℕ → ℕ
 sampled_of s place = slice_index s.sampled place
 
--- each tick has a total of each pressure quantity
+-- Each tick has one total for each pressure quantity.
 abbrev pub HasTotals : List (ℕ × List ℕ) → Type 0
 HasTotals ticks = All (λ tick. length tick.1 ≡ length pressure_places) ticks
 
--- the totals are non-decreasing from tick to tick, starting from the totals `before`
+-- The totals never decrease from tick to tick. `before` are the totals before the first tick.
 abbrev pub NeverFalls : List ℕ → List (ℕ × List ℕ) → Type 0
 NeverFalls before [] = Unit {0}
 NeverFalls before (tick ∷ ticks) = ((place : ℕ) → slice_index before place ≤ slice_index tick.1 place) × NeverFalls tick.1 ticks
@@ -74,8 +74,8 @@ pub record PowerHalves : Type 0 where
   pub even : (result x n : ℕ) → power_from result x (2 * n) ≡ power_from result (product x x) n
   pub odd : (result x n : ℕ) → power_from result x (2 * n + 1) ≡ power_from (product result x) (product x x) n
 
--- An average moves toward the active pressure and never past it. If the factor is below 1, it stays
--- constant only at the active pressure.
+-- An average moves toward the active pressure and never past it. If the factor is below 1, the
+-- average stays constant only at the active pressure.
 pub record LoadApproaches : Type 0 where
   pub up : (average factor active : ℕ) → factor ≤ 2048 → average ≤ active
       → (average ≤ load average factor active) × (load average factor active ≤ active)
@@ -90,7 +90,7 @@ abbrev pub AtMostHundred : Type 0
 AtMostHundred = (at : ℕ) (ticks : List (ℕ × List ℕ)) → HasTotals ticks → IsAverageState (averages_after at ticks)
 
 -- If the whole covered time was stalled and no period was missed, an update raises each average of
--- the quantity toward 100 percent, and not above it.
+-- the quantity toward 100 percent, but not above 100 percent.
 abbrev pub RisesWhenStalled : Type 0
 RisesWhenStalled = (old : AverageState) (now : ℕ) (totals : List ℕ) (place factor : ℕ) →
     IsAverageState old → length totals ≡ length pressure_places → place < length pressure_places → factor < 3 →
@@ -99,7 +99,8 @@ RisesWhenStalled = (old : AverageState) (now : ℕ) (totals : List ℕ) (place f
     × (average_of (average_step old now totals) place factor ≤ 204800)
     × (average_of old place factor < 204800 → average_of old place factor < average_of (average_step old now totals) place factor)
 
--- If nothing of a quantity is left to be sampled, an update lowers each of its averages toward 0.
+-- If the whole total of a quantity has been sampled already, an update lowers each average of the
+-- quantity toward 0.
 abbrev pub FallsWhenFree : Type 0
 FallsWhenFree = (old : AverageState) (now : ℕ) (totals : List ℕ) (place factor : ℕ) →
     IsAverageState old → length totals ≡ length pressure_places → place < length pressure_places → factor < 3 →
@@ -107,15 +108,15 @@ FallsWhenFree = (old : AverageState) (now : ℕ) (totals : List ℕ) (place fact
     (average_of (average_step old now totals) place factor ≤ average_of old place factor)
     × (0 < average_of old place factor → average_of (average_step old now totals) place factor < average_of old place factor)
 
--- An update samples the part of a total that wasn't sampled before, but at most the covered time.
--- The remainder is left for later updates.
+-- An update samples the part of a total that earlier updates haven't sampled, but at most the
+-- covered time. The remainder is left to later updates.
 abbrev pub CarriesTheRest : Type 0
 CarriesTheRest = (old : AverageState) (now : ℕ) (totals : List ℕ) (place : ℕ) →
     IsAverageState old → length totals ≡ length pressure_places → place < length pressure_places → old.next ≤ now →
     sampled_of (average_step old now totals) place ≡ sampled_of old place
     + min (slice_index totals place - sampled_of old place) (sampled_time old now)
 
--- The sampled part of a total is at most the total.
+-- Updates never sample more of a total than the total itself.
 abbrev pub SamplesWithinTotal : Type 0
 SamplesWithinTotal =
     (at : ℕ) (ticks : List (ℕ × List ℕ)) (place : ℕ) → HasTotals ticks → NeverFalls [] ticks → place < length pressure_places →
@@ -123,11 +124,11 @@ SamplesWithinTotal =
 
 -- ---- signals
 
--- the trigger fires at a tick that comes after other ticks
+-- Whether the trigger fires at `tick` after the earlier `ticks`.
 abbrev pub fired_after : TriggerState → List (ℕ × ℕ) → ℕ × ℕ → Bool
 fired_after trigger ticks tick = fires (trigger_after trigger ticks) tick.0 tick.1
 
--- Two signals of a trigger are at least its window apart, for any ticks between them.
+-- Two signals of a trigger are at least its window apart, whatever ticks are between them.
 abbrev pub SignalsApart : Type 0
 SignalsApart = (at value threshold_us window_us : ℕ) (before between : List (ℕ × ℕ)) (first second : ℕ × ℕ) →
     fired_after (new_trigger at value threshold_us window_us) before first ≡ true →
@@ -135,44 +136,44 @@ SignalsApart = (at value threshold_us window_us : ℕ) (before between : List (�
     first.0 + window_us * 1000 ≤ second.0
 
 -- A pending event isn't lost: the trigger fires at the first tick that is at least a window after
--- its last signal, whatever the totals of the ticks before it are.
+-- its last signal, whatever the totals of the earlier ticks are.
 abbrev pub PendingIsSignalled : Type 0
 PendingIsSignalled = (trigger : TriggerState) (waits : List (ℕ × ℕ)) (tick : ℕ × ℕ) → trigger.pending ≡ true →
     All (λ (wait : ℕ × ℕ). is_free trigger.last_event trigger.size wait.0 ≡ false) waits →
     is_free trigger.last_event trigger.size tick.0 ≡ true →
     fired_after trigger waits tick ≡ true
 
--- A step at which a trigger fires sets the time of its last signal; any other step leaves that time
--- unchanged.
+-- A step at which a trigger fires sets the time of the trigger's last signal; any other step leaves
+-- this time unchanged.
 abbrev pub RemembersLast : Type 0
 RemembersLast = (trigger : TriggerState) (now value : ℕ) →
     (fires trigger now value ≡ true → (trigger_step trigger now value).last_event ≡ Some now)
     × (fires trigger now value ≡ false → (trigger_step trigger now value).last_event ≡ trigger.last_event)
 
--- ticks at these times, all with the same total
+-- Ticks at the times `moments` (ns), all with the total `value` (ns).
 abbrev pub still : ℕ → List ℕ → List (ℕ × ℕ)
 still value moments = map (λ now. (now, value)) moments
 
--- A trigger whose total never changes never fires.
+-- A trigger never fires if the total never changes.
 abbrev pub QuietWhenStill : Type 0
 QuietWhenStill = (at value threshold_us window_us now : ℕ) (moments : List ℕ) →
     fires (trigger_after (new_trigger at value threshold_us window_us) (still value moments)) now value ≡ false
 
 -- ---- groups over ticks
 
--- the totals (ns) of a group: for each quantity the sum of its shares over a list of samples; each
--- sample has a share of each quantity
+-- The totals (ns) of a group: for each quantity, the sum of its shares over a list of samples. Each
+-- sample has one share for each quantity.
 unfoldable pub totals_of : List (List ℕ) → List ℕ
 totals_of samples = map (λ i. sum_by (λ sample. slice_index sample i) samples) (range_with_len 0 (length pressure_places))
 
--- A sample adds its shares to the totals.
+-- Appending a sample adds its shares to the totals.
 abbrev pub TotalsGrow : Type 0
 TotalsGrow = (samples : List (List ℕ)) (sample : List ℕ) → length sample ≡ length pressure_places →
     totals_of (samples ++ sample ∷ []) ≡ plus (totals_of samples) sample
 
--- The samples of a group: for each tick at which it is live, the tick's time and the group's shares
--- (ns) of the interval since the previous tick. `before` are the group's times at the tick before
--- the first.
+-- The samples of a group: for each tick at which the group is live, the tick's time and the group's
+-- shares (ns) of the interval since the previous tick. `before` are the group's times at the tick
+-- before the first.
 abbrev pub samples_from : GroupLife → ℕ → List (List ℕ) → List Tick → List (ℕ × List ℕ)
 samples_from life slot before [] = []
 samples_from life slot before (tick ∷ ticks) =
@@ -180,27 +181,27 @@ samples_from life slot before (tick ∷ ticks) =
     then (tick.at, shares (growths before (row_at tick slot))) ∷ samples_from life slot (row_at tick slot) ticks
     else samples_from life slot (row_at tick slot) ticks
 
--- the samples of a group over a list of ticks, on `cpus` processors
+-- The samples of the group in slot `slot` over a list of ticks, on `cpus` processors.
 abbrev pub group_samples : ℕ → List GroupLife → List Tick → ℕ → List (ℕ × List ℕ)
 group_samples cpus lives ticks slot = samples_from (life_of lives slot) slot (no_row cpus) ticks
 
--- The total of a quantity is the sum of its shares.
+-- The total of quantity `i` after a list of ticks is the sum of its shares in the group's samples.
 abbrev pub TotalIsSum : Type 0
 TotalIsSum = (cpus : ℕ) (lives : List GroupLife) (ticks : List Tick) (slot i : ℕ) → i < length pressure_places →
     slice_index (totals_after cpus lives ticks slot) i ≡ sum_by (λ sample. slice_index sample.1 i) (group_samples cpus lives ticks slot)
 
--- Totals never decrease.
+-- Further ticks never decrease a total.
 abbrev pub TotalsNeverFall : Type 0
 TotalsNeverFall = (cpus : ℕ) (lives : List GroupLife) (ticks more : List Tick) (slot i : ℕ) →
     slice_index (totals_after cpus lives ticks slot) i ≤ slice_index (totals_after cpus lives (ticks ++ more) slot) i
 
--- The share of a state is at most the time since the previous tick, and the share of interrupts is
--- at most a second longer.
+-- The share of a state is at most the time since the previous tick. The share of interrupts is at
+-- most a second longer.
 abbrev pub NextSharesWithin : Type 0
 NextSharesWithin = (last tick : Tick) (slot : ℕ) → IsNextTick last tick →
     AreAmountsWithin (tick.at - last.at) (tick.at - last.at + longest_irq) (shares (growths (row_at last slot) (row_at tick slot)))
 
--- The total of a state is at most the time of the last tick, and the total of interrupts is at most
+-- The total of each state is at most the time of the last tick. The total of interrupts is at most
 -- the sum of the processors' interrupt times.
 abbrev pub TotalsWithin : Type 0
 TotalsWithin =

@@ -11,25 +11,25 @@ use Rattle.pressure_spec.specs.Ticks.{Tick, no_row}
 abbrev pub no_tick : ℕ → ℕ → Tick
 no_tick cpus slots = record { at = 0; table = replicate slots (no_row cpus) }
 
--- the last tick of a list, or `before` if the list is empty
+-- The last tick of a list, or `before` if the list is empty.
 abbrev pub last_tick : Tick → List Tick → Tick
 last_tick before [] = before
 last_tick before (tick ∷ ticks) = last_tick tick ticks
 
--- the time (ns) at index `place` on processor `cpu` in a group's row, or 0 if there is no such
--- entry
+-- The time (ns) at index `place` on processor `cpu` in a group's row, or 0 if the row has no such
+-- entry.
 abbrev pub time_of : List (List ℕ) → ℕ → ℕ → ℕ
 time_of row cpu place = slice_index (slice_index_or row cpu []) place
 
--- the time (ns) at index `place` on processor `cpu` of the group in `slot`, or 0 if there is no
--- such entry
+-- The time (ns) at index `place` on processor `cpu` of the group in slot `slot`, or 0 if the table
+-- has no such entry.
 abbrev pub time_in : List (List (List ℕ)) → ℕ → ℕ → ℕ → ℕ
 time_in table slot cpu place = time_of (slice_index_or table slot []) cpu place
 
 -- `tick` may follow `last`: it is later, by at most the longest tick, and not after the latest time
--- of a trace. No time has decreased. A time in a state has grown by at most the time between the
--- ticks. An interrupt time may have grown by a second more, because a trace reports it afterwards,
--- but it is at most the time of the tick.
+-- of a trace. No time of a group has decreased. A time in a state has grown by at most the time
+-- between the ticks. An interrupt time may have grown by a second more, because a trace reports
+-- interrupts after they happened, but it is at most the time of the tick.
 pub record IsNextTick (last tick : Tick) : Type 0 where
   pub later : last.at < tick.at
   pub soon : tick.at ≤ last.at + longest_tick
@@ -41,7 +41,7 @@ pub record IsNextTick (last tick : Tick) : Type 0 where
       ≤ time_in last.table slot cpu irq_place + (tick.at - last.at) + longest_irq
   pub irq_early : (slot cpu : ℕ) → time_in tick.table slot cpu irq_place ≤ tick.at
 
--- each tick may follow the tick before it; the first tick follows `before`
+-- Each tick may follow the tick before it (`IsNextTick`). The first tick follows `before`.
 abbrev pub AreNextTicks : Tick → List Tick → Type 0
 AreNextTicks before [] = Unit {0}
 AreNextTicks before (tick ∷ ticks) = IsNextTick before tick × AreNextTicks tick ticks

@@ -16,20 +16,20 @@ use Rattle.pressure_spec.specs.Signal.{TriggerState, fires, new_trigger, trigger
 
 -- ---- the history of a group
 
--- the group in `slot`
+-- The group in slot `slot`, or the root if there is no such slot.
 abbrev pub life_of : List GroupLife → ℕ → GroupLife
 life_of lives slot = slice_index_or lives slot root
 
--- the times (ns) of a group on each processor at a tick
+-- The times (ns) of the group in slot `slot` on each processor at a tick.
 abbrev pub row_at : Tick → ℕ → List (List ℕ)
 row_at tick slot = slice_index_or tick.table slot []
 
--- the growth of each time (ns) on each processor from one tick to the next
+-- The growth of each time (ns) on each processor from the times `before` to the times `now`.
 abbrev pub growths : List (List ℕ) → List (List ℕ) → List (List ℕ)
 growths before now = zip_with (zip_with (λ time earlier. time - earlier)) now before
 
--- the totals (ns) after an interval: the shares of the interval are added to them. `before` and
--- `now` are the group's times on each processor at its start and end.
+-- Adds the shares of an interval to the totals (ns). `before` and `now` are the group's times on
+-- each processor at the start and at the end of the interval.
 abbrev pub with_shares : List ℕ → List (List ℕ) → List (List ℕ) → List ℕ
 with_shares totals before now = plus totals (shares (growths before now))
 
@@ -44,7 +44,8 @@ history_from life slot before totals (tick ∷ ticks) =
     ∷ history_from life slot (row_at tick slot) (with_shares totals before (row_at tick slot)) ticks
     else history_from life slot (row_at tick slot) totals ticks
 
--- the history of the group in `slot` over a list of ticks from the first, on `cpus` processors
+-- The history of the group in slot `slot` over a list of ticks from the first tick, on `cpus`
+-- processors.
 abbrev pub history_of : ℕ → List GroupLife → List Tick → ℕ → List (ℕ × List ℕ)
 history_of cpus lives ticks slot = history_from (life_of lives slot) slot (no_row cpus) no_totals ticks
 
@@ -55,50 +56,50 @@ abbrev pub last_totals : List ℕ → List (ℕ × List ℕ) → List ℕ
 last_totals before [] = before
 last_totals before (tick ∷ history) = last_totals tick.1 history
 
--- the totals (ns) of a group after a list of ticks
+-- The totals (ns) of the group in slot `slot` after a list of ticks.
 unfoldable pub totals_after : ℕ → List GroupLife → List Tick → ℕ → List ℕ
 totals_after cpus lives ticks slot = last_totals no_totals (history_of cpus lives ticks slot)
 
--- the averages of a group after a list of ticks: they start when the group is created, and each
--- tick of its history is a step
+-- The averages of the group in slot `slot` after a list of ticks. They are 0 when the group is
+-- created, and each tick of the group's history updates them.
 unfoldable pub group_averages : ℕ → List GroupLife → List Tick → ℕ → AverageState
 group_averages cpus lives ticks slot = averages_after (life_of lives slot).made (history_of cpus lives ticks slot)
 
 -- ---- signals
 
--- the state that a trigger watches, for example memory `some`
+-- The state whose stall time a trigger watches, for example memory `some`.
 abbrev pub watched_state : TriggerSpec → State
 watched_state trigger = state_of trigger.res trigger.level
 
--- The initial total (ns) of a trigger: the total of the state that it watches at the last tick
--- strictly before it was set, or 0 if its group wasn't sampled before.
+-- The initial total (ns) of a trigger: the total of its watched state at the last tick strictly
+-- before the trigger was set, or 0 if the group has no earlier tick.
 abbrev pub first_value : TriggerSpec → List (ℕ × List ℕ) → ℕ
 first_value trigger history =
     at_state (last_totals no_totals (filter (λ (at : ℕ × List ℕ). nat_lt at.0 trigger.at) history)) (watched_state trigger)
 
--- the ticks that a trigger sees: all ticks of its group's history at or after it was set, each with
--- the total (ns) of the state that it watches
+-- The ticks that a trigger evaluates: all ticks of its group's history at or after the time at
+-- which it was set, each with the total (ns) of the watched state.
 abbrev pub seen_by : TriggerSpec → List (ℕ × List ℕ) → List (ℕ × ℕ)
 seen_by trigger history =
     map (λ (at : ℕ × List ℕ). (at.0, at_state at.1 (watched_state trigger))) (filter (λ (at : ℕ × List ℕ). nat_le trigger.at at.0) history)
 
--- the state of a trigger after its group's history
+-- The state of a trigger after all ticks of its group's history.
 abbrev pub trigger_over : TriggerSpec → List (ℕ × List ℕ) → TriggerState
 trigger_over trigger history =
     trigger_after (new_trigger trigger.at (first_value trigger history) trigger.threshold_us trigger.window_us) (seen_by trigger history)
 
--- The trigger fires at `tick` after the earlier `ticks`: its group is live at the tick, it was set
--- at or before the tick, and the total of the state that it watches makes it fire.
+-- Whether the trigger fires at `tick` after the earlier `ticks`: its group is live at the tick, it
+-- was set at or before the tick, and the total of its watched state makes it fire.
 unfoldable pub has_fired : ℕ → List GroupLife → List Tick → Tick → TriggerSpec → Bool
 has_fired cpus lives ticks tick trigger =
     is_live_at (life_of lives trigger.slot.0) tick.at && nat_le trigger.at tick.at
     && fires (trigger_over trigger (history_of cpus lives ticks trigger.slot.0)) tick.at
     (at_state (totals_after cpus lives (ticks ++ tick ∷ []) trigger.slot.0) (watched_state trigger))
 
--- trigger number `i` (from 0) fires at `tick`
+-- Whether trigger number `i` (from 0) fires at `tick` after the earlier `ticks`.
 abbrev pub fires_by_number : ℕ → List GroupLife → List TriggerSpec → List Tick → Tick → ℕ → Bool
 fires_by_number cpus lives triggers ticks tick i = is_some_and (slice_get triggers i) (has_fired cpus lives ticks tick)
 
--- the numbers of the triggers that fire at `tick` after the earlier `ticks`, ascending
+-- The numbers of the triggers that fire at `tick` after the earlier `ticks`, in ascending order.
 unfoldable pub fired_at : ℕ → List GroupLife → List TriggerSpec → List Tick → Tick → List ℕ
 fired_at cpus lives triggers ticks tick = filter (fires_by_number cpus lives triggers ticks tick) (range_with_len 0 (length triggers))

@@ -1,11 +1,13 @@
 -- The shares of an interval: how long a group was in each state, and how long interrupts took from
--- it, as a weighted mean over all processors. This is the kernel's collect_percpu_times.
+-- it, as a weighted mean over all processors. The definition follows the kernel's
+-- collect_percpu_times.
 use Rattle.std.specs.Prelude.{ℕ, ◌+◌, ◌*◌, ◌/◌, max, List, [], ◌∷◌, map, sum_by, slice_index}
 use Rattle.psi_base.specs.declared.event.State.{State}
 use Rattle.psi_base.specs.declared.event.State.TheVariants.{Nonidle}
 use Rattle.psi_spec.specs.Stall.{state_number}
 
--- the results of `f` for the elements at the same positions of two lists
+-- Applies `f` to the elements at equal positions of two lists. The result has the length of the
+-- shorter list.
 abbrev pub zip_with : {A B C : Type 0} → (A → B → C) → List A → List B → List C
 zip_with f [] ys = []
 zip_with f (x ∷ xs) [] = []
@@ -21,15 +23,16 @@ irq_place = 7
 abbrev pub pressure_places : List ℕ
 pressure_places = 0 ∷ 1 ∷ 2 ∷ 3 ∷ 4 ∷ 5 ∷ irq_place ∷ []
 
--- the index of interrupt time in a list with one number for each pressure quantity: the last
+-- The index of interrupt time, which is last, in a list with one number for each pressure quantity.
 abbrev pub irq_quantity : ℕ
 irq_quantity = 6
 
--- the number of a state in a list that begins with one number for each state
+-- The number for `state` in a list that begins with one number for each state.
 abbrev pub at_state : List ℕ → State → ℕ
 at_state numbers state = slice_index numbers (state_number state)
 
--- the weight of a processor: its nonidle time in whole milliseconds, from its times (ns)
+-- The weight of a processor: the group's nonidle time on it in whole milliseconds, given the
+-- group's times (ns) there.
 abbrev pub weight : List ℕ → ℕ
 weight times = at_state times Nonidle / 1000000
 
@@ -47,14 +50,14 @@ weighted_time rows place = sum_by (λ times. slice_index times place * weight ti
 abbrev pub share_of : List (List ℕ) → ℕ → ℕ
 share_of rows place = weighted_time rows place / max (total_weight rows) 1
 
--- the shares (ns) of all pressure quantities, from the times on each processor
+-- The shares (ns) of all pressure quantities, given the group's times (ns) on each processor.
 unfoldable pub shares : List (List ℕ) → List ℕ
 shares rows = map (share_of rows) pressure_places
 
--- the sums of the elements at the same positions of two lists
+-- Adds the elements at equal positions of two lists.
 abbrev pub plus : List ℕ → List ℕ → List ℕ
 plus xs ys = zip_with (λ x y. x + y) xs ys
 
--- the initial totals (ns) of a group: zeros
+-- The initial totals (ns) of a group: 0 for each pressure quantity.
 abbrev pub no_totals : List ℕ
 no_totals = map (λ place. 0) pressure_places

@@ -1,5 +1,5 @@
--- The state of a trigger and when it fires, as in the kernel's window_update and update_triggers.
--- It is updated at each tick.
+-- The state of a trigger, and the ticks at which the trigger fires, as in the kernel's
+-- window_update and update_triggers. The state is updated at each tick.
 use Rattle.std.specs.Prelude.{ℕ, ◌+◌, ◌-◌, ◌*◌, ◌/◌, List, fold, nat_le, nat_lt, ◌==◌, ◌&&◌, ◌||◌, Bool, true, false, if◌then◌else◌, Option, None, Some}
 
 -- The state of a trigger: its threshold and the length of its window (ns); the time (ns) at which
@@ -16,8 +16,8 @@ pub record TriggerState : Type 0 where
   pub pending : Bool
   pub last_event : Option ℕ
 
--- the initial state of a trigger that is set at time `at` (ns) when the total is `value` (ns), with
--- a threshold and a window (us)
+-- The initial state of a trigger that is set at time `at` (ns) when the total is `value` (ns), with
+-- its threshold and window in us.
 abbrev pub new_trigger : ℕ → ℕ → ℕ → ℕ → TriggerState
 new_trigger at value threshold_us window_us = record {
   threshold = threshold_us * 1000;
@@ -30,18 +30,19 @@ new_trigger at value threshold_us window_us = record {
   last_event = None;
 }
 
--- the current window has expired at time `now`
+-- Whether the current window has expired at time `now` (ns).
 abbrev pub is_over : TriggerState → ℕ → Bool
 is_over old now = nat_lt old.size (now - old.start)
 
--- The growth (ns) of the total in the sliding window. Until the current window expires, the growth
--- of the previous window counts in proportion to the time that remains.
+-- The growth (ns) of the total in the sliding window at time `now` with the total `value`. Until
+-- the current window expires, the growth of the previous window counts in proportion to the
+-- remaining time of the current window.
 abbrev pub growth : TriggerState → ℕ → ℕ → ℕ
 growth old now value =
     (value - old.start_value) + (if is_over old now then 0 else old.previous * (old.size - (now - old.start)) / old.size)
 
--- The state after the total changed: an expired window restarts, and growth of at least the
--- threshold makes an event pending.
+-- The state of a trigger after the total changed to `value` (ns) at time `now` (ns): an expired
+-- window restarts, and growth of at least the threshold makes an event pending.
 abbrev pub grown : TriggerState → ℕ → ℕ → TriggerState
 grown old now value = record {
   threshold = old.threshold;
@@ -54,31 +55,34 @@ grown old now value = record {
   last_event = old.last_event;
 }
 
--- the state after the total `value` (ns) of a tick at time `now` (ns)
+-- The state of a trigger after the total `value` (ns) was sampled at time `now` (ns). An unchanged
+-- total changes nothing.
 abbrev pub seen : TriggerState → ℕ → ℕ → TriggerState
 seen old now value = if value == old.last_value then old else grown old now value
 
--- at least a window has passed since the last signal, or there was no signal
+-- Whether at time `now` (ns) at least a window has passed since the last signal, or there was no
+-- signal.
 abbrev pub is_free : Option ℕ → ℕ → ℕ → Bool
 is_free None size now = true
 is_free (Some last) size now = nat_le (last + size) now
 
--- the trigger signals a pending event at time `now`
+-- Whether the trigger signals a pending event at time `now` (ns).
 abbrev pub signals : TriggerState → ℕ → Bool
 signals trigger now = trigger.pending && is_free trigger.last_event trigger.size now
 
--- the state after the pending event was signalled, if the trigger signals at time `now`
+-- The state of a trigger after it signalled its pending event at time `now` (ns). The state is
+-- unchanged if the trigger can't signal.
 abbrev pub settled : TriggerState → ℕ → TriggerState
 settled trigger now = if signals trigger now then record trigger { pending = false; last_event = Some now } else trigger
 
--- the state after a tick at time `now` (ns) with the total `value` (ns)
+-- The state of a trigger after a tick at time `now` (ns) with the total `value` (ns).
 unfoldable pub trigger_step : TriggerState → ℕ → ℕ → TriggerState
 trigger_step old now value = settled (seen old now value) now
 
--- the trigger fires at a tick at time `now` (ns) with the total `value` (ns)
+-- Whether the trigger fires at a tick at time `now` (ns) with the total `value` (ns).
 unfoldable pub fires : TriggerState → ℕ → ℕ → Bool
 fires old now value = signals (seen old now value) now
 
--- the state after a list of ticks, each given as its time (ns) and its total (ns)
+-- The state of a trigger after a list of ticks, each given by its time (ns) and its total (ns).
 abbrev pub trigger_after : TriggerState → List (ℕ × ℕ) → TriggerState
 trigger_after trigger ticks = fold (λ state tick. trigger_step state tick.0 tick.1) trigger ticks

@@ -1,6 +1,6 @@
 -- The ticks, which are the times at which pressure is sampled, and the tables of stall times at the
--- ticks of a trace. All groups are sampled at the same ticks; the kernel samples each group with a
--- timer of its own.
+-- ticks of a trace. All groups are sampled at each tick. The kernel, by contrast, samples each
+-- group with a timer of its own.
 use Rattle.std.specs.Prelude.{ℕ, ◌+◌, ◌++◌, ◌-◌, ◌*◌, ◌/◌, List, [], ◌∷◌, length, map, replicate, nat_lt, ◌==◌, ◌&&◌, ◌||◌, Bool}
 use Rattle.std.specs.List.{range_with_len}
 use Rattle.psi_base.specs.declared.event.Event.{Event}
@@ -10,37 +10,40 @@ use Rattle.psi_spec.specs.Stall.{irq_time, stall, states}
 
 -- ---- ticks
 
--- the time (ns) of tick number `i` (from 1); 0 for i = 0
+-- The time (ns) of tick number `i` (from 1), given the length (ns) of a tick. For i = 0 the time is
+-- 0.
 abbrev pub tick_moment : ℕ → ℕ → ℕ
 tick_moment length i = i * length
 
--- the number of ticks up to and including time `end` (ns)
+-- The number of ticks up to and including time `end` (ns), given the length (ns) of a tick.
 abbrev pub ticks_until : ℕ → ℕ → ℕ
 ticks_until length end = end / length
 
--- a multiple of the period (ns) is after the previous tick, and at or before tick number `i`
+-- Whether a multiple of `period` (ns) is after tick number `i` - 1, and at or before tick number
+-- `i`.
 abbrev pub is_due : ℕ → ℕ → ℕ → Bool
 is_due period length i = nat_lt (tick_moment length (i - 1) / period) (tick_moment length i / period)
 
--- rules are evaluated at tick number `i` if a multiple of the interval (ns) is due
+-- Whether the rules are evaluated at tick number `i`: a multiple of `interval` (ns) is due at this
+-- tick.
 abbrev pub is_evaluation : ℕ → ℕ → ℕ → Bool
 is_evaluation interval length i = is_due interval length i
 
--- Tick number `i` is reported if a multiple of the report period (ns) is due, or if it is the last
--- tick. A period of 0 means that only the last tick is reported.
+-- Whether tick number `i` is reported: it is the last tick, or a multiple of the report period (ns)
+-- is due. With a period of 0 only the last tick is reported.
 abbrev pub is_report : ℕ → ℕ → ℕ → ℕ → Bool
 is_report period length last i = i == last || (nat_lt 0 period && is_due period length i)
 
 -- ---- tables
 
--- A tick: its time (ns), and a table of the times (ns) of all groups up to it. The table is indexed
--- by slot, processor and place; the places are the seven states and interrupt time.
+-- A tick: its time (ns), and a table of the times (ns) of all groups up to the tick. The table is
+-- indexed by slot, processor and place; the places are the seven states and interrupt time.
 pub record Tick : Type 0 where
   pub at : ℕ
   pub table : List (List (List ℕ))
 
--- the times (ns) of a group on a processor: the times in the states, in the order of their numbers,
--- followed by interrupt time
+-- Builds the times (ns) of a group on a processor: the time in each state, in the order of the
+-- states' numbers, followed by the interrupt time `irq`.
 abbrev pub times_with : (State → ℕ) → ℕ → List ℕ
 times_with in_state irq = map in_state states ++ irq ∷ []
 
@@ -49,11 +52,11 @@ abbrev pub times_until : ℕ → ℕ → List Event → ℕ → List ℕ
 times_until cpu slot events at =
     times_with (λ state. stall state cpu slot (up_to events at) at) (irq_time cpu slot (up_to events at))
 
--- the times (ns) of a group on each of `cpus` processors up to time `at`
+-- The times (ns) of the group in slot `slot` on each of `cpus` processors up to time `at` (ns).
 abbrev pub row_until : ℕ → ℕ → List Event → ℕ → List (List ℕ)
 row_until cpus slot events at = map (λ cpu. times_until cpu slot events at) (range_with_len 0 cpus)
 
--- the times (ns) up to time `at` of all groups that a trace ever creates
+-- The times (ns) of all groups that a trace ever creates, up to time `at` (ns).
 abbrev pub table_until : ℕ → List Event → ℕ → List (List (List ℕ))
 table_until cpus events at = map (λ slot. row_until cpus slot events at) (range_with_len 0 (length (after events).groups))
 
@@ -67,6 +70,6 @@ ticks_of cpus events length count = map (tick_of cpus events length) (range_with
 
 -- ---- before the first tick
 
--- the times of a group before the first tick: all are 0, on each of `cpus` processors
+-- The times of a group before the first tick, on each of `cpus` processors: all are 0.
 abbrev pub no_row : ℕ → List (List ℕ)
 no_row cpus = replicate cpus (times_with (λ state. 0) 0)

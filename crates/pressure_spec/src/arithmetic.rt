@@ -5,16 +5,16 @@ ghost use Rattle.pressure_spec.specs.Laws.{AtMostHundred, CarriesTheRest, FallsW
 ghost use Rattle.pressure_spec.specs.Laws.{NextSharesWithin, PendingIsSignalled, PowerHalves, QuietWhenStill, RemembersLast, RisesWhenStalled, SamplesWithinTotal, ShareIsMean};
 ghost use Rattle.pressure_spec.specs.Laws.{ShareSumFits, ShareWithinSum, SharesWithin, SignalsApart, TotalIsSum, TotalsGrow, TotalsNeverFall, TotalsWithin};
 
-/// Fixed-point arithmetic: powers are computed by squaring, and an average moves toward the active
-/// pressure and never past it.
+/// Fixed-point powers are computed by squaring. An average moves toward the active pressure and
+/// never past it.
 pub fn law_fixed_point()
     ensures power { PowerHalves }
     ensures load { LoadApproaches }
 {}
 
 /// The averages of a group never exceed 100 percent. They rise while the whole time is stalled, and
-/// fall while nothing is. The part of a total that an update can't sample is left for later
-/// updates.
+/// fall while no time is stalled. An update samples at most the time that it covers, and leaves the
+/// remaining stall time to later updates.
 pub fn law_averages()
     ensures most { AtMostHundred }
     ensures rises { RisesWhenStalled }
@@ -23,9 +23,8 @@ pub fn law_averages()
     ensures within { SamplesWithinTotal }
 {}
 
-/// Two signals of a trigger are at least a window apart, a pending event is signalled at the first
-/// tick at which this is possible, and a trigger doesn't signal while the total stays at its
-/// initial value.
+/// Two signals of a trigger are at least a window apart. A pending event is signalled at the first
+/// tick at which this is possible. A trigger never signals if the total keeps its initial value.
 pub fn law_signals()
     ensures apart { SignalsApart }
     ensures pending { PendingIsSignalled }
@@ -44,9 +43,9 @@ pub fn law_shares()
     ensures totals { TotalsGrow }
 {}
 
-/// For groups over any list of ticks: a total is the sum of its shares, so it never decreases, and
-/// it is bounded, so it fits its counter. No average exceeds 100 percent, and two signals of a
-/// trigger are at least a window apart.
+/// For groups over any list of ticks: a total is the sum of the shares of its intervals, so it
+/// never decreases; it is bounded, so it fits its 64-bit counter; no average exceeds 100 percent;
+/// and two signals of a trigger are at least a window apart.
 pub fn law_ticks()
     ensures sum { TotalIsSum }
     ensures unchanged { TotalsNeverFall }

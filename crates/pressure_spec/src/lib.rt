@@ -4,8 +4,8 @@
 //!
 //! Read the files of `specs/` in this order: `Share` (how long a group was stalled in an interval),
 //! `Average` (the averages over 10, 60 and 300 s), `Within` (upper bounds), `Signal` (when a
-//! trigger fires), `Ticks` (the ticks of a trace), `NextTick` (successive ticks), `Samples` (groups
-//! over ticks), `File` and `Printed` (pressure files) and `Laws`.
+//! trigger fires), `Ticks` (the ticks of a trace), `NextTick` (successive ticks), `Samples`
+//! (totals, averages and signals over ticks), `File` and `Printed` (pressure files) and `Laws`.
 #![tactic(auto)]
 
 mod arithmetic;

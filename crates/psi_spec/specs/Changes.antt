@@ -1,5 +1,5 @@
--- The events that change a processor, and the stall times after the first `k` changes of a
--- processor.
+-- The events that change the state of a processor, and the stall times of a group after the first
+-- `k` of those events (the *changes* of the processor).
 use Rattle.std.specs.Prelude.{ℕ, ◌-◌, ◌≤◌, List, [], ◌∷◌, length, map, take, filter, slice_get, slice_index_or, ◌==◌, ◌||◌, Bool, true, false, Option, None, Some}
 use Rattle.std.specs.List.{range_with_len}
 use Rattle.psi_base.specs.declared.event.Act.{Act}
@@ -12,9 +12,9 @@ use Rattle.psi_spec.specs.Stall.{stall, states}
 
 -- ---- the processors that an act changes
 
--- The only task whose counts an effect changes, as it is before the effect, or `None`. A switch
--- changes only the counts of the task that leaves: the task that it starts is ready before and runs
--- after, and contributes the same to the counts.
+-- The only task whose counts an effect changes, in its state before the effect; `None` if there is
+-- no such task. A switch changes only the counts of the task that leaves: the task that starts is
+-- ready before and running after, and contributes equally to the counts.
 abbrev pub before_effect : Tasks → Effect → Option Task
 before_effect tasks none = None
 before_effect tasks (forks pid path cpu) = None
@@ -25,20 +25,20 @@ before_effect tasks (switches cpu next how) = task_part (running_on tasks cpu.0)
 before_effect tasks (interrupts cpu) = None
 before_effect tasks switches_account = None
 
--- the only task whose counts an act (what an event does) changes, as it is before the act, or
--- `None`
+-- The only task whose counts an act (what an event does) changes, in its state before the act;
+-- `None` if there is no such task.
 abbrev pub before : Tasks → Act → Option Task
 before tasks what = before_effect tasks (effect_of what)
 
--- the task is assigned to processor `cpu`, blocked or not
+-- Whether `task` is assigned to processor `cpu`, blocked or not.
 abbrev pub is_at : ℕ → Task → Bool
 is_at cpu task = task.cpu.0 == cpu
 
--- An effect changes processor `cpu`, given the task `old` whose counts it changes. A fork or a
--- switch changes the processor that it names. Putting a task on a run queue changes the task's old
--- and new processors. A memory stall or a move to another group changes the task's own processor.
--- Interrupts change the processor whose running task they delay. Switching the accounting of a
--- group changes every processor.
+-- Whether an effect changes processor `cpu`, given the task `old` whose counts it changes. A fork
+-- or a switch changes the processor that it names. Putting a task on a run queue changes the task's
+-- old and new processors. A memory stall or a move to another group changes the task's own
+-- processor. Interrupts change the processor whose running task they delay. Switching the
+-- accounting of a group changes every processor.
 abbrev pub touched_by : Effect → Option Task → ℕ → Bool
 touched_by none old cpu = false
 touched_by (forks pid path named) old cpu = named.0 == cpu
@@ -49,19 +49,21 @@ touched_by (switches named next how) old cpu = named.0 == cpu
 touched_by (interrupts named) old cpu = named.0 == cpu
 touched_by switches_account old cpu = true
 
--- An act changes processor `cpu`, given the task `old` whose counts it changes. Requires that `cpu`
--- is a processor of the machine: an act that changes every processor gives true for any number.
+-- Whether an act changes processor `cpu`, given the task `old` whose counts the act changes.
+-- Requires that `cpu` is a processor of the machine: an act that changes every processor gives true
+-- for any number.
 abbrev pub touched : Act → Option Task → ℕ → Bool
 touched what old cpu = touched_by (effect_of what) old cpu
 
 -- ---- the changes of a processor
 
--- an event changes processor `cpu` in a world; `None` changes nothing
+-- Whether an optional event changes processor `cpu` in world `w`. `None` changes nothing.
 abbrev pub touches : World → Option Event → ℕ → Bool
 touches w None cpu = false
 touches w (Some event) cpu = touched event.act (before w.tasks event.act) cpu
 
--- event number `i` (from 1) changes processor `cpu` in the world after the events before it
+-- Whether event number `i` (from 1) changes processor `cpu` in the world after the events before
+-- `i`.
 abbrev pub is_change : ℕ → List Event → ℕ → Bool
 is_change cpu events i = touches (after (take (i - 1) events)) (slice_get events (i - 1)) cpu
 
@@ -84,12 +86,12 @@ count_at cpu events at = length (changes_of cpu (up_to events at))
 
 -- ---- samples of a processor
 
--- the times (ns) that a group spent in each state on processor `cpu` up to time `at`, as if the
--- processor didn't change after its first `k` changes
+-- The times (ns) that the group in slot `slot` spent in each state on processor `cpu` up to time
+-- `at`, if only the first `k` changes of the processor are counted.
 abbrev pub times_after : ℕ → ℕ → List Event → ℕ → ℕ → List ℕ
 times_after cpu slot events k at = map (λ state. stall state cpu slot (until_change cpu events k) at) states
 
--- the numbers are non-decreasing, between a lower and an upper bound
+-- The numbers are in non-decreasing order, and all are from `low` to `high`.
 abbrev pub RiseWithin : ℕ → List ℕ → ℕ → Type 0
 RiseWithin low [] high = low ≤ high
 RiseWithin low (number ∷ numbers) high = (low ≤ number) × RiseWithin number numbers high

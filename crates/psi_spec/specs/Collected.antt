@@ -1,5 +1,5 @@
--- Values that are collected from the events of a trace, each event in the world before it. The
--- triggers of a trace are collected in this way.
+-- Collects values from the events of a trace: a function of each event and the world before it
+-- gives the values. The triggers of a trace are collected in this way.
 use Rattle.std.specs.Prelude.{ℕ, List, [], ◌∷◌, ◌++◌, unwrap_or}
 use Rattle.psi_base.specs.declared.event.Slot.{Slot}
 use Rattle.psi_base.specs.declared.event.Act.{Act}
@@ -9,8 +9,8 @@ use Rattle.psi_base.specs.declared.event.TriggerSpec.{TriggerSpec}
 use Rattle.psi_spec.specs.declared.machine.GroupLife.{GroupLife}
 use Rattle.psi_spec.specs.World.{World, after_event, first_world, slot_of}
 
--- the values that `shows` gives for each event in the world before it, concatenated in the order of
--- the events; `w` is the world before the first event
+-- The values that `shows` gives for each event in the world before the event, in the order of the
+-- events. `w` is the world before the first event.
 abbrev pub values_from : {A : Type 0} → (World → Event → List A) → World → List Event → List A
 values_from shows w [] = []
 values_from shows w (event ∷ events) = shows w event ++ values_from shows (after_event w event) events

@@ -11,9 +11,9 @@ use Rattle.psi_base.specs.declared.event.Preference.{Preference}
 use Rattle.psi_base.specs.declared.event.Res.{Res}
 use Rattle.psi_base.specs.declared.event.Level.{Level}
 
--- The kind of a field: a task (pid), the next task or none, a processor, a group's path, how a task
--- leaves its processor, a group's kill preference, a size or count of at most 2^60, any 64-bit
--- number, a resource, a level, or whether a group's accounting is on.
+-- The kinds of fields of an event line: a task (pid), the next task or none, a processor, a group's
+-- path, how a task leaves its processor, a group's kill preference, a size or count of at most
+-- 2^60, any 64-bit number, a resource, a level, or whether a group's accounting is on.
 pub data Kind : Type 0 where
   pid : Kind
   next : Kind
@@ -45,7 +45,7 @@ Value account = Bool
 abbrev pub IsPid : Pid → Type 0
 IsPid task = (0 < task.0) × (task.0 < 2 ^ 32)
 
--- the value is in the range that a trace allows for its kind
+-- The value is in the range that a trace allows for a field of kind `kind`.
 abbrev pub InRange : (kind : Kind) → Value kind → Type 0
 InRange pid task = IsPid task
 InRange next task = IfSome task IsPid
@@ -69,7 +69,7 @@ abbrev pub account_word : Bool → List ℕ
 account_word true = codes "on"
 account_word false = codes "off"
 
--- the spelling of a value
+-- The bytes by which a line spells a value of a field of kind `kind`.
 abbrev pub word : (kind : Kind) → Value kind → List ℕ
 word pid task = decimal task.0
 word next task = next_word task
@@ -83,17 +83,18 @@ word resource which = resource_word which
 word level which = level_word which
 word account on = account_word on
 
--- the list contains the element
+-- The list contains the element `x`.
 abbrev pub IsAmong : {A : Type 0} → A → List A → Type 0
 IsAmong x [] = ⊥
 IsAmong x (y ∷ ys) = (x ≡ y) ⊎ IsAmong x ys
 
--- the number if it satisfies `holds`, or `None`
+-- The optional number if it is present and satisfies `holds`; otherwise `None`.
 abbrev pub accepted_if : (ℕ → Bool) → Option ℕ → Option ℕ
 accepted_if holds None = None
 accepted_if holds (Some n) = if holds n then Some n else None
 
--- the number that a word spells, if it satisfies `holds`, or `None`
+-- The number that the word `text` spells in decimal if the number satisfies `holds`; otherwise
+-- `None`.
 abbrev pub number_in : (ℕ → Bool) → List ℕ → Option ℕ
 number_in holds text = accepted_if holds (number_of text)
 

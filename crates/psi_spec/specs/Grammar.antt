@@ -42,7 +42,8 @@ pub record Header : Type 0 where
 unfoldable pub header : ℕ → ℕ → List ℕ
 header version cpus = codes "psitrace " ++ decimal version ++ codes " cpus=" ++ decimal cpus
 
--- a function that takes one value of each kind, in order, and returns an act (what an event does)
+-- The type of a function that takes one value of each kind of the list, in order, and returns an
+-- act (what an event does).
 abbrev pub Maker : List Kind → Type 0
 Maker [] = Act
 Maker (k ∷ ks) = Value k → Maker ks
@@ -73,7 +74,8 @@ pub record Form : Type 0 where
   pub kinds : List Kind
   pub act : Maker kinds
 
--- the syntax with these components
+-- Makes the syntax of a verb from its word, the kinds of its fields, and the function from the
+-- values of the fields to the act.
 abbrev pub form : (text : List ℕ) (kinds : List Kind) → Maker kinds → Form
 form text kinds act = record { word = text; kinds = kinds; act = act }
 
@@ -104,7 +106,7 @@ verb_word verb = (form_of verb).word
 abbrev pub kinds_of : Verb → List Kind
 kinds_of verb = (form_of verb).kinds
 
--- the verbs of every version, with the most frequent verbs first
+-- The verbs that every version has. The most frequent verbs come first.
 abbrev pub first_verbs : List Verb
 first_verbs = Switch ∷ Wake ∷ Stall ∷ Unstall ∷ Migrate ∷ Move ∷ Fork ∷ Mem ∷ Host ∷ Group ∷ Remove ∷ Prefer ∷ Trigger ∷ End ∷ []
 
@@ -122,7 +124,7 @@ abbrev pub Values : List Kind → Type 0
 Values [] = Unit {0}
 Values (k ∷ ks) = Value k × Values ks
 
--- an act as its verb and the values of its fields
+-- An act, represented by its verb and the values of its fields.
 pub record Phrase : Type 0 where
   pub verb : Verb
   pub values : Values (kinds_of verb)
@@ -131,7 +133,7 @@ pub record Phrase : Type 0 where
 abbrev pub phrase : (verb : Verb) → Values (kinds_of verb) → Phrase
 phrase verb values = record { verb = verb; values = values }
 
--- the verb of an act and the values of its fields
+-- Decomposes an act into its verb and the values of its fields.
 abbrev pub phrase_of : Act → Phrase
 phrase_of (act.Group path) = phrase Group (path, tt)
 phrase_of (act.Remove path) = phrase Remove (path, tt)
@@ -152,7 +154,7 @@ phrase_of act.End = phrase End tt
 
 -- ---- spelling
 
--- the spellings of values, in order
+-- The spellings of the values of the fields of kinds `ks`, in order.
 abbrev pub field_words : (ks : List Kind) → Values ks → List (List ℕ)
 field_words [] values = []
 field_words (k ∷ ks) values = word k values.0 ∷ field_words ks values.1
@@ -179,13 +181,14 @@ pub record Fits (event : Event) : Type 0 where
   pub at : event.at < 2 ^ 64
   pub act : ActFits event.act
 
--- the list contains the verb of the event
+-- The list of verbs contains the verb of the event.
 abbrev pub IsKnown : List Verb → Event → Type 0
 IsKnown verbs event = IsAmong (phrase_of event.act).verb verbs
 
 -- ---- parsing
 
--- the value and the remaining words, or the cause that field number `i` is bad
+-- The value `x` with the remaining words, or the cause that field number `i` is bad if there is no
+-- value.
 abbrev pub or_bad : {A : Type 0} → ℕ → Option A → List (List ℕ) → Result (A × List (List ℕ)) Cause
 or_bad i None words = Err (cause.BadField i)
 or_bad i (Some x) words = Ok (x, words)
@@ -212,18 +215,18 @@ act_from verb words = made_from 1 (kinds_of verb) (form_of verb).act words
 unfoldable pub verb_of : List Verb → List ℕ → Option Verb
 verb_of verbs text = named verb_word verbs text
 
--- parses the fields of the given verb; the cause is BadVerb if there is no verb
+-- Parses the fields of an optional verb. The cause is BadVerb if the verb is `None`.
 abbrev pub act_in : Option Verb → List (List ℕ) → Result Act Cause
 act_in None words = Err cause.BadVerb
 act_in (Some verb) words = act_from verb words
 
--- parses a verb of the list and its fields
+-- Parses the words of a line after the time: a verb of the list, and the fields of the verb.
 unfoldable pub act_at : List Verb → List (List ℕ) → Result Act Cause
 act_at verbs [] = Err cause.BadVerb
 act_at verbs (text ∷ words) = act_in (verb_of verbs text) words
 
--- parses the verb and fields of an event at the given time; the cause is BadTime if there is no
--- time
+-- Parses the verb and the fields of an event at an optional time (ns). The cause is BadTime if the
+-- time is `None`.
 abbrev pub event_in : List Verb → Option ℕ → List (List ℕ) → Result Event Cause
 event_in verbs None words = Err cause.BadTime
 event_in verbs (Some at) words = do
@@ -244,10 +247,11 @@ event_of verbs line = event_at verbs (parts_at 32 line)
 abbrev pub header_line : Header → List ℕ
 header_line head = header (version_number head.version) head.cpus
 
--- the headers of a version, for 1 to 64 processors
+-- All headers of a version: one for each number of processors from 1 to 64.
 abbrev pub headers_of : Version → List Header
 headers_of version = map (λ cpus. let head : Header = record { version = version; cpus = cpus } in head) (range_with_len 1 64)
 
--- parses a line as a header with one of the versions; `None` if it isn't one
+-- Parses a line as a header with one of the versions. The result is `None` if the line is no such
+-- header.
 unfoldable pub header_of : List Version → List ℕ → Option Header
 header_of versions line = named header_line (flat_map headers_of versions) line

@@ -12,19 +12,19 @@ path_at groups slot = slice_index_or (map (λ group. group.path) groups) slot []
 
 -- ---- live groups at a time
 
--- the group was removed at or before time `at` (ns)
+-- Whether a group was removed at or before time `at` (ns), given its optional time of removal.
 abbrev pub is_gone_by : Option ℕ → ℕ → Bool
 is_gone_by None at = false
 is_gone_by (Some gone) at = nat_le gone at
 
--- A group is live at time `at` (ns) if it was created at or before `at`, and wasn't removed at or
--- before `at`.
+-- Whether a group is live at time `at` (ns): it was created at or before `at`, and wasn't removed
+-- at or before `at`.
 abbrev pub is_live_at : GroupLife → ℕ → Bool
 is_live_at life at = nat_le life.made at && not (is_gone_by life.gone at)
 
 -- ---- live groups in the order in which they are printed
 
--- the paths and slots of the live groups, if the first group of the list is in slot `slot`
+-- The paths and slots of the live groups in a list whose first group is in slot `slot`.
 abbrev pub live_from : ℕ → List GroupLife → List (List ℕ × ℕ)
 live_from slot [] = []
 live_from slot (group ∷ groups) = if is_live group then (group.path, slot) ∷ live_from (slot + 1) groups else live_from (slot + 1) groups

@@ -1,8 +1,8 @@
--- The header of a trace, given the number of its version.
+-- The header of a trace, given its version number.
 use Rattle.std.specs.Prelude.{◌≡◌, ◌⊎◌, ℕ, ◌==◌, if◌then◌else◌}
 use Rattle.psi_spec.specs.Grammar.{Version, One, Two, Header}
 
--- the number is the number of a version
+-- `number` is the number of a version of the trace format.
 abbrev pub IsVersion : ℕ → Type 0
 IsVersion number = (number ≡ 1) ⊎ (number ≡ 2)
 

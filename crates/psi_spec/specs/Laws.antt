@@ -51,8 +51,8 @@ RootIsAbove = (groups : List GroupLife) (slot : ℕ) → AreGroups groups → sl
 
 -- ---- stall time and interrupt time
 
--- Stall time after one more event is the sum of the stall time up to that event, and of the time
--- since then if the group is in the state after the event.
+-- Appending an event at a time before `at` splits the stall time up to `at`: it is the stall time
+-- up to the event, plus the time since the event if the group is in the state after the event.
 abbrev pub GrowsByEvent : Type 0
 GrowsByEvent = (state : State) (cpu slot : ℕ) (events : List Event) (event : Event) (at : ℕ) →
     stall state cpu slot (events ++ event ∷ []) at ≡ stall state cpu slot events event.at
@@ -65,16 +65,16 @@ GrowsWithTime = (state : State) (cpu slot : ℕ) (events : List Event) (event : 
     stall state cpu slot (events ++ event ∷ []) later
     ≡ stall state cpu slot (events ++ event ∷ []) at + (if holds state cpu slot (after (events ++ event ∷ [])) then later - at else 0)
 
--- One more event increases the interrupt time by the amount that the event adds in the world before
--- it.
+-- Appending an event increases the interrupt time by the interrupt time of the event (`irq_from`)
+-- in the world before the event.
 abbrev pub IrqByEvent : Type 0
 IrqByEvent = (cpu slot : ℕ) (events : List Event) (event : Event) →
     irq_time cpu slot (events ++ event ∷ []) ≡ irq_time cpu slot events + irq_from cpu slot (after events) (Some event)
 
 -- ---- traces
 
--- The bytes are the text of an acceptable trace: its version is accepted, its events have accepted
--- verbs, and they are legal. This definition doesn't refer to a parser.
+-- `bytes` is the text of an acceptable trace: the version and the verbs are accepted, and the
+-- events are legal. This definition doesn't refer to a parser.
 pub record IsTrace (accepts : Accepts) (bytes : List ℕ) (trace : Trace) : Type 0 where
   pub text : bytes ≡ text_of trace
   pub version : IsAmong trace.version accepts.versions
@@ -82,7 +82,8 @@ pub record IsTrace (accepts : Accepts) (bytes : List ℕ) (trace : Trace) : Type
   pub known : AreKnown (accepts.verbs trace.version) trace.events
   pub accepted : IsAccepted (limits_of accepts.tick trace.cpus) trace.events
 
--- Bytes are parsed as a trace if and only if they are its text and it is acceptable (`IsTrace`).
+-- The parser returns a trace if and only if the bytes are the text of this trace and the trace is
+-- acceptable (`IsTrace`).
 abbrev pub Accepted : Type 0
 Accepted = (accepts : Accepts) (bytes : List ℕ) (trace : Trace) → (trace_of accepts bytes ≡ Ok trace) ↔ IsTrace accepts bytes trace
 
@@ -90,26 +91,28 @@ Accepted = (accepts : Accepts) (bytes : List ℕ) (trace : Trace) → (trace_of 
 abbrev pub NoNewline : List ℕ → Type 0
 NoNewline bytes = (k : ℕ) → k < length bytes → slice_index bytes k ≢ 10
 
--- The input at the start of a line: either a line followed by its newline (`IsFirstLine`), or an
--- incomplete last line (`IsRest`).
+-- The input `rest` begins with the line `line`, which is followed by a newline.
 abbrev pub IsFirstLine : List ℕ → List ℕ → Type 0
 IsFirstLine rest line = NoNewline line × ((suffix : List ℕ) × (rest ≡ line ++ 10 ∷ suffix))
 
+-- The input `rest` is an incomplete last line: it contains no newline.
 abbrev pub IsRest : List ℕ → Type 0
 IsRest rest = NoNewline rest
 
--- the cause against the input at the start of a line after the header, in world `w`
+-- `why` is the cause for which the first line of the input `rest` is rejected in world `w`. The
+-- line is an event line, or an incomplete last line.
 abbrev pub IsLineCause : List Verb → Limits → World → List ℕ → Cause → Type 0
 IsLineCause verbs limits w rest why =
     ((line : List ℕ) × IsFirstLine rest line × (line_event verbs limits w line ≡ Err why)) ⊎ (IsRest rest × (rest_cause w rest ≡ Some why))
 
--- the cause against the input at the start of the first line, which must be a header
+-- `why` is the cause for which the first line of the whole input is rejected. This line must be a
+-- header.
 abbrev pub IsFirstLineCause : List Version → List ℕ → Cause → Type 0
 IsFirstLineCause versions rest why =
     ((line : List ℕ) × IsFirstLine rest line × (first_line versions line ≡ Err why)) ⊎ (IsRest rest × (first_rest rest ≡ why))
 
 -- The first bad line comes after the header: the lines before it are a header and legal events, and
--- in the world after these events `why` is the cause against the rest of the input.
+-- in the world after those events the next line is rejected with cause `why`.
 pub record IsRefusedLater (accepts : Accepts) (bytes : List ℕ) (line : ℕ) (why : Cause) : Type 0 where
   pub version : Version
   pub cpus : ℕ
@@ -129,8 +132,8 @@ pub record IsRefusedLater (accepts : Accepts) (bytes : List ℕ) (line : ℕ) (w
 abbrev pub IsRefused : Accepts → List ℕ → ℕ → Cause → Type 0
 IsRefused accepts bytes line why = ((line ≡ 1) × IsFirstLineCause accepts.versions bytes why) ⊎ IsRefusedLater accepts bytes line why
 
--- The parser rejects bytes at a line with a cause if and only if that is the first bad line and its
--- first cause.
+-- The parser rejects bytes with a line number and a cause if and only if they are the first bad
+-- line and the first cause that applies to it.
 abbrev pub FirstRefused : Type 0
 FirstRefused =
     (accepts : Accepts) (bytes : List ℕ) (line : ℕ) (why : Cause)

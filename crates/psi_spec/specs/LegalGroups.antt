@@ -14,7 +14,7 @@ use Rattle.psi_spec.specs.Groups.{path_at}
 
 -- ---- groups of legal worlds
 
--- the parent of a slot has a smaller slot
+-- The parent of each slot has a smaller slot.
 abbrev pub AreOlder : List (Option ℕ) → Type 0
 AreOlder parents = (slot parent : ℕ) → slice_index_or parents slot None ≡ Some parent → parent < slot
 
@@ -51,24 +51,26 @@ is_live_in groups slot = is_some_and (slice_get groups slot) is_live
 
 -- ---- the ancestors of a group
 
--- an optional slot is at or below slot `high`; `None` isn't below any slot
+-- Whether an optional slot is slot `high` or one of its descendants. `None` is below no slot.
 abbrev pub leads_to : List (Option ℕ) → Option ℕ → ℕ → Bool
 leads_to parents None high = false
 leads_to parents (Some low) high = is_under parents low high
 
--- the parent of the group that is created with this path; no element if no group is created
+-- The parent of the group that is created with an optional path, as a list of one element. The list
+-- is empty if no group is created.
 abbrev pub parent_of_new : List GroupLife → Option (List ℕ) → List (Option ℕ)
 parent_of_new groups None = []
 parent_of_new groups (Some path) = slot_of groups (parent_path path) ∷ []
 
--- the parents that an act appends: the parent of the new group, if it creates one
+-- The parents that an act appends to the list of parents: the parent of the group that the act
+-- creates, if any.
 abbrev pub new_parents : List GroupLife → Act → List (Option ℕ)
 new_parents groups what = parent_of_new groups (names what).new_path
 
 -- ---- the order of all slots
 
--- An order of the slots by path: each slot occurs once, and the paths are in ascending byte order.
--- Slots with the same path may be in any order.
+-- `order` lists all slots by path: each slot occurs once, and the paths are in ascending byte
+-- order. Slots with equal paths may be in any order.
 pub record IsPathOrder (groups : List GroupLife) (order : List ℕ) : Type 0 where
   pub each : IsPermutation (range_with_len 0 (length groups)) order
   pub sorted : IsSortedByKey (path_at groups) (slice_cmp nat_cmp) order

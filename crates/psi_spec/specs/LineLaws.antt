@@ -1,5 +1,5 @@
--- Laws of the grammar of lines: parsing inverts spelling, and a line is rejected for its leftmost
--- error.
+-- Laws of the grammar of lines: parsing is the inverse of spelling, and a rejected line is rejected
+-- for its leftmost error.
 use Rattle.std.specs.Prelude.{◌≡◌, ◌≢◌, ◌↔◌, ℕ, ◌+◌, ◌≤◌, ◌<◌, ◌^◌, List, drop, length, slice_get, slice_index, EachIndex, Option, None, Some, Ok, Err}
 use Rattle.psi_base.specs.Path.{parts_at}
 use Rattle.psi_base.specs.declared.event.Cause.{Cause}
@@ -13,33 +13,36 @@ use Rattle.psi_spec.specs.Grammar.{Header, Verb, Version, Fits, IsKnown, event_o
 abbrev pub Spells : Kind → List ℕ → Type 0
 Spells k text = (value : Value k) × (InRange k value × (text ≡ word k value))
 
--- a part is present and spells a value of the required kind
+-- A field is good: it is required (`Some k`) and present, and it spells a value of kind `k`.
 abbrev pub IsGood : Option Kind → Option (List ℕ) → Type 0
 IsGood (Some k) (Some text) = Spells k text
 IsGood (Some k) None = ⊥
 IsGood None part = ⊥
 
--- a part is missing, spells no value of the required kind, or is superfluous
+-- A field is bad: it is missing, it spells no value of the required kind, or no field is allowed at
+-- this position.
 abbrev pub IsBad : Option Kind → Option (List ℕ) → Type 0
 IsBad (Some k) (Some text) = Spells k text → ⊥
 IsBad (Some k) None = Unit {0}
 IsBad None (Some text) = Unit {0}
 IsBad None None = ⊥
 
--- part `at` is the leftmost bad part
+-- Field `at` (from 0) is the leftmost bad field of the words `parts`, of which the kinds `ks` are
+-- required.
 pub record IsFirstBad (ks : List Kind) (parts : List (List ℕ)) (at : ℕ) : Type 0 where
   pub before : (i : ℕ) → i < at → IsGood (slice_get ks i) (slice_get parts i)
   pub here : IsBad (slice_get ks at) (slice_get parts at)
 
--- the first part of a line is a time (ns) below 2^64
+-- The first word of a line spells a time (ns) below 2^64.
 abbrev pub HasTime : List (List ℕ) → Type 0
 HasTime parts = IsGood (Some kind.number) (slice_get parts 0)
 
--- the second part of a line is the word of this verb, and the list contains the verb
+-- The second word of a line is the word of `verb`, and `verb` is in the list of verbs.
 abbrev pub HasVerb : List Verb → List (List ℕ) → Verb → Type 0
 HasVerb verbs parts verb = IsAmong verb verbs × (slice_get parts 1 ≡ Some (verb_word verb))
 
--- the time and the verb are valid, and the leftmost bad field has number `number` (from 1)
+-- The time and the verb of a line are valid, and the leftmost bad field has number `number` (from
+-- 1).
 pub record HasBadField (verbs : List Verb) (parts : List (List ℕ)) (number : ℕ) : Type 0 where
   pub time : HasTime parts
   pub verb : Verb
@@ -48,18 +51,18 @@ pub record HasBadField (verbs : List Verb) (parts : List (List ℕ)) (number : �
   pub is_number : number ≡ at + 1
   pub first : IsFirstBad (kinds_of verb) (drop 2 parts) at
 
--- The cause against a line by its text alone. BadTime: the first part isn't a time. BadVerb: the
--- time is valid, but the second part is missing or isn't a verb of the list. BadField: time and
--- verb are valid; the cause has the number of the leftmost field that is missing, malformed or
--- superfluous. No other cause applies.
+-- `why` is the cause for which the words of a line are rejected without regard to the world.
+-- BadTime: the first word isn't a time. BadVerb: the time is valid, but the second word is missing
+-- or isn't a verb of the list. BadField: time and verb are valid; the cause has the number of the
+-- leftmost field that is missing, malformed or superfluous. No other cause applies.
 abbrev pub IsCause : List Verb → List (List ℕ) → Cause → Type 0
 IsCause verbs parts cause.BadTime = HasTime parts → ⊥
 IsCause verbs parts cause.BadVerb = HasTime parts × ((verb : Verb) → HasVerb verbs parts verb → ⊥)
 IsCause verbs parts (cause.BadField number) = HasBadField verbs parts number
 IsCause verbs parts _ = ⊥
 
--- A line is parsed as an event if and only if it is the spelling of that event, the event's values
--- are in range, and its verb is one of the verbs.
+-- A line is parsed as an event if and only if the line is the spelling of the event, the event's
+-- values are in range, and the list of verbs contains the event's verb.
 abbrev pub ReadsSpelled : Type 0
 ReadsSpelled =
     (verbs : List Verb) (line : List ℕ) (event : Event)
@@ -75,7 +78,7 @@ abbrev pub HeadersSpelled : Type 0
 HeadersSpelled = (versions : List Version) (line : List ℕ) (head : Header) →
     (header_of versions line ≡ Some head) ↔ (IsAmong head.version versions × (1 ≤ head.cpus) × (head.cpus ≤ 64) × (line ≡ header_line head))
 
--- the bytes are a valid line: they contain no newline, and there are at most 512 of them
+-- The bytes are a valid line: they contain no newline, and they are at most 512 bytes.
 pub record IsLine (bytes : List ℕ) : Type 0 where
   pub one : EachIndex bytes (λ k. slice_index bytes k ≢ 10)
   pub short : length bytes ≤ 512

@@ -17,11 +17,11 @@ pub record Names : Type 0 where
   pub new_task : Option Pid
   pub cpu : Option ℕ
 
--- the value for an act that names nothing
+-- The names of an act that names no group, task or processor.
 abbrev pub no_names : Names
 no_names = record { live_path = None; new_path = None; removed_path = None; switched = None; live_task = None; new_task = None; cpu = None }
 
--- the groups, tasks and processor that each act names
+-- The groups, the tasks and the processor that an act names.
 abbrev pub names : Act → Names
 names (act.Group path) = record no_names { new_path = Some path }
 names (act.Remove path) = record no_names { live_path = Some path; removed_path = Some path }

@@ -19,32 +19,32 @@ use Rattle.psi_spec.specs.World.{World, Limits, Tasks, task_of, running_on, task
 
 -- ---- single conditions
 
--- an act names a group that must be live, and there is no live group with this path
+-- Whether an act names a group that must be live, but no live group has this path.
 abbrev pub lacks_group : List GroupLife → Option (List ℕ) → Bool
 lacks_group groups None = false
 lacks_group groups (Some path) = not (is_some (slot_of groups path))
 
--- an act names a task that must be live, and there is no such task
+-- Whether an act names a task that must be live, but no live task has this pid.
 abbrev pub lacks_task : Tasks → Option Pid → Bool
 lacks_task tasks None = false
 lacks_task tasks (Some pid) = not (is_some (task_of tasks pid.0))
 
--- an act names a processor that must exist, and the machine has no such processor
+-- Whether an act names a processor that isn't below the number of processors `cpus`.
 abbrev pub lacks_cpu : ℕ → Option ℕ → Bool
 lacks_cpu cpus None = false
 lacks_cpu cpus (Some cpu) = nat_le cpus cpu
 
--- an act creates a group, and a live group has this path
+-- Whether an act creates a group although a live group has its path.
 abbrev pub has_group : List GroupLife → Option (List ℕ) → Bool
 has_group groups None = false
 has_group groups (Some path) = is_some (slot_of groups path)
 
--- an act creates a group whose parent isn't live
+-- Whether an act creates a group although its parent isn't live.
 abbrev pub lacks_parent : List GroupLife → Option (List ℕ) → Bool
 lacks_parent groups None = false
 lacks_parent groups (Some path) = not (is_some (slot_of groups (parent_path path)))
 
--- both slots are present and equal
+-- Whether both optional slots are present and equal.
 abbrev pub is_slot : Option ℕ → Option Slot → Bool
 is_slot (Some n) (Some slot) = slot.0 == n
 is_slot _ _ = false
@@ -57,7 +57,7 @@ has_child groups slot = list_any (λ group. is_live group && is_slot slot group.
 abbrev pub has_member : Tasks → Option ℕ → Bool
 has_member tasks slot = list_any (λ task. is_slot slot (Some task.slot)) (tasks_by.values tasks)
 
--- the group to be removed is the root, or has a live child or a live task
+-- Whether the group to be removed is the root, or has a live child or a live task.
 abbrev pub is_busy : World → Option (List ℕ) → Bool
 is_busy w None = false
 is_busy w (Some path) = is_root path || has_child w.groups (slot_of w.groups path) || has_member w.tasks (slot_of w.groups path)
@@ -67,13 +67,13 @@ abbrev pub switches_root : Option (List ℕ × Bool) → Bool
 switches_root None = false
 switches_root (Some switched) = is_root switched.0
 
--- an act creates a task, and a live task has this pid
+-- Whether an act creates a task although a live task has its pid.
 abbrev pub has_task : Tasks → Option Pid → Bool
 has_task tasks None = false
 has_task tasks (Some pid) = is_some (task_of tasks pid.0)
 
--- a switch says `idle` although a task is running, or another way to leave although no task is
--- running
+-- Whether a switch says `idle` although a task is running, or another way to leave although no task
+-- is running.
 abbrev pub is_wrong : How → Option (ℕ × Task) → Bool
 is_wrong Idle running = is_some running
 is_wrong Preempt running = not (is_some running)
@@ -81,17 +81,18 @@ is_wrong Sleep running = not (is_some running)
 is_wrong IoWait running = not (is_some running)
 is_wrong Exit running = not (is_some running)
 
--- the task exits
+-- Whether the running task exits.
 abbrev pub is_exit : How → Bool
 is_exit Exit = true
 is_exit _ = false
 
--- the next task isn't ready on processor `cpu`
+-- Whether an optional next task is present but isn't ready on processor `cpu`.
 abbrev pub isnt_ready : Tasks → ℕ → Option Pid → Bool
 isnt_ready tasks cpu None = false
 isnt_ready tasks cpu (Some pid) = not (is_some_and (task_of tasks pid.0) (is_ready_on cpu))
 
--- the window is between 0.5 s and 10 s, and the threshold between 1 us and the window (both in us)
+-- Whether the window (us) is between 0.5 s and 10 s, and the threshold (us) between 1 us and the
+-- window.
 abbrev pub is_window : ℕ → ℕ → Bool
 is_window threshold window = nat_le 500000 window && nat_le window 10000000 && nat_le 1 threshold && nat_le threshold window
 
@@ -141,8 +142,8 @@ irq_too_long irqs at _ = false
 
 -- ---- causes
 
--- Each cause applies to an event in a world under this condition. Causes that concern only the
--- bytes of a line apply to no event.
+-- Whether a cause applies to an event in world `w`. A cause that concerns only the bytes of a line
+-- applies to no event.
 abbrev pub applies : Cause → Limits → World → Event → Bool
 applies cause.AfterEnd limits w event = w.ended
 applies cause.TimeBack limits w event = nat_lt event.at w.last
@@ -175,7 +176,8 @@ applies cause.BadVerb limits w event = false
 applies (cause.BadField i) limits w event = false
 applies cause.NoEnd limits w event = false
 
--- the precedence of causes: if several causes apply, the first of this list is reported
+-- The causes in the order of precedence: if several causes apply, the first of this list is
+-- reported.
 abbrev pub cause_order : List Cause
 cause_order =
     cause.AfterEnd ∷ cause.TimeBack ∷ cause.TimeTooLate
@@ -185,11 +187,12 @@ cause_order =
     ∷ cause.NotRunning ∷ cause.NotReady ∷ cause.NotBlocked ∷ cause.WrongHow ∷ cause.InStall ∷ cause.NotInStall
     ∷ cause.IrqTooLong ∷ []
 
--- the first cause against an event, or `None` if the event is legal
+-- The first cause that applies to an event in world `w`; `None` if the event is legal.
 unfoldable pub cause_of : Limits → World → Event → Option Cause
 cause_of limits w event = find (λ why. applies why limits w event) cause_order
 
--- each event is legal in the world after the events before it
+-- Each event is legal in the world after the events before it. `w` is the world before the first
+-- event.
 abbrev pub AreLegal : Limits → World → List Event → Type 0
 AreLegal limits w [] = Unit {0}
 AreLegal limits w (event ∷ events) = (cause_of limits w event ≡ None) × AreLegal limits (after_event w event) events

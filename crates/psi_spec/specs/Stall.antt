@@ -1,5 +1,5 @@
--- The states of a group on a processor, how long it was in each, and how much time interrupts took
--- from it there.
+-- The states of a group on a processor, the time (ns) that a group spent in each, and the time (ns)
+-- that interrupts took from a group.
 use Rattle.std.specs.Prelude.{ℕ, zero, suc, ◌+◌, ◌-◌, List, [], ◌∷◌, length, sum, map, take, filter, slice_get, slice_index_or, ◌==◌, ◌&&◌, ◌||◌, not, Bool, false, if◌then◌else◌, Option, None, Some}
 use Rattle.std.specs.List.{list_any, list_all, range_with_len}
 use Rattle.std.specs.FinMap as tasks_by
@@ -16,7 +16,7 @@ use Rattle.psi_spec.specs.World.{World, Tasks, is_on, is_waiting, is_ready, is_r
 
 -- ---- ancestors of groups
 
--- an optional slot as an optional number
+-- Converts an optional slot to an optional number.
 abbrev pub number_of_slot : Option Slot → Option ℕ
 number_of_slot None = None
 number_of_slot (Some slot) = Some slot.0
@@ -25,53 +25,54 @@ number_of_slot (Some slot) = Some slot.0
 abbrev pub parents_of : List GroupLife → List (Option ℕ)
 parents_of groups = map (λ group. number_of_slot group.parent) groups
 
--- starting at an optional slot, at most `n` steps to a parent lead to slot `high`
+-- Whether at most `n` steps from an optional slot to a parent reach slot `high`.
 abbrev pub climbs : ℕ → List (Option ℕ) → Option ℕ → ℕ → Bool
 climbs n parents None high = false
 climbs zero parents (Some slot) high = slot == high
 climbs (suc n) parents (Some slot) high = slot == high || climbs n parents (slice_index_or parents slot None) high
 
--- Slot `low` is slot `high` or one of its descendants. Parents have smaller slots, so `low` is an
--- upper bound on the number of steps.
+-- Whether slot `low` is slot `high` or one of its descendants. Parents have smaller slots, so `low`
+-- is an upper bound on the number of steps.
 unfoldable pub is_under : List (Option ℕ) → ℕ → ℕ → Bool
 is_under parents low high = climbs low parents (Some low) high
 
 -- ---- states
 
--- a task counts for a group on a processor: it is assigned to that processor, and it is in the
--- group or in a descendant
+-- Whether a task counts for the group in slot `slot` on processor `cpu`: the task is assigned to
+-- that processor, and it is in the group or in a descendant.
 abbrev pub is_in : List (Option ℕ) → ℕ → ℕ → Task → Bool
 is_in parents cpu slot task = task.cpu.0 == cpu && is_under parents task.slot.0 slot
 
--- the tasks that count for a group on a processor
+-- The tasks that count for the group in slot `slot` on processor `cpu`.
 abbrev pub tasks_in : List (Option ℕ) → ℕ → ℕ → Tasks → List Task
 tasks_in parents cpu slot tasks = filter (is_in parents cpu slot) (tasks_by.values tasks)
 
--- the task waits for IO
+-- Whether the task waits for IO.
 abbrev pub waits : Task → Bool
 waits task = is_waiting task.mode
 
--- the task is ready, and waits on a run queue
+-- Whether the task is ready, and waits on a run queue.
 abbrev pub queues : Task → Bool
 queues task = is_ready task.mode
 
--- the task is running
+-- Whether the task is running.
 abbrev pub runs : Task → Bool
 runs task = is_running task.mode
 
--- the task is ready or running
+-- Whether the task is ready or running.
 abbrev pub is_up : Task → Bool
 is_up task = is_active task.mode
 
--- the task is in a memory stall
+-- Whether the task is in a memory stall.
 abbrev pub stalls : Task → Bool
 stalls task = task.stalled
 
--- The states, as in the kernel's psi.c, for the tasks that count for a group on a processor. IO
--- some: a task waits for IO. IO full: in addition, no task is ready or running. Memory some: a task
--- is in a memory stall. Memory full: in addition, every ready or running task is in a memory stall,
--- or the running task is. CPU some: a task is ready. CPU full: in addition, no task is running.
--- Nonidle: a task waits for IO, is in a memory stall, is ready or is running.
+-- Whether a group is in a state on a processor, given the tasks that count for the group there. The
+-- states are defined as in the kernel's psi.c. IO some: a task waits for IO. IO full: in addition,
+-- no task is ready or running. Memory some: a task is in a memory stall. Memory full: in addition,
+-- every ready or running task is in a memory stall, or the running task is. CPU some: a task is
+-- ready. CPU full: in addition, no task is running. Nonidle: a task waits for IO, is in a memory
+-- stall, is ready or is running.
 abbrev pub holds_of : State → List Task → Bool
 holds_of IoSome tasks = list_any waits tasks
 holds_of IoFull tasks = list_any waits tasks && not (list_any is_up tasks)
@@ -93,45 +94,45 @@ holds state cpu slot w = is_on w.groups slot && holds_of state (tasks_in (parent
 
 -- ---- stall time
 
--- the time (ns) of event number `i` (from 1), or `at` if there is no such event
+-- The time (ns) of event number `i` (from 1), or `at` if there is no event number `i`.
 abbrev pub moment_of : List Event → ℕ → ℕ → ℕ
 moment_of events at i = slice_index_or (map (λ (event : Event). event.at) events) (i - 1) at
 
--- the time (ns) from event number `i` to the next event (or to `at`), if the group is in the state
--- after event `i`, or 0
+-- The time (ns) from event number `i` to the next event (or to time `at` after the last event) if
+-- the group in slot `slot` is in `state` on processor `cpu` after event `i`; otherwise 0.
 abbrev pub stall_after : State → ℕ → ℕ → List Event → ℕ → ℕ → ℕ
 stall_after state cpu slot events at i =
     if holds state cpu slot (after (take i events)) then moment_of events at (i + 1) - moment_of events at i else 0
 
--- The stall time: how long (ns) a group was in a state on processor `cpu` up to time `at`. It is
--- the sum over the intervals between events.
+-- The stall time: how long (ns) the group in slot `slot` was in `state` on processor `cpu` up to
+-- time `at`. It is the sum over the intervals between events.
 unfoldable pub stall : State → ℕ → ℕ → List Event → ℕ → ℕ
 stall state cpu slot events at = sum (map (stall_after state cpu slot events at) (range_with_len 1 (length events)))
 
 -- ---- interrupt time
 
--- a task of the group or of a descendant is running on processor `cpu`
+-- Whether a task of the group in slot `slot` or of a descendant is running on processor `cpu`.
 unfoldable pub has_running : ℕ → ℕ → World → Bool
 has_running cpu slot w = list_any runs (tasks_in (parents_of w.groups) cpu slot w.tasks)
 
--- the time (ns) that interrupts took on processor `cpu` according to an act, or 0
+-- The interrupt time (ns) that an act reports for processor `cpu`, or 0.
 abbrev pub irq_time_by : ℕ → Act → ℕ
 irq_time_by cpu (act.Irq named ns) = if named.0 == cpu then ns else 0
 irq_time_by cpu _ = 0
 
--- the time (ns) that interrupts took from a group on processor `cpu` according to an event in world
--- `w`: the event's interrupt time, if the group's accounting is on and a task of it is running
--- there, or 0
+-- The time (ns) that interrupts took from the group in slot `slot` on processor `cpu` by an
+-- optional event in world `w`: the interrupt time of the event if the group's accounting is on and
+-- one of its tasks is running there; otherwise 0.
 abbrev pub irq_from : ℕ → ℕ → World → Option Event → ℕ
 irq_from cpu slot w None = 0
 irq_from cpu slot w (Some event) = if is_on w.groups slot && has_running cpu slot w then irq_time_by cpu event.act else 0
 
--- the time (ns) that interrupts took from a group on processor `cpu` according to event number `i`
--- (from 1), in the world before the event
+-- The time (ns) that interrupts took from the group in slot `slot` on processor `cpu` by event
+-- number `i` (from 1).
 abbrev pub irq_by : ℕ → ℕ → List Event → ℕ → ℕ
 irq_by cpu slot events i = irq_from cpu slot (after (take (i - 1) events)) (slice_get events (i - 1))
 
--- the interrupt time: how long (ns) interrupts took from a group on processor `cpu`, summed over
--- all events
+-- The interrupt time: how long (ns) interrupts took from the group in slot `slot` on processor
+-- `cpu`, summed over all events.
 unfoldable pub irq_time : ℕ → ℕ → List Event → ℕ
 irq_time cpu slot events = sum (map (irq_by cpu slot events) (range_with_len 1 (length events)))

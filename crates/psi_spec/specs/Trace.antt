@@ -28,7 +28,7 @@ limits_of tick cpus = record { cpus = cpus; latest = 1000000 * tick }
 
 -- ---- the text of a trace
 
--- the lines of events, each with its newline
+-- The text of events: the spelling of each event, followed by a newline.
 abbrev pub lines_of : List Event → List ℕ
 lines_of events = flat_map (λ event. spelling event ++ 10 ∷ []) events
 
@@ -41,18 +41,18 @@ abbrev pub AllFit : List Event → Type 0
 AllFit [] = Unit {0}
 AllFit (event ∷ events) = Fits event × AllFit events
 
--- the last event is `end`
+-- The last event of the list is an `end` event.
 abbrev pub EndsLast : List Event → Type 0
 EndsLast events = (prefix : List Event) × (at : ℕ) × (events ≡ prefix ++ record { at = at; act = act.End } ∷ [])
 
--- Events form a trace within the limits: the values of each event are in range, each event is legal
--- in the world before it, and the last event is `end`.
+-- The events form a trace within the limits: the values of each event are in range, each event is
+-- legal in the world before it, and the last event is `end`.
 pub record IsAccepted (limits : Limits) (events : List Event) : Type 0 where
   pub fit : AllFit events
   pub legal : AreLegal limits first_world events
   pub ends : EndsLast events
 
--- the list contains the verb of each event
+-- The list of verbs contains the verb of each event.
 abbrev pub AreKnown : List Verb → List Event → Type 0
 AreKnown verbs [] = Unit {0}
 AreKnown verbs (event ∷ events) = IsKnown verbs event × AreKnown verbs events
@@ -64,18 +64,20 @@ pub record Accepts : Type 0 where
   pub versions : List Version
   pub verbs : Version → List Verb
 
--- accepts these versions with all their verbs, and this tick length (ns)
+-- The rules of a parser that accepts these versions with all their verbs, and this tick length
+-- (ns).
 abbrev pub accepts_with : List Version → ℕ → Accepts
 accepts_with versions tick = record { tick = tick; versions = versions; verbs = verbs_of }
 
 -- ---- parsing one line
 
--- the event, or the cause against it
+-- The event if there is no cause against it; otherwise the cause.
 abbrev pub if_legal : Option Cause → Event → Result Event Cause
 if_legal None event = Ok event
 if_legal (Some why) event = Err why
 
--- checks a parsed event: the event if it is legal in world `w`, or the first cause against it
+-- Checks the legality of a parsed event in world `w`: the result is the event, or the first cause
+-- against it. An error of the parser is returned unchanged.
 abbrev pub then_legal : Limits → World → Result Event Cause → Result Event Cause
 then_legal limits w (Err why) = Err why
 then_legal limits w (Ok event) = if_legal (cause_of limits w event) event
@@ -88,14 +90,14 @@ line_event verbs limits w line =
     if w.ended then Err cause.AfterEnd else if nat_lt 512 (length line) then Err cause.LineTooLong
     else then_legal limits w (event_of verbs line)
 
--- The cause against input that ends with the incomplete line `rest`, or `None`. After `end` the
--- rest must be empty; before `end` the input may not end.
+-- The cause for which an input that ends with the incomplete line `rest` is rejected, or `None`.
+-- After `end`, `rest` must be empty; before `end` the input may not end.
 unfoldable pub rest_cause : World → List ℕ → Option Cause
 rest_cause w rest =
     if w.ended then (if nat_lt 0 (length rest) then Some cause.AfterEnd else None) else if nat_lt 512 (length rest)
     then Some cause.LineTooLong else Some cause.NoEnd
 
--- the parsed header, or the cause BadHeader
+-- The parsed header if it is present; otherwise the cause BadHeader.
 abbrev pub or_bad_header : Option Header → Result Header Cause
 or_bad_header None = Err cause.BadHeader
 or_bad_header (Some head) = Ok head
@@ -104,7 +106,7 @@ or_bad_header (Some head) = Ok head
 unfoldable pub first_line : List Version → List ℕ → Result Header Cause
 first_line versions line = if nat_lt 512 (length line) then Err cause.LineTooLong else or_bad_header (header_of versions line)
 
--- the cause against input that ends before the newline of its first line
+-- The cause for which an input is rejected that ends before the newline of its first line.
 unfoldable pub first_rest : List ℕ → Cause
 first_rest rest = if nat_lt 512 (length rest) then cause.LineTooLong else cause.BadHeader
 
@@ -113,17 +115,20 @@ first_rest rest = if nat_lt 512 (length rest) then cause.LineTooLong else cause.
 abbrev pub refused : ℕ → Cause → Refusal
 refused line why = record { line = line; cause = why }
 
--- no events, or a refusal at line `line` if there is a cause
+-- The result at the end of the input, line number `line`: no further events, or a refusal if there
+-- is a cause.
 abbrev pub at_end : ℕ → Option Cause → Result (List Event) Refusal
 at_end line None = Ok []
 at_end line (Some why) = Err (refused line why)
 
--- the events `prefix` followed by the later events, or the refusal at a later line
+-- Prepends the events `prefix` to the result for the later lines, which is a list of events or a
+-- refusal.
 abbrev pub followed : List Event → Result (List Event) Refusal → Result (List Event) Refusal
 followed prefix (Ok events) = Ok (prefix ++ events)
 followed prefix (Err refusal) = Err refusal
 
--- a refusal at line `line`, or the result of `next` for the event
+-- Continues with `next` if line number `line` was parsed; otherwise the result is a refusal at that
+-- line.
 abbrev pub or_refused : {A : Type 0} → ℕ → Result A Cause → (A → Result (List Event) Refusal) → Result (List Event) Refusal
 or_refused line (Err why) next = Err (refused line why)
 or_refused line (Ok event) next = next event
@@ -138,12 +143,12 @@ events_from verbs limits w line (part ∷ next ∷ parts) =
     or_refused line (line_event verbs limits w part) (λ event. followed (event ∷ [])
     (events_from verbs limits (after_event w event) (line + 1) (next ∷ parts)))
 
--- the trace with this header and these events, or the refusal
+-- The trace with this header and these events, or the refusal of an event line.
 abbrev pub with_events : Header → Result (List Event) Refusal → Result Trace Refusal
 with_events head (Ok events) = Ok (record { version = head.version; cpus = head.cpus; events = events })
 with_events head (Err refusal) = Err refusal
 
--- parses the parts after the header, or returns the refusal of the header, which is line 1
+-- Parses the lines after a parsed header. If the header is bad, the result is a refusal at line 1.
 abbrev pub headed : Accepts → Result Header Cause → List (List ℕ) → Result Trace Refusal
 headed accepts (Err why) parts = Err (refused 1 why)
 headed accepts (Ok head) parts =
@@ -154,7 +159,7 @@ trace_of_parts accepts [] = Err (refused 1 cause.BadHeader)
 trace_of_parts accepts (rest ∷ []) = Err (refused 1 (first_rest rest))
 trace_of_parts accepts (line ∷ next ∷ parts) = headed accepts (first_line accepts.versions line) (next ∷ parts)
 
--- parses bytes as a trace that `accepts` allows; the error is the first bad line and its first
--- cause
+-- Parses bytes as a trace that `accepts` allows. The error is the number of the first bad line and
+-- the first cause against it.
 unfoldable pub trace_of : Accepts → List ℕ → Result Trace Refusal
 trace_of accepts bytes = trace_of_parts accepts (parts_at 10 bytes)

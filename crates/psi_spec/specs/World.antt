@@ -89,8 +89,8 @@ task_part (Some e) = Some e.1
 abbrev pub is_live : GroupLife → Bool
 is_live group = not (is_some group.gone)
 
--- the slot of the live group with a path, or `None`, if the first group of the list is in slot
--- `slot`
+-- The slot of the live group with path `path`, or `None`, in a list whose first group is in slot
+-- `slot`.
 abbrev pub slot_from : ℕ → List GroupLife → List ℕ → Option ℕ
 slot_from slot [] path = None
 slot_from slot (group ∷ groups) path = if is_live group && bytes_eq group.path path then Some slot else slot_from (slot + 1) groups path
@@ -99,17 +99,17 @@ slot_from slot (group ∷ groups) path = if is_live group && bytes_eq group.path
 abbrev pub slot_of : List GroupLife → List ℕ → Option ℕ
 slot_of groups path = slot_from 0 groups path
 
--- the bytes before the last slash
+-- The bytes before the last slash (byte 47), or no bytes if there is no slash.
 abbrev pub before_last_slash : List ℕ → List ℕ
 before_last_slash [] = []
 before_last_slash (byte ∷ bytes) = if list_any (λ b. b == 47) bytes then byte ∷ before_last_slash bytes else []
 
--- the path, or the root's path if it is empty
+-- The path itself, or the root's path if the path is empty.
 abbrev pub or_root : List ℕ → List ℕ
 or_root [] = codes "/"
 or_root (byte ∷ bytes) = byte ∷ bytes
 
--- the path of the parent group
+-- The path of the parent of the group with path `path`.
 abbrev pub parent_path : List ℕ → List ℕ
 parent_path path = or_root (before_last_slash path)
 
@@ -131,39 +131,44 @@ root = record { path = codes "/"; parent = None; made = 0; gone = None; on = tru
 abbrev pub new_group : List GroupLife → List ℕ → ℕ → GroupLife
 new_group groups path at = record { path = path; parent = as_slot (slot_of groups (parent_path path)); made = at; gone = None; on = true }
 
--- marks the live group with a path as removed at time `at` (ns); any other group is unchanged
+-- Marks a group as removed at time `at` (ns) if it is live and has path `path`. Any other group is
+-- unchanged.
 abbrev pub marked_removed : List ℕ → ℕ → GroupLife → GroupLife
 marked_removed path at group = if is_live group && bytes_eq group.path path then record group { gone = Some at } else group
 
--- switches the accounting of the live group with a path on or off; any other group is unchanged
+-- Sets the accounting of a group to `on` if it is live and has path `path`. Any other group is
+-- unchanged.
 abbrev pub marked_switched : List ℕ → Bool → GroupLife → GroupLife
 marked_switched path on group = if is_live group && bytes_eq group.path path then record group { on = on } else group
 
--- the accounting of a group is on; a group that doesn't exist counts as on
+-- Whether the accounting of a group is on. A group that doesn't exist counts as on.
 abbrev pub is_on_life : Option GroupLife → Bool
 is_on_life None = true
 is_on_life (Some life) = life.on
 
--- the accounting of the group in a slot is on
+-- Whether the accounting of the group in slot `slot` is on.
 abbrev pub is_on : List GroupLife → ℕ → Bool
 is_on groups slot = is_on_life (slice_get groups slot)
 
 -- ---- the world
 
--- The limits of a trace: the number of processors, of event lines, of `pressure` lines, of groups
--- ever created (including the root), and of live tasks.
+-- The largest number of processors of a machine.
 abbrev pub most_cpus : ℕ
 most_cpus = 64
 
+-- The largest number of event lines of a trace.
 abbrev pub most_events : ℕ
 most_events = 4000000
 
+-- The largest number of `pressure` lines of a trace.
 abbrev pub most_pressures : ℕ
 most_pressures = 65536
 
+-- The largest number of groups that a trace may create, including the root.
 abbrev pub most_groups : ℕ
 most_groups = 1024
 
+-- The largest number of live tasks.
 abbrev pub most_tasks : ℕ
 most_tasks = 65536
 
@@ -177,8 +182,8 @@ pub record Limits : Type 0 where
   pub latest : ℕ
 
 -- The world: the live tasks; all groups ever created, by slot; for each processor the time (ns) of
--- its last `irq` line, or 0; the numbers of triggers, `pressure` lines and event lines up to now;
--- the time (ns) of the last event; and whether the trace has ended.
+-- its last `irq` line, or 0; the numbers of triggers, `pressure` lines and event lines so far; the
+-- time (ns) of the last event; and whether the trace has ended.
 pub record World : Type 0 where
   pub tasks : Tasks
   pub groups : List GroupLife
@@ -205,12 +210,12 @@ first_world =
 
 -- ---- effects
 
--- applies `f` to the task with this pid, or changes nothing if there is no such task
+-- The tasks after `f` was applied to an optional task, which has pid `pid`. `None` changes nothing.
 abbrev pub change_to : Tasks → ℕ → (Task → Task) → Option Task → Tasks
 change_to tasks pid f None = tasks
 change_to tasks pid f (Some task) = put tasks pid (f task)
 
--- applies `f` to the task with this pid, if there is one
+-- The tasks after `f` was applied to the task with pid `pid`, if any.
 abbrev pub change : Tasks → ℕ → (Task → Task) → Tasks
 change tasks pid f = change_to tasks pid f (task_of tasks pid)
 
@@ -219,11 +224,11 @@ abbrev pub new_task : List GroupLife → List ℕ → ℕ → Task
 new_task groups path cpu =
     record { slot = record { 0 = unwrap_or (slot_of groups path) 0 }; cpu = record { 0 = cpu }; mode = Ready; stalled = false }
 
--- puts a task on the run queue of processor `cpu`; its memory stall continues
+-- The task after it was put on the run queue of processor `cpu`. Its memory stall continues.
 abbrev pub prepared_changes : ℕ → Task → Task
 prepared_changes cpu task = record task { mode = Ready; cpu = record { 0 = cpu } }
 
--- the running task after it left its processor in this way, or `None` if it exited
+-- The running task after it left its processor as the `How` says; `None` if it exited.
 abbrev pub left_by : How → Task → Option Task
 left_by Preempt task = Some (record task { mode = Ready })
 left_by Sleep task = Some (record task { mode = Blocked })
@@ -231,17 +236,17 @@ left_by IoWait task = Some (record task { mode = Waiting })
 left_by Exit task = None
 left_by Idle task = Some task
 
--- replaces the task with this pid, or removes it for `None`
+-- The tasks after the task with pid `pid` was replaced, or removed if the new task is `None`.
 abbrev pub placed : Tasks → ℕ → Option Task → Tasks
 placed tasks pid None = remove tasks pid
 placed tasks pid (Some task) = put tasks pid task
 
--- the tasks after the running task, if any, left its processor
+-- The tasks after the optional running task left its processor as `how` says.
 abbrev pub leave : How → Tasks → Option (ℕ × Task) → Tasks
 leave how tasks None = tasks
 leave how tasks (Some e) = placed tasks e.0 (left_by how e.1)
 
--- the tasks after the next task, if any, began to run
+-- The tasks after the optional next task began to run.
 abbrev pub start : Option Pid → Tasks → Tasks
 start None tasks = tasks
 start (Some pid) tasks = change tasks pid.0 (λ task. record task { mode = Running })
@@ -296,17 +301,19 @@ tasks_by_effect groups tasks switches_account = tasks
 abbrev pub tasks_after : List GroupLife → Tasks → Act → Tasks
 tasks_after groups tasks what = tasks_by_effect groups tasks (effect_of what)
 
--- appends the group that is created at time `at` (ns), if any
+-- Appends the group that is created at time `at` (ns) with an optional path. `None` creates no
+-- group.
 abbrev pub with_new : ℕ → Option (List ℕ) → List GroupLife → List GroupLife
 with_new at None groups = groups
 with_new at (Some path) groups = groups ++ new_group groups path at ∷ []
 
--- marks the group that is removed at time `at` (ns), if any
+-- Marks the group with an optional path as removed at time `at` (ns). `None` removes no group.
 abbrev pub with_removed : ℕ → Option (List ℕ) → List GroupLife → List GroupLife
 with_removed at None groups = groups
 with_removed at (Some path) groups = map (marked_removed path at) groups
 
--- switches the accounting of a group, if any
+-- Switches the accounting of a group on or off, given the optional path and setting. `None` changes
+-- nothing.
 abbrev pub with_switched : Option (List ℕ × Bool) → List GroupLife → List GroupLife
 with_switched None groups = groups
 with_switched (Some switched) groups = map (marked_switched switched.0 switched.1) groups
@@ -336,7 +343,7 @@ abbrev pub ends : Act → Bool
 ends act.End = true
 ends _ = false
 
--- the world after an event
+-- The world after an event, given the world `w` before it.
 abbrev pub after_event : World → Event → World
 after_event w event = record {
   tasks = tasks_after w.groups w.tasks event.act;
@@ -358,11 +365,11 @@ after_from w (event ∷ events) = after_from (after_event w event) events
 abbrev pub after : List Event → World
 after events = after_from first_world events
 
--- the events up to and including time `at` (ns); they are a prefix of `events` if the times are
--- non-decreasing
+-- The events at or before time `at` (ns). They are a prefix of `events` if the times are
+-- non-decreasing.
 abbrev pub up_to : List Event → ℕ → List Event
 up_to events at = filter (λ (event : Event). nat_le event.at at) events
 
--- the acts as events at time `at` (ns)
+-- Turns acts into events, all at time `at` (ns).
 abbrev pub events_at : ℕ → List Act → List Event
 events_at at acts = map (λ what. let event : Event = record { at = at; act = what } in event) acts

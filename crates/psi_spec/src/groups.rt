@@ -1,7 +1,7 @@
 //! Laws about groups and their ancestors. Each function has an empty body: its contract is the law.
 ghost use Rattle.psi_spec.specs.Laws.{AncestorsAreOlder, AreGroupsFirst, AreGroupsKept, ClimbsKept, ParentsKept, RootIsAbove, UnderByStep};
 
-/// The invariant of the groups, which holds initially and after each legal event: there are at most
+/// The invariant of the groups holds at the start and after each legal event: there are at most
 /// 1,024 groups; the first is the root, with its accounting on; parents are older than their
 /// children and match the paths; and no two live groups have the same path.
 pub fn law_legal_groups()

@@ -1,5 +1,5 @@
-//! The types for the state of the traced machine: groups and tasks. What an event does to them is
-//! defined in `specs/World`.
+//! The types for the state of the traced machine: groups and tasks. The effect of an event on them
+//! is defined in `specs/World`.
 
 use psi_base::{Cpu, Ns, Path, Slot};
 
