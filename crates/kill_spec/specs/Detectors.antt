@@ -18,91 +18,93 @@ use Rattle.kill_spec.specs.Readings.{Reading, full_average, path_of, rise, sixty
 
 -- ---- groups that match patterns
 
--- the live groups whose paths match at least one of the patterns, ordered by path
+-- The live groups whose paths match at least one of the patterns, in the order of paths.
 abbrev pub matches : List GroupLife → List Pattern → Reading → List GroupReading
 matches lives patterns reading =
     filter (λ (group : GroupReading). is_match patterns (path_of lives group)) reading.groups
 
 -- ---- durations
 
--- seconds as nanoseconds
+-- Converts seconds to nanoseconds.
 abbrev pub of_seconds : ℕ → ℕ
 of_seconds n = n * 1000000000
 
--- The condition has been true for `duration` (ns) at time `at` (ns): it is true at every reading
--- from the newest back to a reading that is at least that much earlier.
+-- Whether `condition` has been true for `duration` (ns) at time `at` (ns): it is true at every
+-- reading from the newest back to a reading that is at least `duration` earlier than `at`.
 abbrev pub held_for : (Reading → Bool) → ℕ → ℕ → List Reading → Bool
 held_for condition duration at [] = false
 held_for condition duration at (reading ∷ past) =
     condition reading && (nat_le duration (at - reading.at) || held_for condition duration at past)
 
--- the condition has been true for `duration_s` seconds at the reading `now`, after the readings
--- `past`
+-- Whether `condition` has been true for `duration_s` seconds at the reading `now`, given the
+-- earlier readings `past`.
 abbrev pub holds_for : (Reading → Bool) → ℕ → Reading → List Reading → Bool
 holds_for condition duration_s now past = held_for condition (of_seconds duration_s) now.at (now ∷ past)
 
 -- ---- conditions on one reading
 
--- the highest full average of a resource over a window among the matching groups (fixed point), or
--- 0 if no group matches
+-- The highest `full` average (fixed point) of a resource over a window among the groups that match
+-- the patterns, or 0 if no group matches.
 abbrev pub greatest_full : List GroupLife → List Pattern → Res → ℕ → Reading → ℕ
 greatest_full lives patterns resource window reading =
     fold max 0 (map (full_average resource window) (matches lives patterns reading))
 
--- the highest full average among the matching groups is above the threshold (percent)
+-- Whether the highest `full` average among the matching groups is above `threshold` (percent).
 abbrev pub is_pressed : List GroupLife → List Pattern → Res → ℕ → ℕ → Reading → Bool
 is_pressed lives patterns resource window threshold reading =
     nat_lt (threshold * 2048) (greatest_full lives patterns resource window reading)
 
--- `current` bytes are more than the size, which is given in bytes or as a percentage of the host's
--- memory
+-- Whether `current` bytes are more than a size, which is given in bytes or as a percentage of the
+-- host's memory.
 abbrev pub is_above : Size → HostReading → ℕ → Bool
 is_above (size.Bytes n) host current = nat_lt n current
 is_above (size.Percent n) host current = nat_lt (n * host.mem_total) (current * 100)
 
--- some matching group uses more memory than the threshold
+-- Whether some matching group uses more memory than `threshold`.
 abbrev pub is_memory_above : List GroupLife → List Pattern → Size → Reading → Bool
 is_memory_above lives patterns threshold reading =
     list_any (λ (group : GroupReading). is_above threshold reading.host group.current) (matches lives patterns reading)
 
--- free swap is below a percentage of the host's swap
+-- Whether free swap is below `percent` percent of the host's swap.
 abbrev pub is_swap_short : ℕ → Reading → Bool
 is_swap_short percent reading = nat_lt (reading.host.swap_free * 100) (percent * reading.host.swap_total)
 
 -- ---- conditions on successive readings
 
--- the highest full average over 10 s at the previous reading, or 0 if there is no previous reading
+-- The highest `full` average over 10 s at the previous reading, or 0 if there is no previous
+-- reading.
 abbrev pub greatest_before : List GroupLife → List Pattern → Res → List Reading → ℕ
 greatest_before lives patterns resource [] = 0
 greatest_before lives patterns resource (before ∷ past) = greatest_full lives patterns resource ten_seconds before
 
--- the highest full average over 10 s is at least `ratio` thousandths of its value at the previous
--- reading
+-- Whether the highest `full` average over 10 s is at least `ratio` thousandths of its value at the
+-- previous reading.
 abbrev pub keeps_up : List GroupLife → List Pattern → Res → ℕ → Reading → List Reading → Bool
 keeps_up lives patterns resource ratio now past =
     nat_le (ratio * greatest_before lives patterns resource past) (greatest_full lives patterns resource ten_seconds now * 1000)
 
--- pages of some matching group were scanned between the previous reading and the reading `now`
+-- Whether pages of some matching group were scanned between the previous reading and the reading
+-- `now`.
 abbrev pub is_scanned : List GroupLife → List Pattern → Reading → List Reading → Bool
 is_scanned lives patterns now past =
     list_any (λ (group : GroupReading). nat_lt 0 (rise past group)) (matches lives patterns now)
 
--- at some reading at most `duration` (ns) before `at`, pages of some matching group had been
--- scanned since the reading before it
+-- Whether, at some reading at most `duration` (ns) before time `at`, pages of some matching group
+-- had been scanned since the reading before that reading.
 abbrev pub is_scanned_within : List GroupLife → List Pattern → ℕ → ℕ → List Reading → Bool
 is_scanned_within lives patterns duration at [] = false
 is_scanned_within lives patterns duration at (reading ∷ past) =
     (nat_le (at - reading.at) duration && is_scanned lives patterns reading past)
     || is_scanned_within lives patterns duration at past
 
--- some live group matches at least one of the patterns
+-- Whether the path of some live group matches at least one of the patterns.
 abbrev pub has_match : List GroupLife → List Pattern → Reading → Bool
 has_match lives patterns reading =
     list_any (λ (group : GroupReading). is_match patterns (path_of lives group)) reading.groups
 
 -- ---- detectors
 
--- The condition of each detector at the reading `now`, after the readings `past`.
+-- Whether a detector is true at the reading `now`, given the earlier readings `past`.
 unfoldable pub is_true : List GroupLife → DetectorSpec → Reading → List Reading → Bool
 is_true lives (detector.PressureAbove cgroup resource threshold duration_s) now past =
     holds_for (is_pressed lives cgroup resource ten_seconds threshold) duration_s now past
@@ -118,12 +120,12 @@ is_true lives (detector.SwapFree threshold_pct) now past = is_swap_short thresho
 is_true lives (detector.Exists cgroup negate) now past =
     if negate then not (has_match lives cgroup now) else has_match lives cgroup now
 
--- all detectors of the detector group are true; a group without detectors is always true
+-- Whether all detectors of a detector group are true. A group without detectors is always true.
 abbrev pub group_holds : List GroupLife → DetectorGroup → Reading → List Reading → Bool
 group_holds lives group now past =
     list_all (λ (spec : DetectorSpec). is_true lives spec now past) group.detectors
 
--- the ruleset fires: at least one of its detector groups is true
+-- Whether a ruleset fires: at least one of its detector groups is true.
 abbrev pub ruleset_fires : List GroupLife → Rule → Reading → List Reading → Bool
 ruleset_fires lives rule now past =
     list_any (λ (group : DetectorGroup). group_holds lives group now past) rule.groups

@@ -20,7 +20,7 @@ use Rattle.kill_spec.specs.declared.reading.GroupReading.{GroupReading}
 use Rattle.kill_spec.specs.declared.reading.HostReading.{HostReading}
 use Rattle.kill_spec.specs.Readings.{Reading, no_host}
 
--- the last element of a list, or the default `before` if it is empty
+-- The last element of a list, or `before` if the list is empty.
 abbrev pub last_or : {A : Type 0} → A → List A → A
 last_or before [] = before
 last_or before (x ∷ xs) = last_or x xs
@@ -37,48 +37,51 @@ pub record MemorySample : Type 0 where
 abbrev pub no_memory_sample : MemorySample
 no_memory_sample = record { current = 0; swap = 0; scan = 0 }
 
--- the memory sample that an act (what an event does) gives for the group in `slot`, as a list of at
--- most one element
+-- The memory sample of the group in slot `slot` that an act (what an event does) contains, as a
+-- list of at most one element.
 abbrev pub memory_known : ℕ → List GroupLife → Act → List MemorySample
 memory_known slot groups (act.Mem path current swap scan) =
     if (slot_named groups path).0 == slot then record { current = current; swap = swap; scan = scan } ∷ [] else []
 memory_known slot groups _ = []
 
--- the latest memory sample of the group in `slot`, or zeros if there is none
+-- The latest memory sample of the group in slot `slot`, or zeros before the first sample.
 abbrev pub memory_of : ℕ → List Event → MemorySample
 memory_of slot events =
     last_or no_memory_sample (values_from (λ (w : World) (event : Event). memory_known slot w.groups event.act) first_world events)
 
--- the kill preference that an act sets for the group in `slot`, as a list of at most one element
+-- The kill preference that an act sets for the group in slot `slot`, as a list of at most one
+-- element.
 abbrev pub preference_known : ℕ → List GroupLife → Act → List Preference
 preference_known slot groups (act.Prefer path preference) =
     if (slot_named groups path).0 == slot then preference ∷ [] else []
 preference_known slot groups _ = []
 
--- the latest kill preference of the group in `slot`; initially it is neither preferred nor avoided
+-- The latest kill preference of the group in slot `slot`. Initially a group is neither preferred
+-- nor avoided.
 abbrev pub preference_of : ℕ → List Event → Preference
 preference_of slot events =
     last_or Plain (values_from (λ (w : World) (event : Event). preference_known slot w.groups event.act) first_world events)
 
--- the sample of the host's memory that an act gives, as a list of at most one element
+-- The sample of the host's memory that an act contains, as a list of at most one element.
 abbrev pub host_known : Act → List HostReading
 host_known (act.Host mem_total swap_total swap_free) =
     record { mem_total = mem_total; swap_total = swap_total; swap_free = swap_free } ∷ []
 host_known _ = []
 
--- the latest sample of the host's memory, or zeros if there is none
+-- The latest sample of the host's memory, or zeros before the first sample.
 abbrev pub host_of : List Event → HostReading
 host_of events =
     last_or no_host (values_from (λ (w : World) (event : Event). host_known event.act) first_world events)
 
--- some live task is in the group in `slot` or in a descendant
+-- Whether some live task is in the group in slot `slot` or in a descendant.
 abbrev pub is_populated : World → ℕ → Bool
 is_populated w slot =
     list_any (λ (task : Task). is_under (parents_of w.groups) task.slot.0 slot) (tasks_by.values w.tasks)
 
 -- ---- readings
 
--- the reading of the group in `slot` after these events, given its averages over 10, 60 and 300 s
+-- The reading of the group in slot `slot` after the events, given the group's averages over 10, 60
+-- and 300 s.
 abbrev pub group_seen : List Event → List (List ℕ) → ℕ → GroupReading
 group_seen events averages slot = record {
   slot = record { 0 = slot };
@@ -90,16 +93,16 @@ group_seen events averages slot = record {
   populated = is_populated (after events) slot;
 }
 
--- The averages of the group in `slot` after tick number `i`, for a trace with `cpus` processors and
--- ticks of `length` ns. Only the averages of states are included. Interrupt time, which is the last
--- quantity, isn't, because no rule uses it.
+-- The averages of the group in slot `slot` after tick number `i`, for a trace with `cpus`
+-- processors and ticks of `length` ns. Only the averages of states are included. Interrupt time,
+-- which is the last quantity, is excluded because no rule uses it.
 abbrev pub averages_at : ℕ → List Event → ℕ → ℕ → ℕ → List (List ℕ)
 averages_at cpus events length i slot =
     take irq_quantity
     (group_averages cpus (after events).groups (ticks_of cpus events length i) slot).averages
 
--- the reading at tick number `i`: the groups that are live at the tick, in byte order of their
--- paths
+-- The reading at tick number `i`: the groups that are live at the tick, in the byte order of their
+-- paths, and the host's memory.
 unfoldable pub reading_at : ℕ → List Event → ℕ → ℕ → Reading
 reading_at cpus events length i = record {
   at = tick_moment length i;
@@ -109,7 +112,7 @@ reading_at cpus events length i = record {
       (live_groups (after (up_to events (tick_moment length i))).groups);
 }
 
--- the numbers of the ticks at which an evaluation is due, from a given tick back to tick 1
+-- The numbers of the ticks at which an evaluation is due, from a given tick back to tick 1.
 abbrev pub evaluations : ℕ → ℕ → ℕ → List ℕ
 evaluations interval length zero = []
 evaluations interval length (suc i) =
@@ -117,7 +120,7 @@ evaluations interval length (suc i) =
     then suc i ∷ evaluations interval length i
     else evaluations interval length i
 
--- the readings at the evaluations among the first `count` ticks, the newest first
+-- The readings at the evaluations among the first `count` ticks. The newest reading comes first.
 unfoldable pub readings_until : ℕ → List Event → ℕ → ℕ → ℕ → List Reading
 readings_until cpus events length interval count =
     map (reading_at cpus events length) (evaluations interval length count)

@@ -14,25 +14,28 @@ use Rattle.kill_spec.specs.Victims.{◌or_else◌, after_of, victim}
 
 -- ---- chains
 
--- the kill of a group at time `at` (ns) by an action of a ruleset (both numbered from 0)
+-- The kill of `group` at time `at` (ns) by action number `act` of ruleset number `rule` (both from
+-- 0).
 abbrev pub kill_of : ℕ → ℕ → ℕ → GroupReading → Kill
 kill_of at rule act group = record { at = at; rule = rule; action = act; victim = group.slot }
 
--- The kills of an action followed by the rest of a chain. Without a kill these are the kills of the
--- rest. With a kill it comes first, and the rest follows only if the action always continues.
+-- The kills of an action and of the actions after it, given the kills `rest` of the later actions.
+-- Without a kill of the action, `rest` is the result. A kill of the action comes first, and `rest`
+-- follows only if the action always continues.
 abbrev pub and_then : Bool → Option Kill → List Kill → List Kill
 and_then goes_on None rest = rest
 and_then goes_on (Some kill) rest = kill ∷ (if goes_on then rest else [])
 
--- the kill of an action whose victim is given, or `None` if there is no victim
+-- The kill of an optional victim by action number `act` of ruleset number `rule`; `None` without a
+-- victim.
 abbrev pub kill_by : ℕ → ℕ → Reading → Option GroupReading → Option Kill
 kill_by rule act now None = None
 kill_by rule act now (Some group) = Some (kill_of now.at rule act group)
 
--- The kills of a chain of actions at the reading `now`, after the readings `past`. The actions are
--- tried in order, and each action that has a victim kills it. The first such action that doesn't
--- always continue ends the chain. `rule` and `act` are the numbers of the ruleset and of the first
--- action.
+-- The kills of a chain of actions at the reading `now`, given the earlier readings `past`. The
+-- actions are tried in order, and each action that has a victim kills it. The first such action
+-- that doesn't always continue ends the chain. `rule` and `act` are the numbers of the ruleset and
+-- of the first action.
 abbrev pub chain : List GroupLife → ℕ → ℕ → List Action → Reading → List Reading → List Kill
 chain lives rule act [] now past = []
 chain lives rule act (first ∷ rest) now past =
@@ -41,51 +44,53 @@ chain lives rule act (first ∷ rest) now past =
 
 -- ---- pauses of rulesets
 
--- the kill ended its chain, because its action doesn't always continue
+-- Whether a kill ended its chain: its action doesn't always continue.
 abbrev pub ends_chain : List Action → Kill → Bool
 ends_chain actions kill = is_some_and (slice_get actions kill.action) (λ act. not (after_of act).always_continue)
 
--- the latest kill that ended a chain, given the kills at each reading, the newest first
+-- The latest kill that ended a chain, given the kills at each reading with the newest reading
+-- first.
 abbrev pub last_ending : List Action → List (List Kill) → Option Kill
 last_ending actions [] = None
 last_ending actions (kills ∷ earlier) = find (ends_chain actions) kills or_else last_ending actions earlier
 
--- the delay (ns) of an action, or 0 for `None`
+-- The delay (ns) of an optional action, or 0 for `None`.
 abbrev pub delay_of : Option Action → ℕ
 delay_of None = 0
 delay_of (Some act) = of_seconds (after_of act).delay_s
 
--- the ruleset pauses at time `at` (ns): its latest chain-ending kill is less than the delay of that
--- kill's action ago
+-- Whether a ruleset pauses at time `at` (ns): the time since its latest chain-ending kill is less
+-- than the delay of that kill's action.
 abbrev pub is_resting : List Action → ℕ → Option Kill → Bool
 is_resting actions at None = false
 is_resting actions at (Some kill) = nat_lt at (kill.at + delay_of (slice_get actions kill.action))
 
 -- ---- kills
 
--- The kills of a ruleset at the reading `now`, after the readings `past`, at which it had the kills
--- `earlier`. These are the kills of its chain if it fires and doesn't pause, and none if it doesn't
--- fire or pauses.
+-- The kills of a ruleset at the reading `now`. `past` are the earlier readings, and `earlier` are
+-- the ruleset's kills at them. A ruleset that fires and doesn't pause has the kills of its chain;
+-- any other ruleset has no kills.
 abbrev pub kills_at : List GroupLife → ℕ → Rule → Reading → List Reading → List (List Kill) → List Kill
 kills_at lives number rule now past earlier =
     if ruleset_fires lives rule now past && not (is_resting rule.actions now.at (last_ending rule.actions earlier))
     then chain lives number 0 rule.actions now past
     else []
 
--- the kills of a ruleset at each of the readings, the newest first
+-- The kills of a ruleset at each of the readings. The newest reading comes first.
 unfoldable pub kills_of : List GroupLife → ℕ → Rule → List Reading → List (List Kill)
 kills_of lives number rule [] = []
 kills_of lives number rule (now ∷ past) =
     kills_at lives number rule now past (kills_of lives number rule past) ∷ kills_of lives number rule past
 
--- the kills of rulesets at the reading `now`, after the readings `past`, ordered by ruleset and
--- action; `number` is the number of the first ruleset
+-- The kills of the rulesets at the reading `now`, given the earlier readings `past`, in the order
+-- of rulesets and actions. `number` is the number of the first ruleset.
 abbrev pub kills_from : List GroupLife → ℕ → List Rule → Reading → List Reading → List Kill
 kills_from lives number [] now past = []
 kills_from lives number (rule ∷ rules) now past =
     kills_at lives number rule now past (kills_of lives number rule past)
     ++ kills_from lives (number + 1) rules now past
 
--- the kills of all rulesets of a rules file at the reading `now`, after the readings `past`
+-- The kills of all rulesets of a rules file at the reading `now`, given the earlier readings
+-- `past`.
 unfoldable pub kills : List GroupLife → List Rule → Reading → List Reading → List Kill
 kills lives rules now past = kills_from lives 0 rules now past

@@ -16,9 +16,9 @@ use Rattle.kill_spec.specs.Kills.{delay_of, ends_chain, kills, kills_at, kills_o
 
 -- ---- detectors
 
--- The condition has been true for `duration` (ns) at time `at` (ns), as a relation. Among the
--- readings (the newest first) there is a reading at least that much earlier at which the condition
--- is true, and the condition is true at every later reading.
+-- `condition` has been true for `duration` (ns) at time `at` (ns), as a relation. Among the
+-- readings (the newest first) there is a reading at least `duration` earlier than `at` at which the
+-- condition is true, and the condition is true at every later reading.
 pub record HeldFor (condition : Reading → Bool) (duration at : ℕ) (readings : List Reading) : Type 0 where
   pub since : List Reading
   pub first : Reading
@@ -33,12 +33,13 @@ abbrev pub HeldForShows : Type 0
 HeldForShows = (condition : Reading → Bool) (duration at : ℕ) (readings : List Reading) →
     (held_for condition duration at readings ≡ true) ↔ HeldFor condition duration at readings
 
--- For a duration of 0 the condition counts exactly if it is true at the current reading.
+-- For a duration of 0, only the current reading counts: the condition has been true for 0 s if and
+-- only if it is true at the current reading.
 abbrev pub HoldsAtOnce : Type 0
 HoldsAtOnce = (condition : Reading → Bool) (now : Reading) (past : List Reading) →
     holds_for condition 0 now past ≡ condition now
 
--- A reading at which the condition is false restarts the duration: earlier readings don't count.
+-- A reading at which the condition is false restarts the duration: readings before it don't count.
 abbrev pub BreakStartsAnew : Type 0
 BreakStartsAnew = (condition : Reading → Bool) (duration_s : ℕ) (now broken : Reading) (newer older : List Reading) →
     condition broken ≡ false →
@@ -62,7 +63,7 @@ VictimsMatch = (lives : List GroupLife) (act : Action) (now : Reading) (past : L
     victim lives act now past ≡ Some group →
     IsPopulatedIn now group × ((after_of act).recursive ≡ false → is_match (action_patterns act) (path_of lives group) ≡ true)
 
--- The descent takes at most as many steps as there are groups: allowing more steps changes nothing.
+-- A descent takes at most one step for each group: allowing more steps doesn't change its result.
 abbrev pub DescentEnds : Type 0
 DescentEnds = (lives : List GroupLife) (act : Action) (now : Reading) (past : List Reading) (more : ℕ) (group : GroupReading) →
     AreOlder (parents_of lives) → IsReading lives now →
@@ -70,7 +71,7 @@ DescentEnds = (lives : List GroupLife) (act : Action) (now : Reading) (past : Li
 
 -- ---- kills
 
--- The kill is among the ruleset's kills at some reading, and ended its chain.
+-- The kill is among the ruleset's kills at some reading, and it ended its chain.
 abbrev pub EndedBy : List GroupLife → ℕ → Rule → List Reading → Kill → Type 0
 EndedBy lives number rule readings kill =
     Any (λ kills. Contains kills kill) (kills_of lives number rule readings) × (ends_chain rule.actions kill ≡ true)
@@ -93,8 +94,8 @@ EndsOnce = (lives : List GroupLife) (number : ℕ) (rule : Rule) (now : Reading)
     Contains (kills_at lives number rule now past (kills_of lives number rule past)) second →
     ends_chain rule.actions first ≡ true → ends_chain rule.actions second ≡ true → first ≡ second
 
--- The kill was decided by an action of the ruleset `rule` at the reading `now`: the ruleset fires,
--- and the killed group is the victim of that action.
+-- An action of the ruleset `rule` decided the kill at the reading `now`: the ruleset fires, and the
+-- killed group is the victim of that action.
 pub record IsKillOf (lives : List GroupLife) (number : ℕ) (rule : Rule) (now : Reading) (past : List Reading) (kill : Kill) : Type 0 where
   pub at : kill.at ≡ now.at
   pub rule_is : kill.rule ≡ number
@@ -105,8 +106,8 @@ pub record IsKillOf (lives : List GroupLife) (number : ℕ) (rule : Rule) (now :
   pub slot : kill.victim ≡ group.slot
   pub fired : ruleset_fires lives rule now past ≡ true
 
--- Every kill of a ruleset was decided by one of its actions: a group is killed only as the victim
--- of an action of a ruleset that fires.
+-- An action of the ruleset decided each of the ruleset's kills: a group is killed only as the
+-- victim of an action of a ruleset that fires.
 abbrev pub KillsAreOfActions : Type 0
 KillsAreOfActions = (lives : List GroupLife) (number : ℕ) (rule : Rule) (now : Reading) (past : List Reading) (kill : Kill) →
     Contains (kills_at lives number rule now past (kills_of lives number rule past)) kill →

@@ -1,4 +1,5 @@
--- The invariants of the readings in every replay: ranges, order, and distinct paths.
+-- The invariants of the readings in every replay: values are in range, and groups are ordered by
+-- distinct paths.
 use Rattle.std.specs.Prelude.{◌≡◌, ℕ, ◌^◌, ◌≤◌, ◌<◌, List, [], ◌∷◌, length, map, All}
 use Rattle.std.specs.Ordering.{nat_cmp}
 use Rattle.std.specs.declared.cmp.Ordering.TheVariants.{Less}
@@ -10,8 +11,8 @@ use Rattle.kill_spec.specs.declared.reading.GroupReading.{GroupReading}
 use Rattle.kill_spec.specs.declared.reading.HostReading.{HostReading}
 use Rattle.kill_spec.specs.Readings.{Reading, path_of}
 
--- the reading of a group is in range: its slot is below `slots`, sizes (bytes) and counts are at
--- most 2^60, and each quantity except interrupt time has three averages of at most 100 percent
+-- The reading of a group is in range: its slot is below `slots`, sizes (bytes) and counts are at
+-- most 2^60, and each quantity except interrupt time has three averages of at most 100 percent.
 pub record IsGroupReading (slots : ℕ) (group : GroupReading) : Type 0 where
   pub slot : group.slot.0 < slots
   pub current : group.current ≤ 2 ^ 60
@@ -26,7 +27,7 @@ pub record IsHostReading (host : HostReading) : Type 0 where
   pub swap_total : host.swap_total ≤ 2 ^ 60
   pub swap_free : host.swap_free ≤ 2 ^ 60
 
--- `first` is before `second` in byte order
+-- The bytes `first` are before the bytes `second` in byte order.
 abbrev pub ComesBefore : List ℕ → List ℕ → Type 0
 ComesBefore first second = slice_cmp nat_cmp first second ≡ Less
 
@@ -36,19 +37,20 @@ Ascend [] = Unit {0}
 Ascend (first ∷ []) = Unit {0}
 Ascend (first ∷ second ∷ paths) = ComesBefore first second × Ascend (second ∷ paths)
 
--- A legal reading for the groups `lives` (all groups that a trace ever creates): each group is in
+-- `reading` is a legal reading for `lives`, the groups that a trace ever creates: each group is in
 -- range, and the paths are in ascending order.
 pub record IsReading (lives : List GroupLife) (reading : Reading) : Type 0 where
   pub host : IsHostReading reading.host
   pub each : All (IsGroupReading (length lives)) reading.groups
   pub order : Ascend (map (path_of lives) reading.groups)
 
--- the reading is later than all earlier readings; `past` has the newest first
+-- The reading `now` is later than all readings of `past`, which has the newest reading first.
 abbrev pub IsLater : Reading → List Reading → Type 0
 IsLater now [] = Unit {0}
 IsLater now (before ∷ past) = before.at < now.at
 
--- legal readings for the groups `lives`, the newest first, each later than the readings before it
+-- The readings are legal for the groups `lives`. The newest reading comes first, and each reading
+-- is later than the readings after it in the list.
 abbrev pub AreReadings : List GroupLife → List Reading → Type 0
 AreReadings lives [] = Unit {0}
 AreReadings lives (now ∷ past) = IsReading lives now × IsLater now past × AreReadings lives past

@@ -1,6 +1,6 @@
 -- The readings on which rules decide. A reading is the state of the machine at an evaluation: the
 -- live groups with their pressure, memory, kill preference and whether they have live tasks, and
--- the host's memory. Lists of readings have the newest reading first.
+-- the host's memory. In lists of readings, the newest reading comes first.
 use Rattle.std.specs.Prelude.{ℕ, ◌-◌, List, [], ◌∷◌, slice_index, slice_index_or}
 use Rattle.std.specs.Prelude.{find, ◌==◌, Option, None, Some}
 use Rattle.psi_base.specs.declared.event.Res.{Res}
@@ -23,39 +23,42 @@ pub record Reading : Type 0 where
 abbrev pub no_host : HostReading
 no_host = record { mem_total = 0; swap_total = 0; swap_free = 0 }
 
--- the path of a group in a reading, found by its slot among all groups that a trace ever creates
+-- The path of a group in a reading. The slot of the group is its index in `lives`, which are all
+-- groups that a trace ever creates.
 abbrev pub path_of : List GroupLife → GroupReading → List ℕ
 path_of lives group = path_at lives group.slot.0
 
--- the group in `slot` if it was live at the reading, or `None`
+-- The group in slot `slot` at a reading, or `None` if it wasn't live at the reading.
 abbrev pub group_in : Reading → ℕ → Option GroupReading
 group_in reading slot = find (λ (group : GroupReading). group.slot.0 == slot) reading.groups
 
 -- ---- pressure
 
--- the indexes of the averages over 10 s and 60 s in the list of a state's averages
+-- The index of the average over 10 s in the list of a state's averages.
 abbrev pub ten_seconds : ℕ
 ten_seconds = 0
 
+-- The index of the average over 60 s in the list of a state's averages.
 abbrev pub sixty_seconds : ℕ
 sixty_seconds = 1
 
--- the full average of a resource over the window with index `window` (fixed point; 2,048 is 1
--- percent)
+-- The `full` average of a resource over the window with index `window`, in fixed point (2,048 is 1
+-- percent).
 abbrev pub full_average : Res → ℕ → GroupReading → ℕ
 full_average resource window group =
     slice_index (slice_index_or group.averages (state_number (state_of resource FullStalled)) []) window
 
 -- ---- scanned pages
 
--- the increase from the count of scanned pages at an earlier reading to `scan`; 0 if the group
--- wasn't live then, or if the count decreased
+-- The increase of the count of scanned pages from an optional earlier reading of the group to the
+-- count `scan`. The increase is 0 if the group wasn't live at the earlier reading, or if the count
+-- decreased.
 abbrev pub grown_from : ℕ → Option GroupReading → ℕ
 grown_from scan None = 0
 grown_from scan (Some before) = scan - before.scan
 
--- the number of pages scanned for a group since the previous reading; 0 if there is no previous
--- reading, if the group wasn't live then, or if the count decreased
+-- The number of pages scanned for a group since the previous reading. The number is 0 if there is
+-- no previous reading, if the group wasn't live at it, or if the count decreased.
 abbrev pub rise : List Reading → GroupReading → ℕ
 rise [] group = 0
 rise (before ∷ past) group = grown_from group.scan (group_in before group.slot.0)

@@ -26,14 +26,14 @@ use Rattle.kill_spec.specs.Detectors.{matches}
 
 -- ---- the arguments of actions
 
--- the patterns of an action
+-- The patterns of an action, which its victims must match.
 abbrev pub action_patterns : Action → List Pattern
 action_patterns (action.SizeOrGrowth cgroup size_threshold percentile ratio after) = cgroup
 action_patterns (action.SwapUsage cgroup threshold after) = cgroup
 action_patterns (action.Pressure cgroup resource after) = cgroup
 action_patterns (action.PgScan cgroup after) = cgroup
 
--- the settings that all actions share: delay, recursive, always_continue
+-- The settings that all actions have: delay, recursive, always_continue.
 abbrev pub after_of : Action → After
 after_of (action.SizeOrGrowth cgroup size_threshold percentile ratio after) = after
 after_of (action.SwapUsage cgroup threshold after) = after
@@ -42,17 +42,18 @@ after_of (action.PgScan cgroup after) = after
 
 -- ---- candidates
 
--- the candidates of an action: the matching groups with a live task in them or in a descendant
+-- The candidates of an action: the groups that match the patterns and have a live task in them or
+-- in a descendant.
 abbrev pub candidates : List GroupLife → List Pattern → Reading → List GroupReading
 candidates lives patterns reading =
     filter (λ (group : GroupReading). group.populated) (matches lives patterns reading)
 
--- the optional slot is present and equals `slot`
+-- Whether an optional slot is present and equals `slot`.
 abbrev pub names_slot : ℕ → Option ℕ → Bool
 names_slot slot None = false
 names_slot slot (Some other) = other == slot
 
--- the live children of the group in `slot` with a live task in them or in a descendant
+-- The live children of the group in slot `slot` that have a live task in them or in a descendant.
 abbrev pub children : List GroupLife → ℕ → Reading → List GroupReading
 children lives slot reading =
     filter (λ (group : GroupReading). group.populated && names_slot slot (slice_index_or (parents_of lives) group.slot.0 None))
@@ -75,24 +76,25 @@ rank Avoid = 0
 abbrev pub rank_of : GroupReading → ℕ
 rank_of group = rank group.preference
 
--- the result of the comparison is `Less`
+-- Whether the result of a comparison is `Less`.
 abbrev pub is_less : Ordering → Bool
 is_less Less = true
 is_less Equal = false
 is_less Greater = false
 
--- the path of `first` is before the path of `second` in byte order
+-- Whether the path of `first` is before the path of `second` in byte order.
 abbrev pub has_path_before : List GroupLife → GroupReading → GroupReading → Bool
 has_path_before lives first second = is_less (slice_cmp nat_cmp (path_of lives first) (path_of lives second))
 
--- `first` has a greater ranking value (`measure`) than `second`, or the same value and a lower path
+-- Whether `first` has a greater ranking value (`measure`) than `second`, or an equal value and a
+-- lower path.
 abbrev pub is_greater_by : List GroupLife → (GroupReading → ℕ) → GroupReading → GroupReading → Bool
 is_greater_by lives measure first second =
     nat_lt (measure second) (measure first)
     || (measure first == measure second && has_path_before lives first second)
 
--- `first` beats `second`: its kill preference is better, or the preferences are the same and its
--- ranking value is greater, or both are the same and its path is lower
+-- Whether `first` beats `second`: its kill preference is better; or the preferences are equal and
+-- its ranking value is greater; or both are equal and its path is lower.
 abbrev pub beats_by : List GroupLife → (GroupReading → ℕ) → GroupReading → GroupReading → Bool
 beats_by lives measure first second =
     nat_lt (rank_of second) (rank_of first)
@@ -100,19 +102,20 @@ beats_by lives measure first second =
 
 -- ---- swap, pressure and scanned pages
 
--- `swap` bytes are at least the size, which is given in bytes or as a percentage of the host's swap
+-- Whether `swap` bytes are at least a size, which is given in bytes or as a percentage of the
+-- host's swap.
 abbrev pub is_at_least : Size → HostReading → ℕ → Bool
 is_at_least (size.Bytes n) host swap = nat_le n swap
 is_at_least (size.Percent n) host swap = nat_le (n * host.swap_total) (swap * 100)
 
--- the ranking value for pressure: the sum of the full averages of a resource over 10 s and 60 s
--- (fixed point)
+-- The ranking value for pressure: the sum of the `full` averages of a resource over 10 s and 60 s
+-- (fixed point).
 abbrev pub pressure_measure : Res → GroupReading → ℕ
 pressure_measure resource group =
     full_average resource ten_seconds group + full_average resource sixty_seconds group
 
--- the eligible group that no other eligible group beats by a ranking value, or `None` if no group
--- is eligible
+-- The eligible group that no other eligible group beats by the ranking value `measure`, or `None`
+-- if no group is eligible.
 abbrev pub chosen_by : List GroupLife → (GroupReading → Bool) → (GroupReading → ℕ) → List GroupReading → Option GroupReading
 chosen_by lives is_eligible measure groups = unbeaten (beats_by lives measure) (filter is_eligible groups)
 
@@ -122,7 +125,7 @@ chosen_by lives is_eligible measure groups = unbeaten (beats_by lives measure) (
 abbrev pub memory_in_use : GroupReading → ℕ
 memory_in_use group = group.current
 
--- `first` uses more memory than `second`, or as much and its path is lower
+-- Whether `first` uses more memory than `second`, or an equal amount and its path is lower.
 abbrev pub is_larger : List GroupLife → GroupReading → GroupReading → Bool
 is_larger lives first second = is_greater_by lives memory_in_use first second
 
@@ -144,7 +147,8 @@ abbrev pub large_choice : List GroupLife → ℕ → List GroupReading → Optio
 large_choice lives size_threshold groups =
     largest lives (filter (λ group. nat_le (size_threshold * total_size groups) (memory_in_use group * 100)) (best_of groups))
 
--- the number of groups, out of `count`, that are above a percentile: rounded up, and at least one
+-- The number of groups, out of `count` groups, that are above a percentile. It is rounded up, and
+-- at least one.
 abbrev pub count_above : ℕ → ℕ → ℕ
 count_above percentile count = max 1 ((count * (100 - percentile) + 99) / 100)
 
@@ -153,22 +157,24 @@ abbrev pub largest_few : List GroupLife → ℕ → List GroupReading → List G
 largest_few lives count groups =
     filter (λ group. nat_lt (length (filter (λ other. is_larger lives other group) groups)) count) groups
 
--- the size (bytes) of a group as a list of one element; empty for `None`
+-- The size (bytes) of an optional group as a list of at most one element.
 abbrev pub size_at : Option GroupReading → List ℕ
 size_at None = []
 size_at (Some group) = group.current ∷ []
 
--- the sizes (bytes) of the group in `slot` at the readings at which it was live, the newest first
+-- The sizes (bytes) of the group in slot `slot` at the readings at which it was live. The newest
+-- size comes first.
 abbrev pub sizes_in : ℕ → List Reading → List ℕ
 sizes_in slot [] = []
 sizes_in slot (reading ∷ past) = size_at (group_in reading slot) ++ sizes_in slot past
 
--- the history of a group: its latest sizes (bytes) before the current reading, at most four
+-- The history of a group: its latest sizes (bytes) before the current reading. The history has at
+-- most four sizes.
 abbrev pub past_of : List Reading → GroupReading → List ℕ
 past_of past group = take 4 (sizes_in group.slot.0 past)
 
--- the group is growing: it used memory in its history, and its size is at least `ratio` thousandths
--- of the mean of its history
+-- Whether a group is growing: it used memory in its history, and its size is at least `ratio`
+-- thousandths of the mean of its history.
 abbrev pub is_growing : ℕ → List Reading → GroupReading → Bool
 is_growing ratio past group =
     nat_lt 0 (sum (past_of past group))
@@ -180,22 +186,22 @@ is_growing ratio past group =
 abbrev pub growth_by : List Reading → GroupReading → GroupReading → ℕ
 growth_by past group other = memory_in_use group * length (past_of past group) * sum (past_of past other)
 
--- `first` has grown more than `second`: the quotient of its size and the mean of its history is
--- greater, as an exact fraction; or the quotients are the same and `first` is larger.
+-- Whether `first` has grown more than `second`: the quotient of its size and the mean of its
+-- history is greater, as an exact fraction; or the quotients are equal and `first` is larger.
 abbrev pub has_grown_more : List GroupLife → List Reading → GroupReading → GroupReading → Bool
 has_grown_more lives past first second =
     nat_lt (growth_by past second first) (growth_by past first second)
     || (growth_by past first second == growth_by past second first && is_larger lives first second)
 
--- The second choice of `SizeOrGrowth`: the growing group that has grown most, among the largest
--- groups with the best preference.
+-- The second choice of `SizeOrGrowth`: the group that has grown most, among the growing groups
+-- within the largest groups with the best preference.
 abbrev pub growing_choice : List GroupLife → ℕ → ℕ → List Reading → List GroupReading → Option GroupReading
 growing_choice lives percentile ratio past groups =
     unbeaten (has_grown_more lives past)
     (filter (is_growing ratio past)
     (largest_few lives (count_above percentile (length (best_of groups))) (best_of groups)))
 
--- the first value if it isn't `None`, or else the second
+-- The first optional value if it isn't `None`, otherwise the second.
 infixr 5 ◌or_else◌
 abbrev pub ◌or_else◌ : {A : Type 0} → Option A → Option A → Option A
 (Some x) or_else other = Some x
@@ -203,7 +209,7 @@ None or_else other = other
 
 -- ---- victims
 
--- the choice of an action among `groups` at the reading `now`, after the readings `past`
+-- The choice of an action among `groups` at the reading `now`, given the earlier readings `past`.
 unfoldable pub choice : List GroupLife → Action → Reading → List Reading → List GroupReading → Option GroupReading
 choice lives (action.SizeOrGrowth cgroup size_threshold percentile ratio after) now past groups =
     large_choice lives size_threshold groups
@@ -216,8 +222,8 @@ choice lives (action.Pressure cgroup resource after) now past groups =
 choice lives (action.PgScan cgroup after) now past groups =
     chosen_by lives (λ group. nat_lt 0 (rise past group)) (rise past) groups
 
--- the result of one step of a descent: it continues with `next` from the chosen child, or ends at
--- `group` if no child is chosen
+-- The result of one step of a descent: it continues with `next` from the chosen child, or ends at
+-- `group` if no child is chosen.
 abbrev pub below : Option GroupReading → GroupReading → (GroupReading → GroupReading) → GroupReading
 below None group next = group
 below (Some child) group next = next child
@@ -229,8 +235,8 @@ descended lives act now past zero group = group
 descended lives act now past (suc n) group =
     below (choice lives act now past (children lives group.slot.0 now)) group (descended lives act now past n)
 
--- The victim of an action at the reading `now`, after the readings `past`, or `None`. It is the
--- choice among the candidates. A recursive action repeats the choice among the children of the
+-- The victim of an action at the reading `now`, given the earlier readings `past`, or `None`. It is
+-- the choice among the candidates. A recursive action repeats the choice among the children of the
 -- chosen group until no child is chosen. A child's slot is greater than its parent's, so there are
 -- at most as many steps as groups.
 unfoldable pub victim : List GroupLife → Action → Reading → List Reading → Option GroupReading

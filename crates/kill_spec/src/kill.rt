@@ -2,7 +2,7 @@
 //! kill.
 use psi_base::{Ns, Slot};
 
-/// A kill: its time, the action and ruleset that decided it, and the group.
+/// A kill: its time, the ruleset and the action that decided it, and the killed group.
 #[derive(Clone, Copy, Debug, PartialEq, Eq)]
 pub struct Kill {
     /// The time (ns) of the evaluation.

@@ -3,10 +3,10 @@
 ghost use Rattle.kill_spec.specs.Choices.{LargestIsChoice, UnbeatenIsChoice};
 ghost use Rattle.kill_spec.specs.Laws.{BreakStartsAnew, HeldForShows, HoldsAtOnce, LongerIsLater, EndingsApart, EndsOnce, KillsAreOfActions, DescentEnds, VictimsMatch};
 
-/// When a condition has been true for a duration: it was true at some reading at least that much
-/// earlier, and at every later reading. For a duration of 0 only the current reading counts; a
-/// reading at which the condition is false restarts the duration; and a condition that has been
-/// true for a duration has been true for every shorter duration.
+/// A condition has been true for a duration if and only if it was true at some reading at least
+/// that much earlier, and at every later reading. For a duration of 0 only the current reading
+/// counts. A reading at which the condition is false restarts the duration. A condition that has
+/// been true for a duration has been true for every shorter duration.
 pub fn law_durations()
     ensures shows { HeldForShows }
     ensures at_once { HoldsAtOnce }
@@ -14,8 +14,8 @@ pub fn law_durations()
     ensures later { LongerIsLater }
 {}
 
-/// The choice by a ranking value and the choice of the largest group are `None` exactly for an
-/// empty list. If they choose a group, it is the group that no other group beats.
+/// The choice by a ranking value and the choice of the largest group are `None` if and only if the
+/// list is empty. A chosen group is beaten by no other group of the list.
 pub fn law_choices()
     ensures by_measure { UnbeatenIsChoice }
     ensures largest { LargestIsChoice }
@@ -29,7 +29,7 @@ pub fn law_victims()
 {}
 
 /// Two chain-ending kills of a ruleset are apart by at least the delay of the first kill's action,
-/// and never at the same reading. A group is killed only as the victim of an action of a ruleset
+/// and never happen at one reading. A group is killed only as the victim of an action of a ruleset
 /// that fires.
 pub fn law_kills()
     ensures apart { EndingsApart }

@@ -1,4 +1,4 @@
-//! The types of the samples that rules see at an evaluation: a group and the host's memory.
+//! The types for what rules see at an evaluation: the state of a group, and the host's memory.
 use pressure_spec::QUANTITIES;
 use psi_base::{Preference, Slot};
 
@@ -20,7 +20,7 @@ pub struct GroupReading {
     pub scan: u64,
     /// The group's kill preference.
     pub preference: Preference,
-    /// Some live task is in the group or in a descendant.
+    /// Whether some live task is in the group or in a descendant.
     pub populated: bool,
 }
 

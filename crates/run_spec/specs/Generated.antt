@@ -19,46 +19,46 @@ use Rattle.run_spec.specs.declared.command.Shape.{Shape}
 
 -- ---- random numbers
 
--- the next state of the random number generator: a 64-bit linear congruential generator with the
--- constants of Knuth's MMIX
+-- The next state of the random number generator. It is a 64-bit linear congruential generator with
+-- the constants of Knuth's MMIX.
 abbrev pub next_state : ℕ → ℕ
 next_state state = (state * 6364136223846793005 + 1442695040888963407) % 2 ^ 64
 
--- a random number below `bound`, from the 31 high bits of `state`
+-- A random number below `bound`, computed from the 31 high bits of `state`.
 abbrev pub random_event : ℕ → ℕ → ℕ
 random_event state bound = (state / 2 ^ 33) % bound
 
 -- ---- groups and tasks
 
--- the number of tasks: four per processor, with pids from 1
+-- The number of tasks of a generated trace: four for each processor. Their pids start at 1.
 abbrev pub task_count : Shape → ℕ
 task_count shape = 4 * shape.cpus
 
--- the path of the group with a number (from 0)
+-- The path of the group with number `number` (from 0).
 abbrev pub numbered_path : ℕ → List ℕ
 numbered_path number = codes "/g" ++ decimal number
 
--- the path of the group of task `pid`: tasks are assigned to the groups in turn, or to the root if
--- there are no groups
+-- The path of the group of task `pid`. Tasks are assigned to the groups in turn, or to the root if
+-- there are no other groups.
 abbrev pub home_of : Shape → ℕ → List ℕ
 home_of shape pid =
     if shape.groups == 0 then codes "/" else numbered_path ((pid - 1) % shape.groups)
 
--- the act (what an event does) that creates the group with a number
+-- The act (what an event does) that creates the group with number `number`.
 abbrev pub made_group : ℕ → Act
 made_group number = act.Group (numbered_path number)
 
--- the act that creates the task with a pid: tasks 1 to 4 are on processor 0, tasks 5 to 8 on
--- processor 1, and so on
+-- The act that creates task `pid`. Tasks 1 to 4 are on processor 0, tasks 5 to 8 on processor 1,
+-- and so on.
 abbrev pub made_task : Shape → ℕ → Act
 made_task shape pid =
     act.Fork (record { 0 = pid }) (home_of shape pid) (record { 0 = (pid - 1) / 4 })
 
--- the event that does an act at time 0
+-- The event at time 0 with the act `what`.
 abbrev pub at_start : Act → Event
 at_start what = record { at = 0; act = what }
 
--- the events that create all groups and tasks, at time 0
+-- The events at time 0 that create all groups and all tasks.
 abbrev pub first_events : Shape → List Event
 first_events shape =
     map (λ number. at_start (made_group number)) (range_with_len 0 shape.groups)
@@ -66,27 +66,27 @@ first_events shape =
 
 -- ---- the next event of a task
 
--- a random act, and the state of the generator after it
+-- A random act, and the state of the random number generator after it was drawn.
 pub record RandomEvent : Type 0 where
   pub act : Act
   pub state : ℕ
 
--- wakes the blocked task `pid` on a random processor
+-- The act that wakes the blocked task `pid` on a random processor.
 abbrev pub woken : Shape → ℕ → ℕ → RandomEvent
 woken shape state pid = record {
   act = act.Wake (record { 0 = pid }) (record { 0 = random_event (next_state state) shape.cpus });
   state = next_state state;
 }
 
--- how the running task leaves its processor, for a random number below 4: 0 preemption, 1 sleep, 2
--- and 3 a wait for IO
+-- How the running task leaves its processor, given a random number below 4: preemption for 0, sleep
+-- for 1, and a wait for IO for 2 and 3.
 abbrev pub way_of : ℕ → How
 way_of zero = Preempt
 way_of (suc zero) = Sleep
 way_of (suc (suc more)) = IoWait
 
--- the ready task `pid` runs next on its processor. If the processor is idle, no random number is
--- used.
+-- The act that runs the ready task `pid` next on its processor. No random number is used if the
+-- processor is idle.
 abbrev pub started : Tasks → ℕ → ℕ → Task → RandomEvent
 started tasks state pid task =
     if is_some (running_on tasks task.cpu.0)
@@ -96,19 +96,20 @@ started tasks state pid task =
     }
     else record { act = act.Switch task.cpu (Some (record { 0 = pid })) Idle; state = state }
 
--- ends the memory stall of a task that is in one, and begins one for any other task
+-- The act that ends the memory stall of task `pid` if the task is in one, or otherwise begins a
+-- memory stall.
 abbrev pub stall_turn : ℕ → Task → Act
 stall_turn pid task =
     if task.stalled then act.Unstall (record { 0 = pid }) else act.Stall (record { 0 = pid })
 
--- the act of a running task, for a random number below 4: it sleeps (0), waits for IO (1), or
--- begins or ends a memory stall (2 and 3)
+-- The act of the running task `pid`, given a random number below 4: sleep for 0, a wait for IO for
+-- 1, and the begin or end of a memory stall for 2 and 3.
 abbrev pub running_act : ℕ → Task → ℕ → Act
 running_act pid task zero = act.Switch task.cpu None Sleep
 running_act pid task (suc zero) = act.Switch task.cpu None IoWait
 running_act pid task (suc (suc more)) = stall_turn pid task
 
--- the next act of task `pid`, which depends on its mode
+-- The next act of task `pid`, which depends on the mode of the task.
 abbrev pub next_of : Shape → Tasks → ℕ → ℕ → Task → Mode → RandomEvent
 next_of shape tasks state pid task Blocked = woken shape state pid
 next_of shape tasks state pid task Waiting = woken shape state pid
@@ -118,31 +119,32 @@ next_of shape tasks state pid task Running = record {
   state = next_state state;
 }
 
--- The next act of task `pid`. Every chosen task exists; the case `None` only makes the function
--- total.
+-- The next act of the optional task `pid`. Every chosen task exists; the case `None` only makes the
+-- function total.
 abbrev pub next_if : Shape → Tasks → ℕ → ℕ → Option Task → RandomEvent
 next_if shape tasks state pid None = woken shape state pid
 next_if shape tasks state pid (Some task) = next_of shape tasks state pid task task.mode
 
--- the pid of the task that acts next, from a random state
+-- The pid of the task that acts next, computed from the random state `state`.
 abbrev pub chosen : Shape → ℕ → ℕ
 chosen shape state = 1 + random_event state (task_count shape)
 
--- The next act. The first random number after `state` gives the time of the event (see
--- `next_event`); the second chooses the task.
+-- The next act of a generated trace. The first random number after `state` gives the time of the
+-- event (see `next_event`); the second chooses the task.
 unfoldable pub next_random : Shape → Tasks → ℕ → RandomEvent
 next_random shape tasks state =
     next_if shape tasks (next_state (next_state state)) (chosen shape (next_state (next_state state)))
     (task_of tasks (chosen shape (next_state (next_state state))))
 
--- the next event in world `w`, less than 2 ms after the last event
+-- The next event in world `w`. It is less than 2 ms after the last event.
 abbrev pub next_event : Shape → World → ℕ → Event
 next_event shape w state = record {
   at = w.last + random_event (next_state state) 2000000;
   act = (next_random shape w.tasks state).act;
 }
 
--- `left` random events from a world and a state, followed by the end at the time of the last event
+-- `left` random events, starting from world `w` and the random state `state`, followed by an `end`
+-- event at the time of the last event.
 unfoldable pub random_events : Shape → ℕ → World → ℕ → List Event
 random_events shape zero w state = record { at = w.last; act = act.End } ∷ []
 random_events shape (suc left) w state =
@@ -152,7 +154,8 @@ random_events shape (suc left) w state =
 
 -- ---- the trace
 
--- the trace of a shape: events that create its groups and tasks, followed by random events
+-- The generated trace of a shape: events that create the groups and tasks, followed by random
+-- events.
 abbrev pub generated : Shape → Trace
 generated shape = record {
   version = One;

@@ -26,12 +26,12 @@ use Rattle.run_spec.specs.declared.status.Status.TheVariants as status
 
 -- ---- command words
 
--- every command that `command_of` parses is in range
+-- Every command that `command_of` parses is in range (`IsCommand`).
 abbrev pub SpelledInRange : Type 0
 SpelledInRange = (words : List (List ℕ)) (command : Command)
     → command_of words ≡ Some command → IsCommand command
 
--- the word `--name=value`
+-- The word `--name=value` for a given name and value.
 abbrev pub assigned_word : List ℕ → List ℕ → List ℕ
 assigned_word name value = codes "--" ++ name ++ 61 ∷ value
 
@@ -39,15 +39,15 @@ assigned_word name value = codes "--" ++ name ++ 61 ∷ value
 abbrev pub HasNoEquals : List ℕ → Type 0
 HasNoEquals text = list_any is_equals text ≡ false
 
--- two adjacent options with different names may be swapped
+-- Swapping two adjacent options with different names doesn't change the parsed command.
 abbrev pub OrderIsFree : Type 0
 OrderIsFree = (before after : List (List ℕ)) (name value other another : List ℕ)
     → HasNoEquals name → HasNoEquals other → name ≢ other
     → command_of (before ++ assigned_word name value ∷ assigned_word other another ∷ after)
     ≡ command_of (before ++ assigned_word other another ∷ assigned_word name value ∷ after)
 
--- `--name=value` may also be written as the two words `--name value`, if no earlier word is `--`
--- and the value doesn't look like an option
+-- `--name=value` may also be written as the two words `--name value` if no earlier word is `--` and
+-- the value doesn't begin with `-` (a single `-` is allowed).
 abbrev pub ValueMayFollow : Type 0
 ValueMayFollow = (before after : List (List ℕ)) (name value : List ℕ)
     → HasNoEquals name → name ≢ [] → is_dashed value ≡ false → is_among (codes "--") before ≡ false
@@ -56,25 +56,25 @@ ValueMayFollow = (before after : List (List ℕ)) (name value : List ℕ)
 
 -- ---- missing files
 
--- if the rules file of a command is known to be missing, the run reports that, or fails to read, or
--- runs out of memory
+-- If the rules file of a command is known to be missing, the run reports the missing file, fails to
+-- read, or runs out of memory.
 abbrev pub MissingRulesShow : Type 0
 MissingRulesShow = (command : Command) (files : Option Files) (old new : Option (List ℕ)) (result : Status) (name : List ℕ)
     → Ends command files old new result → rules_name command ≡ Some name → IsAbsent files name
     → (result ≡ status.NoFile RulesFile) ⊎ (result ≡ status.ReadFault) ⊎ (result ≡ status.NoMemory no_memory)
 
--- if the drop-in file of a command is known to be missing, the run reports that this file or the
--- rules file is missing, or an error in the rules file, which is read first; or it fails to read,
--- or runs out of memory
+-- If the drop-in file of a command is known to be missing, the run reports that this file or the
+-- rules file is missing, reports an error in the rules file (which is read first), fails to read,
+-- or runs out of memory.
 abbrev pub MissingDropInShows : Type 0
 MissingDropInShows = (command : Command) (files : Option Files) (old new : Option (List ℕ)) (result : Status) (name : List ℕ)
     → Ends command files old new result → drop_in_name command ≡ Some name → IsAbsent files name
     → (result ≡ status.NoFile RulesFile) ⊎ (result ≡ status.NoFile DropInFile) ⊎ (result ≡ status.ReadFault)
     ⊎ (result ≡ status.NoMemory no_memory) ⊎ ((fault : RulesFault) × (result ≡ status.Rules fault))
 
--- if the trace or ftrace text of a command is known to be missing, the run reports a missing file,
--- or an error in the rules file or in the drop-in file, which are read first; or it fails to read,
--- or runs out of memory
+-- If the trace or ftrace text of a command is known to be missing, the run reports a missing file,
+-- reports an error in the rules file or in the drop-in file (which are read first), fails to read,
+-- or runs out of memory.
 abbrev pub MissingSourceShows : Type 0
 MissingSourceShows = (command : Command) (files : Option Files) (old new : Option (List ℕ)) (result : Status) (name : List ℕ)
     → Ends command files old new result → source_name command ≡ Some name → IsAbsent files name
@@ -82,14 +82,14 @@ MissingSourceShows = (command : Command) (files : Option Files) (old new : Optio
     ⊎ ((fault : RulesFault) × (result ≡ status.Rules fault)) ⊎ ((fault : DropFault) × (result ≡ status.DropIn fault))
 
 -- If the rules file of a command is known to be missing and the run ends with ReadFault, the failed
--- read was one of the rules file.
+-- read was a read of the rules file.
 abbrev pub MissingRulesComeFirst : Type 0
 MissingRulesComeFirst = (command : Command) (files : Option Files) (before now : List ReadCall) (name : List ℕ)
     → ReadsInOrder command files before now status.ReadFault → rules_name command ≡ Some name → IsAbsent files name
     → FailsAt command before now RulesFile shelf.Failed
 
 -- If the drop-in file of a command is known to be missing and the run ends with ReadFault, the
--- failed read was one of the drop-in file or of the rules file.
+-- failed read was a read of the drop-in file or of the rules file.
 abbrev pub MissingDropInComesFirst : Type 0
 MissingDropInComesFirst = (command : Command) (files : Option Files) (before now : List ReadCall) (name : List ℕ)
     → ReadsInOrder command files before now status.ReadFault → drop_in_name command ≡ Some name → IsAbsent files name
@@ -97,32 +97,32 @@ MissingDropInComesFirst = (command : Command) (files : Option Files) (before now
 
 -- ---- the number of read calls
 
--- the number of bytes that read calls returned
+-- The number of bytes that the read calls of a log returned.
 abbrev pub bytes_in : List ReadCall → ℕ
 bytes_in [] = 0
 bytes_in (call ∷ calls) = count_read call.outcome + bytes_in calls
 
--- the log grew by read calls whose number is at most the number of bytes that they returned plus
--- `more`
+-- The log of read calls grew from `before` to `now`. The number of new calls is at most the number
+-- of bytes that they returned plus `more`.
 pub record CallsAreFew (more : ℕ) (before now : List ReadCall) : Type 0 where
   pub calls : List ReadCall
   pub grown : now ≡ before ++ calls
   pub few : length calls ≤ bytes_in calls + more
 
--- the number of read calls for one file is at most the number of bytes returned plus one
+-- The number of read calls for one file is at most the number of bytes that they returned plus one.
 abbrev pub FileCallsAreFew : Type 0
 FileCallsAreFew = (name : List ℕ) (before now : List ReadCall) (fault : Option ShelfFault)
     → ReadsFile name 0 before now fault → CallsAreFew 1 before now
 
--- the number of read calls of a command is at most the number of bytes returned plus one for each
--- of its files
+-- The number of read calls of a command is at most the number of bytes that they returned plus one
+-- for each of its files.
 abbrev pub CommandCallsAreFew : Type 0
 CommandCallsAreFew = (command : Command) (files : Option Files) (before now : List ReadCall) (result : Status)
     → ReadsInOrder command files before now result → CallsAreFew (length (names_in_order command)) before now
 
 -- ---- rounds of `whatif`
 
--- If a round finds no kill with its number, the trace at that point is the last trace.
+-- If a round finds no kill with its number, its trace is the last trace.
 abbrev pub LastWithoutKill : Type 0
 LastWithoutKill = (trace left : Trace) (timing : Timing) (rules : List Rule) (count : ℕ) → count ≤ most_rounds
     → length left.events ≤ most_events

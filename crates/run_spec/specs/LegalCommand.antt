@@ -1,4 +1,5 @@
--- Invariants of every command that `command_of` parses.
+-- The invariant of every command that `command_of` parses: numbers are in range, and file names
+-- aren't empty.
 use Rattle.std.specs.Prelude.{◌≡◌, ◌≢◌, ℕ, ◌-◌, ◌^◌, ◌≤◌, ◌<◌, List, [], true, codes, Option, None, IfSome, IsSome}
 use Rattle.psi_base.specs.Path.{is_path}
 use Rattle.run_spec.specs.declared.command.Command.{Command}
@@ -10,12 +11,12 @@ use Rattle.run_spec.specs.declared.command.Shape.{Shape}
 abbrev pub IsWithin : ℕ → ℕ → ℕ → Type 0
 IsWithin least most number = (least ≤ number) × (number ≤ most)
 
--- the file name that an option gives, if any, isn't empty and isn't `-` (standard input)
+-- An optional file name, if present, isn't empty and isn't `-` (standard input).
 abbrev pub IsOptionName : Option (List ℕ) → Type 0
 IsOptionName named = IfSome named (λ name. (name ≢ []) × (name ≢ codes "-"))
 
--- the options of `replay` and `whatif` are in range, and a drop-in file comes only with a rules
--- file
+-- The options of `replay` and `whatif` are in range, and a drop-in file is named only together with
+-- a rules file.
 pub record AreOptions (options : Options) : Type 0 where
   pub rules : IsOptionName options.rules
   pub drop_in : IsOptionName options.drop_in
@@ -34,7 +35,7 @@ pub record IsShape (shape : Shape) : Type 0 where
   pub groups : shape.groups ≤ 1000
   pub events : shape.events ≤ 3900000
 
--- all numbers of a command are in range, and no file name is empty
+-- All numbers of a command are in range, and no file name of the command is empty.
 abbrev pub IsCommand : Command → Type 0
 IsCommand (Stall trace) = trace ≢ []
 IsCommand (Check trace tick_ms) = (trace ≢ []) × IsWithin 1 60000 tick_ms

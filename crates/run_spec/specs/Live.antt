@@ -11,48 +11,51 @@ use Rattle.psi_spec.specs.Trace.{Trace}
 use Rattle.pressure_spec.specs.Ticks.{tick_moment}
 use Rattle.run_spec.specs.Lines.{live_line}
 
--- the watched group's path, and the number of samples of each processor in each interval
+-- What `--live` watches: the path of the group, and the number of samples of each processor in each
+-- interval.
 pub record LiveWatch : Type 0 where
   pub path : List ℕ
   pub count : ℕ
 
--- the slot of the live group with a path at a time (ns), or `None`
+-- The slot of the live group with path `path` at time `at` (ns), or `None`.
 abbrev pub live_slot_at : List Event → List ℕ → ℕ → Option ℕ
 live_slot_at events path at = slot_of (after (up_to events at)).groups path
 
--- The number of changes of processor `cpu` up to tick `i`; `tick` is the length of a tick (ns). It
--- is 0 for i = 0: what happens at time 0 belongs to the first interval.
+-- The number of changes of processor `cpu` up to tick `i`, given the length `tick` (ns) of a tick.
+-- The number is 0 for i = 0: changes at time 0 belong to the first interval.
 abbrev pub changes_until : Trace → ℕ → ℕ → ℕ → ℕ
 changes_until trace tick cpu zero = 0
 changes_until trace tick cpu (suc i) = count_at cpu trace.events (tick_moment tick (suc i))
 
--- Valid change counts for the samples of processor `cpu` in the interval that ends with tick `i`:
--- there are `requested` counts, they never decrease, and they are between the number of changes at
--- the previous tick and the number at this tick.
+-- `counts` are valid change counts for the samples of processor `cpu` in the interval that ends
+-- with tick `i`: there are `requested` counts, they never decrease, and they are between the number
+-- of changes at the previous tick and the number at tick `i`.
 pub record AreCounts (trace : Trace) (tick i cpu requested : ℕ) (counts : List ℕ) : Type 0 where
   pub many : length counts ≡ requested
   pub rise : RiseWithin (changes_until trace tick cpu (i - 1)) counts (changes_until trace tick cpu i)
 
--- the lines of samples of a slot on processor `cpu` at time `at` (ns), one for each change count:
--- each has the slot's times up to the tick, after that number of the processor's changes
+-- The lines of the samples of the group in slot `slot` on processor `cpu` at time `at` (ns), one
+-- for each change count. Each line has the group's times up to the tick, after that number of the
+-- processor's changes.
 abbrev pub sample_lines : Trace → ℕ → ℕ → ℕ → List ℕ → List ℕ
 sample_lines trace slot at cpu counts =
     flat_map (λ count. live_line at cpu count (times_after cpu slot trace.events count at)) counts
 
--- the lines of samples of a slot on all processors at time `at` (ns), in order of processors
+-- The lines of the samples of the group in slot `slot` on all processors at time `at` (ns), in the
+-- order of processors.
 abbrev pub live_lines : Trace → ℕ → ℕ → (ℕ → List ℕ) → List ℕ
 live_lines trace slot at counts = flat_map (λ cpu. sample_lines trace slot at cpu (counts cpu)) (range_with_len 0 trace.cpus)
 
--- The text is the lines of samples of a slot at tick `i`, with any valid change counts; it is empty
--- if there is no slot.
+-- The text is the lines of the samples of the group in an optional slot at tick `i`, for some valid
+-- change counts. The text is empty if the slot is `None`.
 abbrev pub IsLiveOf : Trace → ℕ → ℕ → ℕ → Option ℕ → List ℕ → Type 0
 IsLiveOf trace tick i requested None text = text ≡ []
 IsLiveOf trace tick i requested (Some slot) text =
     (counts : ℕ → List ℕ) × ((cpu : ℕ) → cpu < trace.cpus → AreCounts trace tick i cpu requested (counts cpu))
     × (text ≡ live_lines trace slot (tick_moment tick i) counts)
 
--- The text is the live lines of tick `i`: samples of the slot of the watched path, or nothing if no
--- path is watched or if it isn't live at the tick.
+-- The text is what `--live` prints at tick `i`: the samples of the watched group, or nothing if no
+-- path is watched or if the path isn't live at the tick.
 abbrev pub IsLiveText : Trace → ℕ → Option LiveWatch → ℕ → List ℕ → Type 0
 IsLiveText trace tick None i text = text ≡ []
 IsLiveText trace tick (Some watch) i text =

@@ -20,27 +20,27 @@ read_ahead = 65536
 abbrev pub most_buffered : ℕ
 most_buffered = longest_line + read_ahead
 
--- an upper bound on the bytes read from a file in which line `line` is rejected: the lines before
--- it and the buffered bytes
+-- An upper bound on the bytes read from a file whose line number `line` is rejected: the lines
+-- before that line, and the buffered bytes.
 abbrev pub most_until : ℕ → ℕ
 most_until line = (longest_line + 1) * (line - 1) + most_buffered
 
--- an upper bound on the bytes read from a trace: its maximum number of lines, and the buffered
--- bytes
+-- An upper bound on the bytes read from a trace: the maximum number of lines, and the buffered
+-- bytes.
 abbrev pub most_of_trace : ℕ
 most_of_trace = most_lines * (longest_line + 1) + most_buffered
 
--- an upper bound on the bytes read from an ftrace text: its maximum of 16,000,000 lines, one more
--- line, which is rejected, and the buffered bytes
+-- An upper bound on the bytes read from an ftrace text: the maximum of 16,000,000 lines, one more
+-- line (which is rejected), and the buffered bytes.
 abbrev pub most_of_import : ℕ
 most_of_import = 16000001 * (longest_line + 1) + most_buffered
 
--- an upper bound on the bytes read from a rules file or drop-in file: its size limit and one more
--- byte, which shows that a longer file is too long
+-- An upper bound on the bytes read from a rules file or drop-in file: the size limit, and one more
+-- byte that shows that a longer file is too long.
 abbrev pub most_of_rules : ℕ
 most_of_rules = 1048577
 
--- `most` if a file is named, or 0
+-- The upper bound `most` if a file is named; otherwise 0.
 abbrev pub most_if_named : ℕ → Option (List ℕ) → ℕ
 most_if_named most None = 0
 most_if_named most (Some name) = most

@@ -73,11 +73,11 @@ source_of _ = TraceFile
 abbrev pub source_name : Command → Option (List ℕ)
 source_name command = file_of command (source_of command)
 
--- milliseconds as nanoseconds
+-- Converts milliseconds to nanoseconds.
 abbrev pub of_ms : ℕ → ℕ
 of_ms n = n * 1000000
 
--- the length of a tick (ns); a trace may last at most a million ticks
+-- The length (ns) of a tick of a command. A trace may last at most a million ticks.
 abbrev pub tick_length : Command → ℕ
 tick_length (Check trace tick_ms) = of_ms tick_ms
 tick_length (Replay trace options) = of_ms options.tick_ms
@@ -93,18 +93,18 @@ versions_of (Replay trace options) = versions
 versions_of (Whatif trace options) = versions
 versions_of _ = One ∷ []
 
--- what a command accepts as a trace: the accepted versions, all verbs of each, and times up to a
--- million ticks
+-- The traces that a command accepts: its versions, all verbs of each version, and times up to a
+-- million ticks.
 abbrev pub accepts_of : Command → Accepts
 accepts_of command = accepts_with (versions_of command) (tick_length command)
 
--- the trace, or the status that reports its first rejected line
+-- The trace, or a status that reports the first rejected line of the trace.
 abbrev pub or_refused_trace : Result Trace Refusal → Result Trace Status
 or_refused_trace (Ok trace) = Ok trace
 or_refused_trace (Err refusal) = Err (status.Trace refusal.line refusal.cause)
 
--- the trace of the imported events on `cpus` processors, or the status that reports the first
--- rejected line of the ftrace text
+-- The trace of the imported events on `cpus` processors, or a status that reports the first
+-- rejected line of the ftrace text.
 abbrev pub or_not_imported : ℕ → Result (List Event) Refused → Result Trace Status
 or_not_imported cpus (Ok events) = Ok (import_trace cpus events)
 or_not_imported cpus (Err refusal) = Err (status.Import refusal.line refusal.cause)
@@ -115,30 +115,31 @@ abbrev pub parse_of : Command → List ℕ → Result Trace Status
 parse_of (Import file cpus) bytes = or_not_imported cpus (import_of cpus bytes)
 parse_of command bytes = or_refused_trace (trace_of (accepts_of command) bytes)
 
--- the parsed rules, or the status that reports the first error in the rules file
+-- The parsed rules, or a status that reports the first error in the rules file.
 abbrev pub or_rules_fault : Result types.Rules RulesFault → Result types.Rules Status
 or_rules_fault (Ok rules) = Ok rules
 or_rules_fault (Err fault) = Err (status.Rules fault)
 
--- the rules with a drop-in file applied, or the status that reports the first error in the drop-in
--- file
+-- The rules with a drop-in file applied, or a status that reports the first error in the drop-in
+-- file.
 abbrev pub or_drop_fault : Result types.Rules DropFault → Result types.Rules Status
 or_drop_fault (Ok rules) = Ok rules
 or_drop_fault (Err fault) = Err (status.DropIn fault)
 
--- applies the content of a drop-in file to parsed rules; `None` means that there is no drop-in file
+-- Applies the optional content of a drop-in file to parsed rules. `None` means that there is no
+-- drop-in file.
 abbrev pub with_drop_in : Option (List ℕ) → Result types.Rules Status → Result types.Rules Status
 with_drop_in drop_in (Err why) = Err why
 with_drop_in None (Ok base) = Ok base
 with_drop_in (Some bytes) (Ok base) = or_drop_fault (dropped_in base bytes)
 
--- Parses a command's rules: the content of its rules file, with the content of its drop-in file (if
--- any) applied. An error is the status that reports the first error, and in which of the two files
--- it is.
+-- Parses a command's rules: the content `bytes` of its rules file, with the optional content of its
+-- drop-in file applied. The error is a status that reports the first error and the file that
+-- contains the error.
 abbrev pub rules_from : List ℕ → Option (List ℕ) → Result types.Rules Status
 rules_from bytes drop_in = with_drop_in drop_in (or_rules_fault (rules_of bytes))
 
--- the watched path with `count` samples, or `None` if no path is watched
+-- Watches an optional path with `count` samples per interval. `None` watches no group.
 abbrev pub watch_of_path : ℕ → Option (List ℕ) → Option LiveWatch
 watch_of_path count None = None
 watch_of_path count (Some path) = Some (record { path = path; count = count })
@@ -156,8 +157,8 @@ timing_of options = record {
   watch = watch_of options;
 }
 
--- the options with which `stress` replays: the defaults, except for `workers` and for reports,
--- which come only at the last tick
+-- The options with which `stress` replays: the defaults, except for the number of workers, and for
+-- reports, which are printed only at the last tick.
 abbrev pub stress_options : ℕ → Options
 stress_options workers = record {
   rules = None;
@@ -170,12 +171,12 @@ stress_options workers = record {
   live_count = 1;
 }
 
--- The text is a whole output of a command for a valid trace and valid rulesets. If a group is
+-- `text` is a whole output of a command for a valid trace and valid rulesets. If a group is
 -- watched, `replay` has several whole outputs, because a live sample may be taken after any number
--- of changes between the counts at the previous tick and at this tick. `gen` and `stress` read no
--- file: their trace is the generated trace of their shape. `import` prints its trace, whose number
--- of processors is an option. `rules` has no trace, and prints its rulesets. `whatif` prints the
--- replay of the last trace, without the victims of the kills.
+-- of changes between the counts at the previous tick and at the current tick. `gen` and `stress`
+-- read no file: their trace is the generated trace of their shape. `import` prints its trace, whose
+-- number of processors is an option. `rules` has no trace, and prints its rulesets. `whatif` prints
+-- the replay of the last trace, without the victims of the kills.
 abbrev pub IsOutput : Command → Trace → List Rule → List ℕ → Type 0
 IsOutput (Stall name) trace rules text = text ≡ stall_text trace
 IsOutput (Check name tick_ms) trace rules text = text ≡ check_text trace
@@ -189,8 +190,8 @@ IsOutput (Rules file drop_in) trace rules text = text ≡ rules_text rules ++ co
 IsOutput (Whatif name options) trace rules text =
     (last : Trace) × (last_trace trace (timing_of options) rules ≡ Ok last) × IsReplayText last (timing_of options) rules text
 
--- the status for the result of `last_trace`: Done, or TooLarge if a round left more events than a
--- trace may have
+-- The status for a result of `last_trace`: Done, or TooLarge if a round left more events than a
+-- trace may have.
 abbrev pub status_of_last : Result Trace ℕ → Status
 status_of_last (Ok last) = status.Done
 status_of_last (Err events) = status.TooLarge events

@@ -18,8 +18,8 @@ use Rattle.run_spec.specs.Outputs.{outcome_of, parse_of, rules_from, rules_name,
 use Rattle.run_spec.specs.ReadOrder.{FailedAt}
 use Rattle.run_spec.specs.Run.{HasContent, ReadsFiles, RulesContent, RunCounts}
 
--- If the rules and the command's file are accepted, the run ends as `outcome_of` says, unless a
--- read or a write fails or memory runs out.
+-- If the rules and the command's file are accepted, the run ends with the status `outcome_of`,
+-- unless a read or a write fails or memory runs out.
 abbrev pub Completes : Command → Option Files → RunCounts → RunCounts → Status → Type 0
 Completes command files before now result = (rules : List Rule) (bytes : List ℕ) (trace : Trace)
     → RulesContent command files rules → HasContent command (source_of command) files bytes → parse_of command bytes ≡ Ok trace
@@ -34,7 +34,7 @@ PrintsRules name drop_in files before now result = (rules : List Rule)
     → (Increased before.shelf.faults now.shelf.faults → ⊥) → (Increased before.writes now.writes → ⊥)
     → (result ≡ status.Done) ⊎ (result ≡ status.NoMemory no_memory)
 
--- A command that reads no file ends as Done, unless a write fails or memory runs out.
+-- A command that reads no file ends with the status Done, unless a write fails or memory runs out.
 abbrev pub MakesOutput : Command → RunCounts → RunCounts → Status → Type 0
 MakesOutput command before now result = (ReadsFiles command → ⊥) → (Increased before.writes now.writes → ⊥)
     → (result ≡ status.Done) ⊎ (result ≡ status.NoMemory no_memory)

@@ -13,7 +13,7 @@ use Rattle.run_spec.specs.declared.status.Which.TheVariants.{DropInFile, RulesFi
 use Rattle.run_spec.specs.Outputs.{drop_in_name, file_of, rules_name, source_name}
 use Rattle.run_spec.specs.Run.{IsPassed}
 
--- a list with the name, or the empty list for `None`
+-- An optional name as a list of at most one name.
 abbrev pub listed : Option (List ℕ) → List (List ℕ)
 listed None = []
 listed (Some name) = name ∷ []
@@ -22,7 +22,7 @@ listed (Some name) = name ∷ []
 abbrev pub names_of_rules : Option (List ℕ) → Option (List ℕ) → List (List ℕ)
 names_of_rules named drop_in = listed named ++ listed drop_in
 
--- the names of the files that a command reads before its file of a given kind, in order
+-- The names of the files that a command reads before its file `which`, in the order of reading.
 abbrev pub names_before : Command → Which → List (List ℕ)
 names_before command RulesFile = []
 names_before command DropInFile = listed (rules_name command)
@@ -33,16 +33,16 @@ names_before command _ = names_of_rules (rules_name command) (drop_in_name comma
 abbrev pub names_in_order : Command → List (List ℕ)
 names_in_order command = names_of_rules (rules_name command) (drop_in_name command) ++ listed (source_name command)
 
--- The log grew by a command's reads up to its file `which`, whose last read failed with `fault`. No
--- read of an earlier file failed.
+-- The log of read calls grew by the reads of a command up to its file `which`, whose last read
+-- failed with `fault`. No read of an earlier file failed.
 abbrev pub FailsAt : Command → List ReadCall → List ReadCall → Which → ShelfFault → Type 0
 FailsAt command before now which fault =
     (name : List ℕ) × (middle : List ReadCall) × (file_of command which ≡ Some name)
     × ReadsEach (names_before command which) before middle × ReadsFile name 0 middle now (Some fault)
 
--- The log grew by a command's reads: its files in order, each from its first byte. Nothing is read
--- after a failed read, or after a rejected rules file or drop-in file. If the status is ReadFault,
--- the files before the failed one exist and were accepted.
+-- The log of read calls grew by the reads of a command: it reads its files in order, each from the
+-- first byte. Nothing is read after a failed read, or after a rejected rules file or drop-in file.
+-- If the status is ReadFault, the files before the failed file exist and were accepted.
 abbrev pub ReadsInOrder : Command → Option Files → List ReadCall → List ReadCall → Status → Type 0
 ReadsInOrder command files before now status.ReadFault =
     (which : Which) × FailsAt command before now which shelf.Failed × IsPassed command files which
@@ -51,6 +51,6 @@ ReadsInOrder command files before now (status.Rules fault) = ReadsEach (names_be
 ReadsInOrder command files before now (status.DropIn fault) = ReadsEach (names_before command TraceFile) before now
 ReadsInOrder command files before now _ = ReadsEach (names_in_order command) before now
 
--- the run ended with a failed read of the command's file `which`
+-- The run ended with ReadFault, because a read of the command's file `which` failed.
 abbrev pub FailedAt : Command → List ReadCall → List ReadCall → Which → Status → Type 0
 FailedAt command before now which result = (result ≡ status.ReadFault) × FailsAt command before now which shelf.Failed

@@ -29,8 +29,8 @@ pub record Timing : Type 0 where
   pub interval : ℕ
   pub watch : Option LiveWatch
 
--- The inputs of a replay apart from its trace: the live lines at each tick (by the tick's number),
--- and the rulesets.
+-- The inputs of a replay besides its trace: the live lines at each tick (by the tick's number), and
+-- the rulesets.
 pub record Beside : Type 0 where
   pub live : ℕ → List ℕ
   pub rules : List Rule
@@ -49,18 +49,19 @@ lives_of trace = (after trace.events).groups
 
 -- ---- signals
 
--- the numbers of the triggers that signal at tick `i`
+-- The numbers of the triggers that signal at tick `i`.
 abbrev pub fired_in : Trace → Timing → ℕ → List ℕ
 fired_in trace timing i =
     fired_at trace.cpus (lives_of trace) (triggers_of trace.events) (ticks_of trace.cpus trace.events timing.length (i - 1))
     (tick_of trace.cpus trace.events timing.length i)
 
--- the line of a trigger that signals at time `at` (ns); nothing for `None`
+-- The line of the optional trigger with number `number`, which signals at time `at` (ns). `None`
+-- has no line.
 abbrev pub signal_line : ℕ → List GroupLife → ℕ → Option TriggerSpec → List ℕ
 signal_line at lives number None = []
 signal_line at lives number (Some trigger) = event_line at number (path_at lives trigger.slot.0) trigger
 
--- the lines of the triggers with these numbers, which signal at time `at` (ns)
+-- The lines of the triggers whose numbers are given, which all signal at time `at` (ns).
 abbrev pub signal_lines : ℕ → List GroupLife → List TriggerSpec → List ℕ → List ℕ
 signal_lines at lives triggers numbers = flat_map (λ number. signal_line at lives number (slice_get triggers number)) numbers
 
@@ -90,22 +91,23 @@ kills_until trace timing rules count = sum_by (λ i. length (kills_in trace timi
 
 -- ---- reports
 
--- the reports on the resources of a group at time `at` (ns), given its totals (ns) and averages
+-- The reports on the resources of a group at time `at` (ns), given the group's totals (ns) and
+-- averages.
 abbrev pub resource_files : ℕ → List ℕ → ℕ → List ℕ → List (List ℕ) → List ℕ
 resource_files at path slot totals averages = flat_map (λ res. report_text at path res (slot == 0) totals averages) resources
 
--- the report on the interrupts of a group in version 2; nothing in version 1, which has no
--- interrupts
+-- The report on the interrupts of a group in version 2. Version 1 has no interrupts, so it has no
+-- such report.
 abbrev pub irq_files : Version → ℕ → List ℕ → List ℕ → List (List ℕ) → List ℕ
 irq_files One at path totals averages = []
 irq_files Two at path totals averages = irq_report at path (slice_index_or averages irq_quantity []) (slice_index totals irq_quantity)
 
--- all reports of a group: on the resources, and in version 2 also on interrupts
+-- All reports on a group: on the resources, and in version 2 also on interrupts.
 abbrev pub files_text : Version → ℕ → List ℕ → ℕ → List ℕ → List (List ℕ) → List ℕ
 files_text version at path slot totals averages =
     resource_files at path slot totals averages ++ irq_files version at path totals averages
 
--- all reports at tick `i` on a group, which is given as its path and its slot
+-- All reports at tick `i` on a group, which is given by its path and its slot.
 abbrev pub group_report : Trace → Timing → ℕ → List ℕ × ℕ → List ℕ
 group_report trace timing i group =
     files_text trace.version (tick_moment timing.length i) group.0 group.1
@@ -122,7 +124,7 @@ reports trace timing i = flat_map (group_report trace timing i) (live_groups_at 
 
 -- ---- the whole output
 
--- the output of tick `i`: live lines, signals, kills, and the reports if a report is due
+-- The output of tick `i`: live lines, signals, kills, and the reports if a report is due.
 unfoldable pub tick_text : Trace → Timing → Beside → ℕ → List ℕ
 tick_text trace timing beside i =
     beside.live i
@@ -144,8 +146,8 @@ last_line trace timing beside =
 unfoldable pub replay_text : Trace → Timing → Beside → List ℕ
 replay_text trace timing beside = ticks_text trace timing beside (tick_count trace timing) ++ last_line trace timing beside
 
--- The text is a whole output of `replay`: there are live lines, valid at each tick, with which it
--- is the output.
+-- `text` is a whole output of `replay`: the output with some live lines that are valid at each
+-- tick.
 abbrev pub IsReplayText : Trace → Timing → List Rule → List ℕ → Type 0
 IsReplayText trace timing rules text =
     (live : ℕ → List ℕ) × ((i : ℕ) → 1 ≤ i → i ≤ tick_count trace timing → IsLiveText trace timing.length timing.watch i (live i))
@@ -157,8 +159,8 @@ IsReplayText trace timing rules text =
 abbrev pub root_group : List ℕ × ℕ
 root_group = (codes "/", 0)
 
--- the output of `stress`: the reports of the root at the last tick (if there is a tick), and the
--- last line
+-- The output of `stress`: the reports on the root at the last tick (or nothing if there is no
+-- tick), and the last line.
 abbrev pub stress_text : Trace → Timing → List ℕ
 stress_text trace timing =
     (if tick_count trace timing == 0 then [] else group_report trace timing (tick_count trace timing) root_group)

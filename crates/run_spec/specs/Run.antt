@@ -19,7 +19,7 @@ use Rattle.run_spec.specs.Outputs.{IsOutput, accepts_of, drop_in_name, file_of, 
 
 -- ---- failure counts
 
--- the numbers of failed reads, of missing files, and of failed writes
+-- The failure counts of a run: the numbers of failed reads, of missing files, and of failed writes.
 pub record RunCounts : Type 0 where
   pub shelf : ShelfCounts
   pub writes : ℕ
@@ -28,7 +28,7 @@ pub record RunCounts : Type 0 where
 abbrev pub run_counts : ℕ → ℕ → ℕ → RunCounts
 run_counts faults absent writes = record { shelf = counts_of faults absent; writes = writes }
 
--- a count increased if `Happened` holds, and is unchanged if it doesn't
+-- A count increased from `before` to `now` if `Happened` holds, and is unchanged otherwise.
 pub record RisesWhere (Happened : Type 0) (before now : ℕ) : Type 0 where
   pub increased : Happened → Increased before now
   pub same : ¬ Happened → now ≡ before
@@ -37,8 +37,8 @@ pub record RisesWhere (Happened : Type 0) (before now : ℕ) : Type 0 where
 abbrev pub IsNoFile : Status → Type 0
 IsNoFile result = (which : Which) × (result ≡ status.NoFile which)
 
--- Each failure count increased exactly if the status reports its failure, so no failure is silently
--- ignored.
+-- Each failure count increased if and only if the status reports a failure of this kind. So no
+-- failure is silently ignored.
 pub record FailuresAreCounted (before now : RunCounts) (result : Status) : Type 0 where
   pub faults : RisesWhere (result ≡ status.ReadFault) before.shelf.faults now.shelf.faults
   pub absent : RisesWhere (IsNoFile result) before.shelf.absent now.shelf.absent
@@ -50,8 +50,8 @@ pub record FailuresAreCounted (before now : RunCounts) (result : Status) : Type 
 abbrev pub HasContent : Command → Which → Option Files → List ℕ → Type 0
 HasContent command which files bytes = (name : List ℕ) × (file_of command which ≡ Some name) × (content_of files name ≡ Some bytes)
 
--- the content of an optional file, if known: `Some None` if no file is named, and `None` if the
--- content of the named file is unknown
+-- The content of an optional file, if known: `Some None` if no file is named, and `None` if the
+-- content of the named file is unknown.
 abbrev pub content_if_named : Option Files → Option (List ℕ) → Option (Option (List ℕ))
 content_if_named files None = Some None
 content_if_named files (Some name) = option_map (λ bytes. Some bytes) (content_of files name)
@@ -61,14 +61,15 @@ content_if_named files (Some name) = option_map (λ bytes. Some bytes) (content_
 abbrev pub DropInContent : Command → Option Files → Option (List ℕ) → Type 0
 DropInContent command files drop_in = content_if_named files (drop_in_name command) ≡ Some drop_in
 
--- a command has a trace, which it reads, imports or generates: every command except `rules`
+-- The command has a trace, which it reads, imports or generates. Every command except `rules` has a
+-- trace.
 abbrev pub HasTrace : Command → Type 0
 HasTrace (words.Rules file drop_in) = ⊥
 HasTrace _ = ⊤
 
 -- `trace` is a valid trace for the command: its version and the verbs of its events are accepted,
--- and its events are legal. If the content of the command's file is known, `trace` is parsed from
--- it.
+-- and its events are legal. If the content of the command's file is known, `trace` is the result of
+-- parsing this content.
 pub record TakesTrace (command : Command) (files : Option Files) (trace : Trace) : Type 0 where
   pub version : IsAmong trace.version (accepts_of command).versions
   pub cpus : IsCpuCount trace.cpus
@@ -76,17 +77,17 @@ pub record TakesTrace (command : Command) (files : Option Files) (trace : Trace)
   pub accepted : IsAccepted (limits_of (accepts_of command).tick trace.cpus) trace.events
   pub read : (bytes : List ℕ) → HasContent command (source_of command) files bytes → parse_of command bytes ≡ Ok trace
 
--- `rules` are valid rulesets for the command: each is in its ranges. If the contents of the rules
--- file and of the drop-in file are known, `rules` are parsed from them. A command without a rules
--- file has no rulesets.
+-- `rules` are valid rulesets for the command: all their values are in range. If the contents of the
+-- rules file and of the drop-in file are known, `rules` are the result of parsing them. A command
+-- without a rules file has no rulesets.
 pub record TakesRules (command : Command) (files : Option Files) (rules : List Rule) : Type 0 where
   pub fit : FitsRules rules
   pub none : rules_name command ≡ None → rules ≡ []
   pub read : (bytes : List ℕ) (drop_in : Option (List ℕ)) → HasContent command RulesFile files bytes → DropInContent command files drop_in
       → rules_from bytes drop_in ≡ Ok (record { rules = rules })
 
--- if the content of the command's rules file is known, it is parsed as `base`, before a drop-in
--- file is applied
+-- If the content of the command's rules file is known, parsing it gives `base`. No drop-in file is
+-- applied to `base`.
 abbrev pub TakesBase : Command → Option Files → Rules → Type 0
 TakesBase command files base = (bytes : List ℕ) → HasContent command RulesFile files bytes → rules_of bytes ≡ Ok base
 
@@ -99,7 +100,7 @@ RulesContent command files rules = MatchOption (rules_name command) (rules ≡ [
 
 -- ---- statuses
 
--- the command's file `which`, if it has one, isn't known to be missing
+-- The command has no file `which`, or the file isn't known to be missing.
 abbrev pub IsThere : Command → Option Files → Which → Type 0
 IsThere command files which = (name : List ℕ) → file_of command which ≡ Some name → IsAbsent files name → ⊥
 
@@ -107,17 +108,17 @@ IsThere command files which = (name : List ℕ) → file_of command which ≡ So
 abbrev pub RulesAreThere : Command → Option Files → Type 0
 RulesAreThere command files = IsThere command files RulesFile × IsThere command files DropInFile
 
--- A whole output of the command, for a valid trace and valid rulesets, satisfies the property
--- `IsSo`, and none of the command's files is missing. The output of a command without a trace
--- doesn't depend on a trace.
+-- Some whole output of the command, for a valid trace and valid rulesets, satisfies the property
+-- `IsSo`, and none of the command's files is known to be missing. The output of a command without a
+-- trace doesn't depend on a trace.
 abbrev pub HasOutput : Command → Option Files → (List ℕ → Type 0) → Type 0
 HasOutput command files IsSo =
     (trace : Trace) × (rules : List Rule) × (HasTrace command → TakesTrace command files trace) × TakesRules command files rules
     × RulesAreThere command files × IsThere command files (source_of command)
     × ((text : List ℕ) × IsOutput command trace rules text × IsSo text)
 
--- If nothing fails, the command ends with `result` for a valid trace and valid rulesets. None of
--- its files is missing.
+-- The command ends with the status `result` for some valid trace and valid rulesets if nothing
+-- fails. None of its files is known to be missing.
 pub record ComesTo (command : Command) (files : Option Files) (result : Status) : Type 0 where
   pub trace : Trace
   pub rules : List Rule
@@ -127,9 +128,9 @@ pub record ComesTo (command : Command) (files : Option Files) (result : Status) 
   pub there : IsThere command files (source_of command)
   pub outcome : outcome_of command trace rules ≡ result
 
--- All that a command reads before its file of a given kind was accepted. That is nothing for the
--- rules file, the rules file for the drop-in file, and the rules with the drop-in file applied for
--- any other file. None of the earlier files is missing.
+-- All files that a command reads before its file of a given kind were accepted: no file before the
+-- rules file, the rules file before the drop-in file, and the rules file with the drop-in file
+-- applied before any other file. None of the earlier files is known to be missing.
 abbrev pub IsPassed : Command → Option Files → Which → Type 0
 IsPassed command files RulesFile = ⊤
 IsPassed command files DropInFile =
@@ -141,7 +142,7 @@ abbrev pub ReadsFiles : Command → Type 0
 ReadsFiles command = (which : Which) × IsSome (file_of command which)
 
 -- Nothing was written, and `result` reports the first rejected line of the command's file `which`.
--- Everything that precedes this file was accepted.
+-- All earlier files were accepted.
 abbrev pub Refuses : Command → Option Files → Option (List ℕ) → Option (List ℕ) → Which → Status → Type 0
 Refuses command files old new which result =
     Keeps old new × IsSome (file_of command which) × IsPassed command files which × IsThere command files which
@@ -172,7 +173,7 @@ Ends command files old new status.ReadFault = Keeps old new × ReadsFiles comman
 Ends command files old new (status.NoMemory _) = Keeps old new
 Ends command files old new status.Usage = ⊥
 
--- The contract of a run of a command: what its status implies, and the failure counts.
+-- The contract of a run of a command: the implications of its status, and the failure counts.
 pub record Runs (command : Command) (files : Option Files) (before now : RunCounts) (old new : Option (List ℕ))
     (result : Status) : Type 0 where
   pub ends : Ends command files old new result

@@ -11,7 +11,7 @@ use Rattle.dropin_rules.specs.FaultText.{drop_fault_text}
 use Rattle.run_spec.specs.Outputs.{file_of}
 use Rattle.run_spec.specs.Text.{cause_text, import_cause_text}
 
--- the exit status
+-- The exit status of the program for a status of a run.
 abbrev pub code_of : Status → ℕ
 code_of status.Done = 0
 code_of status.Usage = 1
@@ -25,7 +25,7 @@ code_of (status.Import line why) = 8
 code_of (status.DropIn fault) = 9
 code_of (status.TooLarge events) = 10
 
--- the name, or no bytes for `None`
+-- An optional name as bytes: no bytes for `None`.
 abbrev pub name_or_none : Option (List ℕ) → List ℕ
 name_or_none None = []
 name_or_none (Some name) = name

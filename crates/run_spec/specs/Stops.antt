@@ -1,4 +1,5 @@
--- Where a command stops reading: at the first rejected line of its trace or of its ftrace text.
+-- The position at which a command stops reading: the first rejected line of its trace or of its
+-- ftrace text.
 use Rattle.std.specs.Prelude.{◌≡◌, ℕ, ◌+◌, ◌-◌, ◌≤◌, List, length, take, Option, None, Some, Err, ⊤}
 use Rattle.outside.specs.Outside.{Files, content_of}
 use Rattle.psi_base.specs.Path.{parts_at}
@@ -9,13 +10,13 @@ use Rattle.run_spec.specs.Outputs.{drop_in_name, rules_name, source_of, parse_of
 use Rattle.run_spec.specs.Run.{HasContent}
 use Rattle.run_spec.specs.MostRead.{most_of_rules, most_until}
 
--- the number of bytes, or `number` if the bytes are unknown
+-- The number of bytes, or `number` if the bytes are unknown.
 abbrev pub length_or : ℕ → Option (List ℕ) → ℕ
 length_or number None = number
 length_or number (Some bytes) = length bytes
 
--- an upper bound on the bytes read from an optional rules file or drop-in file: its length if its
--- content is known
+-- An upper bound on the bytes read from an optional rules file or drop-in file: the length of its
+-- content if the content is known.
 abbrev pub read_of_rules : Option Files → Option (List ℕ) → ℕ
 read_of_rules files None = 0
 read_of_rules files (Some name) = length_or most_of_rules (content_of files name)
@@ -31,8 +32,8 @@ refused_line (status.Trace line why) = line
 refused_line (status.Import line why) = line
 refused_line _ = 0
 
--- line `line` (numbered from 1) is incomplete in the first `count` bytes: its newline isn't among
--- them
+-- Line number `line` (from 1) is incomplete in the first `count` bytes: the newline of the line
+-- isn't among them.
 abbrev pub IsNotWhole : ℕ → ℕ → List ℕ → Type 0
 IsNotWhole line count bytes = length (parts_at 10 (take count bytes)) ≤ line
 

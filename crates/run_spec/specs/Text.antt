@@ -19,12 +19,13 @@ use Rattle.run_spec.specs.Lines.{check_line, stall_line}
 abbrev pub end_of : List Event → ℕ
 end_of events = (after events).last
 
--- the stall times (ns) of a group on processor `cpu` up to the end, in the order of the states
+-- The stall times (ns) of the group in slot `slot` on processor `cpu` up to the end of the trace,
+-- in the order of the states.
 abbrev pub stall_times : ℕ → ℕ → List Event → List ℕ
 stall_times cpu slot events = map (λ state. stall state cpu slot events (end_of events)) states
 
--- the times (ns) that `stall` prints for a group on processor `cpu`: the stall times, followed by
--- the interrupt time in version 2
+-- The times (ns) that `stall` prints for the group in slot `slot` on processor `cpu`: the stall
+-- times, followed by the interrupt time in version 2.
 abbrev pub stall_times_of : Version → ℕ → ℕ → List Event → List ℕ
 stall_times_of One cpu slot events = stall_times cpu slot events
 stall_times_of Two cpu slot events = stall_times cpu slot events ++ irq_time cpu slot events ∷ []
@@ -85,12 +86,12 @@ abbrev pub field_number : Cause → Option ℕ
 field_number (cause.BadField field) = Some field
 field_number _ = None
 
--- a space and the number, or nothing
+-- The text of an optional field number: a space and the number, or nothing.
 abbrev pub field_text : Option ℕ → List ℕ
 field_text None = []
 field_text (Some field) = codes " " ++ decimal field
 
--- a cause as it is printed: its name, and the number of the bad field, if any
+-- The printed text of a cause: its name, and the number of the bad field, if any.
 abbrev pub cause_text : Cause → List ℕ
 cause_text why = cause_name why ++ field_text (field_number why)
 

@@ -21,22 +21,24 @@ kills_by trace timing rules count = flat_map (kills_in trace timing rules) (rang
 abbrev pub all_kills : Trace → Timing → List Rule → List Kill
 all_kills trace timing rules = kills_by trace timing rules (tick_count trace timing)
 
--- the trace without the tasks of the victim of `kill` from the time of the kill; the unchanged
--- trace if there is no kill
+-- The trace without the tasks of the victim of an optional kill, from the time of the kill. `None`
+-- leaves the trace unchanged.
 abbrev pub without_kill : Trace → Option Kill → Trace
 without_kill trace None = trace
 without_kill trace (Some kill) = trace_without trace kill.at kill.victim.0
 
--- the trace, or `Err` with the number of its events if that is more than a trace may have
+-- The trace itself, or `Err` with the number of its events if that number is more than a trace may
+-- have.
 abbrev pub bounded_trace : Trace → Result Trace ℕ
 bounded_trace trace = if nat_lt most_events (length trace.events) then Err (length trace.events) else Ok trace
 
--- The result of one round: the trace without the victim of its kill `number` (from 0), or the
--- unchanged trace if it has no such kill. `Err` with the number of events if too many remain.
+-- The result of one round: the trace without the victim of its kill number `number` (from 0), or
+-- the unchanged trace if it has no such kill. The result is `Err` with the number of events if too
+-- many events remain.
 abbrev pub round : Timing → List Rule → ℕ → Trace → Result Trace ℕ
 round timing rules number trace = bounded_trace (without_kill trace (slice_get (all_kills trace timing rules) number))
 
--- the result of one more round after earlier rounds; an `Err` of an earlier round is passed on
+-- The result of round `number` after earlier rounds. An `Err` of an earlier round is passed on.
 abbrev pub then_round : Timing → List Rule → ℕ → Result Trace ℕ → Result Trace ℕ
 then_round timing rules number (Err events) = Err events
 then_round timing rules number (Ok trace) = round timing rules number trace

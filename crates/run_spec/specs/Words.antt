@@ -18,7 +18,7 @@ use Rattle.run_spec.specs.declared.command.Shape.{Shape}
 
 -- the kind of one word of the command line
 pub data Word : Type 0 where
-  -- `--name=value`: an option's name and its value
+  -- `--name=value`: the name and the value of an option
   assigned : List ℕ → List ℕ → Word
   -- `--name`: an option whose value is the next word
   opened : List ℕ → Word
@@ -76,13 +76,14 @@ abbrev pub option_value : List ℕ → ParsedWords → Option (List ℕ)
 option_value name parsed =
     option_map (λ option. option.1) (find (λ option. bytes_eq option.0 name) parsed.options)
 
--- adds an option to the other parsed words; `None` if they contain the option already
+-- Adds an option to the parsed words; `None` if they contain an option with this name already.
 abbrev pub with_option : List ℕ → List ℕ → ParsedWords → Option ParsedWords
 with_option name value parsed =
     if is_some (option_value name parsed) then None
     else Some (record parsed { options = (name, value) ∷ parsed.options })
 
--- adds the positional argument to the other parsed words; `None` if they contain one already
+-- Adds the positional argument to the parsed words; `None` if they contain a positional argument
+-- already.
 abbrev pub with_positional : List ℕ → ParsedWords → Option ParsedWords
 with_positional word parsed =
     if is_some parsed.positional then None else Some (record parsed { positional = Some word })
@@ -94,8 +95,8 @@ pub data WordState : Type 0 where
   at_value : List ℕ → WordState
   suffix : WordState
 
--- parses a word of this kind and the words after it; `rest` parses the words after it from a parser
--- state
+-- Parses a word of this kind and all later words, given `rest`, which parses the later words from a
+-- parser state.
 abbrev pub by_word : Word → List ℕ → (WordState → Option ParsedWords) → Option ParsedWords
 by_word (assigned name value) word rest = rest at_word >>= with_option name value
 by_word (opened name) word rest = rest (at_value name)
@@ -103,7 +104,8 @@ by_word end word rest = rest suffix
 by_word plain word rest = rest at_word >>= with_positional word
 by_word unknown word rest = None
 
--- parses words from a parser state, given the known option names; `None` if they are malformed
+-- Parses words from a parser state, given the names of the known options; `None` if the words are
+-- malformed.
 abbrev pub parsed_from : List (List ℕ) → WordState → List (List ℕ) → Option ParsedWords
 parsed_from names at_word [] = Some nothing
 parsed_from names (at_value name) [] = None
@@ -122,70 +124,71 @@ number_within least most text = do
   number ← number_of text
   if nat_le least number && nat_le number most then Some number else None
 
--- parses the number of an optional option, which is `default` if the option is absent
+-- Parses the number of an optional option. The number is `default` if the option is absent.
 abbrev pub number_or : ℕ → ℕ → ℕ → Option (List ℕ) → Option ℕ
 number_or default least most None = Some default
 number_or default least most (Some text) = number_within least most text
 
--- parses the number of a required option; `None` if the option is absent
+-- Parses the number of a required option. The result is `None` if the option is absent.
 abbrev pub needed : ℕ → ℕ → Option (List ℕ) → Option ℕ
 needed least most None = None
 needed least most (Some text) = number_within least most text
 
--- the file name isn't empty
+-- Whether a file name isn't empty.
 abbrev pub is_name : List ℕ → Bool
 is_name name = nat_lt 0 (length name)
 
--- the positional argument as a file name; `-` means standard input. `None` if it is absent or
--- empty.
+-- Parses the positional argument as a file name, of which `-` means standard input. The result is
+-- `None` if the argument is absent or empty.
 abbrev pub trace_option : ParsedWords → Option (List ℕ)
 trace_option parsed = do
   name ← parsed.positional
   if is_name name then Some name else None
 
--- The name of a rules file or drop-in file: `Some None` if the option is absent, and `None` if the
--- name is empty or `-` (standard input).
+-- Parses the name of a rules file or drop-in file: `Some None` if the option is absent, and `None`
+-- if the name is empty or `-` (standard input).
 abbrev pub rules_option : Option (List ℕ) → Option (Option (List ℕ))
 rules_option None = Some None
 rules_option (Some name) =
     if is_name name && not (bytes_eq name (codes "-")) then Some (Some name) else None
 
--- The name of the drop-in file: `Some None` if the option is absent, and `None` if the name is
--- invalid or if no rules file is named.
+-- Parses the name of the drop-in file: `Some None` if the option is absent, and `None` if the name
+-- is invalid or no rules file is named.
 abbrev pub drop_in_option : Option (List ℕ) → Option (List ℕ) → Option (Option (List ℕ))
 drop_in_option rules None = Some None
 drop_in_option None (Some name) = None
 drop_in_option (Some rules) (Some name) = rules_option (Some name)
 
--- a group's path: `Some None` if the option is absent, and `None` if the path is malformed
+-- Parses the path of the watched group: `Some None` if the option is absent, and `None` if the path
+-- is malformed.
 abbrev pub live_option : Option (List ℕ) → Option (Option (List ℕ))
 live_option None = Some None
 live_option (Some path) = if is_path path then Some (Some path) else None
 
 -- ---- one function per command
 
--- the length of a tick in ms: 1 to 60,000, by default 2,000
+-- Parses the length of a tick in ms: 1 to 60,000, by default 2,000.
 abbrev pub tick_option : ParsedWords → Option ℕ
 tick_option parsed = number_or 2000 1 60000 (option_value (codes "tick-ms") parsed)
 
--- the maximum number of threads: 1 to 64, by default 64
+-- Parses the maximum number of threads: 1 to 64, by default 64.
 abbrev pub workers_option : ParsedWords → Option ℕ
 workers_option parsed = number_or 64 1 64 (option_value (codes "workers") parsed)
 
--- `stall` requires a trace
+-- Builds a `stall` command, which requires a trace.
 unfoldable pub stall_of : ParsedWords → Option Command
 stall_of parsed = do
   trace ← trace_option parsed
   Some (Stall trace)
 
--- `check` requires a trace, and accepts the length of a tick
+-- Builds a `check` command, which requires a trace and accepts the length of a tick.
 unfoldable pub check_of : ParsedWords → Option Command
 check_of parsed = do
   trace ← trace_option parsed
   tick_ms ← tick_option parsed
   Some (Check trace tick_ms)
 
--- the options of `replay` and `whatif`, with their defaults
+-- Parses the options of `replay` and `whatif`, and fills in the defaults.
 unfoldable pub options_of : ParsedWords → Option Options
 options_of parsed = do
   rules ← rules_option (option_value (codes "rules") parsed)
@@ -207,15 +210,15 @@ options_of parsed = do
     live_count = live_count;
   })
 
--- `replay` requires a trace, and accepts options
+-- Builds a `replay` command, which requires a trace and accepts options.
 unfoldable pub replay_of : ParsedWords → Option Command
 replay_of parsed = do
   trace ← trace_option parsed
   options ← options_of parsed
   Some (Replay trace options)
 
--- The shape of a generated trace. `None` unless there is no positional argument and all four
--- options are given, each in range.
+-- Parses the shape of a generated trace. The result is `None` unless there is no positional
+-- argument and all four options are given, each in range.
 unfoldable pub shape_of : ParsedWords → Option Shape
 shape_of parsed = do
   options ← if is_some parsed.positional then None else Some parsed
@@ -225,52 +228,52 @@ shape_of parsed = do
   events ← needed 0 3900000 (option_value (codes "events") options)
   Some (record { seed = seed; cpus = cpus; groups = groups; events = events })
 
--- `gen` requires a shape
+-- Builds a `gen` command, which requires a shape.
 unfoldable pub gen_of : ParsedWords → Option Command
 gen_of parsed = do
   shape ← shape_of parsed
   Some (Gen shape)
 
--- `stress` requires a shape, and accepts the maximum number of threads
+-- Builds a `stress` command, which requires a shape and accepts the maximum number of threads.
 unfoldable pub stress_of : ParsedWords → Option Command
 stress_of parsed = do
   shape ← shape_of parsed
   workers ← workers_option parsed
   Some (Stress shape workers)
 
--- `import` requires a file and the number of processors of the machine
+-- Builds an `import` command, which requires a file and the number of processors of the machine.
 unfoldable pub import_command_of : ParsedWords → Option Command
 import_command_of parsed = do
   file ← trace_option parsed
   cpus ← needed 1 64 (option_value (codes "cpus") parsed)
   Some (Import file cpus)
 
--- `rules` requires a rules file, and accepts a drop-in file
+-- Builds a `rules` command, which requires a rules file and accepts a drop-in file.
 unfoldable pub rules_command_of : ParsedWords → Option Command
 rules_command_of parsed = do
   file ← trace_option parsed
   drop_in ← rules_option (option_value (codes "drop-in") parsed)
   Some (Rules file drop_in)
 
--- `whatif` requires a trace and a rules file, and rejects a watched group
+-- Builds a `whatif` command, which requires a trace and a rules file, and rejects a watched group.
 unfoldable pub whatif_of : ParsedWords → Option Command
 whatif_of parsed = do
   trace ← trace_option parsed
   options ← options_of parsed
   if is_some options.rules && not (is_some options.live) then Some (Whatif trace options) else None
 
--- The syntax of a command: its own word, the names of its options, and the function that builds the
--- command from the words after its own.
+-- The syntax of a command: the word that names it, the names of its options, and the function that
+-- builds the command from the parsed words after its name.
 pub record CommandForm : Type 0 where
   pub word : List ℕ
   pub options : List (List ℕ)
   pub command : ParsedWords → Option Command
 
--- `stall TRACE`
+-- The syntax `stall TRACE`.
 abbrev pub stall_form : CommandForm
 stall_form = record { word = codes "stall"; options = []; command = stall_of }
 
--- `check TRACE [--tick-ms=N]`
+-- The syntax `check TRACE [--tick-ms=N]`.
 abbrev pub check_form : CommandForm
 check_form = record { word = codes "check"; options = codes "tick-ms" ∷ []; command = check_of }
 
@@ -280,7 +283,7 @@ replay_names =
     codes "rules" ∷ codes "drop-in" ∷ codes "tick-ms" ∷ codes "interval-s" ∷ codes "report-s"
     ∷ codes "workers" ∷ codes "live" ∷ codes "live-count" ∷ []
 
--- `replay TRACE` with options
+-- The syntax of `replay TRACE` with options.
 abbrev pub replay_form : CommandForm
 replay_form = record { word = codes "replay"; options = replay_names; command = replay_of }
 
@@ -288,7 +291,7 @@ replay_form = record { word = codes "replay"; options = replay_names; command = 
 abbrev pub shape_names : List (List ℕ)
 shape_names = codes "seed" ∷ codes "cpus" ∷ codes "groups" ∷ codes "events" ∷ []
 
--- `gen` with the four options of a shape
+-- The syntax of `gen` with the four options of a shape.
 abbrev pub gen_form : CommandForm
 gen_form = record { word = codes "gen"; options = shape_names; command = gen_of }
 
@@ -296,15 +299,15 @@ gen_form = record { word = codes "gen"; options = shape_names; command = gen_of 
 abbrev pub stress_names : List (List ℕ)
 stress_names = codes "workers" ∷ shape_names
 
--- `stress` with the four options of a shape and `--workers`
+-- The syntax of `stress` with the four options of a shape and `--workers`.
 abbrev pub stress_form : CommandForm
 stress_form = record { word = codes "stress"; options = stress_names; command = stress_of }
 
--- `import FILE --cpus=N`
+-- The syntax `import FILE --cpus=N`.
 abbrev pub import_form : CommandForm
 import_form = record { word = codes "import"; options = codes "cpus" ∷ []; command = import_command_of }
 
--- `rules FILE [--drop-in=FILE]`
+-- The syntax `rules FILE [--drop-in=FILE]`.
 abbrev pub rules_form : CommandForm
 rules_form = record { word = codes "rules"; options = codes "drop-in" ∷ []; command = rules_command_of }
 
@@ -313,7 +316,7 @@ abbrev pub whatif_names : List (List ℕ)
 whatif_names =
     codes "rules" ∷ codes "drop-in" ∷ codes "tick-ms" ∷ codes "interval-s" ∷ codes "report-s" ∷ codes "workers" ∷ []
 
--- `whatif TRACE` with options
+-- The syntax of `whatif TRACE` with options.
 abbrev pub whatif_form : CommandForm
 whatif_form = record { word = codes "whatif"; options = whatif_names; command = whatif_of }
 
@@ -322,14 +325,14 @@ abbrev pub forms : List CommandForm
 forms =
     stall_form ∷ check_form ∷ replay_form ∷ gen_form ∷ stress_form ∷ import_form ∷ rules_form ∷ whatif_form ∷ []
 
--- the command of this syntax that the words after its own spell, or `None`
+-- The command of the syntax `form` that the words after the command's name spell, or `None`.
 abbrev pub spelled : CommandForm → List (List ℕ) → Option Command
 spelled form words = do
   parsed ← parsed_from form.options at_word words
   form.command parsed
 
--- Parses a command line, without the program's name; `None` if it isn't a command. The first word
--- names the command.
+-- Parses a command line without the program's name. The first word names the command. The result is
+-- `None` if the words form no command.
 unfoldable pub command_of : List (List ℕ) → Option Command
 command_of [] = None
 command_of (first ∷ words) = do

@@ -1,5 +1,5 @@
-//! Commands: the types of what a command line requests, and laws about their spelling. Parsing is
-//! done elsewhere.
+//! Commands: the types for what a command line requests, and laws about their spelling. The crate
+//! commands parses command lines.
 ghost use Rattle.run_spec.specs.Laws.{OrderIsFree, SpelledInRange, ValueMayFollow};
 
 use psi_base::{Path, Text};
@@ -72,12 +72,12 @@ pub struct Options {
     pub drop_in: Option<Text>,
     /// The length of a tick in ms: 1 to 60,000, by default 2,000.
     pub tick_ms: u32,
-    /// The interval of evaluations in seconds: an evaluation is due at the first tick at or after
-    /// each multiple. 1 to 3,600, by default 5.
+    /// The interval (s) of evaluations: an evaluation is due at the first tick at or after each
+    /// multiple of the interval. 1 to 3,600, by default 5.
     pub interval_s: u32,
-    /// The period of reports in seconds: a report is due at the first tick at or after each
-    /// multiple. 0 to 3,600, by default 10. The last tick always has a report; with 0 it is the
-    /// only one.
+    /// The period (s) of reports: a report is due at the first tick at or after each multiple of
+    /// the period. 0 to 3,600, by default 10. The last tick always has a report; with 0 no other
+    /// tick has a report.
     pub report_s: u32,
     /// The largest number of threads: 1 to 64, by default 64.
     pub workers: u32,
@@ -101,7 +101,7 @@ pub struct Shape {
 }
 
 /// Every command that `command_of` parses is in range: each number is within its bounds, and no
-/// name is empty.
+/// file name is empty.
 pub fn law_ranges()
     ensures { SpelledInRange }
 {}

@@ -2,8 +2,8 @@
 //! function has an empty body: its contract is the law.
 ghost use Rattle.run_spec.specs.Laws.{LastOutgrown, LastWithoutKill, OutgrownAtRound};
 
-/// Laws about the last trace. If a round finds no kill with its number, the trace at that point is
-/// the last trace. There is no last trace exactly if some round leaves too many events.
+/// Laws about the last trace of `whatif`. A round that finds no kill with its number leaves the
+/// last trace. There is no last trace if and only if some round leaves too many events.
 pub fn law_last_trace()
     ensures left { LastWithoutKill }
     ensures outgrown { LastOutgrown }

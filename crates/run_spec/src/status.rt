@@ -1,4 +1,4 @@
-//! The status that a run returns, its exit status, and laws about missing files and reads.
+//! The status with which a run ends, its exit status, and laws about missing files and read calls.
 ghost use Rattle.std.specs.Prelude.{◌≡◌};
 ghost use Rattle.run_spec.specs.Laws.{CommandCallsAreFew, FileCallsAreFew, MissingDropInComesFirst, MissingDropInShows, MissingRulesComeFirst, MissingRulesShow, MissingSourceShows};
 ghost use Rattle.run_spec.specs.Status.{code_of};
@@ -49,7 +49,7 @@ pub enum Status {
 }
 
 impl Status {
-    /// The exit status of the program.
+    /// Returns the exit status of the program for this status.
     pub fn code(self) -> u8
         ensures { result ≡ code_of self }
     {
@@ -69,10 +69,10 @@ impl Status {
     }
 }
 
-/// If one of a command's files is known to be missing, the run reports that, or fails in another
-/// way. If the missing file is the trace or the ftrace text, the run may instead report an error in
-/// the rules file or in the drop-in file, which are read first; if it is the drop-in file, an error
-/// in the rules file. No file after the missing one was read.
+/// If a file of a command is known to be missing, the run reports the missing file or fails in
+/// another way. If the trace or the ftrace text is missing, the run may instead report an error in
+/// the rules file or in the drop-in file, which are read first. If the drop-in file is missing, the
+/// run may report an error in the rules file. No file after the missing file was read.
 pub fn law_missing_files()
     ensures rules { MissingRulesShow }
     ensures drop_in { MissingDropInShows }
@@ -81,8 +81,8 @@ pub fn law_missing_files()
     ensures drop_in_first { MissingDropInComesFirst }
 {}
 
-/// The number of read calls for a file is at most the number of bytes returned plus one, and the
-/// number of read calls of a command is at most the number of bytes returned plus one for each
+/// The number of read calls for a file is at most the number of bytes that they returned, plus one.
+/// The number of read calls of a command is at most the number of bytes returned, plus one for each
 /// file.
 pub fn law_reads()
     ensures file { FileCallsAreFew }
