@@ -1,5 +1,5 @@
 -- The trace events of one ftrace line, given the world (the tasks and groups) after the events of
--- the lines before it.
+-- the earlier lines.
 use Rattle.std.specs.Prelude.{ℕ, ◌+◌, ◌-◌, ◌*◌, max, List, [], ◌∷◌, ◌++◌, length, nat_lt, nat_le, ◌==◌, ◌&&◌, not, Bool, false, if◌then◌else◌, codes, Option, None, Some, is_some, unwrap_or, Result, Ok, Err}
 use Rattle.std.specs.List.{list_any}
 use Rattle.std.specs.FinMap as tasks_by
@@ -29,66 +29,69 @@ use Rattle.import_spec.specs.Marked.{read_line}
 abbrev pub made : Pid → Cpu → Act
 made pid cpu = act.Fork pid (codes "/") cpu
 
--- a wakeup creates its task if it doesn't exist, wakes it if it is blocked, and does nothing if it
--- is ready or running
+-- The acts of a wakeup line of task `pid`: the task is created if it doesn't exist, and is woken if
+-- it is blocked. There are no acts if the task is ready or running.
 abbrev pub wakeup_acts : Pid → Cpu → Option Task → List Act
 wakeup_acts pid cpu None = made pid cpu ∷ []
 wakeup_acts pid cpu (Some task) = if is_active task.mode then [] else act.Wake pid cpu ∷ []
 
--- a migration moves a task that is ready on another processor, and does nothing for any other task
+-- The acts of a migration line of task `pid`: the task migrates to processor `cpu` if it is ready
+-- on another processor. There are no acts for any other task.
 abbrev pub migration_acts : Pid → Cpu → Option Task → List Act
 migration_acts pid cpu None = []
 migration_acts pid cpu (Some task) =
     if is_ready task.mode && not (task.cpu.0 == cpu.0) then act.Migrate pid cpu ∷ [] else []
 
--- The acts that make an existing task ready on processor `cpu`: a blocked task is woken there; a
--- task that is ready on another processor migrates; a task that is running on another processor is
--- preempted, and migrates.
+-- The acts that make the existing task `pid` ready on processor `cpu`: a blocked task is woken
+-- there; a task that is ready on another processor migrates; a task that is running is preempted,
+-- and migrates.
 abbrev pub coming_acts : Pid → Cpu → Cpu → Mode → List Act
 coming_acts pid cpu from Blocked = act.Wake pid cpu ∷ []
 coming_acts pid cpu from Waiting = act.Wake pid cpu ∷ []
 coming_acts pid cpu from Ready = if from.0 == cpu.0 then [] else act.Migrate pid cpu ∷ []
 coming_acts pid cpu from Running = act.Switch from None Preempt ∷ act.Migrate pid cpu ∷ []
 
--- the acts that make a task ready on processor `cpu`; the task is created if it doesn't exist
+-- The acts that make the optional task `pid` ready on processor `cpu`. The task is created if it
+-- doesn't exist.
 abbrev pub arrival_acts : Pid → Cpu → Option Task → List Act
 arrival_acts pid cpu None = made pid cpu ∷ []
 arrival_acts pid cpu (Some task) = coming_acts pid cpu task.cpu task.mode
 
--- the acts that make the next task, if any, ready on processor `cpu`
+-- The acts that make the next task of a switch line, if any, ready on processor `cpu`.
 abbrev pub next_acts : Tasks → Cpu → Option Pid → List Act
 next_acts tasks cpu None = []
 next_acts tasks cpu (Some pid) = arrival_acts pid cpu (task_of tasks pid.0)
 
--- the task, if any, is running on processor `cpu`
+-- Whether the optional task is running on processor `cpu`.
 abbrev pub runs_there : Tasks → Cpu → Option Pid → Bool
 runs_there tasks cpu None = false
 runs_there tasks cpu (Some pid) = is_some_and (task_of tasks pid.0) (is_running_on cpu.0)
 
--- how the running task leaves processor `cpu`: as the switch line says if that line names the
--- running task, and by preemption if it names another task
+-- How the running task leaves processor `cpu`: as the switch line says if the line names the
+-- running task, and by preemption if the line names another task.
 abbrev pub leaving : Tasks → Cpu → Option Pid → How → How
 leaving tasks cpu previous how = if runs_there tasks cpu previous then how else Preempt
 
--- the next task, if any, starts on an idle processor
+-- The acts that start the next task, if any, on the idle processor `cpu`.
 abbrev pub start_acts : Cpu → Option Pid → List Act
 start_acts cpu None = []
 start_acts cpu (Some pid) = act.Switch cpu (Some pid) Idle ∷ []
 
--- the running task of processor `cpu`, if any, leaves, and the next task, if any, starts
+-- The acts by which the running task of processor `cpu`, if any, leaves and the next task, if any,
+-- starts.
 abbrev pub turn_acts : Tasks → Cpu → Option Pid → Option Pid → How → List Act
 turn_acts tasks cpu previous next how =
     if is_some (running_on tasks cpu.0) then act.Switch cpu next (leaving tasks cpu previous how) ∷ []
     else start_acts cpu next
 
--- The acts of a switch line. There are none if the next task is running on the processor already.
--- If it isn't, the next task is made ready there, the running task leaves, and the next task
+-- The acts of a switch line. There are no acts if the next task is running on the processor
+-- already. Otherwise the next task is made ready there, the running task leaves, and the next task
 -- starts. Making the next task ready doesn't change which task is running there.
 abbrev pub switch_acts : Tasks → Cpu → Option Pid → Option Pid → How → List Act
 switch_acts tasks cpu previous next how =
     if runs_there tasks cpu next then [] else next_acts tasks cpu next ++ turn_acts tasks cpu previous next how
 
--- the acts of a line, given the live tasks
+-- The acts of an imported line, given the live tasks.
 abbrev pub acts_of : Tasks → Seen → List Act
 acts_of tasks (seen.Switch cpu previous next how) = switch_acts tasks cpu previous next how
 acts_of tasks (seen.Wakeup pid cpu) = wakeup_acts pid cpu (task_of tasks pid.0)
@@ -97,7 +100,7 @@ acts_of tasks (seen.Migration pid cpu) = migration_acts pid cpu (task_of tasks p
 -- ---- times and causes
 
 -- The progress of an import: the time (ns) of the first marked line, if any; the trace time (ns) of
--- the last marked line, or 0; and the world after the events of the lines before this point.
+-- the last marked line, or 0; and the world after the events of the earlier lines.
 pub record Reached : Type 0 where
   pub first : Option ℕ
   pub moment : ℕ
@@ -107,12 +110,13 @@ pub record Reached : Type 0 where
 abbrev pub unreached : Reached
 unreached = record { first = None; moment = 0; world = first_world }
 
--- the time (ns) of the first marked line, which is `at` if no marked line came before
+-- The time (ns) of the first marked line. The time is `at` if there was no marked line before the
+-- current line.
 abbrev pub first_time : Reached → ℕ → ℕ
 first_time reached at = unwrap_or reached.first at
 
--- the trace time (ns) of a line with time `at`: the time since the first marked line, but at least
--- the trace time of the previous marked line
+-- The trace time (ns) of a line with time `at` (ns): the time since the first marked line, but at
+-- least the trace time of the previous marked line.
 abbrev pub line_moment : Reached → ℕ → ℕ
 line_moment reached at = max reached.moment (at - first_time reached at)
 
@@ -135,12 +139,12 @@ needed_cpu (seen.Switch cpu previous next how) = cpu
 needed_cpu (seen.Wakeup pid cpu) = cpu
 needed_cpu (seen.Migration pid cpu) = cpu
 
--- one of the acts creates a task
+-- Whether one of the acts creates a task.
 abbrev pub make_task : List Act → Bool
 make_task acts = list_any (λ (what : Act). is_some (names what).new_task) acts
 
--- the first cause against a line with these acts at trace time `moment` (ns) in world `w`, or
--- `None`
+-- The first cause for which a line with the acts `acts` at trace time `moment` (ns) is rejected in
+-- world `w`, or `None`.
 abbrev pub acts_cause : ℕ → World → ℕ → Cpu → List Act → Option ImportCause
 acts_cause cpus w moment cpu acts =
     if nat_le cpus cpu.0 then Some cause.BadCpu
@@ -151,13 +155,13 @@ acts_cause cpus w moment cpu acts =
 
 -- ---- one line
 
--- the result of a line: its events, and the progress after it
+-- The result of a line: its events, and the progress of the import after the line.
 pub record LineEvents : Type 0 where
   pub events : List Event
   pub reached : Reached
 
--- the result of a line with time `at` and these acts at trace time `moment` (ns), or the cause
--- against it
+-- The result of a line with time `at` (ns) and the acts `acts` at trace time `moment` (ns), or the
+-- cause of its rejection if there is a cause.
 abbrev pub events_or : Reached → ℕ → ℕ → List Act → Option ImportCause → Result LineEvents ImportCause
 events_or reached at moment acts (Some why) = Err why
 events_or reached at moment acts None = Ok (record {
@@ -169,19 +173,21 @@ events_or reached at moment acts None = Ok (record {
   };
 })
 
--- the result of a line that reports `what` at time `at` (ns) on a machine with `cpus` processors,
--- or the cause against it
+-- The result of a line that reports `what` at time `at` (ns) on a machine with `cpus` processors,
+-- or the cause of its rejection.
 unfoldable pub line_events_at : ℕ → Reached → ℕ → Seen → Result LineEvents ImportCause
 line_events_at cpus reached at what =
     events_or reached at (line_moment reached at) (acts_of reached.world.tasks what)
     (acts_cause cpus reached.world (line_moment reached at) (needed_cpu what) (acts_of reached.world.tasks what))
 
--- the result of a parsed line; an unmarked line gives no events and no progress
+-- The result of a parsed line, or the cause of its rejection. An unmarked line has no events and
+-- doesn't change the progress.
 abbrev pub events_read : ℕ → Reached → Result (Option Sighting) ImportCause → Result LineEvents ImportCause
 events_read cpus reached (Err why) = Err why
 events_read cpus reached (Ok None) = Ok (record { events = []; reached = reached })
 events_read cpus reached (Ok (Some sighting)) = line_events_at cpus reached sighting.at sighting.seen
 
--- parses a line and returns its result, or the cause against it
+-- Parses a line without its newline, and returns the result of the line or the cause of its
+-- rejection.
 unfoldable pub events_of_line : ℕ → Reached → List ℕ → Result LineEvents ImportCause
 events_of_line cpus reached line = events_read cpus reached (read_line line)

@@ -9,12 +9,12 @@ use Rattle.import_spec.specs.declared.cause.ImportCause.{ImportCause}
 use Rattle.import_spec.specs.declared.cause.ImportCause.TheVariants as cause
 use Rattle.import_spec.specs.Events.{LineEvents, Reached, events_of_line, unreached}
 
--- a rejected line with its number (from 1), and the cause
+-- A rejected line: its number (from 1), and the cause.
 pub record Refused : Type 0 where
   pub line : ℕ
   pub cause : ImportCause
 
--- a refusal of line `line`
+-- The rejection of line number `line` (from 1) with cause `why`.
 abbrev pub import_refused : ℕ → ImportCause → Refused
 import_refused line why = record { line = line; cause = why }
 
@@ -22,19 +22,20 @@ import_refused line why = record { line = line; cause = why }
 abbrev pub most_text_lines : ℕ
 most_text_lines = 16000000
 
--- the `end` event, at the trace time (ns) of the last marked line
+-- The `end` event of the imported trace. Its time is the trace time (ns) of the last marked line.
 abbrev pub end_at : Reached → Event
 end_at reached = record { at = reached.moment; act = act.End }
 
--- the result of line number `number` without its newline, or the cause against it: a text has at
--- most 16,000,000 lines, and a line has at most 512 bytes
+-- The result of line number `number` without its newline, or the cause of its rejection. A text has
+-- at most 16,000,000 lines, and a line has at most 512 bytes.
 unfoldable pub yield_of_line : ℕ → Reached → ℕ → List ℕ → Result LineEvents ImportCause
 yield_of_line cpus reached number line =
     if nat_lt most_text_lines number then Err cause.TooManyLines
     else if nat_lt 512 (length line) then Err cause.LineTooLong
     else events_of_line cpus reached line
 
--- the cause against the bytes after the last newline, which must be empty; `None` if they are
+-- The cause for which the bytes after the last newline are rejected, or `None` if there are no such
+-- bytes.
 unfoldable pub tail_cause : ℕ → List ℕ → Option ImportCause
 tail_cause number [] = None
 tail_cause number (byte ∷ rest) =
@@ -42,17 +43,19 @@ tail_cause number (byte ∷ rest) =
     else if nat_lt 512 (length (byte ∷ rest)) then Some cause.LineTooLong
     else Some cause.Cut
 
--- the `end` event, or a refusal if there is a cause
+-- The `end` event, or a rejection of line number `number` if there is a cause.
 abbrev pub ends_or : Reached → ℕ → Option ImportCause → Result (List Event) Refused
 ends_or reached number None = Ok (end_at reached ∷ [])
 ends_or reached number (Some why) = Err (import_refused number why)
 
--- the events `prefix` followed by the later events, or the refusal of a later line
+-- Prepends the events `prefix` to the result of the later lines, which is a list of events or a
+-- rejection.
 abbrev pub events_followed : List Event → Result (List Event) Refused → Result (List Event) Refused
 events_followed prefix (Ok events) = Ok (prefix ++ events)
 events_followed prefix (Err refusal) = Err refusal
 
--- a refusal of line `number`, or its events followed by the events of the later lines
+-- The rejection of line number `number`, or its events followed by the events of the later lines.
+-- `suffix` gives the result of the later lines.
 abbrev pub or_refused_line : ℕ → Result LineEvents ImportCause → (Reached → Result (List Event) Refused) → Result (List Event) Refused
 or_refused_line number (Err why) suffix = Err (import_refused number why)
 or_refused_line number (Ok line_events) suffix = events_followed line_events.events (suffix line_events.reached)
@@ -66,11 +69,11 @@ import_from cpus reached number (line ∷ next ∷ parts) =
     or_refused_line number (yield_of_line cpus reached number line)
     (λ suffix. import_from cpus suffix (number + 1) (next ∷ parts))
 
--- imports a text from a machine with `cpus` processors: the result is the events, including `end`,
--- or the first bad line
+-- Imports a text from a machine with `cpus` processors. The result is the events, including `end`,
+-- or the first bad line.
 unfoldable pub import_of : ℕ → List ℕ → Result (List Event) Refused
 import_of cpus bytes = import_from cpus unreached 1 (parts_at 10 bytes)
 
--- the trace with these events on `cpus` processors, in version 1
+-- The trace of version 1 with these events on `cpus` processors.
 abbrev pub import_trace : ℕ → List Event → Trace
 import_trace cpus events = record { version = One; cpus = cpus; events = events }

@@ -14,7 +14,8 @@ use Rattle.import_spec.specs.Tails.{cpu_in, field_in, how_in, pid_in, time_in}
 
 -- ---- marks
 
--- a mark (a tracepoint's name as it occurs in a line) and the kind of line that contains it
+-- A mark: the name of a tracepoint as it occurs in a line, and the kind of the lines that contain
+-- it.
 pub record Mark : Type 0 where
   pub text : List ℕ
   pub kind : LineKind
@@ -23,7 +24,7 @@ pub record Mark : Type 0 where
 abbrev pub mark : List ℕ → LineKind → Mark
 mark text which = record { text = text; kind = which }
 
--- all marks
+-- The marks of all tracepoints that are imported.
 abbrev pub marks : List Mark
 marks =
     mark (codes ": sched_switch: ") kind.Switch
@@ -35,7 +36,7 @@ marks =
 unfoldable pub mark_of : List ℕ → Option Mark
 mark_of bytes = find (λ (each : Mark). begins_with each.text bytes) marks
 
--- the bytes begin with a mark
+-- Whether the bytes begin with a mark.
 abbrev pub begins_marked : List ℕ → Bool
 begins_marked bytes = is_some (mark_of bytes)
 
@@ -46,7 +47,8 @@ pub record Marked : Type 0 where
   pub head : List ℕ
   pub tail : List ℕ
 
--- Splits a line at its leftmost mark. `None` if it contains no mark, or begins with `#`.
+-- Splits a line at its leftmost mark. The result is `None` if the line contains no mark or begins
+-- with `#`.
 unfoldable pub marked_of : List ℕ → Option Marked
 marked_of line = if begins_with (codes "#") line then None else do
   at ← first_place begins_marked line
@@ -55,8 +57,8 @@ marked_of line = if begins_with (codes "#") line then None else do
 
 -- ---- the content of a marked line
 
--- parses the tail of a `sched_switch` line on processor `cpu`: the previous task before the last
--- arrow, and the next task after it; `None` if it is malformed
+-- Parses the tail of a `sched_switch` line on processor `cpu`: the previous task before the last
+-- arrow, and the next task after the arrow. The result is `None` if the tail is malformed.
 unfoldable pub switch_in : ℕ → List ℕ → Option Seen
 switch_in cpu tail = do
   arrow ← last_place (begins_with (codes " ==> ")) tail
@@ -66,7 +68,7 @@ switch_in cpu tail = do
   next ← field_in (codes " next_pid=") (drop (arrow + length (codes " ==> ")) tail)
   Some (seen.Switch (record { 0 = cpu }) (pid_in previous) (pid_in next) how)
 
--- parses the tail of a wakeup line; `None` if it is malformed
+-- Parses the tail of a wakeup line. The result is `None` if the tail is malformed.
 unfoldable pub wakeup_in : List ℕ → Option Seen
 wakeup_in tail = do
   number ← field_in (codes " pid=") tail
@@ -74,7 +76,7 @@ wakeup_in tail = do
   target ← field_in (codes " target_cpu=") tail
   Some (seen.Wakeup pid (record { 0 = target }))
 
--- parses the tail of a migration line; `None` if it is malformed
+-- Parses the tail of a migration line. The result is `None` if the tail is malformed.
 unfoldable pub migration_in : List ℕ → Option Seen
 migration_in tail = do
   number ← field_in (codes " pid=") tail
@@ -82,13 +84,15 @@ migration_in tail = do
   target ← field_in (codes " dest_cpu=") tail
   Some (seen.Migration pid (record { 0 = target }))
 
--- parses the tail of a line of this kind on processor `cpu`; `None` if it is malformed
+-- Parses the tail of a line of a given kind on processor `cpu`. The result is `None` if the tail is
+-- malformed.
 abbrev pub seen_in : LineKind → ℕ → List ℕ → Option Seen
 seen_in kind.Switch cpu tail = switch_in cpu tail
 seen_in kind.Wakeup cpu tail = wakeup_in tail
 seen_in kind.Migration cpu tail = migration_in tail
 
--- parses a marked line: its time and what it reports; `None` if it is malformed
+-- Parses a marked line: its time and what it reports. The result is `None` if the line is
+-- malformed.
 unfoldable pub sighting_of : Marked → Option Sighting
 sighting_of line = do
   time ← time_in line.head
@@ -96,15 +100,17 @@ sighting_of line = do
   what ← seen_in line.kind cpu line.tail
   Some (record { at = time; seen = what })
 
--- Parses a line (`read_line`): the time and what it reports. `Ok None` if it isn't marked, and the
--- cause BadLine if it is marked but malformed.
+-- The parsed content of a marked line, or the cause BadLine if the line is malformed.
 abbrev pub if_formed : Option Sighting → Result (Option Sighting) ImportCause
 if_formed None = Err cause.BadLine
 if_formed (Some sighting) = Ok (Some sighting)
 
+-- Parses an optional marked line. `None` is an unmarked line, which has no content.
 abbrev pub read_marked : Option Marked → Result (Option Sighting) ImportCause
 read_marked None = Ok None
 read_marked (Some line) = if_formed (sighting_of line)
 
+-- Parses a line without its newline: its time and what it reports. The result is `Ok None` if the
+-- line isn't marked, and the cause BadLine if the line is marked but malformed.
 unfoldable pub read_line : List ℕ → Result (Option Sighting) ImportCause
 read_line line = read_marked (marked_of line)

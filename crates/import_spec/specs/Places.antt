@@ -9,8 +9,8 @@ unfoldable pub first_place : (List ℕ → Bool) → List ℕ → Option ℕ
 first_place test [] = None
 first_place test (byte ∷ bytes) = if test (byte ∷ bytes) then Some 0 else option_map (λ at. at + 1) (first_place test bytes)
 
--- a position found in the rest, as a position in the whole; if none was found, 0 if the first
--- position passes
+-- The last position in the whole bytes, given the last position in the bytes after the first, and
+-- whether position 0 passes the test.
 abbrev pub or_here : Option ℕ → Bool → Option ℕ
 or_here (Some at) passes = Some (at + 1)
 or_here None passes = if passes then Some 0 else None
@@ -20,11 +20,11 @@ unfoldable pub last_place : (List ℕ → Bool) → List ℕ → Option ℕ
 last_place test [] = None
 last_place test (byte ∷ bytes) = or_here (last_place test bytes) (test (byte ∷ bytes))
 
--- the bytes begin with `text`
+-- Whether the bytes begin with `text`.
 abbrev pub begins_with : List ℕ → List ℕ → Bool
 begins_with text bytes = starts_with nat_eq bytes text
 
--- the bytes after the last occurrence of `text`, or `None` if it doesn't occur
+-- The bytes after the last occurrence of `text`, or `None` if `text` doesn't occur.
 abbrev pub after_last : List ℕ → List ℕ → Option (List ℕ)
 after_last text bytes = do
   at ← last_place (begins_with text) bytes

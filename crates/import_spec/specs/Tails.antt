@@ -20,18 +20,19 @@ is_space byte = byte == 32
 abbrev pub is_point : ℕ → Bool
 is_point byte = byte == 46
 
--- the value of 1 to `most` digits, with leading zeros allowed, or `None`
+-- The value of a number of 1 to `most` digits, or `None` if the digits are malformed. Leading zeros
+-- are allowed.
 abbrev pub short_number : ℕ → List ℕ → Option ℕ
 short_number most digits = if nat_lt 0 (length digits) && nat_le (length digits) most then digits_of digits else None
 
--- the number if it is below 2^32, or `None`
+-- `Some number` if the number is below 2^32; otherwise `None`.
 abbrev pub if_small : ℕ → Option ℕ
 if_small number = if nat_lt number (2 ^ 32) then Some number else None
 
 -- ---- the head
 
--- the time (ns) that a word spells, as seconds with 1 to 10 digits, a point, and a fraction with 1
--- to 9 digits; `None` if it is malformed
+-- The time (ns) that a word spells: seconds with 1 to 10 digits, a point, and a fraction with 1 to
+-- 9 digits. The result is `None` if the word is malformed.
 unfoldable pub time_of : List ℕ → Option ℕ
 time_of word = do
   seconds ← short_number 10 (before_first is_point word)
@@ -44,11 +45,11 @@ time_in head = do
   word ← after_last (codes " ") head
   time_of word
 
--- the number of leading digits
+-- The number of digits at the beginning of the bytes.
 abbrev pub digit_count : List ℕ → ℕ
 digit_count bytes = prefix_len is_ascii_digit bytes
 
--- the bytes begin with a number in brackets: `[`, one or more digits, and `]`
+-- Whether the bytes begin with a number in brackets: `[`, one or more digits, and `]`.
 unfoldable pub is_bracketed : List ℕ → Bool
 is_bracketed bytes =
     begins_with (codes "[") bytes && nat_lt 0 (digit_count (drop 1 bytes))
@@ -62,8 +63,8 @@ cpu_in head = do
 
 -- ---- the tail
 
--- the number of the field `key`, below 2^32: 1 to 10 digits after the last occurrence of `key`,
--- followed by a space or the end
+-- The number of the field `key`: 1 to 10 digits after the last occurrence of `key`, followed by a
+-- space or the end. The number must be below 2^32.
 unfoldable pub field_in : List ℕ → List ℕ → Option ℕ
 field_in key part = do
   rest ← after_last key part
@@ -74,9 +75,9 @@ field_in key part = do
 abbrev pub pid_in : ℕ → Option Pid
 pid_in number = if number == 0 then None else Some (record { 0 = number })
 
--- how a task leaves its processor, by the first byte of its state: `R` (82) means that it is still
--- ready, `D` (68) that it waits for IO, `X` (88) and `Z` (90) that it exits, and any other state
--- that it sleeps
+-- How a task leaves its processor, given the letters of its state. The first byte decides: `R` (82)
+-- means that the task is still ready, `D` (68) that it waits for IO, `X` (88) and `Z` (90) that it
+-- exits, and any other byte that it sleeps.
 unfoldable pub how_in : List ℕ → Option How
 how_in [] = None
 how_in (first ∷ rest) =

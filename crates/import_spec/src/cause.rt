@@ -1,5 +1,5 @@
-//! The causes for which a line of an ftrace text is rejected. They are printed with the line's
-//! number.
+//! The causes for which a line of an ftrace text is rejected. A rejection is printed as the number
+//! of the line and the cause.
 
 /// The cause for which a line is rejected. If several causes apply, `TooManyLines` is reported
 /// first, and the other causes take precedence in the order of the variants.

@@ -1,5 +1,5 @@
-//! The content of the lines of an ftrace text that are imported, as types. Parsing is done
-//! elsewhere.
+//! The types for the content of the imported lines of an ftrace text. The crate ftrace_import
+//! parses these lines.
 
 use psi_base::{Cpu, How, Ns, Pid};
 
@@ -14,7 +14,7 @@ pub enum LineKind {
     Migration,
 }
 
-/// The content of a line.
+/// What an imported line reports.
 #[derive(Clone, Copy, Debug, PartialEq, Eq)]
 pub enum Seen {
     /// Processor `cpu` switched from task `previous`, which leaves as `how` says, to task `next`.
@@ -37,11 +37,11 @@ pub enum Seen {
     },
 }
 
-/// The content of a line, with its time.
+/// An imported line: the time, and what the line reports.
 #[derive(Clone, Copy, Debug, PartialEq, Eq)]
 pub struct Sighting {
-    /// The time (ns of ftrace's clock).
+    /// The time (ns) of the line by the clock of ftrace.
     pub at: Ns,
-    /// What happened at this time.
+    /// What the line reports.
     pub seen: Seen,
 }

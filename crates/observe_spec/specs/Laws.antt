@@ -17,7 +17,7 @@ use Rattle.observe_spec.specs.declared.status.ObserveStatus.TheVariants as statu
 
 -- ---- samples
 
--- The number of changes of each sample is at most the number of changes of its processor.
+-- The change count of each sample is at most the number of changes of its processor.
 abbrev pub CountsAreOfChanges : Type 0
 CountsAreOfChanges = (trace : Trace) (timing : Timing) (path : List ℕ) (observers : ℕ) (looks : List Look) →
     AreObserved trace timing path observers looks → (k : ℕ) (look : Look) → slice_get looks k ≡ Some look →
@@ -31,19 +31,19 @@ EachTakesItsShare = (trace : Trace) (timing : Timing) (path : List ℕ) (observe
 
 -- ---- runs
 
--- The options of `replay TRACE` without further words are the options that psi_observe uses, except
--- that no path is watched.
+-- The command `replay TRACE` without options has the options that psi_observe uses, except that no
+-- path is watched.
 abbrev pub ReplayHasThese : Type 0
 ReplayHasThese = (name : List ℕ) → is_trace_name name ≡ true →
     command_of (codes "replay" ∷ name ∷ []) ≡ Some (Replay name (options_on None))
 
--- psi_observe parses a trace like `replay TRACE`: it accepts the same traces, and rejects all
--- others with the same status.
+-- psi_observe parses a trace like `replay TRACE`: it accepts the traces that `replay` accepts, and
+-- rejects all other traces with the status of `replay`.
 abbrev pub TracesAreThoseOfReplay : Type 0
 TracesAreThoseOfReplay = (name bytes : List ℕ) → or_refused_trace (trace_of accepts bytes) ≡ parse_of (Replay name (options_on None)) bytes
 
--- If the trace's file is known to be missing, the run reports that, or fails to read, or runs out
--- of memory.
+-- If the trace's file is known to be missing, the run reports the missing file, fails to read, or
+-- runs out of memory.
 abbrev pub MissingTraceShows : Type 0
 MissingTraceShows = (request : Request) (files : Option Files) (old new : Option (List ℕ)) (result : ObserveStatus) →
     ObservingEnds request files old new result → IsAbsent files request.trace →

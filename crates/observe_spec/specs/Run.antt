@@ -22,7 +22,7 @@ use Rattle.observe_spec.specs.Words.{Request}
 
 -- ---- how a trace is replayed
 
--- the default options of `replay`, except that a path may be watched
+-- The default options of `replay`, except that an optional path is watched.
 abbrev pub options_on : Option (List ℕ) → Options
 options_on path = record {
   rules = None;
@@ -35,20 +35,22 @@ options_on path = record {
   live_count = 1;
 }
 
--- the timing of a replay in which observers watch a path
+-- The timing of a replay in which observers watch the group with path `path`.
 abbrev pub timing_on : List ℕ → Timing
 timing_on path = timing_of (options_on (Some path))
 
--- the length of a tick (ns); a trace may last at most a million ticks
+-- The length (ns) of a tick. A trace may last at most a million ticks.
 abbrev pub observed_tick_length : ℕ
 observed_tick_length = 2000000000
 
--- the traces that are accepted: all versions with all their verbs, at this tick length
+-- The traces that psi_observe accepts: all versions with all their verbs, for the tick length
+-- `observed_tick_length`.
 abbrev pub accepts : Accepts
 accepts = accepts_with versions observed_tick_length
 
--- `trace` is a valid trace for the request: the verbs of its events are those of its version, and
--- its events are legal. If the content of the file is known, `trace` is parsed from it.
+-- `trace` is a valid trace for the request: the verbs of its events belong to its version, and its
+-- events are legal. If the content of the file is known, `trace` is the result of parsing this
+-- content.
 pub record TakesRequestedTrace (request : Request) (files : Option Files) (trace : Trace) : Type 0 where
   pub cpus : IsCpuCount trace.cpus
   pub known : AreKnown (verbs_of trace.version) trace.events
@@ -61,8 +63,8 @@ pub record TakesRequestedTrace (request : Request) (files : Option Files) (trace
 abbrev pub most_samples : ℕ
 most_samples = 1000000
 
--- the number of samples if the path is live at every tick: one for each tick, observer and
--- processor
+-- The number of samples if the path is live at every tick: one for each tick, observer and
+-- processor.
 abbrev pub samples_requested : Request → Trace → ℕ
 samples_requested request trace = tick_count trace (timing_on request.path) * request.observers * trace.cpus
 
@@ -72,8 +74,8 @@ samples_requested request trace = tick_count trace (timing_on request.path) * re
 abbrev pub IsTraceThere : Request → Option Files → Type 0
 IsTraceThere request files = IsAbsent files request.trace → ⊥
 
--- A valid output, for an accepted trace with at most a million samples, satisfies the property
--- `IsSo`, and the trace's file isn't missing.
+-- Some valid output, for an accepted trace with at most a million samples, satisfies the property
+-- `IsSo`, and the trace's file isn't known to be missing.
 abbrev pub HasObservedOutput : Request → Option Files → (List ℕ → Type 0) → Type 0
 HasObservedOutput request files IsSo =
     (trace : Trace) × TakesRequestedTrace request files trace × IsTraceThere request files
@@ -99,14 +101,14 @@ ObservingEnds request files old new status.ReadFault = Keeps old new
 ObservingEnds request files old new (status.NoMemory _) = Keeps old new
 ObservingEnds request files old new status.Usage = ⊥
 
--- Each failure count increased exactly if the status reports its failure, so no failure is silently
--- ignored.
+-- Each failure count increased if and only if the status reports a failure of this kind. So no
+-- failure is silently ignored.
 pub record ObserverFailuresAreCounted (before now : RunCounts) (result : ObserveStatus) : Type 0 where
   pub faults : RisesWhere (result ≡ status.ReadFault) before.shelf.faults now.shelf.faults
   pub absent : RisesWhere (result ≡ status.NoFile) before.shelf.absent now.shelf.absent
   pub writes : RisesWhere (result ≡ status.WriteFault) before.writes now.writes
 
--- The contract of a run for a request: what its status implies, and the failure counts.
+-- The contract of a run for a request: the implications of its status, and the failure counts.
 pub record Observes (request : Request) (files : Option Files) (before now : RunCounts) (old new : Option (List ℕ))
     (result : ObserveStatus) : Type 0 where
   pub ends : ObservingEnds request files old new result
@@ -142,8 +144,8 @@ RejectsTrace request files before now result = (bytes : List ℕ) (refusal : Ref
 
 -- Reading stops at the first rejected line; `bytes_read` and `read_now` are the numbers of bytes
 -- read before the run and at its end. If the run reports a rejected line, it read at most the lines
--- before it and the buffered bytes. If the run ends with ReadFault although the content has a
--- rejected line, that line was incomplete in the bytes read.
+-- before that line and the buffered bytes. If the run ends with ReadFault although the content has
+-- a rejected line, that line was incomplete in the bytes read.
 abbrev pub StopsObserving : Request → Option Files → ℕ → ℕ → ObserveStatus → Type 0
 StopsObserving request files bytes_read read_now (status.Trace line why) = read_now ≤ bytes_read + most_until line
 StopsObserving request files bytes_read read_now status.ReadFault =
@@ -153,8 +155,8 @@ StopsObserving request files bytes_read read_now _ = ⊤
 
 -- ---- the order of reads
 
--- The log grew by the reads of the trace, in order from its first byte. Nothing is read after a
--- failed read, which the status reports.
+-- The log of read calls grew by the reads of the trace, in order from the first byte. Nothing is
+-- read after a failed read, which the status reports.
 abbrev pub ReadsTraceInOrder : Request → List ReadCall → List ReadCall → ObserveStatus → Type 0
 ReadsTraceInOrder request before now status.ReadFault = ReadsFile request.trace 0 before now (Some shelf.Failed)
 ReadsTraceInOrder request before now status.NoFile = ReadsFile request.trace 0 before now (Some shelf.NoFile)

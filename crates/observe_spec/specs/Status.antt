@@ -5,7 +5,7 @@ use Rattle.observe_spec.specs.declared.status.ObserveStatus.{ObserveStatus}
 use Rattle.observe_spec.specs.declared.status.ObserveStatus.TheVariants as status
 use Rattle.observe_spec.specs.Words.{Request}
 
--- the exit status
+-- The exit status of psi_observe for a status of a run.
 abbrev pub code_of : ObserveStatus → ℕ
 code_of status.Done = 0
 code_of status.Usage = 1

@@ -10,20 +10,20 @@ pub record Request : Type 0 where
   pub observers : ℕ
   pub path : List ℕ
 
--- the name of a trace's file is valid: it isn't empty, and doesn't begin with `-`, except for `-`
--- itself (standard input)
+-- Whether the name of a trace's file is valid: it isn't empty, and doesn't begin with `-`, except
+-- for `-` itself (standard input).
 abbrev pub is_trace_name : List ℕ → Bool
 is_trace_name name = is_name name && not (is_dashed name)
 
--- the request with a trace and a path; `None` if one of them is invalid or there is no number of
--- observers
+-- The request with a trace, a path and an optional number of observers. The result is `None` if one
+-- of the three is invalid or missing.
 abbrev pub request_by : List ℕ → List ℕ → Option ℕ → Option Request
 request_by trace path None = None
 request_by trace path (Some observers) =
     if is_trace_name trace && is_path path then Some (record { trace = trace; observers = observers; path = path }) else None
 
--- Parses the words, without the program's name: the name of a trace, a number of observers from 1
--- to 8, and a path. `None` if the words aren't exactly these three.
+-- Parses the words of the command line without the program's name: the name of a trace, a number of
+-- observers from 1 to 8, and a path. The result is `None` if the words aren't exactly these three.
 unfoldable pub request_of : List (List ℕ) → Option Request
 request_of (trace ∷ observers ∷ path ∷ []) = request_by trace path (number_within 1 8 observers)
 request_of words = None

@@ -1,6 +1,6 @@
 //! The specification of psi_observe, which replays a trace while several observer threads sample
-//! one group: which samples they take, what is printed, and what a run returns. This crate contains
-//! only definitions and laws; the code is in `observe_core`.
+//! one group: the samples that the observers take, the output, and the status of a run. This crate
+//! contains only definitions and laws; the code is in `observe_core`.
 //!
 //! Read the files of `specs/` in this order: `Samples` (which samples are due for an observer, and
 //! which may have been taken), `Observed` (the printed lines and the whole output), `Words` (which

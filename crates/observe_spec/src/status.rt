@@ -1,4 +1,5 @@
-//! The status that a run of psi_observe returns, and its exit status.
+//! The status with which a run of psi_observe ends, and its exit status. The message for a status
+//! is defined in `specs/Status`.
 ghost use Rattle.std.specs.Prelude.{◌≡◌};
 ghost use Rattle.observe_spec.specs.Status.{code_of};
 
@@ -21,13 +22,13 @@ pub enum ObserveStatus {
     WriteFault,
     /// Out of memory.
     NoMemory(NoMemory),
-    /// If the group were live at each tick, there would be this many samples, which is more than
-    /// 1,000,000.
+    /// The number of samples, if the group were live at each tick, would be `samples`, which is
+    /// more than 1,000,000.
     TooManySamples { samples: u64 },
 }
 
 impl ObserveStatus {
-    /// The exit status of the program.
+    /// Returns the exit status of the program for this status.
     pub fn code(self) -> u8
         ensures { result ≡ code_of self }
     {

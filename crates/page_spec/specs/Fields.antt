@@ -1,4 +1,4 @@
--- The fields of a record: numbers, least byte first, states and texts.
+-- The fields of a record: little-endian numbers, states of tasks, and texts.
 use Rattle.std.specs.Prelude.{ℕ, ◌+◌, ◌-◌, ◌*◌, ◌/◌, ◌%◌, ◌^◌, List, length, take, drop, find, position, map, nat_lt, nat_le, ◌==◌, not, bit_and, Bool, if◌then◌else◌, Option, None, Some, option_map, unwrap_or, slice_index}
 use Rattle.std.specs.Int.{from_le_bytes, w16, w32, w64}
 use Rattle.std.specs.List.{list_all}
@@ -10,24 +10,26 @@ use Rattle.page_spec.specs.declared.layout.Width.TheVariants.{One, Two, Four, Ei
 
 -- ---- numbers
 
--- the number of bytes
+-- The number of bytes of a number of this width.
 abbrev pub size_of : Width → ℕ
 size_of One = 1
 size_of Two = 2
 size_of Four = 4
 size_of Eight = 8
 
--- the number in the first two, four or eight bytes
+-- The little-endian number in the first two bytes.
 abbrev pub half_of : List ℕ → ℕ
 half_of bytes = from_le_bytes w16 bytes
 
+-- The little-endian number in the first four bytes.
 abbrev pub word_of : List ℕ → ℕ
 word_of bytes = from_le_bytes w32 bytes
 
+-- The little-endian number in the first eight bytes.
 abbrev pub long_of : List ℕ → ℕ
 long_of bytes = from_le_bytes w64 bytes
 
--- the number in the first bytes
+-- The little-endian number of a given width at the beginning of the bytes.
 abbrev pub number_in : Width → List ℕ → ℕ
 number_in One bytes = slice_index bytes 0
 number_in Two bytes = half_of bytes
@@ -36,42 +38,44 @@ number_in Eight bytes = long_of bytes
 
 -- ---- values
 
--- the value of a field: a number, a negative number by its absolute value, the letter of a state,
--- or a text
+-- The value of a field: a number, a negative number (represented by its absolute value), the letter
+-- of a state, or a text.
 pub data Value : Type 0 where
   Count : ℕ → Value
   Minus : ℕ → Value
   Letter : ℕ → Value
   Bytes : List ℕ → Value
 
--- a number as a signed one of this width
+-- The signed value of a number of a given width in two's complement.
 abbrev pub signed_of : Width → ℕ → Value
 signed_of width number =
     if nat_lt number (2 ^ (8 * size_of width - 1)) then Count number else Minus (2 ^ (8 * size_of width) - number)
 
--- the letter of a state: the first one whose bits it has, and `R` (82) if it has none
+-- The letter of a state: the first letter that has one of the state's bits, or `R` (82) if no
+-- letter has one.
 abbrev pub letter_of : List StateLetter → ℕ → ℕ
 letter_of letters state =
     unwrap_or (option_map (λ (row : StateLetter). row.letter) (find (λ (row : StateLetter). not (bit_and state row.bits == 0)) letters)) 82
 
--- the bytes up to a place, or all of them
+-- The bytes before an optional position, or all bytes for `None`.
 abbrev pub up_to : Option ℕ → List ℕ → List ℕ
 up_to None bytes = bytes
 up_to (Some place) bytes = take place bytes
 
--- a text up to its first zero byte
+-- The bytes before the first zero byte, or all bytes if there is no zero byte.
 abbrev pub until_zero : List ℕ → List ℕ
 until_zero bytes = up_to (position (λ byte. byte == 0) bytes) bytes
 
--- at most this many bytes, or all if this is 0
+-- At most the first `most` bytes, or all bytes if `most` is 0.
 abbrev pub at_most : ℕ → List ℕ → List ℕ
 at_most most bytes = if most == 0 then bytes else take most bytes
 
--- the text at the place that a word reports: its offset in the lower half, its length in the upper
+-- The text elsewhere in a record that the number `word` locates: its offset is in the lower half of
+-- `word`, and its length is in the upper half. The text ends at its first zero byte.
 abbrev pub located : ℕ → List ℕ → List ℕ
 located word bytes = until_zero (take (word / 2 ^ 16) (drop (word % 2 ^ 16) bytes))
 
--- the value of a field of a record
+-- The value of a field of the record `bytes`, given the letters of states.
 abbrev pub value_of : List StateLetter → List ℕ → Field → Value
 value_of letters bytes (field.Unsigned offset width) = Count (number_in width (drop offset bytes))
 value_of letters bytes (field.Signed offset width) = signed_of width (number_in width (drop offset bytes))
@@ -79,11 +83,12 @@ value_of letters bytes (field.State offset width) = Letter (letter_of letters (n
 value_of letters bytes (field.Text offset most) = Bytes (until_zero (at_most most (drop offset bytes)))
 value_of letters bytes (field.Located offset) = Bytes (located (word_of (drop offset bytes)) bytes)
 
--- the values of fields
+-- The values of the fields of the record `bytes`, in order.
 abbrev pub values_of : List StateLetter → List ℕ → List Field → List Value
 values_of letters bytes fields = map (value_of letters bytes) fields
 
--- the offset of the first byte after a field's own bytes; a text begins there, and may be empty
+-- The least number of bytes that a record with this field has. A text begins at its offset, and may
+-- be empty.
 abbrev pub end_of : Field → ℕ
 end_of (field.Unsigned offset width) = offset + size_of width
 end_of (field.Signed offset width) = offset + size_of width
@@ -91,6 +96,6 @@ end_of (field.State offset width) = offset + size_of width
 end_of (field.Text offset most) = offset
 end_of (field.Located offset) = offset + 4
 
--- a record has all bytes of the fields
+-- Whether the record `bytes` is long enough for each of the fields.
 abbrev pub has_fields : List ℕ → List Field → Bool
 has_fields bytes fields = list_all (λ (each : Field). nat_le (end_of each) (length bytes)) fields

@@ -1,33 +1,38 @@
--- The records of a page: `include/linux/ring_buffer.h` and `kernel/trace/ring_buffer.c` of Linux.
+-- The records of a page. The format is defined by `include/linux/ring_buffer.h` and
+-- `kernel/trace/ring_buffer.c` of Linux.
 use Rattle.std.specs.Prelude.{ℕ, zero, suc, ◌+◌, ◌-◌, ◌*◌, ◌/◌, ◌%◌, ◌^◌, List, [], ◌∷◌, length, take, drop, nat_lt, nat_le, ◌==◌, ◌&&◌, if◌then◌else◌, Option, None, Some}
 use Rattle.page_spec.specs.Fields.{long_of, word_of}
 
--- a record of an event: its time (ns), and its bytes
+-- The record of an event: its time (ns), and its bytes without the header of the record.
 pub record Record : Type 0 where
   pub time : ℕ
   pub bytes : List ℕ
 
--- a record with this time and these bytes
+-- The record with this time (ns) and these bytes.
 abbrev pub record_at : ℕ → List ℕ → Record
 record_at time bytes = record { time = time; bytes = bytes }
 
--- What the rest of a page's records begins with: nothing more, something that is no event, or a
--- record; and the time (ns) and the rest after it.
+-- The result of one step through the records of a page: the records end; or something that is no
+-- event is skipped, with the new time (ns) and the remaining bytes; or an event record is found,
+-- with the remaining bytes.
 pub data Step : Type 0 where
   Ends : Step
   Skips : ℕ → List ℕ → Step
   Gives : Record → List ℕ → Step
 
--- a time of 64 bits, which wraps as the kernel's does
+-- A time (ns) reduced to 64 bits, as in the kernel.
 abbrev pub wrapped : ℕ → ℕ
 wrapped time = time % 2 ^ 64
 
--- the lower 59 bits of a time, from a record, and the higher bits of the time before it
+-- The time (ns) with the lower 59 bits `low` and the higher bits of the time `time`.
 abbrev pub time_with : ℕ → ℕ → ℕ
 time_with time low = time / 2 ^ 59 * 2 ^ 59 + low
 
--- The rest begins with a word of this kind (its lower 5 bits) and this amount (its other bits).
--- `after` is what follows, which begins with another word, `more`.
+-- The step at a record header with a type of 0 or from 29 (`kind`) and a time difference `amount`
+-- (ns). `after` are the bytes after the first header word, and `more` is the second header word.
+-- Type 0: an event whose length (bytes) is `more`, including the second header word. Type 29:
+-- padding of `more` bytes, or the end of the page if `amount` is 0. Type 30: an extended time
+-- difference, with `more` as its higher bits. Any other type: an absolute time.
 abbrev pub long_step : ℕ → ℕ → ℕ → ℕ → List ℕ → Step
 long_step time kind amount more after =
     if kind == 0 then Gives (record_at (wrapped (time + amount)) (take (more - 4) (drop 4 after))) (drop more after)
@@ -35,60 +40,68 @@ long_step time kind amount more after =
     else if kind == 30 then Skips (wrapped (time + (amount + more * 2 ^ 27))) (drop 4 after)
     else Skips (time_with time (amount + more * 2 ^ 27)) (drop 4 after)
 
--- The same, of any kind: from 1 to 28 it is the length of a record in words of four bytes.
+-- The step at a record header with type `kind` and time difference `amount` (ns), given the bytes
+-- `after` the first header word. A type from 1 to 28 is the length of an event in words of four
+-- bytes. Other types are described at `long_step`.
 abbrev pub kind_step : ℕ → ℕ → ℕ → List ℕ → Step
 kind_step time kind amount after =
     if nat_lt 0 kind && nat_lt kind 29 then Gives (record_at (wrapped (time + amount)) (take (4 * kind) after)) (drop (4 * kind) after)
     else if nat_lt (length after) 4 then Ends
     else long_step time kind amount (word_of after) after
 
--- what the rest of a page's records begins with, after a time
+-- The step at the beginning of the bytes `rest`, given the time (ns) of the previous record. The
+-- lower 5 bits of the first header word are the type, and its other bits are the time difference
+-- (ns).
 unfoldable pub step_at : ℕ → List ℕ → Step
 step_at time rest =
     if nat_lt (length rest) 4 then Ends
     else kind_step time (word_of rest % 32) (word_of rest / 32) (drop 4 rest)
 
--- the record of a step, and those after it
+-- The records from a step on. `following` gives the records after a time (ns) in the remaining
+-- bytes.
 abbrev pub walked : (ℕ → List ℕ → List Record) → Step → List Record
 walked following Ends = []
 walked following (Skips time rest) = following time rest
 walked following (Gives found rest) = found ∷ following found.time rest
 
--- the records of the rest after a time, in at most this many steps
+-- The records in the bytes `rest` after time `time` (ns), found in at most a given number of steps.
 unfoldable pub records_from : ℕ → ℕ → List ℕ → List Record
 records_from zero time rest = []
 records_from (suc steps) time rest = walked (records_from steps) (step_at time rest)
 
--- the records of the rest after a time: each step takes at least four bytes of it
+-- The records in the bytes `rest` after time `time` (ns). Each step consumes at least four bytes,
+-- so the number of bytes is a sufficient number of steps.
 abbrev pub records_after : ℕ → List ℕ → List Record
 records_after time rest = records_from (length rest) time rest
 
 -- ---- the header
 
--- the time (ns) before a page's first record
+-- The time (ns) in the header of a page, from which the time of the first record is computed.
 abbrev pub page_time : List ℕ → ℕ
 page_time page = long_of page
 
--- the word with the number of bytes of records, and two flags
+-- The word in the header of a page that contains the number of bytes of records, and two flags.
 abbrev pub commit_of : List ℕ → ℕ
 commit_of page = word_of (drop 8 page)
 
--- the number of bytes of a page's records
+-- The number of bytes of the records of a page.
 abbrev pub used_of : List ℕ → ℕ
 used_of page = commit_of page % 2 ^ 30
 
--- The number of events that were lost before a page, if any: 0 if it is unknown. It is after the
--- records if there is room, and a flag says so. The flags are in the word with the number of bytes.
+-- The number of events that were lost before a page, or `None` if no event was lost. Bit 31 of
+-- `flags` means that events were lost. Bit 30 means that their number is stored at offset `end`,
+-- after the records. A number of 0 means that the number is unknown.
 abbrev pub lost_in : ℕ → ℕ → List ℕ → Option ℕ
 lost_in flags end page =
     if flags / 2 ^ 31 % 2 == 0 then None
     else if flags / 2 ^ 30 % 2 == 1 && nat_le (end + 8) (length page) then Some (long_of (drop end page))
     else Some 0
 
--- the number of events that were lost before a page with a header of this size
+-- The number of events that were lost before a page whose header has `header` bytes, or `None` if
+-- no event was lost.
 abbrev pub lost_before : ℕ → List ℕ → Option ℕ
 lost_before header page = lost_in (commit_of page) (header + used_of page) page
 
--- the records of a page whose records begin at an offset
+-- The records of a page whose header has `header` bytes.
 abbrev pub records_of : ℕ → List ℕ → List Record
 records_of header page = records_after (page_time page) (take (used_of page) (drop header page))

@@ -1,9 +1,10 @@
-//! The layout of a kernel's pages, and of the records of its events.
+//! The layout of the pages of a kernel's ring buffers, and of the event records in the pages. The
+//! crate convert_table reads a layout from a text.
 
 use psi_base::Text;
 use std::marker::Model;
 
-/// The size of a number.
+/// The number of bytes of a number in a record.
 #[derive(Clone, Copy, Debug, PartialEq, Eq)]
 pub enum Width {
     /// One byte.
@@ -16,33 +17,35 @@ pub enum Width {
     Eight,
 }
 
-/// A field of a record: how it is read, and its offset in bytes.
+/// A field of a record: its type, and its offset in bytes from the start of the record.
 #[derive(Clone, Copy, Debug, PartialEq, Eq)]
 pub enum Field {
     /// An unsigned number.
     Unsigned { offset: u32, width: Width },
     /// A signed number.
     Signed { offset: u32, width: Width },
-    /// The state in which a task leaves its processor: bits, of which a letter is made.
+    /// The state in which a task leaves its processor: a number whose bits are converted to a
+    /// letter.
     State { offset: u32, width: Width },
-    /// A text of at most `most` bytes that ends at its first zero byte. If `most` is 0, only the
-    /// record's end limits it.
+    /// A text of at most `most` bytes that ends at its first zero byte. If `most` is 0, the text
+    /// may extend to the end of the record.
     Text { offset: u32, most: u32 },
-    /// A text elsewhere in the record: a word of four bytes has its offset in the lower half, and
-    /// its length in the upper half. It ends at its first zero byte.
+    /// A text elsewhere in the record. The field is a number of four bytes, with the text's offset
+    /// in its lower half and the text's length in its upper half. The text ends at its first zero
+    /// byte.
     Located { offset: u32 },
 }
 
-/// The letter of a state's bits.
+/// The letter that is printed for some bits of a task's state.
 #[derive(Clone, Copy, Debug, PartialEq, Eq)]
 pub struct StateLetter {
-    /// The bits. A state has the letter if it has one of them.
+    /// The bits. A state has the letter if at least one of the bits is set in the state.
     pub bits: u64,
-    /// The letter.
+    /// The letter, as an ASCII byte.
     pub letter: u8,
 }
 
-/// Fields in order, which contracts see as a list.
+/// A list of fields, which contracts see as a logical list.
 #[derive(Drop)]
 pub struct FieldList {
     fields: Vec<Field>,
@@ -60,14 +63,14 @@ impl Model for FieldList {
 impl FieldList {
     ghost use Rattle.std.specs.Prelude.{◌≡◌};
 
-    /// A list with these fields.
+    /// Makes a list of the fields, in order.
     pub fn new(fields: Vec<Field>) -> Self
         ensures { result ≡ fields.items }
     {
         FieldList { fields }
     }
 
-    /// The fields, in order.
+    /// Returns the fields, in order.
     pub fn items(&self) -> &[Field]
         ensures { result.now ≡ self.now }
     {
@@ -75,7 +78,7 @@ impl FieldList {
     }
 }
 
-/// The letters of states in order, which contracts see as a list.
+/// A list of letters of states, which contracts see as a logical list.
 #[derive(Drop)]
 pub struct LetterList {
     letters: Vec<StateLetter>,
@@ -93,14 +96,14 @@ impl Model for LetterList {
 impl LetterList {
     ghost use Rattle.std.specs.Prelude.{◌≡◌};
 
-    /// A list with these letters.
+    /// Makes a list of the letters, in order.
     pub fn new(letters: Vec<StateLetter>) -> Self
         ensures { result ≡ letters.items }
     {
         LetterList { letters }
     }
 
-    /// The letters, in order.
+    /// Returns the letters, in order.
     pub fn items(&self) -> &[StateLetter]
         ensures { result.now ≡ self.now }
     {
@@ -108,18 +111,18 @@ impl LetterList {
     }
 }
 
-/// A kind of event.
+/// A kind of event, such as `sched_switch`, and the fields of its records.
 #[derive(Drop)]
 pub struct Kind {
-    /// The number at the start of its records.
+    /// The number of the kind, which is in the first two bytes of its records.
     pub number: u16,
-    /// Its name.
+    /// The name of the kind.
     pub name: Text,
-    /// The fields that are read.
+    /// The fields that are decoded, in the order of printing.
     pub fields: FieldList,
 }
 
-/// Kinds of events in order, which contracts see as a list.
+/// A list of kinds of events, which contracts see as a logical list.
 #[derive(Drop)]
 pub struct KindList {
     kinds: Vec<Kind>,
@@ -137,14 +140,14 @@ impl Model for KindList {
 impl KindList {
     ghost use Rattle.std.specs.Prelude.{◌≡◌};
 
-    /// A list with these kinds.
+    /// Makes a list of the kinds, in order.
     pub fn new(kinds: Vec<Kind>) -> Self
         ensures { result ≡ kinds.items }
     {
         KindList { kinds }
     }
 
-    /// The kinds, in order.
+    /// Returns the kinds, in order.
     pub fn items(&self) -> &[Kind]
         ensures { result.now ≡ self.now }
     {
@@ -152,15 +155,16 @@ impl KindList {
     }
 }
 
-/// The layout of a kernel's pages, and of the records of its events.
+/// The layout of the pages of a kernel's ring buffers, and of the event records in the pages.
 #[derive(Drop)]
 pub struct Layout {
     /// The size of a page in bytes.
     pub page: u32,
-    /// The size of a page's header in bytes. Its records follow.
+    /// The size of a page's header in bytes. The records follow the header.
     pub header: u32,
-    /// The letters of states. The first one that a state has counts, and `R` if it has none.
+    /// The letters of states. A state is printed as the first letter that has one of its bits, or
+    /// as `R` if no letter has one.
     pub letters: LetterList,
-    /// The kinds of events. If several have one number, the first counts.
+    /// The kinds of events. If several kinds have one number, the first of them applies.
     pub kinds: KindList,
 }

@@ -17,26 +17,26 @@ use Rattle.psi_spec.specs.Trace.{Trace}
 
 -- ---- the exits of the removed tasks
 
--- the pids of the live tasks in group `slot` or its descendants, ascending
+-- The pids of the live tasks in the group in slot `slot` or in its descendants, in ascending order.
 abbrev pub members : World → ℕ → List ℕ
 members w slot = map (λ e. e.0) (filter (λ e. is_under (parents_of w.groups) e.1.slot.0 slot) (tasks_by.entries w.tasks))
 
--- an optional task as its pid
+-- The pid of an optional task.
 abbrev pub pid_part : Option (ℕ × Task) → Option Pid
 pid_part None = None
 pid_part (Some e) = Some (record { 0 = e.0 })
 
--- how the running task, if any, leaves its processor when another task needs it
+-- How the optional running task leaves its processor when another task needs the processor.
 abbrev pub making_room : Option Pid → How
 making_room None = Idle
 making_room (Some pid) = Preempt
 
--- the acts (what events do) if the condition is true, and none if it is false
+-- The acts (what events do) if the condition is true; otherwise no acts.
 abbrev pub acts_if : Bool → List Act → List Act
 acts_if test acts = if test then acts else []
 
--- The acts that make a task exit, given the running task of its processor. The task is woken if it
--- is blocked, starts to run if it isn't running, ends its memory stall, and exits. Then the task
+-- The acts that make task `pid` exit, given the running task of its processor. The task is woken if
+-- it is blocked, starts to run if it isn't running, ends its memory stall, and exits. Then the task
 -- that was running before continues.
 abbrev pub exit_acts : ℕ → Task → Option Pid → List Act
 exit_acts pid task running =
@@ -45,13 +45,13 @@ exit_acts pid task running =
     ++ acts_if task.stalled (act.Unstall (record { 0 = pid }) ∷ [])
     ++ act.Switch task.cpu (if is_running task.mode then None else running) Exit ∷ []
 
--- the acts that make a task exit in world `w`; none if it doesn't exist
+-- The acts that make the optional task `pid` exit in world `w`. `None` has no acts.
 abbrev pub exit_of : World → ℕ → Option Task → List Act
 exit_of w pid None = []
 exit_of w pid (Some task) = exit_acts pid task (pid_part (running_on w.tasks task.cpu.0))
 
--- the events at time `at` (ns) that make the tasks exit one after another, each in the world after
--- the exits before it
+-- The events at time `at` (ns) that make the tasks with these pids exit one after another. Each
+-- task exits in the world after the exits before it.
 abbrev pub exits_from : ℕ → World → List ℕ → List Event
 exits_from at w [] = []
 exits_from at w (pid ∷ pids) =
@@ -60,16 +60,17 @@ exits_from at w (pid ∷ pids) =
 
 -- ---- the remaining events
 
--- the list contains the pid
+-- Whether the list of pids contains `pid`.
 abbrev pub is_pid_among : List ℕ → ℕ → Bool
 is_pid_among pids pid = list_any (λ dead. pid == dead) pids
 
--- an optional task is present and isn't dead (removed)
+-- Whether an optional task is present and isn't dead. A task is dead if it was removed from the
+-- trace.
 abbrev pub is_alive : List ℕ → Option Pid → Bool
 is_alive dead None = false
 is_alive dead (Some pid) = not (is_pid_among dead pid.0)
 
--- the task, or `None` if it is dead
+-- The optional task if it isn't dead; otherwise `None`.
 abbrev pub if_alive : List ℕ → Option Pid → Option Pid
 if_alive dead next = if is_alive dead next then next else None
 
@@ -81,12 +82,12 @@ switch_without dead cpu leaving next how =
     if is_alive dead leaving then act.Switch cpu (if_alive dead next) how ∷ [] else
     if is_alive dead next then act.Switch cpu next Idle ∷ [] else []
 
--- an act of task `pid`, or no act if the task is dead
+-- The act `what` of task `pid`, or no act if the task is dead.
 abbrev pub act_of : List ℕ → Pid → Act → List Act
 act_of dead pid what = acts_if (not (is_pid_among dead pid.0)) (what ∷ [])
 
--- The acts that remain of an act of the original trace. `w` is the world of that trace before the
--- act, and `dead` are the pids of the removed tasks.
+-- The acts that remain of an act of the original trace. `w` is the world of the original trace
+-- before the act, and `dead` are the pids of the removed tasks.
 abbrev pub act_without : List ℕ → World → Act → List Act
 act_without dead w (act.Wake pid cpu) = act_of dead pid (act.Wake pid cpu)
 act_without dead w (act.Stall pid) = act_of dead pid (act.Stall pid)
@@ -96,18 +97,18 @@ act_without dead w (act.Move pid path) = act_of dead pid (act.Move pid path)
 act_without dead w (act.Switch cpu next how) = switch_without dead cpu (pid_part (running_on w.tasks cpu.0)) next how
 act_without dead w what = what ∷ []
 
--- removes an optional pid from a list
+-- Removes an optional pid from a list of pids.
 abbrev pub without_pid : List ℕ → Option Pid → List ℕ
 without_pid dead None = dead
 without_pid dead (Some pid) = filter (λ other. not (other == pid.0)) dead
 
--- The dead tasks after an act. A dead task that exits in the original trace is no longer dead,
--- because its pid may be used for a new task.
+-- The dead tasks after an act, given the dead tasks before it. A dead task that exits in the
+-- original trace is no longer dead, because its pid may be used for a new task.
 abbrev pub dead_after : List ℕ → World → Act → List ℕ
 dead_after dead w (act.Switch cpu next Exit) = without_pid dead (pid_part (running_on w.tasks cpu.0))
 dead_after dead w what = dead
 
--- the events that remain of the events of the original trace after world `w`
+-- The remaining events, given the events of the original trace after world `w` and the dead tasks.
 abbrev pub rest_without : List ℕ → World → List Event → List Event
 rest_without dead w [] = []
 rest_without dead w (event ∷ events) =
@@ -120,9 +121,10 @@ rest_without dead w (event ∷ events) =
 abbrev pub suffix : List Event → ℕ → List Event
 suffix events at = drop (length (up_to events at)) events
 
--- The events of a trace without the tasks that are in group `victim` or its descendants at time
--- `at` (ns): the events up to `at`, the exits of these tasks one nanosecond later, and the
--- remaining events without these tasks. The events are unchanged if `at` is at or after the end.
+-- The events of a trace without the tasks that are in the group in slot `victim` or in its
+-- descendants at time `at` (ns): the events up to `at`, the exits of these tasks one nanosecond
+-- later, and the remaining events without these tasks. The events are unchanged if `at` is at or
+-- after the end of the trace.
 unfoldable pub without : List Event → ℕ → ℕ → List Event
 without events at victim =
     if nat_lt at (after events).last
@@ -131,6 +133,7 @@ without events at victim =
     ++ rest_without (members (after (up_to events at)) victim) (after (up_to events at)) (suffix events at)
     else events
 
--- the trace without the tasks that are in group `victim` or its descendants at time `at` (ns)
+-- The trace without the tasks that are in the group in slot `victim` or in its descendants at time
+-- `at` (ns).
 abbrev pub trace_without : Trace → ℕ → ℕ → Trace
 trace_without trace at victim = record trace { events = without trace.events at victim }
