@@ -1,20 +1,21 @@
--- Stronger results for this crate's own shelves and sinks than those of every shelf and sink.
+-- Results of the calls of this crate's shelves and sinks. They are stronger than the results that
+-- every shelf and sink must have.
 use Rattle.std.specs.Prelude.{◌≡◌, ℕ, ◌+◌, ◌-◌, ◌^◌, ◌≤◌, min, List, Option, Result, MatchResult}
 use Rattle.std.specs.Io.KnownBytes.{Appends}
 use Rattle.outside.specs.Outside.{AppendsPrefix}
 
--- a 64-bit count plus 1, saturating at its maximum
+-- A 64-bit count plus 1. A count at its maximum is unchanged.
 abbrev pub one_more : ℕ → ℕ
 one_more count = min (count + 1) (2 ^ 64 - 1)
 
--- the count `now` is `before` plus 1, saturating, if this happened, and `before` otherwise
+-- The count `now` is `before` plus 1 (saturating) if `Happened` holds, and `before` otherwise.
 pub record CountsWhere (Happened : Type 0) (before now : ℕ) : Type 0 where
   pub later : before ≤ now
   pub counted : Happened → now ≡ one_more before
   pub same : ¬ Happened → now ≡ before
 
--- if the sink's content is known, all these bytes were appended to it, or a prefix of them if the
--- call failed
+-- If the content of a sink is known, all of `bytes` were appended to it, or a prefix of `bytes` if
+-- the call failed. `old` and `new` are the contents before and after the call.
 abbrev pub PutsAll :
     {T E : Type 0} → Option (List ℕ) → Option (List ℕ) → Result T E → List ℕ → Type 0
 PutsAll old new result bytes =

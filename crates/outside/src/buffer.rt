@@ -1,4 +1,4 @@
-//! A sink that buffers bytes for another sink.
+//! A sink that buffers bytes for another sink, so that the other sink gets few large writes.
 ghost use Rattle.std.specs.Prelude.{◌≡◌, ◌+◌, ◌++◌, ◌≤◌, ℕ, List, length, drop, IfOk, OnOk, []};
 ghost use Rattle.std.specs.Io.KnownBytes.{Keeps, append_known};
 ghost use Rattle.outside.specs.Outside.{HasCause, SameInner, inner_of};
@@ -30,7 +30,7 @@ impl Model for Pending {
 }
 
 impl Pending {
-    /// Makes an empty buffer. Allocates all of its memory at once.
+    /// Makes an empty buffer. All of its memory is allocated at once.
     pub fn new(alloc: Global) -> Result<Pending, NoMemory>
         ensures { IfOk result (λ p. p ≡ []) }
     {
@@ -45,14 +45,14 @@ impl Pending {
         &self.bytes
     }
 
-    // The number of bytes for which there is capacity left.
+    // Returns the number of bytes that still fit in the buffer.
     fn room(&self) -> usize
         ensures { result + length self.now ≡ ROOM }
     {
         ROOM - self.bytes.len()
     }
 
-    // Appends bytes, which must fit.
+    // Appends bytes, which must fit in the buffer.
     fn append(&mut self, piece: &[u8])
         requires { length self.old + length piece.now ≤ ROOM }
         ensures { self.new ≡ self.old ++ piece.now }
@@ -73,12 +73,12 @@ impl Pending {
     }
 }
 
-/// A sink that buffers bytes for another sink, which it borrows, and forwards them in large writes:
-/// the pending bytes if a piece doesn't fit after them, and a piece of more than 65,536 bytes
-/// without a copy. Does not allocate.
+/// A sink that buffers bytes for another sink, which it borrows. It forwards the pending bytes in
+/// one write if a piece doesn't fit after them, and forwards a piece of more than 65,536 bytes
+/// without a copy. It does not allocate.
 ///
-/// Its content is the other sink's followed by the pending bytes, so nothing that was put is ever
-/// missing; its fault count is the other's. After a failed write nothing of the piece was taken.
+/// Its content is the content of the other sink followed by the pending bytes. Its fault count is
+/// the fault count of the other sink. After a failed write, no byte of the piece was taken.
 /// [`BufferedSink::flush`] forwards the pending bytes; without it they are lost.
 #[derive(Drop)]
 pub struct BufferedSink<'a, K> {
@@ -87,7 +87,7 @@ pub struct BufferedSink<'a, K> {
 }
 
 impl<'a, K: Sink> BufferedSink<'a, K> {
-    /// A buffered sink over `out`. `pending` must be empty.
+    /// Makes a buffered sink for the sink `out`. `pending` must be empty.
     pub fn new(out: &'a mut K, pending: &'a mut Pending) -> BufferedSink<'a, K>
         requires { pending.old ≡ [] }
         ensures same_reference { result.out.ghost_name ≡ out.entry.ghost_name }

@@ -1,10 +1,10 @@
 //! The traits for a replay's input and output, and functions that read and write through them. The
 //! traits are implemented elsewhere: for real files in `host_files`, for tests in `outside_fakes`.
 //!
-//! [`Shelf`] (files by name), [`Sink`] (places to write to) and [`Gate`] (points at which a test
-//! may pause a thread); [`BufferedSink`], which buffers bytes for another sink; [`read_after`];
-//! [`put_all`], [`put_each`] and [`put_number`]; and [`Tally`] and [`ReadLog`], a count and a log
-//! that only proofs read.
+//! [`Shelf`] is a store of files by name, [`Sink`] an output, and [`Gate`] a set of points at which
+//! a test may pause a thread. [`BufferedSink`] buffers bytes for another sink. [`read_after`],
+//! [`put_all`], [`put_each`] and [`put_number`] read and write. [`Tally`] and [`ReadLog`] are a
+//! count and a log that only proofs read.
 #![tactic(auto)]
 
 mod buffer;

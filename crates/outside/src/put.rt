@@ -1,4 +1,4 @@
-//! Writes whole texts and numbers to a sink.
+//! Writes whole texts and numbers to a sink, which may take only a part of the bytes of each write.
 ghost use Rattle.std.specs.Prelude.{◌≡◌, ◌≤◌, length, take, OnOk, decimal};
 ghost use Rattle.std.specs.Io.KnownBytes.{Appends};
 ghost use Rattle.std.specs.List.{flat_map};
@@ -7,8 +7,8 @@ ghost use Rattle.outside.specs.Calls.{PutsAll};
 
 use crate::sink::{Sink, WriteFailed};
 
-// Writes the bytes in order until all are taken or a write fails: returns how many were taken, and
-// whether that was all.
+// Writes the bytes in order until all are taken or a write fails. Returns the number of bytes
+// taken, and whether a write failed.
 #[tactic(auto, using(crate::proofs::Grows::growth))]
 pub(crate) fn send<K: Sink>(out: &mut K, bytes: &[u8]) -> (usize, Result<(), WriteFailed>)
     ensures bound { result.0 ≤ length bytes.now }
@@ -38,7 +38,7 @@ pub fn put_all<K: Sink>(out: &mut K, bytes: &[u8]) -> Result<(), WriteFailed>
     result
 }
 
-/// Writes all the pieces in order. After a failure the sink has a prefix of their joined bytes.
+/// Writes all the pieces in order. After a failure the sink has a prefix of their concatenation.
 #[tactic(auto, using(crate::proofs::Grows::growth))]
 pub fn put_each<K: Sink>(out: &mut K, pieces: &[&[u8]]) -> Result<(), WriteFailed>
     ensures bytes { PutsAll (K.has out.old) (K.has out.new) result

@@ -1,4 +1,4 @@
-//! Reads of a shelf into a partly filled buffer.
+//! Reads a file of a shelf into the free part of a buffer.
 ghost use Rattle.std.specs.Prelude.{◌≡◌, ◌⊎◌, ◌+◌, ◌<◌, ◌≤◌, ℕ, List, Some, None, length, drop, take, IfOk, IsErrOf};
 ghost use Rattle.outside.specs.Outside.{HasCauses, IsAbsent, ReadsBytes, counts_of, count_read, content_of};
 ghost use Rattle.outside.specs.Reads.{ReadsFrom, after_read};

@@ -1,12 +1,12 @@
-//! Files by name.
+//! The trait for reading files by name, and the failures of a read.
 ghost use Rattle.std.specs.Prelude.{◌≡◌, ◌⊎◌, ◌+◌, ◌++◌, ◌∷◌, [], ℕ, List, Option, Some, None, length, IfOk, IsErrOf, ◌≤◌};
 ghost use Rattle.outside.specs.Outside.{Files, HasCauses, IsAbsent, ReadsBytes, counts_of, count_read, content_of};
 ghost use Rattle.outside.specs.Reads.{ReadCall, read_call};
 
-/// Why a shelf returned no bytes.
+/// The failure of a read.
 #[derive(Clone, Copy, Debug, PartialEq, Eq)]
 pub enum ShelfFault {
-    /// There is no file with this name. The shelf counts it as absent.
+    /// There is no file with this name. The shelf counts the read as absent.
     NoFile,
     /// The read failed. The shelf counts it as a fault.
     Failed,
@@ -16,13 +16,14 @@ pub enum ShelfFault {
 /// `absent` have 64 bits, start at 0, never fall, and saturate. The count `bytes_read` and the log
 /// `reads` exist only in proofs, and are unbounded.
 pub trait Shelf {
-    /// The files' names and contents, if known. If a name occurs twice, the first pair counts.
+    /// The names and contents of the files, if known. If two files have one name, the first
+    /// applies.
     ghost holds: { Self → Option Files };
 
     /// The number of failed reads.
     ghost faults: { Self → ℕ };
 
-    /// The number of reads of a missing name.
+    /// The number of reads of names that don't exist.
     ghost absent: { Self → ℕ };
 
     /// The number of bytes returned by all reads.
@@ -31,11 +32,11 @@ pub trait Shelf {
     /// The log of all reads, in order.
     ghost reads: { Self → List ReadCall };
 
-    /// Reads the file `name` from offset `at` (bytes) on into the start of `into`, and returns the
+    /// Reads the file `name` from offset `at` (bytes) into the beginning of `into`, and returns the
     /// number of bytes read. For a nonempty buffer, 0 means the end of the file.
     ///
-    /// If the contents are known, the result is `NoFile` only for a name that doesn't exist, and
-    /// for such a name it is always `NoFile` or `Failed`.
+    /// If the contents of the shelf are known, the result is `NoFile` only for a name that doesn't
+    /// exist, and a read of such a name always returns `NoFile` or `Failed`.
     fn read_at(&mut self, name: &str, at: u64, into: &mut [u8]) -> Result<usize, ShelfFault>
         ensures unchanged { holds self.new ≡ holds self.old }
         ensures bound { IfOk result (λ n. n ≤ length into.new) }

@@ -18,14 +18,14 @@ impl Model for Tally {
 }
 
 impl Tally {
-    /// A sum of 0.
+    /// Makes a sum of 0.
     pub fn new() -> Tally
         ensures { result.count ≡ 0 }
     {
         Tally {}
     }
 
-    /// Adds an amount.
+    /// Returns the sum plus `more`.
     #[inline(always)]
     pub fn and(&self, more: usize) -> Tally
         ensures { result.count ≡ self.now.count + more }
@@ -34,20 +34,20 @@ impl Tally {
     }
 }
 
-/// A log entry: one call of `read_at`.
+/// An entry of the log of reads: one call of `read_at`.
 #[derive(Drop)]
 pub struct Call<'a> {
-    /// The name that was read.
+    /// The name of the file that was read.
     pub name: &'a str,
     /// The offset of the read, in bytes.
     pub at: u64,
     /// The requested number of bytes.
     pub size: usize,
-    /// The returned number of bytes, or the fault.
+    /// The number of bytes returned, or the fault.
     pub outcome: Result<usize, ShelfFault>,
 }
 
-/// The ghost log of a shelf's reads, in order. Contracts read it as `calls`.
+/// The ghost log of the reads of a shelf, in order. Contracts read it as `calls`.
 #[derive(Drop)]
 pub struct ReadLog {
     pub ghost calls: { List ReadCall },
@@ -58,14 +58,14 @@ impl Model for ReadLog {
 }
 
 impl ReadLog {
-    /// An empty log.
+    /// Makes an empty log.
     pub fn new() -> ReadLog
         ensures { result.calls ≡ [] }
     {
         ReadLog {}
     }
 
-    /// Adds a read.
+    /// Returns the log with `call` appended.
     #[inline(always)]
     pub fn and(&self, call: &Call<'_>) -> ReadLog
         ensures { result.calls ≡ self.now.calls ++ read_call call.now.name.now

@@ -1,5 +1,5 @@
-//! A shelf and a sink in memory that fail only when their capacity is used up. Their contracts give
-//! the exact result of each call.
+//! A shelf and a sink in memory for tests. The shelf never fails a read, and the sink fails only if
+//! it is full. Their contracts specify the exact result of each call.
 ghost use Rattle.std.specs.Prelude.{◌≡◌, ◌+◌, ◌-◌, ◌<◌, ◌≤◌, Some, length, min, IfOk, IsErr, vec_capacity, vec_len, IsErrOf, ◌↔◌, [], ◌++◌, ◌∷◌};
 ghost use Rattle.std.specs.Io.KnownBytes.{WriteAppends};
 ghost use Rattle.outside_fakes.specs.Memory.{GivesOf};
@@ -12,24 +12,24 @@ use outside::{Call, ReadLog, Shelf, ShelfFault, Sink, Tally, WriteFailed};
 use psi_base::{NoMemory, Text};
 use std::alloc::Global;
 
-/// A shelf in memory that never fails.
+/// A shelf in memory that never fails to read a file that exists.
 #[derive(Drop)]
 pub struct HonestShelf {
-    /// Names with their bytes; if two pairs have one name, the first counts.
+    /// The names and bytes of the files. If two files have one name, the first applies.
     pub files: Vec<(Text, Text)>,
     /// The largest number of bytes that one call returns, at least 1.
     pub most: usize,
-    /// The number of calls with a missing name.
+    /// The number of reads of names that don't exist.
     pub absent: u64,
-    /// The number of bytes returned by all calls.
+    /// The number of bytes that all reads returned.
     pub bytes_read: Tally,
-    /// The log of all calls.
+    /// The log of all reads, in order.
     pub reads: ReadLog,
     ghost gives: { 0 < most },
 }
 
 impl HonestShelf {
-    /// Makes a shelf of these files.
+    /// Makes a shelf of the files, each of whose reads returns at most `most` bytes.
     pub fn new(files: Vec<(Text, Text)>, most: usize) -> HonestShelf
         requires { 0 < most }
         ensures { (result.files ≡ files) × (result.most ≡ most) × (result.absent ≡ 0)
@@ -56,8 +56,8 @@ impl Shelf for HonestShelf {
 
     ghost reads = { λ s. s.reads.calls };
 
-    /// Reads the bytes from offset `at` (bytes) on, at most `most` and at most the length of
-    /// `into`. Returns `NoFile` for a missing name.
+    /// Reads the bytes of the file from offset `at` (bytes), at most `most` and at most the length
+    /// of `into`. Returns `NoFile` if there is no file with this name.
     fn read_at(&mut self, name: &str, at: u64, into: &mut [u8]) -> Result<usize, ShelfFault>
         ensures unchanged { (self.new.files ≡ self.old.files) × (self.new.most ≡ self.old.most) }
         ensures bytes_read { self.new.bytes_read.count
@@ -90,22 +90,22 @@ impl Shelf for HonestShelf {
     }
 }
 
-/// A sink in memory that fails only if it is full. It allocates everything at the start, and never
-/// grows.
+/// A sink in memory that fails only if it is full. It allocates all memory when it is made, and
+/// never grows.
 #[derive(Drop)]
 pub struct HonestSink {
     /// The bytes that were written.
     pub bytes: Vec<u8>,
-    /// Its capacity in bytes.
+    /// The capacity of the sink in bytes.
     pub room: usize,
-    /// The number of failed calls.
+    /// The number of failed writes.
     pub faults: u64,
     ghost inside: { vec_len bytes ≤ room },
     ghost reserved: { room ≤ vec_capacity bytes },
 }
 
 impl HonestSink {
-    /// Makes an empty sink with a capacity of `room` bytes, which it allocates at once.
+    /// Makes an empty sink with a capacity of `room` bytes, which are allocated at once.
     pub fn new(alloc: Global, room: usize) -> Result<HonestSink, NoMemory>
         ensures { IfOk result (λ s. (s.bytes.items ≡ []) × (s.room ≡ room)
             × (s.faults ≡ 0)) }

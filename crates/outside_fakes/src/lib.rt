@@ -1,8 +1,8 @@
-//! Shelves and sinks in memory, for tests; the programs don't use them. Their contracts give the
+//! Shelves and sinks in memory, for tests; the programs don't use them. Their contracts specify the
 //! exact result of each call.
 //!
-//! Some calls of the [`MemShelf`] and the [`MemSink`] fail, by number; the [`HonestShelf`] never
-//! fails, and the [`HonestSink`] fails only if it is full.
+//! The calls of the [`MemShelf`] and the [`MemSink`] with given numbers fail. The [`HonestShelf`]
+//! never fails, and the [`HonestSink`] fails only if it is full.
 #![tactic(auto)]
 
 mod honest;

@@ -1,5 +1,5 @@
-//! A shelf and a sink in memory, some of whose calls fail. Their contracts give the exact result of
-//! each call.
+//! A shelf and a sink in memory for tests, whose calls with given numbers fail. Their contracts
+//! specify the exact result of each call.
 ghost use Rattle.std.specs.Prelude.{◌≡◌, ◌⊎◌, ◌+◌, ◌-◌, ◌<◌, ◌≤◌, Some, None, length, take, drop, min, IfOk, IsErr, IsTrue, MatchOption, vec_capacity, vec_len, Contains, IsErrOf, ◌↔◌, [], ◌++◌, ◌∷◌};
 ghost use Rattle.std.specs.Io.KnownBytes.{WriteAppends};
 ghost use Rattle.outside_fakes.specs.Memory.{GivesOf};
@@ -11,7 +11,7 @@ use outside::{Call, ReadLog, Shelf, ShelfFault, Sink, Tally, WriteFailed};
 use psi_base::{NoMemory, Text};
 use std::alloc::Global;
 
-// The contents of the file with this name, if it exists.
+// Returns the contents of the file with this name, if the file exists.
 pub(crate) fn find<'a>(files: &'a [(Text, Text)], name: &[u8]) -> Option<&'a [u8]>
     ensures { MatchOption result (bytes_of files.now name.now ≡ None)
         (λ found. bytes_of files.now name.now ≡ Some found.now) }
@@ -24,8 +24,8 @@ pub(crate) fn find<'a>(files: &'a [(Text, Text)], name: &[u8]) -> Option<&'a [u8
     None
 }
 
-// Copies the bytes from offset `at` on into `into`, at most `most` and at most as many as fit, and
-// returns their number.
+// Copies bytes from offset `at` into the beginning of `into`: at most `most` bytes, and at most the
+// length of `into`. Returns the number of bytes copied.
 pub(crate) fn copy_part(bytes: &[u8], at: u64, most: usize, into: &mut [u8]) -> usize
     ensures count { result ≡ min most (min (length into.new) (length bytes.now - at)) }
     ensures bytes { take result into.new ≡ take result (drop at bytes.now) }
@@ -40,8 +40,8 @@ pub(crate) fn copy_part(bytes: &[u8], at: u64, most: usize, into: &mut [u8]) -> 
     count
 }
 
-// Like `copy_part`, for the file with this name. Adds to the count of bytes, or to that of missing
-// names.
+// Copies a part of the file with this name, as `copy_part` does. Adds to the count of bytes read,
+// or to the count of missing files.
 pub(crate) fn give(
     files: &[(Text, Text)],
     most: usize,
@@ -70,7 +70,7 @@ pub(crate) fn give(
     }
 }
 
-// Appends a prefix of `piece`: as much as fits in a sink of `room` bytes, at most `most` bytes.
+// Appends a prefix of `piece`: as much as fits in a sink of `room` bytes, but at most `most` bytes.
 pub(crate) fn take_part(bytes: &mut Vec<u8>, room: usize, most: usize, piece: &[u8]) -> usize
     requires full { vec_len bytes.old ≤ room }
     requires room { room ≤ vec_capacity bytes.old }
@@ -86,24 +86,24 @@ pub(crate) fn take_part(bytes: &mut Vec<u8>, room: usize, most: usize, piece: &[
     count
 }
 
-// Whether `piece` isn't empty and the sink is full.
+// Returns whether `piece` isn't empty and the sink is full.
 pub(crate) fn finds_no_room(bytes: &[u8], room: usize, piece: &[u8]) -> bool
     ensures { IsTrue result ↔ ((0 < length piece.now) × (length bytes.now ≡ room)) }
 {
     !piece.is_empty() && bytes.len() == room
 }
 
-// Whether the write with the number `call` is to fail.
+// Returns whether write number `call` must fail: its number is in `fails`, or the sink is full.
 fn is_failing(fails: &[u64], call: u64, is_full: bool) -> bool
     ensures { IsTrue result ↔ (Contains fails.now call ⊎ IsTrue is_full) }
 {
     fails.contains(&call) || is_full
 }
 
-/// A shelf in memory, some of whose calls fail.
+/// A shelf in memory whose reads with given numbers fail.
 #[derive(Drop)]
 pub struct MemShelf {
-    /// Names with their bytes; if two pairs have one name, the first counts.
+    /// The names and bytes of the files. If two files have one name, the first applies.
     pub files: Vec<(Text, Text)>,
     /// The largest number of bytes that one call returns, at least 1.
     pub most: usize,
@@ -113,17 +113,18 @@ pub struct MemShelf {
     pub calls: u64,
     /// The number of failed calls.
     pub faults: u64,
-    /// The number of calls with a missing name.
+    /// The number of reads of names that don't exist.
     pub absent: u64,
-    /// The number of bytes returned by all calls.
+    /// The number of bytes that all reads returned.
     pub bytes_read: Tally,
-    /// The log of all calls.
+    /// The log of all reads, in order.
     pub reads: ReadLog,
     ghost gives: { 0 < most },
 }
 
 impl MemShelf {
-    /// Makes a shelf of these files.
+    /// Makes a shelf of the files. Each read returns at most `most` bytes, and the reads with the
+    /// numbers `fails` fail.
     pub fn new(files: Vec<(Text, Text)>, most: usize, fails: Vec<u64>) -> MemShelf
         requires { 0 < most }
         ensures { (result.files ≡ files) × (result.most ≡ most) × (result.fails ≡ fails)
@@ -154,8 +155,9 @@ impl Shelf for MemShelf {
 
     ghost reads = { λ s. s.reads.calls };
 
-    /// Fails if the number of this call is in `fails`. Otherwise reads the bytes from offset `at`
-    /// (bytes) on, at most `most` and at most the length of `into`; `NoFile` for a missing name.
+    /// Fails if the number of this call is in `fails`. Otherwise reads the bytes of the file from
+    /// offset `at` (bytes), at most `most` and at most the length of `into`, or returns `NoFile` if
+    /// there is no file with this name.
     fn read_at(&mut self, name: &str, at: u64, into: &mut [u8]) -> Result<usize, ShelfFault>
         ensures unchanged { (self.new.files ≡ self.old.files) × (self.new.most ≡ self.old.most)
             × (self.new.fails ≡ self.old.fails) }
@@ -206,13 +208,13 @@ impl Shelf for MemShelf {
     }
 }
 
-/// A sink in memory, some of whose calls fail. It allocates everything at the start, and never
-/// grows.
+/// A sink in memory whose writes with given numbers fail. It allocates all memory when it is made,
+/// and never grows.
 #[derive(Drop)]
 pub struct MemSink {
     /// The bytes that were written.
     pub bytes: Vec<u8>,
-    /// Its capacity in bytes.
+    /// The capacity of the sink in bytes.
     pub room: usize,
     /// The largest number of bytes that one call takes, at least 1.
     pub most: usize,

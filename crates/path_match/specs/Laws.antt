@@ -1,4 +1,4 @@
--- Laws of matching paths, and of parsing patterns.
+-- Laws of matching patterns against paths, and of parsing patterns.
 use Rattle.std.specs.Prelude.{◌≡◌, ◌↔◌, ◌≢◌, ◌⊎◌, ℕ, List, [], ◌∷◌, length, true, All, codes, Ok}
 use Rattle.std.specs.List.{join_with_byte, zip}
 use Rattle.psi_base.specs.Path.{is_path}
@@ -7,8 +7,8 @@ use Rattle.path_match.specs.Answers.{ArePatterns, Matches, MatchesComponent, Mat
 
 -- ---- matching
 
--- The Boolean test `is_match` agrees with the relation: it is true exactly if at least one pattern
--- matches.
+-- The Boolean test `is_match` agrees with the relation `MatchesSome`: it is true if and only if at
+-- least one pattern matches.
 abbrev pub TestShows : Type 0
 TestShows = (patterns : List Pattern) (path : List ℕ) → (is_match patterns path ≡ true) ↔ MatchesSome patterns path
 
@@ -16,7 +16,7 @@ TestShows = (patterns : List Pattern) (path : List ℕ) → (is_match patterns p
 abbrev pub RootAlone : Type 0
 RootAlone = (path : List ℕ) → Matches [] path ↔ (path ≡ codes "/")
 
--- A path, as a pattern, matches itself and no other path.
+-- A path that is used as a pattern matches itself and no other path.
 abbrev pub PathMatchesItself : Type 0
 PathMatchesItself = (text path : List ℕ) → is_path text ≡ true → is_path path ≡ true → Matches (components text) path ↔ (path ≡ text)
 
@@ -26,25 +26,25 @@ StarMatchesAny = (bytes : List ℕ) → MatchesComponent (codes "*") bytes
 
 -- ---- parsing
 
--- The text spells the pattern: it is the pattern's own text, or this text after a slash, unless the
--- pattern is the root's.
+-- `text` spells `pattern`: it is the text of the pattern, with or without a leading slash. The
+-- root's pattern has only one spelling.
 abbrev pub SpellsPattern : List ℕ → Pattern → Type 0
 SpellsPattern text pattern = (text ≡ pattern_text pattern) ⊎ ((pattern ≢ []) × (text ≡ 47 ∷ pattern_text pattern))
 
--- the text spells the patterns: its parts between commas spell them one by one
+-- `text` spells the list `patterns`: its parts between commas spell the patterns one by one.
 pub record SpellsEach (text : List ℕ) (patterns : List Pattern) : Type 0 where
   pub parts : List (List ℕ)
   pub joined : text ≡ join_with_byte 44 parts
   pub as_many : length parts ≡ length patterns
   pub each : All (λ pair. SpellsPattern pair.0 pair.1) (zip parts patterns)
 
--- Parsing a text succeeds with `patterns` exactly if the text spells them, and they are 1 to 16
--- well-formed patterns.
+-- Parsing `text` succeeds with the result `patterns` if and only if `text` spells `patterns`, and
+-- these are 1 to 16 well-formed patterns.
 abbrev pub ReadsPatterns : Type 0
 ReadsPatterns =
     (text : List ℕ) (patterns : List Pattern) → (patterns_of text ≡ Ok patterns) ↔ (ArePatterns patterns × SpellsEach text patterns)
 
--- Round trip: parsing the text of patterns gives the same patterns.
+-- Round trip: parsing the text of a list of patterns gives this list.
 abbrev pub ReadAgain : Type 0
 ReadAgain = (patterns : List Pattern) → ArePatterns patterns → patterns_of (patterns_text patterns) ≡ Ok patterns
 

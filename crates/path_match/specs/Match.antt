@@ -1,5 +1,5 @@
--- Patterns of cgroup paths, as a rules file has them: components that may contain stars. Also the
--- Boolean test whether a pattern matches a path.
+-- Patterns of control group paths, which occur in rules files: components that may contain stars.
+-- The file also defines the Boolean test whether a pattern matches a path.
 use Rattle.std.specs.Prelude.{ℕ, List, [], ◌∷◌, length, map, nat_lt, nat_le, ◌==◌, ◌&&◌, ◌||◌, not, Bool, true, false, if◌then◌else◌, codes, Result, Ok, Err}
 use Rattle.std.specs.List.{join_with_byte, list_all, list_any}
 use Rattle.std.specs.Str.{bytes_eq}
@@ -7,34 +7,36 @@ use Rattle.psi_base.specs.Path.{parts_at, is_path_byte}
 use Rattle.path_match.specs.declared.fault.PatternFault.{PatternFault}
 use Rattle.path_match.specs.declared.fault.PatternFault.TheVariants.{BadPattern, TooMany}
 
--- a pattern, as the list of its components; the root's pattern has none
+-- A pattern, represented by the list of its components. The root's pattern has no components.
 abbrev pub Pattern : Type 0
 Pattern = List (List ℕ)
 
--- the text without its first byte if that is a slash
+-- The text without its first byte if this byte is a slash; otherwise the text.
 abbrev pub after_slash : List ℕ → List ℕ
 after_slash [] = []
 after_slash (byte ∷ bytes) = if byte == 47 then bytes else byte ∷ bytes
 
--- the components of a path or pattern, separated by slashes; the root has none
+-- The components of a path or pattern, which are separated by slashes. The root has no components.
 unfoldable pub components : List ℕ → List (List ℕ)
 components text = if bytes_eq text (codes "/") then [] else parts_at 47 (after_slash text)
 
--- a byte that a component of a path may have, or a star
+-- Whether the byte `c` may occur in a component of a pattern: it may occur in a component of a
+-- path, or is a star (42).
 abbrev pub is_pattern_byte : ℕ → Bool
 is_pattern_byte c = is_path_byte c || c == 42
 
--- a component of a pattern: one or more pattern bytes, but not `.` or `..`
+-- Whether the bytes are a component of a pattern: one or more pattern bytes, but neither `.` nor
+-- `..`.
 abbrev pub is_pattern_component : List ℕ → Bool
 is_pattern_component part =
     nat_lt 0 (length part) && list_all is_pattern_byte part && not (bytes_eq part (codes ".")) && not (bytes_eq part (codes ".."))
 
--- the text is a pattern: the root, or components with or without a slash before the first
+-- Whether the text is a pattern: the root, or components with or without a slash before the first.
 abbrev pub is_pattern : List ℕ → Bool
 is_pattern text = list_all is_pattern_component (components text)
 
--- Parses patterns, which are separated by commas. `BadPattern` if a part isn't a pattern; otherwise
--- `TooMany` if there are more than 16.
+-- Parses patterns, which are separated by commas. The error is `BadPattern` if a part isn't a
+-- pattern; otherwise `TooMany` if there are more than 16 parts.
 unfoldable pub patterns_of : List ℕ → Result (List Pattern) PatternFault
 patterns_of text =
     if list_all is_pattern (parts_at 44 text) then (if nat_le (length (parts_at 44 text)) 16
@@ -42,38 +44,39 @@ patterns_of text =
 
 -- ---- matching
 
--- the test passes for at least one suffix of the bytes (the whole and the empty suffix included)
+-- Whether the test passes for at least one suffix of the bytes. The suffixes include all bytes and
+-- the empty list.
 abbrev pub some_end : (List ℕ → Bool) → List ℕ → Bool
 some_end test [] = test []
 some_end test (byte ∷ bytes) = test (byte ∷ bytes) || some_end test bytes
 
--- the first byte is `c`, and the test passes for the bytes after it
+-- Whether the first byte is `c`, and the test passes for the bytes after it.
 abbrev pub begins : ℕ → (List ℕ → Bool) → List ℕ → Bool
 begins c test [] = false
 begins c test (byte ∷ bytes) = c == byte && test bytes
 
--- a component of a pattern matches a component of a path
+-- Whether a component of a pattern (the first argument) matches a component of a path.
 abbrev pub is_component_match : List ℕ → List ℕ → Bool
 is_component_match [] [] = true
 is_component_match [] (byte ∷ bytes) = false
 is_component_match (c ∷ pattern) bytes =
     if c == 42 then some_end (is_component_match pattern) bytes else begins c (is_component_match pattern) bytes
 
--- the components of a pattern match the components of a path, one by one
+-- Whether the components of a pattern match the components of a path, one by one.
 abbrev pub are_matches : Pattern → List (List ℕ) → Bool
 are_matches [] [] = true
 are_matches [] (part ∷ parts) = false
 are_matches (component ∷ pattern) [] = false
 are_matches (component ∷ pattern) (part ∷ parts) = is_component_match component part && are_matches pattern parts
 
--- At least one pattern matches the path. Detectors and actions use this test. The law `TestShows`
--- says that it agrees with the relation `MatchesSome`.
+-- Whether at least one pattern matches the path. Detectors and actions use this test. The law
+-- `TestShows` states that it agrees with the relation `MatchesSome`.
 unfoldable pub is_match : List Pattern → List ℕ → Bool
 is_match patterns path = list_any (λ pattern. are_matches pattern (components path)) patterns
 
 -- ---- texts
 
--- the text of a pattern: `/` for the root, otherwise the components separated by slashes
+-- The text of a pattern: `/` for the root, otherwise the components separated by slashes.
 abbrev pub pattern_text : Pattern → List ℕ
 pattern_text [] = codes "/"
 pattern_text (component ∷ pattern) = join_with_byte 47 (component ∷ pattern)

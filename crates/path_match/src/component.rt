@@ -9,21 +9,21 @@ ghost use Rattle.path_match.specs.Match.{are_matches, components, is_component_m
 use crate::form::after_slash;
 use psi_base::Parts;
 
-/// The last star that the search has passed.
+/// The last star of the pattern that the search has passed.
 #[derive(Clone, Copy)]
 struct LastStar {
     /// The index of the pattern's byte after the star.
     suffix: usize,
-    /// The index after the bytes of the path's component that the star matches.
+    /// The index of the component's byte after the bytes that the star matches.
     end: usize,
 }
 
 // Returns whether a component of a pattern matches a component of a path: a star matches any bytes,
 // including none, and any other byte matches itself.
 //
-// If the pattern after the last star doesn't match, that star takes one more byte. Earlier stars
-// keep their shortest match, because a longer match would only leave fewer bytes to the last star.
-// So the number of steps is at most about the product of the two lengths.
+// If the pattern after the last star doesn't match, the search lets that star match one more byte.
+// Earlier stars keep their shortest match, because a longer match would only leave fewer bytes to
+// the last star. So the number of steps is at most about the product of the two lengths.
 fn matches_component(pattern: &[u8], bytes: &[u8]) -> bool
     ensures { result ≡ is_component_match pattern.now bytes.now }
 {
@@ -81,7 +81,7 @@ fn matches_components(pattern: &[u8], path: &[u8]) -> bool
     found.next_part().is_none()
 }
 
-/// Returns whether a pattern matches a path; both are texts. The root has no components.
+/// Returns whether a pattern matches a path. Both are given as text. The root has no components.
 #[tactic(auto, unfolding(crate::specs::Match::components))]
 pub fn matches_pattern(pattern: &[u8], path: &[u8]) -> bool
     ensures { result ≡ are_matches (components pattern.now) (components path.now) }

@@ -1,6 +1,6 @@
-//! Why a text is not a list of patterns.
+//! The causes for which a text is not a list of patterns.
 //!
-//! The rules of the syntax are in `form`.
+//! The syntax of patterns is defined in `form`.
 
 /// The cause for which a text isn't a list of patterns.
 #[derive(Clone, Copy, Debug, PartialEq, Eq)]

@@ -1,6 +1,6 @@
-//! The syntax of patterns: tests whether a text is a list of patterns.
+//! Tests whether a text is a list of patterns, by the syntax of patterns.
 //!
-//! What a pattern matches is in `component`.
+//! The test whether a pattern matches a path is in `component`.
 ghost use Rattle.std.specs.Prelude.{◌≡◌, length, nat_le};
 ghost use Rattle.std.specs.List.{list_all};
 ghost use Rattle.psi_base.specs.Path.{parts_at};
@@ -26,8 +26,8 @@ fn are_pattern_bytes(part: &[u8]) -> bool
     part.iter().all(|c| is_pattern_byte(*c))
 }
 
-// Returns whether the bytes are a component of a pattern: one or more pattern bytes, but not `.` or
-// `..`.
+// Returns whether the bytes are a component of a pattern: one or more pattern bytes, but neither
+// `.` nor `..`.
 fn is_component(part: &[u8]) -> bool
     ensures { result ≡ is_pattern_component part.now }
 {

@@ -1,4 +1,4 @@
-//! Laws of patterns.
+//! Laws of patterns: how they match paths, and how they are parsed.
 //!
 //! Each function has an empty body: its contract is the law.
 ghost use Rattle.path_match.specs.Laws.{PathMatchesItself, ReadAgain, ReadsPatterns, RootAlone, SlashIsFree, StarMatchesAny, TestShows};
@@ -12,9 +12,9 @@ pub fn law_matching()
     ensures star { StarMatchesAny }
 {}
 
-/// Laws of parsing patterns: a text is accepted exactly if it spells 1 to 16 well-formed patterns;
-/// parsing the text of patterns gives the same patterns (a round trip); and a slash before the
-/// first component changes nothing.
+/// Laws of parsing patterns: a text is accepted if and only if it spells 1 to 16 well-formed
+/// patterns; parsing the text of a list of patterns gives this list (a round trip); and a slash
+/// before the first component doesn't change a pattern.
 pub fn law_reading_patterns()
     ensures spelled { ReadsPatterns }
     ensures again { ReadAgain }

@@ -1,4 +1,4 @@
-//! A list of patterns, as an argument in a rules file has it.
+//! A list of patterns, which is the type of some arguments in a rules file.
 //!
 //! The syntax of patterns is in `form`, and the test for a single pattern is in `component`.
 ghost use Rattle.std.specs.Prelude.{◌≡◌, ◌↔◌, ◌++◌, Err, IsTrue, IsOk, IfOk, OnErr, OnOk, map};
@@ -16,11 +16,11 @@ use std::alloc::Global;
 use std::marker::Model;
 
 /// A list of 1 to 16 patterns of paths. Contracts see each pattern as a list of components; the
-/// root has none. A component consists of letters, digits, stars and `_.@:-\`, and isn't `.` or
-/// `..`; there is no limit on its length or on the number of components.
+/// root's pattern has no components. A component consists of letters, digits, stars and `_.@:-\`,
+/// and is neither `.` nor `..`. There is no limit on its length or on the number of components.
 #[derive(Drop)]
 pub struct Patterns {
-    /// The text of the patterns as it was parsed, separated by commas.
+    /// The parsed text of the patterns, which are separated by commas.
     text: Text,
 }
 
@@ -73,8 +73,8 @@ impl Patterns {
     }
 
     /// Returns whether at least one of the patterns matches the path. A pattern matches if it has
-    /// the same number of components and each matches; a star matches any bytes within one
-    /// component, including none.
+    /// as many components as the path and each component matches; a star matches any bytes within
+    /// one component, including none.
     pub fn matches(&self, path: &Path) -> bool
         ensures relation { IsTrue result ↔ MatchesSome self.now path.now }
         ensures test { result ≡ is_match self.now path.now }
@@ -91,8 +91,8 @@ impl Patterns {
         Ok(Patterns { text })
     }
 
-    /// Appends the text of the patterns, separated by commas. The root is `/`; any other pattern
-    /// has no slash before its first component. After `NoMemory` the bytes are unchanged.
+    /// Appends the text of the patterns, separated by commas. The root is written as `/`; any other
+    /// pattern has no slash before its first component. After `NoMemory` the bytes are unchanged.
     pub fn write(&self, to: &mut Vec<u8>) -> Result<(), NoMemory>
         ensures text { OnOk result (to.new.items ≡ to.old.items ++ patterns_text self.now) }
         ensures unchanged { OnErr result (to.new.items ≡ to.old.items) }

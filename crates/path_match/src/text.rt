@@ -19,8 +19,8 @@ fn slashless(pattern: &[u8]) -> &[u8]
     after_slash(pattern)
 }
 
-// Appends the patterns of `text`, which are separated by commas. After `NoMemory` a part of them
-// may be appended.
+// Appends the patterns of `text`, which are separated by commas. After `NoMemory` some of the
+// patterns may be appended.
 #[tactic(auto, using(crate::proofs::Texts::prefix_more))]
 fn put_patterns(text: &[u8], to: &mut Vec<u8>) -> Result<(), NoMemory>
     ensures text { OnOk result (to.new.items

@@ -1,7 +1,7 @@
 -- Tests of optional values.
 use Rattle.std.specs.Prelude.{Option, None, Some, Bool, false}
 
--- whether the value exists and passes a test
+-- Whether an optional value is present and passes a test.
 abbrev pub is_some_and : {A : Type 0} → Option A → (A → Bool) → Bool
 is_some_and None test = false
 is_some_and (Some a) test = test a

@@ -1,21 +1,21 @@
--- Numbers as text: decimal digits with no leading zero, up to 2^64 - 1.
+-- The spelling of numbers: decimal digits without leading zeros, up to 2^64 - 1.
 use Rattle.std.specs.Prelude.{ℕ, ◌+◌, ◌*◌, ◌-◌, ◌^◌, List, [], ◌∷◌, length, slice_index, nat_lt, ◌==◌, ◌&&◌, ◌||◌, not, if◌then◌else◌, Option, Some, None}
 use Rattle.std.specs.Str.{all_ascii_digits}
 
--- the number whose decimal digits are those of n followed by these digits
+-- The number whose decimal digits are the digits of `n` followed by the given digits.
 abbrev pub value_after : ℕ → List ℕ → ℕ
 value_after n [] = n
 value_after n (c ∷ cs) = value_after (n * 10 + (c - 48)) cs
 
--- The number whose decimal digits are those of n followed by these bytes. `None` if a byte isn't a
--- digit or the number doesn't fit in 64 bits.
+-- The number whose decimal digits are the digits of `n` followed by the given bytes. The result is
+-- `None` if a byte isn't a digit or the number doesn't fit in 64 bits.
 unfoldable pub digits_after : ℕ → List ℕ → Option ℕ
 digits_after n bytes = if all_ascii_digits bytes && nat_lt (value_after n bytes) (2 ^ 64) then Some (value_after n bytes) else None
 
 abbrev pub digits_of : List ℕ → Option ℕ
 digits_of bytes = digits_after 0 bytes
 
--- The number that these bytes write in decimal. `None` if there are no digits, if there is a
--- leading zero (except in `0`), or if the number doesn't fit in 64 bits.
+-- The number that the bytes spell in decimal. The result is `None` if there are no digits, if there
+-- is a leading zero (except in `0`), or if the number doesn't fit in 64 bits.
 unfoldable pub number_of : List ℕ → Option ℕ
 number_of bytes = if nat_lt 0 (length bytes) && (nat_lt (length bytes) 2 || not (slice_index bytes 0 == 48)) then digits_of bytes else None

@@ -1,7 +1,8 @@
--- Steps of parsing that may find nothing.
+-- The sequence of parsing steps, each of which may fail with `None`.
 use Rattle.std.specs.Prelude.{Option, None, Some}
 
--- applies the next parsing step to the value, if there is one
+-- Applies the parsing step `f` to the value of the previous step. If the previous step failed, the
+-- result is `None`.
 infixl 10 ◌>>=◌
 abbrev pub ◌>>=◌ : {A B : Type 0} → Option A → (A → Option B) → Option B
 None >>= f = None

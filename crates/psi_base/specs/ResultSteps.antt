@@ -1,7 +1,8 @@
--- Steps of parsing that may find a fault.
+-- The sequence of parsing steps, each of which may fail with a fault.
 use Rattle.std.specs.Prelude.{Result, Ok, Err}
 
--- applies the next parsing step to the value, or passes the fault on
+-- Applies the parsing step `f` to the value of the previous step. If the previous step failed, the
+-- result is its fault.
 infixl 10 ◌>>=◌
 abbrev pub ◌>>=◌ : {A B E : Type 0} → Result A E → (A → Result B E) → Result B E
 (Ok x) >>= f = f x

@@ -1,4 +1,4 @@
--- The states that are timed, their numbers, and the state of a resource and level.
+-- The states of a group on a processor: their numbers, and the state for a resource and a level.
 use Rattle.std.specs.Prelude.{ℕ}
 use Rattle.psi_base.specs.declared.event.State.{State}
 use Rattle.psi_base.specs.declared.event.State.TheVariants.{IoSome, IoFull, MemSome, MemFull, CpuSome, CpuFull, Nonidle}
@@ -17,7 +17,7 @@ state_number CpuSome = 4
 state_number CpuFull = 5
 state_number Nonidle = 6
 
--- the state of a resource at a level, some or full
+-- The state that the line of a resource at level `some` or `full` reports.
 abbrev pub state_of : Res → Level → State
 state_of Io SomeStalled = IoSome
 state_of Io FullStalled = IoFull

@@ -1,5 +1,5 @@
--- The words of a trace and of the output: one for each way to leave a processor, each preference,
--- resource and level.
+-- The words in traces and outputs: one for each way to leave a processor, each preference, resource
+-- and level.
 use Rattle.std.specs.Prelude.{ℕ, List, [], ◌∷◌, codes, if◌then◌else◌, Option, None, Some}
 use Rattle.std.specs.Str.{bytes_eq}
 use Rattle.psi_base.specs.declared.event.How.{How}
@@ -52,7 +52,7 @@ resources = Io ∷ Memory ∷ Cpu ∷ []
 abbrev pub levels : List Level
 levels = SomeStalled ∷ FullStalled ∷ []
 
--- the first value in the list whose word this is
+-- The first value in a list whose word (by the function `name`) is `text`, or `None`.
 abbrev pub named : {A : Type 0} → (A → List ℕ) → List A → List ℕ → Option A
 named name [] text = None
 named name (x ∷ xs) text = if bytes_eq text (name x) then Some x else named name xs text

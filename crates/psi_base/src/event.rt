@@ -1,5 +1,5 @@
-//! The contents of a trace: times, tasks, processors, groups and events, and why a line is
-//! rejected.
+//! The contents of a trace: times, tasks, processors, groups and events; and the causes for which a
+//! line of a trace is rejected.
 use crate::path::Path;
 use crate::text::NoMemory;
 use std::alloc::{AllocError, AllocFailed};
@@ -7,7 +7,7 @@ use std::alloc::{AllocError, AllocFailed};
 /// A time or a duration in nanoseconds (ns).
 pub type Ns = u64;
 
-/// The number of a task (PID), at least 1. The number of a task that has exited may be reused.
+/// The number of a task (PID). It is at least 1, and may be reused after the task has exited.
 #[derive(Clone, Copy, Debug, PartialEq, Eq, PartialOrd, Ord)]
 pub struct Pid(pub u32);
 
@@ -15,18 +15,18 @@ pub struct Pid(pub u32);
 #[derive(Clone, Copy, Debug, PartialEq, Eq, PartialOrd, Ord)]
 pub struct Cpu(pub u32);
 
-/// The number of a group in the order of creation. The root has 0, and no number is reused.
+/// The number of a group in the order of creation. The root has number 0, and no number is reused.
 #[derive(Clone, Copy, Debug, PartialEq, Eq, PartialOrd, Ord)]
 pub struct Slot(pub u32);
 
-/// The timed states of a group on one processor, numbered from 0 in this order: the kernel's `enum
-/// psi_states` without irq pressure. `Some` means that at least one task is stalled, `Full` that no
-/// task makes progress.
+/// The states of a group on one processor whose durations are measured. They are numbered from 0 in
+/// this order, which is the order of the kernel's `enum psi_states` without irq pressure. `Some`
+/// means that at least one task is stalled, `Full` that no task makes progress.
 #[derive(Clone, Copy, Debug, PartialEq, Eq)]
 pub enum State {
     /// A task waits for IO.
     IoSome,
-    /// A task waits for IO, and none is ready or running.
+    /// A task waits for IO, and no task is ready or running.
     IoFull,
     /// A task is in a memory stall.
     MemSome,
@@ -63,30 +63,31 @@ pub enum Level {
 /// How a running task leaves its processor at a `switch`.
 #[derive(Clone, Copy, Debug, PartialEq, Eq)]
 pub enum How {
-    /// It stays ready.
+    /// The task stays ready.
     Preempt,
-    /// It blocks, but not for IO.
+    /// The task blocks, but not for IO.
     Sleep,
-    /// It blocks, and waits for IO.
+    /// The task blocks until IO completes.
     IoWait,
-    /// It exits.
+    /// The task exits.
     Exit,
     /// No task was running.
     Idle,
 }
 
-/// When a group is killed relative to others, like oomd's `oomd_prefer` and `oomd_avoid`.
+/// Whether a group is killed before or after other groups, like oomd's `oomd_prefer` and
+/// `oomd_avoid`.
 #[derive(Clone, Copy, Debug, PartialEq, Eq)]
 pub enum Preference {
-    /// Before others.
+    /// The group is killed before groups without this preference.
     Prefer,
-    /// Like others.
+    /// The group is neither preferred nor avoided.
     Plain,
-    /// After others.
+    /// The group is killed only after groups without this preference.
     Avoid,
 }
 
-/// The act of an event line: one variant for each verb.
+/// What the event of a line does. Each verb of the trace format has one variant.
 #[derive(Drop)]
 pub enum Act {
     /// `group`: a group is created.
@@ -113,7 +114,8 @@ pub enum Act {
         pid: Pid,
         cpu: Cpu,
     },
-    /// `switch`: the running task leaves its processor, and the next one, if any, runs there.
+    /// `switch`: the running task, if any, leaves its processor, and the next task, if any, runs
+    /// there.
     Switch {
         cpu: Cpu,
         next: Option<Pid>,
@@ -127,25 +129,25 @@ pub enum Act {
     Unstall {
         pid: Pid,
     },
-    /// `migrate`: a ready task moves to a processor.
+    /// `migrate`: a ready task moves to another processor.
     Migrate {
         pid: Pid,
         cpu: Cpu,
     },
-    /// `move`: a task moves to a group.
+    /// `move`: a task moves to another group.
     Move {
         pid: Pid,
         path: Path,
     },
-    /// `mem`: a sample of a group: memory and swap in use (bytes), and the total number of pages
-    /// scanned for reclaim.
+    /// `mem`: a sample of a group's memory: memory and swap in use (bytes), and the total number of
+    /// pages scanned for reclaim.
     Mem {
         path: Path,
         current: u64,
         swap: u64,
         scan: u64,
     },
-    /// `host`: memory and swap of the whole machine, in bytes.
+    /// `host`: a sample of the memory and swap of the whole machine, in bytes.
     Host {
         mem_total: u64,
         swap_total: u64,
@@ -174,35 +176,36 @@ pub enum Act {
     End,
 }
 
-/// An act and its time.
+/// An event of a trace: its time, and what it does.
 #[derive(Drop)]
 pub struct Event {
     /// The time, in ns.
     pub at: Ns,
-    /// What happened at that time.
+    /// What the event does at that time.
     pub act: Act,
 }
 
-/// A trigger that the trace sets on a group's pressure: it fires if the stall time in a window
+/// A trigger that a trace sets on a group's pressure. It fires if the stall time in a window
 /// reaches the threshold.
 #[derive(Clone, Copy, Debug, PartialEq, Eq)]
 pub struct TriggerSpec {
     /// The time at which it is set, in ns.
     pub at: Ns,
-    /// The group that is watched.
+    /// The slot of the watched group.
     pub slot: Slot,
-    /// The resource.
+    /// The resource of the watched pressure file.
     pub res: Res,
-    /// The line of its pressure file.
+    /// The watched line of the pressure file.
     pub level: Level,
-    /// The threshold, in us.
+    /// The threshold of the stall time, in us.
     pub threshold_us: u64,
-    /// The window, in us.
+    /// The length of the window, in us.
     pub window_us: u64,
 }
 
-/// Why a line of a trace is rejected. If several causes apply, the first one in the specified order
-/// is reported; that order differs from the order of the variants.
+/// The causes for which a line of a trace is rejected. If several causes apply, the first in the
+/// order of precedence is reported. That order is defined in psi_spec, and differs from the order
+/// of the variants.
 #[derive(Clone, Copy, Debug, PartialEq, Eq)]
 pub enum Cause {
     /// The first line isn't a header, or is incomplete.
@@ -213,18 +216,19 @@ pub enum Cause {
     BadTime,
     /// The second part is missing or isn't a verb.
     BadVerb,
-    /// The leftmost wrong field: the field with this number after the verb, from 1, is missing,
-    /// malformed or one too many.
+    /// The leftmost wrong field. The field with this number after the verb, from 1, is missing,
+    /// malformed or superfluous.
     BadField(u8),
-    /// The time is before that of the previous line.
+    /// The time is before the time of the previous line.
     TimeBack,
-    /// The time is after the last tick that a replay with this tick length may reach.
+    /// The time is after the latest time of a trace with this tick length, which is a million
+    /// ticks.
     TimeTooLate,
     /// The trace already has 4,000,000 event lines.
     TooManyEvents,
     /// No live group has the path.
     UnknownGroup,
-    /// A new group has the path of a live one.
+    /// A new group has the path of a live group.
     GroupExists,
     /// The parent of a new group isn't live.
     NoParent,
@@ -232,32 +236,33 @@ pub enum Cause {
     GroupBusy,
     /// 1,024 groups were already created, including the root.
     TooManyGroups,
-    /// No live task has the number.
+    /// No live task has this pid.
     UnknownTask,
-    /// A new task has the number of a live one.
+    /// A new task has the pid of a live task.
     TaskExists,
-    /// A task is created although 65,536 are live.
+    /// A task is created although 65,536 tasks are live.
     TooManyTasks,
-    /// The header declares no such processor.
+    /// The header declares no processor with this number.
     BadCpu,
-    /// The task that enters or leaves a stall isn't running.
+    /// The task that enters or leaves a memory stall isn't running.
     NotRunning,
     /// The next task of a switch isn't ready on that processor, or a task that migrates isn't
     /// ready.
     NotReady,
     /// The task that wakes is ready or running.
     NotBlocked,
-    /// A switch says `idle` although a task is running, or another way to leave although none is.
+    /// A switch says `idle` although a task is running, or another way to leave although no task is
+    /// running.
     WrongHow,
-    /// The task that enters a stall, or that exits, is in a stall.
+    /// The task that enters a memory stall, or that exits, is in a memory stall.
     InStall,
-    /// The task that leaves a stall isn't in one.
+    /// The task that leaves a memory stall isn't in a memory stall.
     NotInStall,
     /// 256 triggers were already set.
     TooManyTriggers,
     /// The threshold or the window of a trigger is out of range.
     BadWindow,
-    /// Something follows the `end` line.
+    /// A line or bytes follow the `end` line.
     AfterEnd,
     /// The input ends before an `end` line.
     NoEnd,
@@ -270,16 +275,16 @@ pub enum Cause {
     TooManyPressures,
 }
 
-/// The first rejected line of a trace.
+/// The first rejected line of a trace, and the cause.
 #[derive(Clone, Copy, Debug, PartialEq, Eq)]
 pub struct Refusal {
-    /// Its number, from 1.
+    /// The number of the line, from 1.
     pub line: u32,
-    /// Why it is rejected.
+    /// The cause for which the line is rejected.
     pub cause: Cause,
 }
 
-/// Why a call that reads or checks something fails.
+/// The failure of a function that parses or checks input.
 #[derive(Clone, Copy, Debug, PartialEq, Eq)]
 pub enum Fault<E> {
     /// The input is rejected, for this cause.
@@ -321,7 +326,7 @@ impl<E> From<AllocError> for Fault<E> {
     }
 }
 
-/// Drops the value that could not be stored.
+/// Converts a failed allocation. The value that could not be stored is dropped.
 impl<E, T: Drop> From<AllocFailed<T>> for Fault<E> {
     ghost use Rattle.std.specs.Prelude.{◌≡◌};
     ghost use Rattle.psi_base.specs.Gives.{out_of_memory};

@@ -1,11 +1,11 @@
-//! The types of a trace of scheduler events, and of the texts in it.
+//! The types of a trace of scheduler events, and of the texts in a trace.
 //!
-//! - The contents of a trace ([`Event`], [`Act`]), the words for them, and why a line is rejected
-//!   ([`Cause`], [`Refusal`], [`Fault`]).
+//! - The contents of a trace ([`Event`], [`Act`]), the words for them, and the causes for which a
+//!   line is rejected ([`Cause`], [`Refusal`], [`Fault`]).
 //! - Texts: [`Path`], [`Text`], [`Parts`] and [`read_number`]; [`NoMemory`] if memory runs out.
 //!
-//! It parses words and numbers only. psi_trace parses lines, and task_table decides which events
-//! are legal.
+//! This crate parses only words and numbers. psi_trace parses lines, and task_table decides which
+//! events are legal.
 #![tactic(auto)]
 
 mod event;

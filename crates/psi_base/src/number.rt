@@ -1,12 +1,12 @@
-//! Decimal numbers, each with exactly one spelling.
+//! Parses decimal numbers. Each number has exactly one spelling, so leading zeros are rejected.
 ghost use Rattle.std.specs.Prelude.{◌≡◌, ◌^◌, ◌<◌, ℕ, IfSome, IfNone, decimal};
 ghost use Rattle.psi_base.specs.Number.{number_of, digits_of};
 
-/// For any smaller number one more digit fits in 64 bits, whichever it is.
+/// If a number is below this limit, one more decimal digit fits in 64 bits.
 const LARGE: u64 = u64::MAX / 10;
 
 /// Parses decimal digits as a number up to 2^64 - 1. Leading zeros are allowed, and an empty slice
-/// is 0. `None` if and only if a byte isn't a digit or the number is greater.
+/// has the value 0. Returns `None` if and only if a byte isn't a digit or the number is greater.
 #[tactic(auto, using(crate::proofs::NumberLaws::steps))]
 pub fn read_digits(bytes: &[u8]) -> Option<u64>
     ensures { result ≡ digits_of bytes.now }
@@ -17,8 +17,8 @@ pub fn read_digits(bytes: &[u8]) -> Option<u64>
             return None;
         }
         let digit = u64::from(*byte - b'0');
-        // Only a large number needs the check whether the next digit fits: a division for each
-        // digit would take a quarter of the time of reading an event.
+        // Only a large number needs the check that the next digit fits. A division for each digit
+        // would take a quarter of the time of parsing an event.
         if number >= LARGE && number > (u64::MAX - digit) / 10 {
             return None;
         }
@@ -27,8 +27,8 @@ pub fn read_digits(bytes: &[u8]) -> Option<u64>
     Some(number)
 }
 
-/// Parses a decimal number up to 2^64 - 1, without leading zeros except in `0` itself. `None` if
-/// and only if the bytes aren't such a number.
+/// Parses a decimal number up to 2^64 - 1, without leading zeros except in `0` itself. Returns
+/// `None` if and only if the bytes aren't such a number.
 #[tactic(auto, unfolding(crate::specs::Number::number_of))]
 pub fn read_number(bytes: &[u8]) -> Option<u64>
     ensures exact { result ≡ number_of bytes.now }

@@ -1,10 +1,11 @@
-//! The parts of a text between separators: words between spaces, components between slashes.
+//! Iterates over the parts of a text between separators: words between spaces, or components
+//! between slashes.
 ghost use Rattle.std.specs.Prelude.{◌≡◌, ℕ, List, [], ◌∷◌, MatchOption};
 ghost use Rattle.psi_base.specs.Path.{parts_at};
 
 use std::marker::Model;
 
-// The part before the first separator, and the rest after that separator.
+// Returns the part before the first separator, and the bytes after that separator, if any.
 #[tactic(auto, using(crate::proofs::PartLaws::parts))]
 fn cut(bytes: &[u8], at: u8) -> (&[u8], Option<&[u8]>)
     ensures { MatchOption result.1 (parts_at at bytes.now ≡ result.0.now ∷ [])
@@ -18,9 +19,9 @@ fn cut(bytes: &[u8], at: u8) -> (&[u8], Option<&[u8]>)
     (bytes, None)
 }
 
-/// An iterator over the remaining parts of a text, in order. A part lies between separators `AT`:
-/// there is one more part than separators, and two adjacent separators have an empty part between
-/// them. Contracts see the list of parts.
+/// An iterator over the remaining parts of a text, in order. The parts are separated by the byte
+/// `AT`: there is one more part than separators, and two adjacent separators have an empty part
+/// between them. Contracts see the list of parts.
 #[derive(Drop)]
 pub struct Parts<'a, const AT: u8> {
     rest: &'a [u8],
@@ -37,7 +38,7 @@ impl<'a, const AT: u8> Model for Parts<'a, AT> {
 }
 
 impl<'a, const AT: u8> Parts<'a, AT> {
-    /// All parts of the text. An empty text has one empty part.
+    /// Makes an iterator over all parts of the text. An empty text has one empty part.
     pub fn new(text: &'a [u8]) -> Self
         ensures { result ≡ parts_at AT text.now }
     {
@@ -47,7 +48,7 @@ impl<'a, const AT: u8> Parts<'a, AT> {
         }
     }
 
-    /// Removes and returns the first remaining part. `None` if there is none.
+    /// Removes and returns the first remaining part, or returns `None` if no part remains.
     pub fn next_part(&mut self) -> Option<&'a [u8]>
         ensures { MatchOption result ((self.old ≡ []) × (self.new ≡ []))
             (λ part. self.old ≡ part.now ∷ self.new) }

@@ -1,4 +1,4 @@
-//! Paths of control groups.
+//! Paths of control groups: the syntax of a path, and a type for parsed paths.
 ghost use Rattle.std.specs.Prelude.{◌≡◌, ℕ, List, IfOk, IsErr, true, ◌∷◌, [], ◌==◌};
 ghost use Rattle.std.proofs.Common.{rules};
 ghost use Rattle.std.specs.Cmp.{partial_order_from_own_ties};
@@ -28,7 +28,7 @@ fn are_path_bytes(part: &[u8]) -> bool
     part.iter().all(|c| is_path_byte(*c))
 }
 
-// Whether this is a component: one or more path bytes, but neither `.` nor `..`.
+// Returns whether the bytes are a component: one or more path bytes, but neither `.` nor `..`.
 fn is_component(part: &[u8]) -> bool
     ensures { result ≡ is_component part.now }
 {
@@ -38,7 +38,7 @@ fn is_component(part: &[u8]) -> bool
     are_path_bytes(part)
 }
 
-// Whether the text is at most 32 components, separated by slashes.
+// Returns whether the text is at most 32 components, separated by slashes.
 fn are_components(text: &[u8]) -> bool
     ensures { result ≡ (nat_le (length (parts_at 47 text.now)) 32
         && list_all is_component (parts_at 47 text.now)) }
@@ -57,7 +57,7 @@ fn are_components(text: &[u8]) -> bool
     parts.next_part().is_none()
 }
 
-// Whether the text is the root, or a slash followed by components, in at most 255 bytes.
+// Returns whether the text is the root, or a slash followed by components, in at most 255 bytes.
 #[tactic(auto, unfolding(crate::specs::Path::is_path))]
 fn is_path(bytes: &[u8]) -> bool
     ensures { result ≡ is_path bytes.now }
@@ -88,7 +88,7 @@ impl Model for Path {
 }
 
 impl Path {
-    /// The root, `/`.
+    /// Makes the path of the root, `/`.
     #[tactic(auto, unfolding(crate::specs::Path::is_path))]
     pub fn root(alloc: Global) -> Result<Path, NoMemory>
         ensures { IfOk result (λ path. path ≡ 47 ∷ []) }
@@ -98,8 +98,8 @@ impl Path {
         })
     }
 
-    /// Parses a path. `None` if and only if the bytes aren't a path. Allocates memory only for a
-    /// path.
+    /// Parses a path. Returns `None` if and only if the bytes aren't a path. Allocates memory only
+    /// for a path.
     pub fn read(alloc: Global, bytes: &[u8]) -> Result<Option<Path>, NoMemory>
         ensures read { IfOk result (λ read. MatchOption read (is_path bytes.now ≡ false)
             (λ path. (is_path bytes.now ≡ true) × (path ≡ bytes.now))) }
@@ -113,7 +113,7 @@ impl Path {
         }))
     }
 
-    /// The path as text, which is ASCII.
+    /// Returns the path as text, which is ASCII.
     #[tactic(auto, using(crate::proofs::PathLaws::texts))]
     pub fn text(&self) -> &str
         ensures text { result.now ≡ self.now }
@@ -125,7 +125,7 @@ impl Path {
         }
     }
 
-    /// A copy, in memory of its own.
+    /// Returns a copy of the path in newly allocated memory.
     pub fn copy(&self, alloc: Global) -> Result<Path, NoMemory>
         ensures { IfOk result (λ path. path ≡ self.now) }
     {
@@ -134,7 +134,7 @@ impl Path {
         })
     }
 
-    /// The bytes of the path.
+    /// Returns the bytes of the path.
     pub fn bytes(&self) -> &[u8]
         ensures bytes { result.now ≡ self.now }
         ensures path { is_path result.now ≡ true }

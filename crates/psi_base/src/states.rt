@@ -1,11 +1,12 @@
-//! The states of each resource.
+//! The states of a group that the lines of its pressure files report, by resource and level.
 ghost use Rattle.std.specs.Prelude.{◌≡◌, ◌<◌};
 ghost use Rattle.psi_base.specs.States.{state_number, state_of};
 
 use crate::event::{Level, Res, State};
 
 impl State {
-    /// The state that a line of a pressure file is about. Its number is below that of `Nonidle`.
+    /// Returns the state that a line of a pressure file reports. Its number is below the number of
+    /// `Nonidle`.
     pub fn of(res: Res, level: Level) -> State
         ensures value { result ≡ state_of res level }
         ensures pressure { state_number result < 6 }

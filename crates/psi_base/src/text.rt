@@ -1,10 +1,10 @@
-//! Bytes that contracts see as a list, and the out-of-memory error.
+//! A type for any bytes, which contracts see as a list, and the out-of-memory error.
 ghost use Rattle.std.specs.Prelude.{◌≡◌, ℕ, List, IfOk};
 
 use std::alloc::{AllocError, AllocFailed, Global};
 use std::marker::Model;
 
-/// Out of memory. The field is private, so this error is only made from a failed allocation.
+/// Out of memory. The field is private, so only a failed allocation makes this error.
 #[derive(Clone, Copy, Debug, PartialEq, Eq)]
 pub struct NoMemory {
     refused: (),
@@ -16,7 +16,7 @@ impl From<AllocError> for NoMemory {
     }
 }
 
-/// Drops the value that could not be stored.
+/// Converts a failed allocation. The value that could not be stored is dropped.
 impl<T: Drop> From<AllocFailed<T>> for NoMemory {
     fn from(_failed: AllocFailed<T>) -> Self {
         NoMemory { refused: () }
@@ -36,7 +36,7 @@ impl Model for Text {
 }
 
 impl Text {
-    /// A copy of the bytes, in memory of its own.
+    /// Makes a text: a copy of the bytes in newly allocated memory.
     pub fn make(alloc: Global, bytes: &[u8]) -> Result<Text, NoMemory>
         ensures { IfOk result (λ t. t ≡ bytes.now) }
     {
@@ -45,7 +45,7 @@ impl Text {
         })
     }
 
-    /// The bytes of the text.
+    /// Returns the bytes of the text.
     pub fn bytes(&self) -> &[u8]
         ensures { result.now ≡ self.now }
     {

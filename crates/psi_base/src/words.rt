@@ -1,11 +1,12 @@
-//! The words for ways to leave a processor, preferences, resources and levels in texts.
+//! Converts ways to leave a processor, preferences, resources and levels to the words in traces and
+//! outputs, and back.
 ghost use Rattle.std.specs.Prelude.{◌≡◌, ◌≤◌, length};
 ghost use Rattle.psi_base.specs.Words.{how_word, hows, level_word, levels, named, preference_word, preferences, resource_word, resources};
 
 use crate::event::{How, Level, Preference, Res};
 
 impl How {
-    /// The word for this way to leave.
+    /// Returns the word for this way to leave a processor.
     pub fn word(self) -> &'static str
         ensures word { result.now ≡ how_word self }
         ensures short { length result.now ≤ 7 }
@@ -19,7 +20,7 @@ impl How {
         }
     }
 
-    /// The way to leave with this word, or `None`.
+    /// Returns the way to leave a processor that the word spells, or `None`.
     pub fn of(word: &[u8]) -> Option<How>
         ensures { result ≡ named how_word hows word.now }
     {
@@ -31,7 +32,7 @@ impl How {
 }
 
 impl Preference {
-    /// The word for this preference.
+    /// Returns the word for this preference.
     pub fn word(self) -> &'static str
         ensures word { result.now ≡ preference_word self }
         ensures short { length result.now ≤ 6 }
@@ -43,7 +44,7 @@ impl Preference {
         }
     }
 
-    /// The preference with this word, or `None`.
+    /// Returns the preference that the word spells, or `None`.
     pub fn of(word: &[u8]) -> Option<Preference>
         ensures { result ≡ named preference_word preferences word.now }
     {
@@ -55,7 +56,7 @@ impl Preference {
 }
 
 impl Res {
-    /// The word for this resource.
+    /// Returns the word for this resource.
     pub fn word(self) -> &'static str
         ensures word { result.now ≡ resource_word self }
         ensures short { length result.now ≤ 6 }
@@ -67,7 +68,7 @@ impl Res {
         }
     }
 
-    /// The resource with this word, or `None`.
+    /// Returns the resource that the word spells, or `None`.
     pub fn of(word: &[u8]) -> Option<Res>
         ensures { result ≡ named resource_word resources word.now }
     {
@@ -79,7 +80,7 @@ impl Res {
 }
 
 impl Level {
-    /// The word for this level.
+    /// Returns the word for this level.
     pub fn word(self) -> &'static str
         ensures word { result.now ≡ level_word self }
         ensures short { length result.now ≤ 4 }
@@ -90,7 +91,7 @@ impl Level {
         }
     }
 
-    /// The level with this word, or `None`.
+    /// Returns the level that the word spells, or `None`.
     pub fn of(word: &[u8]) -> Option<Level>
         ensures { result ≡ named level_word levels word.now }
     {

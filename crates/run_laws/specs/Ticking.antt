@@ -1,4 +1,4 @@
--- The ticks of a replay, and what the next tick adds.
+-- The ticks of a replay, and what the next tick adds to the output and the numbers of a replay.
 use Rattle.std.specs.Prelude.{◌≡◌, ℕ, ◌+◌, ◌<◌, ◌≤◌, List, [], ◌∷◌, ◌++◌, length}
 use Rattle.psi_base.specs.declared.event.Event.{Event}
 use Rattle.psi_spec.specs.Refusal.{AreLegal}
@@ -10,12 +10,12 @@ use Rattle.pressure_spec.specs.NextTick.{IsNextTick, last_tick, no_tick}
 use Rattle.run_spec.specs.Replay.{Beside, Timing, fired_in, kills_in, kills_until, signals_until, tick_text, ticks_text}
 use Rattle.ruleset_json.specs.declared.types.Rule.{Rule}
 
--- the state before the first tick, for a number of processors and events
+-- The state before the first tick, for `cpus` processors and for all groups that the events create.
 abbrev pub before_ticks : ℕ → List Event → Tick
 before_ticks cpus events = no_tick cpus (length (after events).groups)
 
--- Each tick of legal events is a valid successor of the previous tick. Requires at most `most_cpus`
--- processors, because the world stores a last interrupt time for that many.
+-- Each tick of legal events is a valid successor of the previous tick. The law requires at most
+-- `most_cpus` processors, because the world stores the time of the last `irq` line only for them.
 abbrev pub TicksFollow : Type 0
 TicksFollow =
     (limits : Limits) (cpus : ℕ) (events : List Event) (length i : ℕ) → AreLegal limits first_world events → limits.cpus ≤ most_cpus →
@@ -27,17 +27,19 @@ abbrev pub TicksMore : Type 0
 TicksMore = (cpus : ℕ) (events : List Event) (length i : ℕ) →
     ticks_of cpus events length (i + 1) ≡ ticks_of cpus events length i ++ tick_of cpus events length (i + 1) ∷ []
 
--- The signals of tick i + 1 add to the number of signals of the first `i` ticks.
+-- The number of signals at the first i + 1 ticks is the number at the first `i` ticks plus the
+-- number at tick i + 1.
 abbrev pub SignalsMore : Type 0
 SignalsMore = (trace : Trace) (timing : Timing) (i : ℕ) →
     signals_until trace timing (i + 1) ≡ signals_until trace timing i + length (fired_in trace timing (i + 1))
 
--- The kills of tick i + 1 add to the number of kills of the first `i` ticks.
+-- The number of kills at the first i + 1 ticks is the number at the first `i` ticks plus the number
+-- at tick i + 1.
 abbrev pub KillsMore : Type 0
 KillsMore = (trace : Trace) (timing : Timing) (rules : List Rule) (i : ℕ) →
     kills_until trace timing rules (i + 1) ≡ kills_until trace timing rules i + length (kills_in trace timing rules (i + 1))
 
--- The lines of tick i + 1 are appended to the lines of the first `i` ticks.
+-- The output of tick i + 1 is appended to the output of the first `i` ticks.
 abbrev pub TextMore : Type 0
 TextMore = (trace : Trace) (timing : Timing) (beside : Beside) (i : ℕ) →
     ticks_text trace timing beside (i + 1) ≡ ticks_text trace timing beside i ++ tick_text trace timing beside (i + 1)

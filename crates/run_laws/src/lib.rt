@@ -1,7 +1,8 @@
-//! Laws of a replay's output: how it grows tick by tick, and group by group in one order of all
-//! slots.
+//! Laws of a replay's output: how it grows tick by tick, and how the reports of a tick are printed
+//! in a fixed order of all slots.
 //!
-//! They relate definitions only. The code that prints is in replay_ticks and above.
+//! The laws relate definitions only. The code that prints is in replay_ticks and the crates above
+//! it.
 #![tactic(auto)]
 
 mod laws;

@@ -4,8 +4,8 @@
 
 ghost use Rattle.psi_spec.specs.Laws.{Accepted, FirstRefused};
 
-/// Bytes are accepted as a trace exactly if they are the text of a trace whose events are legal in
-/// order. Otherwise they are rejected at the first line that has a cause of rejection.
+/// Bytes are accepted as a trace if and only if they are the text of a trace whose events are legal
+/// in order. Otherwise they are rejected at the first line that has a cause of rejection.
 pub fn law_traces()
     ensures accepted { Accepted }
     ensures refused { FirstRefused }

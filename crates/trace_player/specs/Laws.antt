@@ -6,7 +6,7 @@ use Rattle.psi_base.specs.declared.event.Fault.TheVariants as fault
 use Rattle.psi_spec.specs.World.{Limits}
 use Rattle.trace_player.specs.Playing.{PlayerTakes, Plays}
 
--- A player that has played any events doesn't both take and reject the next one.
+-- A player never both accepts and rejects an event, whatever events it has processed.
 abbrev pub TakesOrRefuses : Plays → Plays → Event → Type 0
 TakesOrRefuses Before After event = (limits : Limits) (events : List Event) (x : Unit {0}) (why : Cause) → Before limits events
     → PlayerTakes Before After event (Ok x) → PlayerTakes Before After event (Err (fault.Refused why)) → ⊥

@@ -1,4 +1,4 @@
--- Task acts, and the events that they represent.
+-- Task acts (acts that name no group and create no task), and the events that they represent.
 use Rattle.std.specs.Prelude.{ℕ, Bool, true, false, Option, Some}
 use Rattle.psi_base.specs.declared.event.Pid.{Pid}
 use Rattle.psi_base.specs.declared.event.Act.{Act}
@@ -16,11 +16,11 @@ as_act (task_act.Stall pid) = act.Stall pid
 as_act (task_act.Unstall pid) = act.Unstall pid
 as_act (task_act.Migrate pid cpu) = act.Migrate pid cpu
 
--- the event at a time (ns) that a task act represents
+-- The event at time `at` (ns) that a task act represents.
 abbrev pub as_event : ℕ → TaskAct → Event
 as_event at what = record { at = at; act = as_act what }
 
--- the act is a task act
+-- Whether an act is a task act.
 abbrev pub is_task_act : Act → Bool
 is_task_act (act.Wake pid cpu) = true
 is_task_act (act.Switch cpu next how) = true
@@ -29,12 +29,12 @@ is_task_act (act.Unstall pid) = true
 is_task_act (act.Migrate pid cpu) = true
 is_task_act _ = false
 
--- a task exits by the task act
+-- Whether a task act makes a task exit.
 abbrev pub exits : TaskAct → Bool
 exits (task_act.Switch cpu next how) = is_exit how
 exits _ = false
 
--- the number of the task that a task act names
+-- The pid of the task that a task act names. For a switch, it is the pid of the next task.
 abbrev pub pid_of : TaskAct → Option Pid
 pid_of (task_act.Wake pid cpu) = Some pid
 pid_of (task_act.Switch cpu next how) = next

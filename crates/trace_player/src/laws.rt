@@ -1,10 +1,11 @@
-//! Laws of the definitions. Each function has an empty body: its contract is the law.
+//! Laws of players, which are state machines that process the events of a trace. Each function has
+//! an empty body: its contract is the law.
 ghost use Rattle.psi_base.specs.declared.event.Event.{Event};
 ghost use Rattle.trace_player.specs.Laws.{RefusesForOne, TakesOrRefuses};
 
 use crate::player::Player;
 
-/// A player never both takes and rejects an event, and rejects it for exactly one cause.
+/// A player never both accepts and rejects an event, and rejects an event for exactly one cause.
 pub fn law_answers<P: Player>()
     ensures either { (old new : P) (event : Event) →
         TakesOrRefuses (P.Played old) (P.Played new) event }

@@ -1,5 +1,5 @@
-//! The trait [`Player`]: a state machine that takes the events of a trace one by one, as its lines
-//! are read.
+//! The trait [`Player`]: a state machine that processes the events of a trace one by one, while the
+//! lines of the trace are parsed.
 //!
 //! The implementations are in task_table, proc_plan and other crates.
 #![tactic(auto)]

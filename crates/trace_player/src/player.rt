@@ -1,4 +1,5 @@
-//! Players of traces.
+//! The trait for players: state machines that process the events of a trace, and reject illegal
+//! events.
 ghost use Rattle.std.specs.Prelude.{◌≡◌, ◌≤◌, List, [], IfOk, false};
 ghost use Rattle.psi_base.specs.declared.event.Event.{Event};
 ghost use Rattle.psi_spec.specs.Grammar.{Fits};
@@ -12,13 +13,13 @@ use crate::task_act::TaskAct;
 use psi_base::{Cause, Event, Fault, NoMemory, Ns};
 use std::alloc::Global;
 
-/// A state machine that plays a trace, event by event. After it has rejected an event, it must not
-/// be used again.
+/// A state machine that processes (*plays*) the events of a trace one by one. After it has rejected
+/// an event, it must not be used again.
 pub trait Player: Sized {
-    /// The player has played exactly these events of a trace with these limits.
+    /// The player has processed exactly these events of a trace with these limits.
     ghost Played: { Self → Limits → List Event → Type 0 };
 
-    /// Makes a player that has played nothing, for a trace with `cpus` processors (1 to 64) in
+    /// Makes a player that has processed no event, for a trace with `cpus` processors (1 to 64) in
     /// which no event is later than `latest` (ns).
     fn start(alloc: Global, cpus: u32, latest: Ns) -> Result<Self, NoMemory>
         requires counted { IsCpuCount cpus }
@@ -26,21 +27,21 @@ pub trait Player: Sized {
         ensures { IfOk result (λ player.
             Self.Played player (record { cpus = cpus; latest = latest }) []) };
 
-    /// Plays the next event. Its numbers must be within the ranges of the grammar. Fails with
-    /// `Refused` and the first cause if the event isn't legal.
+    /// Processes the next event. The numbers of the event must be within the ranges of the grammar.
+    /// Fails with `Refused` and the first cause if the event isn't legal.
     fn take(&mut self, event: &Event) -> Result<(), Fault<Cause>>
         requires { Fits event.now }
         ensures { PlayerTakes (Self.Played self.old) (Self.Played self.new) event.now result };
 
-    /// The fast path of [`Player::take`] for a task act at time `at` (ns): it stores no event. The
-    /// act must not be the exit of a task.
+    /// The fast path of [`Player::take`] for a task act at time `at` (ns), which needs no stored
+    /// event. The act must not be the exit of a task.
     fn take_task(&mut self, at: Ns, act: TaskAct) -> Result<(), Fault<Cause>>
         requires fits { Fits (as_event at act) }
         requires stays { exits act ≡ false }
         ensures { PlayerTakes (Self.Played self.old) (Self.Played self.new) (as_event at act)
             result };
 
-    /// Whether the trace has ended.
+    /// Returns whether the trace has ended.
     fn is_ended(&self) -> bool
         ensures { (limits : Limits) (events : List Event) → Self.Played self.now limits events →
             result ≡ (after events).ended };

@@ -1,10 +1,10 @@
-//! The fast path of a trace: task acts, passed by value.
+//! The fast path of a trace: task acts, which are passed by value.
 //!
 //! A task act is a wake, switch, stall, unstall or migration: it names no group and creates no
-//! task. Most lines of a trace are such acts. Each is a few numbers, so it is parsed, judged and
-//! performed in registers, and no `Event` is stored for it. Functions for this fast path take a
+//! task. Most lines of a trace are such acts. A task act is a few numbers, so it is parsed, checked
+//! and performed in registers, and no `Event` is stored for it. Functions for this fast path take a
 //! [`TaskAct`], and their names end with `_task`. Each has the contract of the corresponding
-//! function of events.
+//! function for events.
 ghost use Rattle.std.specs.Prelude.{◌≡◌, IfNone, IfSome, false};
 ghost use Rattle.psi_spec.specs.Names.{names};
 ghost use Rattle.trace_player.specs.TaskActs.{as_act, as_event, exits, is_task_act, pid_of};
@@ -41,7 +41,7 @@ pub enum TaskAct {
 }
 
 impl TaskAct {
-    /// Converts an act into a task act; `None` if it isn't one.
+    /// Converts an act to a task act. Returns `None` if the act isn't a task act.
     #[inline(always)]
     pub fn of(act: &Act) -> Option<TaskAct>
         ensures same { IfSome result (λ found. as_act found ≡ act.now) }
@@ -67,7 +67,7 @@ impl TaskAct {
         }
     }
 
-    /// The event that this act is at time `at` (ns).
+    /// Returns the event with this act at time `at` (ns).
     pub fn to_event(self, at: Ns) -> Event
         ensures { result ≡ as_event at self }
     {
@@ -81,7 +81,7 @@ impl TaskAct {
         Event { at, act }
     }
 
-    /// Whether the act makes a task exit.
+    /// Returns whether the act makes a task exit.
     #[inline(always)]
     pub fn exits(self) -> bool
         ensures { result ≡ exits self }
@@ -89,7 +89,7 @@ impl TaskAct {
         matches!(self, TaskAct::Switch { how: How::Exit, .. })
     }
 
-    /// The PID in the act. For a switch it is the next task's.
+    /// Returns the pid in the act. For a switch, it is the pid of the next task.
     #[inline(always)]
     pub fn pid(self) -> Option<Pid>
         ensures { result ≡ pid_of self }
@@ -103,7 +103,7 @@ impl TaskAct {
         }
     }
 
-    /// The number of the processor in the act.
+    /// Returns the number of the processor in the act.
     #[inline(always)]
     pub fn cpu(self) -> Option<u32>
         ensures { result ≡ (names (as_act self)).cpu }
