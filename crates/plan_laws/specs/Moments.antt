@@ -58,15 +58,15 @@ NoIrqAtFirst = (limits : Limits) (events : List Event) → AreLegal limits first
 
 -- ---- lifetimes of groups
 
--- The group was created at or before `last` (ns). If the group was removed, its removal was at or
--- before `last` and not before its creation.
+-- The group was created at or before time `last` (ns). If the group was removed, its removal was at
+-- or before `last` and not before its creation.
 pub record IsLife (last : ℕ) (life : GroupLife) : Type 0 where
   pub made : life.made ≤ last
   pub gone : IfSome life.gone (λ gone. (life.made ≤ gone) × (gone ≤ last))
 
--- Invariant of all groups of a trace whose last event is at `last` (ns). The first group is the
--- root, which was created at 0 and is never removed. The groups are in order of creation. Each
--- creation and each removal is at or before `last`.
+-- The invariant of all groups of a trace whose last event is at time `last` (ns). The first group
+-- is the root, which was created at 0 and is never removed. The groups are in the order of
+-- creation. Each creation and each removal is at or before `last`.
 pub record AreLives (last : ℕ) (groups : List GroupLife) : Type 0 where
   pub rooted : slice_get groups 0 ≡ Some root
   pub order : IsNonDecreasingBy (λ (life : GroupLife). life.made) groups
@@ -77,15 +77,15 @@ abbrev pub LivesAreInOrder : Type 0
 LivesAreInOrder = (limits : Limits) (events : List Event) → AreLegal limits first_world events →
     AreLives (after events).last (after events).groups
 
--- The groups after all events show which groups were live at any time `at` (ns). A group that was
--- created and removed at the same time isn't live at that time.
+-- The groups after all events determine which groups were live at any time `at` (ns). A group that
+-- was created and removed at one time isn't live at that time.
 abbrev pub LivesShowLive : Type 0
 LivesShowLive = (limits : Limits) (events : List Event) → AreLegal limits first_world events → (at slot : ℕ) →
     is_live_in (after (up_to events at)).groups slot
     ≡ is_some_and (slice_get (after events).groups slot) (λ life. is_live_at life at)
 
--- The groups `some` are a prefix of the groups `all`, with the same paths, parents and creation
--- times (ns). Removal times may differ.
+-- The groups `some` are a prefix of the groups `all`, with equal paths, parents and creation times
+-- (ns). Removal times may differ.
 pub record AreFirstOf (all some : List GroupLife) : Type 0 where
   pub few : length some ≤ length all
   pub paths : map (λ (life : GroupLife). life.path) some ≡ take (length some) (map (λ (life : GroupLife). life.path) all)
@@ -99,16 +99,16 @@ GroupsKeepSlots = (limits : Limits) (events : List Event) → AreLegal limits fi
 
 -- ---- live groups by path
 
--- whether the group in `slot` is live at `at` (ns)
+-- Whether the group in slot `slot` is live at time `at` (ns).
 abbrev pub is_live_slot : List GroupLife → ℕ → ℕ → Bool
 is_live_slot groups at slot = is_live_at (slice_index_or groups slot root) at
 
--- the pair of a slot's path and the slot
+-- The path of the group in slot `slot`, paired with the slot.
 abbrev pub with_path : List GroupLife → ℕ → List ℕ × ℕ
 with_path groups slot = (path_at groups slot, slot)
 
 -- An order of all slots by path, made once after all events, gives the live groups in path order at
--- every time: the slots in it whose groups are live at that time.
+-- every time: the slots of the order whose groups are live at that time.
 abbrev pub OrderShowsLive : Type 0
 OrderShowsLive =
     (limits : Limits) (events : List Event) → AreLegal limits first_world events → (order : List ℕ)
@@ -116,7 +116,8 @@ OrderShowsLive =
     live_groups (after (up_to events at)).groups
     ≡ map (with_path (after events).groups) (filter (is_live_slot (after events).groups at) order)
 
--- Like `OrderShowsLive`, for the slots of the live groups without their paths.
+-- An order of all slots by path gives the slots of the live groups in path order at every time.
+-- This law is `OrderShowsLive` without the paths.
 abbrev pub OrderShowsSlots : Type 0
 OrderShowsSlots =
     (limits : Limits) (events : List Event) → AreLegal limits first_world events → (order : List ℕ)
@@ -127,7 +128,7 @@ OrderShowsSlots =
 -- ---- triggers
 
 -- The triggers of a trace are within the limits: their number, the values of each trigger, and the
--- group that each trigger watches, which exists.
+-- slot of the group that each trigger watches, which exists.
 abbrev pub TriggersAreWithin : Type 0
 TriggersAreWithin = (limits : Limits) (events : List Event) → AreLegal limits first_world events →
     AreTriggersWithin limits.latest (length (after events).groups) (triggers_of events)
@@ -137,14 +138,14 @@ abbrev pub TriggersAreInOrder : Type 0
 TriggersAreInOrder = (limits : Limits) (events : List Event) → AreLegal limits first_world events →
     IsNonDecreasingBy (λ (trigger : TriggerSpec). trigger.at) (triggers_of events)
 
--- The triggers set by the events up to a time (ns) are the trace's triggers with that time or an
--- earlier one.
+-- The triggers that the events up to a time (ns) set are the triggers of the trace that are set at
+-- or before that time.
 abbrev pub TriggersUpTo : Type 0
 TriggersUpTo = (limits : Limits) (events : List Event) → AreLegal limits first_world events → (at : ℕ) →
     triggers_of (up_to events at) ≡ filter (λ (trigger : TriggerSpec). nat_le trigger.at at) (triggers_of events)
 
--- The group was created at or before `at` (ns), and not removed before `at`. The removal may be at
--- exactly `at`.
+-- The group was created at or before time `at` (ns), and wasn't removed before `at`. The removal
+-- may be at `at`.
 pub record IsThere (life : GroupLife) (at : ℕ) : Type 0 where
   pub made : life.made ≤ at
   pub gone : IfSome life.gone (λ gone. at ≤ gone)

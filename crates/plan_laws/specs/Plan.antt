@@ -1,5 +1,5 @@
--- The plan of one processor: the changes that a trace makes on it. From a plan follow the states of
--- each group after its first k changes, and the clocks of each group.
+-- The plan of one processor: the changes that a trace makes on the processor. A plan determines the
+-- states of each group after its first `k` changes, and the clocks of each group.
 use Rattle.std.specs.Prelude.{◌≡◌, ℕ, ◌+◌, ◌-◌, ◌≤◌, ◌<◌, List, [], ◌∷◌, ◌++◌, length, sum, map, take, filter, slice_get, slice_index_or, nat_le, ◌==◌, ◌&&◌, Bool, true, false, if◌then◌else◌, Option, None, Some}
 use Rattle.std.specs.List.{range_with_len}
 use Rattle.psi_base.specs.declared.event.Slot.{Slot}
@@ -20,23 +20,25 @@ use Rattle.psi_counts.specs.Legal.{changes_from, added, taken}
 
 -- ---- what events change on a processor
 
--- the change that an event makes on processor `cpu` in the world `w`, or `None` if it makes none
+-- The change that an optional event makes on processor `cpu` in world `w`, or `None` if it makes no
+-- change.
 abbrev pub change_by : ℕ → World → Option Event → Option Change
 change_by cpu w None = None
 change_by cpu w (Some event) = change_of w event cpu
 
--- the change that event `i` (from 1) makes on processor `cpu`, or `None` if it doesn't touch it
+-- The change that event number `i` (from 1) makes on processor `cpu`, or `None` if the event
+-- doesn't touch the processor.
 abbrev pub change_at : ℕ → List Event → ℕ → Option Change
 change_at cpu events i = change_by cpu (after (take (i - 1) events)) (slice_get events (i - 1))
 
 -- ---- plans
 
--- A processor's plan: its changes in order, and the parent of each slot.
+-- The plan of a processor: its changes in order, and the parent of each slot.
 pub record PlanView : Type 0 where
   pub changes : List Change
   pub parents : List (Option ℕ)
 
--- the empty plan, without changes and slots
+-- The empty plan, which has no changes and no slots.
 abbrev pub no_plan : PlanView
 no_plan = record { changes = []; parents = [] }
 
@@ -47,15 +49,16 @@ plan_of cpu events = record { changes = changes_from cpu first_world events; par
 
 -- ---- the state after some changes
 
--- the sum of the counts that the first k changes add to the group in `slot`
+-- The sum of the counts that the first `k` changes add to the group in slot `slot`.
 abbrev pub added_after : PlanView → ℕ → ℕ → Counts
 added_after plan slot k = added plan.parents slot (take k plan.changes)
 
--- the sum of the counts that the first k changes subtract from the group in `slot`
+-- The sum of the counts that the first `k` changes subtract from the group in slot `slot`.
 abbrev pub taken_after : PlanView → ℕ → ℕ → Counts
 taken_after plan slot k = taken plan.parents slot (take k plan.changes)
 
--- the difference of two counts, field by field, for counts `fewer` that are at most `more`
+-- The difference of two counts, field by field. Requires that each field of `fewer` is at most that
+-- field of `more`.
 abbrev pub less : Counts → Counts → Counts
 less more fewer =
     record {
@@ -65,42 +68,44 @@ less more fewer =
       stalled_running = more.stalled_running - fewer.stalled_running;
     }
 
--- the counts of the group in `slot` after the first k changes: the sum added minus the sum
--- subtracted
+-- The counts of the group in slot `slot` after the first `k` changes: the sum added minus the sum
+-- subtracted.
 abbrev pub counts_after : PlanView → ℕ → ℕ → Counts
 counts_after plan slot k = less (added_after plan slot k) (taken_after plan slot k)
 
--- The sum `taken` is at most `added`, and the difference at most 65,536, the limit of live tasks.
+-- `taken` is at most `added`, and the difference is at most 65,536, the limit of live tasks.
 abbrev pub Leaves : ℕ → ℕ → Type 0
 Leaves taken added = (taken ≤ added) × (added ≤ taken + most_tasks)
 
--- `Leaves` holds for each of the four counts.
+-- `Leaves` holds for each of the four counts of `taken` and `added`.
 pub record LeavesFew (taken added : Counts) : Type 0 where
   pub io : Leaves taken.io added.io
   pub stalled : Leaves taken.stalled added.stalled
   pub running : Leaves taken.running added.running
   pub stalled_running : Leaves taken.stalled_running added.stalled_running
 
--- After each prefix of the changes, each count of each slot is from 0 to 65,536.
+-- After each prefix of the changes, each count of each group is from 0 to 65,536.
 abbrev pub FitsPlan : PlanView → Type 0
 FitsPlan plan = (slot k : ℕ) → k ≤ length plan.changes → LeavesFew (taken_after plan slot k) (added_after plan slot k)
 
--- the processor's running task after the first k changes, as change k says: its slot, and whether
--- it is in a memory stall; `None` if no task runs, or if k = 0
+-- The running task of the processor after the first `k` changes, according to change `k`: its slot,
+-- and whether it is in a memory stall. The result is `None` if no task runs, or if k = 0.
 abbrev pub current_after : PlanView → ℕ → Option (Slot × Bool)
 current_after plan k = slice_index_or (None ∷ map (λ (change : Change). change.current) plan.changes) k None
 
--- whether the group's accounting is on after `changes`, if `on` says whether it was before them
+-- Whether the accounting of the group in slot `slot` is on after the changes, given whether it is
+-- on before them (`on`).
 abbrev pub on_from : ℕ → Bool → List Change → Bool
 on_from slot on [] = on
 on_from slot on (change ∷ changes) = on_from slot (on_with slot on change.account) changes
 
--- Whether accounting is on after the first k changes: as the last switch says, at first on.
+-- Whether the accounting of the group in slot `slot` is on after the first `k` changes. It is on
+-- before the first change, and each switch in a change sets it.
 abbrev pub on_after : PlanView → ℕ → ℕ → Bool
 on_after plan slot k = on_from slot true (take k plan.changes)
 
--- whether the group in `slot` is in `state` after the first k changes: its accounting is on, and
--- the state follows from the counts and the running task after these changes
+-- Whether the group in slot `slot` is in `state` after the first `k` changes: its accounting is on,
+-- and the state follows from the counts and the running task after these changes.
 unfoldable pub holds_after : State → PlanView → ℕ → ℕ → Bool
 holds_after state plan slot k =
     on_after plan slot k && shows state (counts_after plan slot k) (is_current_in plan.parents slot (current_after plan k))
@@ -108,11 +113,11 @@ holds_after state plan slot k =
 
 -- ---- planned time
 
--- the time (ns) of change k (numbered from 1), or 0 for k = 0
+-- The time (ns) of change number `k` (from 1), or 0 for k = 0.
 abbrev pub last_change : PlanView → ℕ → ℕ
 last_change plan k = slice_index_or (0 ∷ map (λ (change : Change). change.at) plan.changes) k 0
 
--- the number of changes of a plan at or before `at` (ns)
+-- The number of changes of a plan at or before time `at` (ns).
 abbrev pub changes_up_to : PlanView → ℕ → ℕ
 changes_up_to plan at = length (filter (λ (change : Change). nat_le change.at at) plan.changes)
 
@@ -120,19 +125,19 @@ changes_up_to plan at = length (filter (λ (change : Change). nat_le change.at a
 abbrev pub AreInOrder : PlanView → Type 0
 AreInOrder plan = (k : ℕ) → k < length plan.changes → last_change plan k ≤ last_change plan (k + 1)
 
--- the interrupt time (ns) on the processor in the first k changes, whichever task ran
+-- The interrupt time (ns) on the processor in the first `k` changes, whichever task was running.
 abbrev pub irq_after : PlanView → ℕ → ℕ
 irq_after plan k = sum (map (λ (change : Change). change.irq) (take k plan.changes))
 
--- Interrupts of a processor took no more time than passed: the interrupt time in the first k
--- changes is at most the time of change k, so it fits in 64 bits.
+-- The interrupts of a processor took at most the elapsed time: the interrupt time in the first `k`
+-- changes is at most the time of change `k`, so it fits in 64 bits.
 abbrev pub IrqsFit : PlanView → Type 0
 IrqsFit plan = (k : ℕ) → k ≤ length plan.changes → irq_after plan k ≤ last_change plan k
 
 -- The invariant of plans. A plan has at most 4,000,000 changes, the limit of a trace's events.
 -- Their times never decrease, and are at most 60,000,000 s, the longest trace. The counts and the
 -- interrupt time are within their limits. A change subtracts and adds the counts of at most one
--- task each, and names existing slots. The parent of each slot but the first is an older slot.
+-- task each, and names existing slots. Each slot except the first has a parent with a smaller slot.
 pub record IsPlan (plan : PlanView) : Type 0 where
   pub few : length plan.changes ≤ most_events
   pub order : AreInOrder plan
@@ -144,40 +149,40 @@ pub record IsPlan (plan : PlanView) : Type 0 where
   pub older : AreOlder plan.parents
   pub parented : HaveParents plan.parents
 
--- the time (ns) of change `j` (numbered from 1) if `j` is at most k, otherwise `at`
+-- The time (ns) of change number `j` (from 1) if `j` is at most `k`; otherwise `at`.
 abbrev pub change_moment : PlanView → ℕ → ℕ → ℕ → ℕ
 change_moment plan k at j = slice_index_or (map (λ (change : Change). change.at) (take k plan.changes)) (j - 1) at
 
--- the time (ns) from change `j` to the next of the first k changes, or to `at` after the last of
--- them, if the group in `slot` is in `state` after change `j`; otherwise 0
+-- The time (ns) from change `j` to the next of the first `k` changes (or to time `at` after the
+-- last of them) if the group in slot `slot` is in `state` after change `j`; otherwise 0.
 abbrev pub planned_after : State → PlanView → ℕ → ℕ → ℕ → ℕ → ℕ
 planned_after state plan slot k at j =
     if holds_after state plan slot j then change_moment plan k at (j + 1) - change_moment plan k at j else 0
 
--- the time (ns) up to `at` that the group in `slot` was in `state`, by the first k changes: the sum
--- of `planned_after` over them
+-- The time (ns) that the group in slot `slot` was in `state` up to time `at`, computed from the
+-- first `k` changes. It is the sum of `planned_after` over these changes.
 unfoldable pub planned_time : State → PlanView → ℕ → ℕ → ℕ → ℕ
 planned_time state plan slot k at = sum (map (planned_after state plan slot k at) (range_with_len 1 k))
 
 -- ---- planned interrupt time
 
--- The interrupt time (ns) of the group in `slot` in `changes`; `on` is whether the group's
--- accounting is on before them. It is the sum of the interrupt times of the changes before which
--- the accounting is on, and whose running task is in the group or below it.
+-- The interrupt time (ns) of the group in slot `slot` in the changes, given whether the group's
+-- accounting is on before them (`on`). It is the sum of the interrupt times of the changes before
+-- which the accounting is on, and whose running task is in the group or in a descendant.
 abbrev pub irq_over : List (Option ℕ) → ℕ → Bool → List Change → ℕ
 irq_over parents slot on [] = 0
 irq_over parents slot on (change ∷ changes) =
     (if on then irq_in parents slot change else 0) + irq_over parents slot (on_with slot on change.account) changes
 
--- the interrupt time (ns) of the group in `slot` in the first k changes
+-- The interrupt time (ns) of the group in slot `slot` in the first `k` changes.
 unfoldable pub planned_irq : PlanView → ℕ → ℕ → ℕ
 planned_irq plan slot k = irq_over plan.parents slot true (take k plan.changes)
 
 -- ---- clocks of a slot
 
--- `clock` is a clock of the group in `slot` after the first k changes of a plan: it is well-formed
--- (nine words), has the group's states, and gives the planned times. It may have started before
--- change k, if the changes since then left the states unchanged.
+-- `clock` is a clock of the group in slot `slot` after the first `k` changes of a plan: it is
+-- well-formed (nine words), has the group's states, and gives the planned times. It may have
+-- started before change `k`, if the changes since then left the states unchanged.
 pub record IsClock (clock : ClockView) (plan : PlanView) (slot k : ℕ) : Type 0 where
   pub within : k ≤ length plan.changes
   pub whole : IsWholeClock clock
@@ -187,20 +192,20 @@ pub record IsClock (clock : ClockView) (plan : PlanView) (slot k : ℕ) : Type 0
 
 -- ---- slots that a change doesn't affect
 
--- whether the counts that a change subtracts or adds are of a task in the group in `slot` or below
--- it; false if there are none
+-- Whether the counts that a change subtracts or adds are counts of a task in the group in slot
+-- `slot` or in a descendant. The result is false if there are no counts.
 abbrev pub is_part_in : List (Option ℕ) → ℕ → Option (Slot × Counts) → Bool
 is_part_in parents slot None = false
 is_part_in parents slot (Some part) = is_under parents part.0.0 slot
 
--- whether a switch of accounting is that of the group in `slot`; false if there is none
+-- Whether an optional switch of accounting is a switch of the group in slot `slot`.
 abbrev pub is_account_of : ℕ → Option (Slot × Bool) → Bool
 is_account_of slot None = false
 is_account_of slot (Some account) = account.0.0 == slot
 
--- Change k + 1 doesn't affect the group in `slot`: neither the task whose counts it changes nor the
--- tasks that run before and after it are in the group or below it, and the group's accounting isn't
--- switched.
+-- Change k + 1 doesn't affect the group in slot `slot`: neither the task whose counts the change
+-- affects nor the tasks that run before and after the change are in the group or in a descendant,
+-- and the group's accounting isn't switched.
 pub record IsAside (plan : PlanView) (slot k : ℕ) (change : Change) : Type 0 where
   pub minus : is_part_in plan.parents slot change.minus ≡ false
   pub plus : is_part_in plan.parents slot change.plus ≡ false
@@ -210,28 +215,30 @@ pub record IsAside (plan : PlanView) (slot k : ℕ) (change : Change) : Type 0 w
 
 -- ---- laws
 
--- A processor's changes are those of the events that touch it, in order, each at its event's time.
+-- The changes of a processor are the changes that the events which touch the processor make, in
+-- order, each at the time of its event.
 abbrev pub ChangesAreNumbered : Type 0
 ChangesAreNumbered = (cpu : ℕ) (events : List Event) →
     (map (λ change. Some change) (changes_from cpu first_world events) ≡ map (change_at cpu events) (changes_of cpu events))
     × (map (λ (change : Change). change.at) (changes_from cpu first_world events) ≡ map (moment_of events 0) (changes_of cpu events))
     × (length (changes_from cpu first_world events) ≡ length (changes_of cpu events))
 
--- The events up to the k-th change make exactly the first k changes, and end at its time.
+-- The events up to change `k` make exactly the first `k` changes, and end at the time of change
+-- `k`.
 abbrev pub ChangesUntil : Type 0
 ChangesUntil = (cpu : ℕ) (events : List Event) (k : ℕ) → k ≤ length (changes_of cpu events) →
     (changes_from cpu first_world (until_change cpu events k) ≡ take k (changes_from cpu first_world events))
     × ((after (until_change cpu events k)).last ≡ last_change (plan_of cpu events) k)
 
--- The states that a plan gives after k changes are the states after the events up to the k-th
--- change, although the plan has the parents after all events.
+-- The states that a plan determines after `k` changes are the states after the events up to change
+-- `k`, although the plan has the parents after all events.
 abbrev pub PlanShowsStates : Type 0
 PlanShowsStates =
     (limits : Limits) (events : List Event) → AreLegal limits first_world events → (state : State) (cpu slot k : ℕ)
     → k ≤ length (changes_of cpu events) →
     holds_after state (plan_of cpu events) slot k ≡ holds state cpu slot (after (until_change cpu events k))
 
--- The planned time after k changes is the stall time of the events up to the k-th change.
+-- The planned time after `k` changes is the stall time of the events up to change `k`.
 abbrev pub PlannedIsStall : Type 0
 PlannedIsStall =
     (limits : Limits) (events : List Event) → AreLegal limits first_world events → (state : State) (cpu slot k at : ℕ)
@@ -239,7 +246,7 @@ PlannedIsStall =
     planned_time state (plan_of cpu events) slot k at ≡ stall state cpu slot (until_change cpu events k) at
 
 -- A group's stall time on a processor is the stall time of the events up to the processor's last
--- change, because the later events touch only other processors.
+-- change, because later events touch only other processors.
 abbrev pub StallByOwnChanges : Type 0
 StallByOwnChanges =
     (limits : Limits) (events : List Event) → AreLegal limits first_world events → (state : State) (cpu slot at : ℕ)
@@ -259,23 +266,23 @@ abbrev pub StallUpTo : Type 0
 StallUpTo = (limits : Limits) (events : List Event) → AreLegal limits first_world events → (state : State) (cpu slot at : ℕ) →
     stall state cpu slot (up_to events at) at ≡ stall state cpu slot (until_change cpu events (count_at cpu events at)) at
 
--- The number of a processor's changes up to a time (ns) follows from the times in its plan: the
--- last change counted is at or before that time.
+-- The number of a processor's changes up to a time (ns) follows from the times in its plan: it is
+-- the number of changes at or before that time.
 abbrev pub CountsByPlan : Type 0
 CountsByPlan = (limits : Limits) (events : List Event) → AreLegal limits first_world events → (cpu at : ℕ) →
     (count_at cpu events at ≡ changes_up_to (plan_of cpu events) at) × (count_at cpu events at ≤ length (changes_of cpu events))
     × (last_change (plan_of cpu events) (count_at cpu events at) ≤ at)
 
--- The plan of legal events satisfies the invariant `IsPlan`, if the limit of times is at most
--- 60,000,000 s and there are at most 64 processors, the number for which the world has the time of
--- the last interrupts.
+-- The plan of legal events satisfies the invariant `IsPlan`. The law requires that the limit of
+-- times is at most 60,000,000 s, and that there are at most 64 processors, because the world stores
+-- the time of the last `irq` line only for them.
 abbrev pub PlanIsWhole : Type 0
 PlanIsWhole =
     (limits : Limits) (events : List Event) → AreLegal limits first_world events → limits.latest ≤ last_moment
     → limits.cpus ≤ most_cpus → (cpu : ℕ) → IsPlan (plan_of cpu events)
 
--- Change k + 1 extends planned time as it does a clock: by the time since the change, if the group
--- is in the state after the change.
+-- Change k + 1 extends planned time by the time since the change, if the group is in the state
+-- after the change.
 abbrev pub PlannedByChange : Type 0
 PlannedByChange = (state : State) (plan : PlanView) (slot k at : ℕ) → k < length plan.changes →
     planned_time state plan slot (k + 1) at ≡ planned_time state plan slot k (last_change plan (k + 1))
@@ -286,14 +293,14 @@ abbrev pub ZeroIsClock : Type 0
 ZeroIsClock = (plan : PlanView) (slot : ℕ) → IsClock zero_clock plan slot 0
 
 -- The clock `next` is a clock of a slot after k + 1 changes if it is well-formed, follows a clock
--- `one` of the slot after k changes, and has the slot's states after change k + 1.
+-- `one` of the slot after `k` changes, and has the slot's states after change k + 1.
 abbrev pub FollowedIsClock : Type 0
 FollowedIsClock =
     (one next : ClockView) (plan : PlanView) (slot k : ℕ) → IsClock one plan slot k → k < length plan.changes
     → last_change plan k ≤ last_change plan (k + 1) → IsWholeClock next → ClockFollows one (last_change plan (k + 1)) next
     → ((state : State) → mask_holds next.mask state ≡ holds_after state plan slot (k + 1)) → IsClock next plan slot (k + 1)
 
--- A clock of a slot can be advanced to any time (ns) from the last change on.
+-- A clock of a slot can be advanced to any time (ns) at or after the last change.
 abbrev pub ClockIsInTime : Type 0
 ClockIsInTime =
     (clock : ClockView) (plan : PlanView) (slot k at : ℕ) → IsPlan plan → IsClock clock plan slot k → last_change plan k ≤ at
@@ -303,25 +310,28 @@ ClockIsInTime =
 abbrev pub EmptyIsPlan : Type 0
 EmptyIsPlan = IsPlan no_plan
 
--- If a change leaves a slot's states unchanged, the slot's earlier clocks are still its clocks.
+-- A clock of a slot before a change is also a clock of the slot after the change, if the change
+-- leaves the slot's states unchanged.
 abbrev pub KeptIsClock : Type 0
 KeptIsClock =
     (clock : ClockView) (plan : PlanView) (slot k : ℕ) → IsClock clock plan slot k → k < length plan.changes
     → last_change plan k ≤ last_change plan (k + 1) →
     ((state : State) → holds_after state plan slot (k + 1) ≡ holds_after state plan slot k) → IsClock clock plan slot (k + 1)
 
--- If the plan's counts fit, a change subtracts and adds its counts to those before it.
+-- If the counts of a plan fit, the counts after a change are the counts before it, minus the counts
+-- that the change subtracts, plus the counts that it adds.
 abbrev pub CountsByChange : Type 0
 CountsByChange = (plan : PlanView) → FitsPlan plan → (slot k : ℕ) (change : Change) → slice_get plan.changes k ≡ Some change →
     Follows (counts_after plan slot k) (on_chain plan.parents slot change.minus) (on_chain plan.parents slot change.plus)
     (counts_after plan slot (k + 1))
 
--- If the plan's counts fit, the counts after each prefix of the changes are at most 65,536.
+-- If the counts of a plan fit, the counts after each prefix of the changes are at most 65,536.
 abbrev pub PlanCountsAreFew : Type 0
 PlanCountsAreFew =
     (plan : PlanView) → FitsPlan plan → (slot k : ℕ) → k ≤ length plan.changes → AreAtMost most_tasks (counts_after plan slot k)
 
--- Whether accounting is on after a change follows from whether it was on before it.
+-- Whether accounting is on after a change follows from whether it is on before the change, and from
+-- the change's switch of accounting.
 abbrev pub OnByChange : Type 0
 OnByChange = (plan : PlanView) (slot k : ℕ) (change : Change) → slice_get plan.changes k ≡ Some change →
     on_after plan slot (k + 1) ≡ on_with slot (on_after plan slot k) change.account
@@ -330,7 +340,8 @@ OnByChange = (plan : PlanView) (slot k : ℕ) (change : Change) → slice_get pl
 abbrev pub OnAtFirst : Type 0
 OnAtFirst = (plan : PlanView) (slot : ℕ) → on_after plan slot 0 ≡ true
 
--- After a change, the plan has the change's running task and the change's time.
+-- The running task and the last time of a plan after a change are the running task and the time of
+-- this change.
 abbrev pub CurrentByChange : Type 0
 CurrentByChange =
     (plan : PlanView) (k : ℕ) (change : Change) → slice_get plan.changes k ≡ Some change
@@ -342,7 +353,8 @@ AsideStays =
     (state : State) (plan : PlanView) (slot k : ℕ) (change : Change) → slice_get plan.changes k ≡ Some change → IsAside plan slot k change →
     holds_after state plan slot (k + 1) ≡ holds_after state plan slot k
 
--- The number of changes up to `at` (ns) is k if change k is the last one at or before `at`.
+-- The number of changes up to time `at` (ns) is `k` if change `k` is the last change at or before
+-- `at`.
 abbrev pub PlaceOfMoment : Type 0
 PlaceOfMoment =
     (plan : PlanView) → AreInOrder plan → (k at : ℕ) → k ≤ length plan.changes → last_change plan k ≤ at
@@ -350,24 +362,26 @@ PlaceOfMoment =
 
 -- ---- planned times
 
--- the times (ns) up to `at` that the group in `slot` was in each of the seven states, by the first
--- k changes, ordered by state
+-- The times (ns) that the group in slot `slot` was in each of the seven states up to time `at`,
+-- computed from the first `k` changes, in the order of the states.
 abbrev pub planned : PlanView → ℕ → ℕ → ℕ → List ℕ
 planned plan slot k at = map (λ state. planned_time state plan slot k at) states
 
--- The times that a clock of a slot after k changes shows at `at` (ns) are the planned times.
+-- The times that a clock of a slot after `k` changes shows at time `at` (ns) are the planned times.
 abbrev pub ClockShowsPlanned : Type 0
 ClockShowsPlanned =
     (clock : ClockView) (plan : PlanView) (slot k at : ℕ) → IsClock clock plan slot k → last_change plan k ≤ at
     → opened clock at ≡ planned plan slot k at
 
--- The planned times up to a time (ns) are the stall times of the events up to that time.
+-- The planned times for the changes up to a time (ns) are the stall times of the events up to that
+-- time.
 abbrev pub PlannedUntil : Type 0
 PlannedUntil = (limits : Limits) (events : List Event) → AreLegal limits first_world events → (cpu slot at : ℕ) →
     planned (plan_of cpu events) slot (changes_up_to (plan_of cpu events) at) at
     ≡ map (λ state. stall state cpu slot (up_to events at) at) states
 
--- The planned times after k changes are psi_spec's `times_after` for the processor.
+-- The planned times after `k` changes are the times `times_after` that psi_spec defines for the
+-- processor.
 abbrev pub PlannedAfter : Type 0
 PlannedAfter = (limits : Limits) (events : List Event) → AreLegal limits first_world events → (cpu slot k at : ℕ) →
     k ≤ length (changes_of cpu events) → last_change (plan_of cpu events) k ≤ at →
@@ -379,22 +393,26 @@ PlannedAfter = (limits : Limits) (events : List Event) → AreLegal limits first
 abbrev pub NoPlannedIrq : Type 0
 NoPlannedIrq = (plan : PlanView) (slot : ℕ) → planned_irq plan slot 0 ≡ 0
 
--- Each change adds its interrupt time to a group's planned one, if the group's accounting was on.
+-- Each change adds its interrupt time to the planned interrupt time of the groups of its running
+-- task, if the accounting of the group is on before the change.
 abbrev pub PlannedIrqByChange : Type 0
 PlannedIrqByChange = (plan : PlanView) (slot k : ℕ) (change : Change) → slice_get plan.changes k ≡ Some change →
     planned_irq plan slot (k + 1) ≡ planned_irq plan slot k + (if on_after plan slot k then irq_in plan.parents slot change else 0)
 
--- Planned interrupt time is at most the last change's time: a processor's interrupts don't overlap.
+-- Planned interrupt time is at most the time of the last change, because the interrupts of a
+-- processor don't overlap.
 abbrev pub PlannedIrqFits : Type 0
 PlannedIrqFits = (plan : PlanView) → IrqsFit plan → (slot k : ℕ) → k ≤ length plan.changes → planned_irq plan slot k ≤ last_change plan k
 
--- The planned interrupt time after k changes is that of the events up to the k-th change.
+-- The planned interrupt time after `k` changes is the interrupt time of the events up to change
+-- `k`.
 abbrev pub PlannedIrqIsIrq : Type 0
 PlannedIrqIsIrq =
     (limits : Limits) (events : List Event) → AreLegal limits first_world events → (cpu slot k : ℕ) → k ≤ length (changes_of cpu events) →
     planned_irq (plan_of cpu events) slot k ≡ irq_time cpu slot (until_change cpu events k)
 
--- The planned interrupt time up to a time (ns) is that of the events up to it.
+-- The planned interrupt time for the changes up to a time (ns) is the interrupt time of the events
+-- up to that time.
 abbrev pub PlannedIrqUntil : Type 0
 PlannedIrqUntil = (limits : Limits) (events : List Event) → AreLegal limits first_world events → (cpu slot at : ℕ) →
     planned_irq (plan_of cpu events) slot (changes_up_to (plan_of cpu events) at) ≡ irq_time cpu slot (up_to events at)

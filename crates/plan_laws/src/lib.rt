@@ -1,11 +1,11 @@
 //! Laws of plans: a processor's stall time and interrupt time, which psi_spec defines over all
 //! tasks of a trace, follow from the changes of that processor alone.
 //!
-//! In `specs/`: `Plan` (the plan of a processor, that is its changes, and the clocks that follow
-//! from them), `Moments` (properties of a trace at a given time).
+//! In `specs/`: `Plan` (the plan of a processor, which is the list of its changes, and the clocks
+//! that follow from the plan), `Moments` (properties of a trace at a given time).
 //!
-//! These are definitions and laws, without code that runs: proc_plan derives plans from a trace,
-//! and clock_row and slot_clocks advance clocks by them.
+//! This crate has definitions and laws, but no code that runs: proc_plan derives plans from a
+//! trace, and clock_row and slot_clocks advance clocks by plans.
 #![tactic(auto)]
 
 mod moments;

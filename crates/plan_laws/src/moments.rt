@@ -11,26 +11,27 @@ pub fn law_growth()
 {}
 
 /// Between two times, interrupt time never decreases, and grows by at most the elapsed time plus
-/// one second. The interrupt time up to a time is at most that time, and is 0 at time 0. Requires
-/// at most 64 processors, the number for which the world has the time of the last interrupts.
+/// one second. The interrupt time up to a time is at most that time, and is 0 at time 0. The laws
+/// require at most 64 processors, because the world stores the time of the last `irq` line only for
+/// them.
 pub fn law_irq_growth()
     ensures grows { IrqGrows }
     ensures within { IrqIsWithin }
     ensures none { NoIrqAtFirst }
 {}
 
-/// The groups after all events show the groups at any time: which groups were live, and that the
-/// groups created up to the time have the same slots, paths and parents. A group lives from its
-/// creation to its removal, and neither is later than the last event.
+/// The groups after all events determine the groups at any earlier time: which groups were live,
+/// and that the groups created up to the time have the same slots, paths and parents. A group is
+/// live from its creation to its removal, and neither is later than the last event.
 pub fn law_lives()
     ensures live { LivesShowLive }
     ensures lives { LivesAreInOrder }
     ensures slots { GroupsKeepSlots }
 {}
 
-/// An order of all slots by path gives the live groups in path order at every time: the slots in it
-/// whose groups are live at that time. At most one live group has a given path, so the order of
-/// slots with the same path doesn't matter.
+/// An order of all slots by path gives the live groups in path order at every time: the slots of
+/// the order whose groups are live at that time. At most one live group has a given path, so the
+/// order of slots with equal paths doesn't matter.
 pub fn law_path_order()
     ensures live { OrderShowsLive }
     ensures slots { OrderShowsSlots }

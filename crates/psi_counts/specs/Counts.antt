@@ -10,20 +10,20 @@ use Rattle.psi_spec.specs.Stall.{holds_of, waits, runs, is_up, stalls, state_num
 
 -- ---- counts
 
--- the number of tasks in a list for which `test` is true
+-- The number of tasks in a list for which `test` is true.
 abbrev pub how_many : (Task → Bool) → List Task → ℕ
 how_many test tasks = length (filter test tasks)
 
--- whether the task is ready or running, and in a memory stall
+-- Whether a task is ready or running, and in a memory stall.
 abbrev pub is_up_stalled : Task → Bool
 is_up_stalled task = is_up task && stalls task
 
--- whether the task is running, and in a memory stall
+-- Whether a task is running, and in a memory stall.
 abbrev pub runs_stalled : Task → Bool
 runs_stalled task = runs task && stalls task
 
 -- The counts of a list of tasks: the numbers of tasks that wait for IO, are in a memory stall, are
--- ready or running, and are ready or running in a memory stall. The kernel has them as
+-- ready or running, and are ready or running in a memory stall. The kernel stores these counts as
 -- tasks[NR_IOWAIT], tasks[NR_MEMSTALL], tasks[NR_RUNNING], tasks[NR_MEMSTALL_RUNNING].
 abbrev pub counts_among : List Task → Counts
 counts_among tasks =
@@ -34,9 +34,9 @@ counts_among tasks =
       stalled_running = how_many is_up_stalled tasks;
     }
 
--- Whether a group is in a state, by its counts, as in the kernel's test_states; for a running task
--- in a memory stall, as in the kernel's psi_group_change. `on_cpu` is whether the processor's
--- running task is among the counted tasks (PSI_ONCPU), and `current_stalled` whether the running
+-- Whether a group is in a state, given the counts of its tasks, as in the kernel's test_states (and
+-- in psi_group_change for a running task in a memory stall). `on_cpu` is whether the processor's
+-- running task is among the counted tasks (PSI_ONCPU), and `current_stalled` is whether the running
 -- task is in a memory stall.
 abbrev pub shows : State → Counts → Bool → Bool → Bool
 shows IoSome counts on_cpu current_stalled = nat_lt 0 counts.io
@@ -48,8 +48,8 @@ shows CpuSome counts on_cpu current_stalled = if on_cpu then nat_lt 1 counts.run
 shows CpuFull counts on_cpu current_stalled = nat_lt 0 counts.running && not on_cpu
 shows Nonidle counts on_cpu current_stalled = nat_lt 0 counts.io || nat_lt 0 counts.stalled || nat_lt 0 counts.running
 
--- At most one task of the list is running, and `on_cpu` is whether there is such a task. If there
--- is, `current_stalled` is whether it is in a memory stall.
+-- At most one task of the list is running, and `on_cpu` is whether a task of the list is running.
+-- If so, `current_stalled` is whether that task is in a memory stall.
 pub record IsRunningKnown (tasks : List Task) (on_cpu current_stalled : Bool) : Type 0 where
   pub at_most_one : how_many runs tasks ≤ 1
   pub one_runs : on_cpu ≡ list_any runs tasks
@@ -63,15 +63,15 @@ CountsShow = (tasks : List Task) (on_cpu current_stalled : Bool) → IsRunningKn
 
 -- ---- masks
 
--- A number is a mask: it has only the bits of the seven states.
+-- `mask` is a set of states: it has only the bits of the seven states.
 abbrev pub IsMask : ℕ → Type 0
 IsMask mask = mask < 128
 
--- whether a mask has a state: the bit with the state's number is set
+-- Whether a mask contains a state: the bit with the state's number is set.
 abbrev pub mask_holds : ℕ → State → Bool
 mask_holds mask state = bit_at mask (state_number state) == 1
 
--- Masks with the same states are equal.
+-- Masks that contain the same states are equal.
 abbrev pub MasksAreTheirStates : Type 0
 MasksAreTheirStates =
     (one other : ℕ) → IsMask one → IsMask other → ((state : State) → mask_holds one state ≡ mask_holds other state) → one ≡ other

@@ -13,8 +13,8 @@ use Rattle.psi_counts.specs.declared.changes.Counts.{Counts}
 
 -- The invariant of legal worlds. The groups satisfy `AreGroups`. Each task is on an existing
 -- processor and in an existing slot. At most one task runs on a processor. The numbers of tasks,
--- triggers, `pressure` lines and lines are within their limits, and so is the time of the last
--- event.
+-- triggers, `pressure` lines and event lines, and the time of the last event, are within their
+-- limits.
 pub record IsLegalWorld (limits : Limits) (w : World) : Type 0 where
   pub groups : AreGroups w.groups
   pub within : AreWithin limits.cpus (length w.groups) w.tasks
@@ -27,17 +27,18 @@ pub record IsLegalWorld (limits : Limits) (w : World) : Type 0 where
 
 -- ---- counts over a trace
 
--- puts a change, if there is one, before a list of changes
+-- Prepends an optional change to a list of changes.
 abbrev pub with_change : Option Change → List Change → List Change
 with_change None changes = changes
 with_change (Some change) changes = change ∷ changes
 
--- the changes that events make on processor `cpu`, in order, from the world `w` on
+-- The changes that the events make on processor `cpu`, in order. `w` is the world before the first
+-- event.
 abbrev pub changes_from : ℕ → World → List Event → List Change
 changes_from cpu w [] = []
 changes_from cpu w (event ∷ events) = with_change (change_of w event cpu) (changes_from cpu (after_event w event) events)
 
--- the sum of two counts
+-- The sum of two counts, field by field.
 abbrev pub both_counts : Counts → Counts → Counts
 both_counts one other =
     record {
@@ -47,24 +48,25 @@ both_counts one other =
       stalled_running = one.stalled_running + other.stalled_running;
     }
 
--- the sum of the counts that changes add to the group in `slot`, for tasks in the group or below it
+-- The sum of the counts that changes add to the group in slot `slot`, for tasks in the group or in
+-- a descendant.
 abbrev pub added : List (Option ℕ) → ℕ → List Change → Counts
 added parents slot [] = no_counts
 added parents slot (change ∷ changes) = both_counts (on_chain parents slot change.plus) (added parents slot changes)
 
--- the sum of the counts that changes subtract from the group in `slot`, for tasks in the group or
--- below it
+-- The sum of the counts that changes subtract from the group in slot `slot`, for tasks in the group
+-- or in a descendant.
 abbrev pub taken : List (Option ℕ) → ℕ → List Change → Counts
 taken parents slot [] = no_counts
 taken parents slot (change ∷ changes) = both_counts (on_chain parents slot change.minus) (taken parents slot changes)
 
 -- ---- laws
 
--- The first world, before any event, is legal.
+-- The world before any event satisfies the invariant of legal worlds.
 abbrev pub LegalFirst : Type 0
 LegalFirst = (limits : Limits) → IsLegalWorld limits first_world
 
--- A legal event takes a legal world to a legal world.
+-- A legal event preserves the invariant of legal worlds.
 abbrev pub LegalKept : Type 0
 LegalKept =
     (limits : Limits) (w : World) (event : Event) → cause_of limits w event ≡ None → IsLegalWorld limits w

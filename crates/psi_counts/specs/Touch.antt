@@ -1,6 +1,6 @@
--- Touches: the changes that an event makes on the processors that it touches. An *act* is what an
--- event says besides its time, such as a switch or a fork. The file also says how counts of tasks
--- follow such changes.
+-- The changes that an event makes on the processors that it touches, which are together called a
+-- *touch*, and how counts of tasks follow from such changes. An *act* is what an event does, such
+-- as a switch or a fork.
 use Rattle.std.specs.Prelude.{◌≡◌, ◌≢◌, ℕ, ◌+◌, ◌≤◌, ◌<◌, List, [], ◌∷◌, length, ◌==◌, Bool, true, false, if◌then◌else◌, unwrap_or, Option, None, Some, IfSome}
 use Rattle.std.specs.List.{list_any}
 use Rattle.std.specs.FinMap as tasks_by
@@ -27,19 +27,19 @@ use Rattle.psi_counts.specs.Counts.{how_many, counts_among, IsRunningKnown}
 
 -- ---- the task whose counts an act changes
 
--- the task after the update `f`; `None` if there is no task
+-- The optional task after the update `f`. `None` remains `None`.
 abbrev pub changed : (Task → Task) → Option Task → Option Task
 changed f None = None
 changed f (Some task) = Some (f task)
 
--- a running task after it left its processor in the way `how`; `None` if there is no task or if it
--- exited
+-- The optional running task after it left its processor in the way `how`; `None` if there is no
+-- task or if the task exited.
 abbrev pub left_if : How → Option Task → Option Task
 left_if how None = None
 left_if how (Some task) = left_by how task
 
--- the task whose counts an effect changes, after the effect; `None` if it changes no task or the
--- task doesn't exist afterwards
+-- The task whose counts an effect changes, in its state after the effect; `None` if the effect
+-- changes no task or the task doesn't exist after it.
 abbrev pub after_effect : List GroupLife → Tasks → Effect → Option Task
 after_effect groups tasks none = None
 after_effect groups tasks (forks pid path cpu) = Some (new_task groups path cpu.0)
@@ -51,49 +51,50 @@ after_effect groups tasks (switches cpu next how) = left_if how (task_part (runn
 after_effect groups tasks (interrupts cpu) = None
 after_effect groups tasks switches_account = None
 
--- the task whose counts `act` changes, after the act; `None` if it changes no task or the task
--- doesn't exist afterwards
+-- The task whose counts the act changes, in its state after the act; `None` if the act changes no
+-- task or the task doesn't exist after it.
 abbrev pub task_after : List GroupLife → Tasks → Act → Option Task
 task_after groups tasks act = after_effect groups tasks (effect_of act)
 
 -- ---- accounting
 
--- The slot of the group with the path in `switched`, and whether its accounting is on afterwards;
--- `None` if accounting isn't switched.
+-- The slot of the group whose accounting is switched, and whether it is on after the switch; `None`
+-- if accounting isn't switched. `switched` contains the path of the group.
 abbrev pub account_named : List GroupLife → Option (List ℕ × Bool) → Option (Slot × Bool)
 account_named groups None = None
 account_named groups (Some switched) = Some (slot_named groups switched.0, switched.1)
 
--- the slot of the group whose accounting an act switches, and whether it is on afterwards; `None`
--- if the act switches none
+-- The slot of the group whose accounting an act switches, and whether it is on after the act;
+-- `None` if the act switches no accounting.
 abbrev pub account_of : List GroupLife → Act → Option (Slot × Bool)
 account_of groups what = account_named groups (names what).switched
 
--- whether the accounting of the group in `slot` is on after a switch of accounting, if there is
--- one; `on` is whether it was on before
+-- Whether the accounting of the group in slot `slot` is on after an optional switch of accounting,
+-- given whether it is on before the switch (`on`).
 abbrev pub on_with : ℕ → Bool → Option (Slot × Bool) → Bool
 on_with slot on None = on
 on_with slot on (Some account) = if account.0.0 == slot then account.1 else on
 
 -- ---- changes
 
--- the slot of a task, and the counts of this task alone, if the task is on processor `cpu`;
--- otherwise `None`
+-- The slot of an optional task, and the counts of this task alone, if the task is on processor
+-- `cpu`; otherwise `None`.
 abbrev pub part : ℕ → Option Task → Option (Slot × Counts)
 part cpu None = None
 part cpu (Some task) = if is_at cpu task then Some (task.slot, counts_among (task ∷ [])) else None
 
--- the slot of a running task, and whether it is in a memory stall; `None` if no task is running
+-- The slot of an optional running task, and whether the task is in a memory stall; `None` if no
+-- task is running.
 abbrev pub shown : Option (ℕ × Task) → Option (Slot × Bool)
 shown None = None
 shown (Some running) = Some (running.1.slot, running.1.stalled)
 
--- The change that an event makes on processor `cpu`, at the event's time. `old` and `new` are the
--- task whose counts the event changes, before and after the event: the change subtracts the counts
--- of `old` from the chain of its slot, and adds the counts of `new` to the chain of its slot.
--- `tasks` are the tasks after the event. The change has the processor's running task among them,
--- the time (ns) that interrupts took on the processor, and the group whose accounting the event
--- switches, if any; a switch of accounting doesn't change the running task.
+-- The change that an event makes on processor `cpu`. `old` and `new` are the task whose counts the
+-- event changes, before and after the event: the change subtracts the counts of `old` from the
+-- group of `old` and its ancestors, and adds the counts of `new` to the group of `new` and its
+-- ancestors. `tasks` are the tasks after the event, which include the processor's running task. The
+-- change also contains the time (ns) that interrupts took on the processor, and the group whose
+-- accounting the event switches, if any; a switch of accounting doesn't change the running task.
 abbrev pub change_on : List GroupLife → Event → Option Task → Option Task → Tasks → ℕ → Change
 change_on groups event old new tasks cpu = record {
   at = event.at;
@@ -104,8 +105,8 @@ change_on groups event old new tasks cpu = record {
   account = account_of groups event.act;
 }
 
--- the change that an event makes on processor `cpu`; `None` if the event doesn't touch the
--- processor
+-- The change that an event makes on processor `cpu` in world `w`; `None` if the event doesn't touch
+-- the processor.
 unfoldable pub change_of : World → Event → ℕ → Option Change
 change_of w event cpu =
     if touched event.act (before w.tasks event.act) cpu
@@ -115,38 +116,41 @@ change_of w event cpu =
 
 -- ---- touches
 
--- the change in `touched` if it is on processor `cpu`, otherwise `other`
+-- The change in `touched` if it is a change of processor `cpu`; otherwise `other`.
 abbrev pub known_first : ℕ → Option (Cpu × Change) → Option Change → Option Change
 known_first cpu None other = other
 known_first cpu (Some touched) other = if touched.0.0 == cpu then Some touched.1 else other
 
--- the change that a touch has for processor `cpu`, if any
+-- The change of processor `cpu` that a touch contains, if any. A switch of accounting is not
+-- considered.
 abbrev pub change_by_cpu : Touch → ℕ → Option Change
 change_by_cpu touch cpu = known_first cpu touch.first (known_first cpu touch.second None)
 
--- a processor's change at `at` (ns) that switches a group's accounting, while the task `current` is
--- running
+-- The change of a processor at time `at` (ns) that switches a group's accounting, while the task
+-- `current` is running.
 abbrev pub account_change : ℕ → Option (Slot × Bool) → Slot × Bool → Change
 account_change at current account = record { at = at; minus = None; plus = None; current = current; irq = 0; account = Some account }
 
--- the change that switches a group's accounting, if there is a switch, otherwise `other`
+-- The change that switches a group's accounting if there is a switch; otherwise `other`.
 abbrev pub account_first : ℕ → Option (Slot × Bool) → Option (Slot × Bool) → Option Change → Option Change
 account_first at current None other = other
 account_first at current (Some account) other = Some (account_change at current account)
 
--- the change that a touch at `at` (ns) makes on processor `cpu`; `current` is the processor's
--- running task afterwards
+-- The change that a touch at time `at` (ns) makes on processor `cpu`. `current` is the processor's
+-- running task after the event.
 abbrev pub change_known : ℕ → Option (Slot × Bool) → Touch → ℕ → Option Change
 change_known at current touch cpu = account_first at current touch.account (change_by_cpu touch cpu)
 
--- A second change exists only if there is a first change, on another processor.
+-- If there is a second change, there is also a first change, and the two are changes of different
+-- processors.
 abbrev pub IsBeside : Option (Cpu × Change) → Option (Cpu × Change) → Type 0
 IsBeside first None = Unit {0}
 IsBeside None (Some second) = ⊥
 IsBeside (Some first) (Some second) = first.0 ≢ second.0
 
--- A touch has the event's change on each of the `cpus` processors that it touches, at most one
--- change on each. Its switch of accounting is that of the event, and then it has no other change.
+-- `touch` contains the changes that the event makes on the `cpus` processors, at most one on each.
+-- Its switch of accounting is the switch of the event; if there is a switch, the touch has no other
+-- change.
 pub record IsTouch (cpus : ℕ) (w : World) (event : Event) (touch : Touch) : Type 0 where
   pub known : (cpu : ℕ) → cpu < cpus → change_known event.at (shown (running_on (after_event w event).tasks cpu)) touch cpu
       ≡ change_of w event cpu
@@ -154,11 +158,11 @@ pub record IsTouch (cpus : ℕ) (w : World) (event : Event) (touch : Touch) : Ty
   pub on_with : touch.account ≡ account_of w.groups event.act
   pub alone : IfSome touch.account (λ account. (touch.first ≡ None) × (touch.second ≡ None))
 
--- `IsSo` holds for each change in a touch, with the number of its processor.
+-- `IsSo` holds for the number of the processor and the change, for each change in a touch.
 abbrev pub AllTouched : (ℕ → Change → Type 0) → Touch → Type 0
 AllTouched IsSo touch = IfSome touch.first (λ first. IsSo first.0.0 first.1) × IfSome touch.second (λ second. IsSo second.0.0 second.1)
 
--- Each slot that a change names is less than `slots`.
+-- Each slot that a change names is below `slots`.
 pub record HasSlotsBelow (slots : ℕ) (change : Change) : Type 0 where
   pub minus : IfSome change.minus (λ part. part.0.0 < slots)
   pub plus : IfSome change.plus (λ part. part.0.0 < slots)
@@ -178,7 +182,7 @@ HasNoCounts change = (change.minus ≡ None) × (change.plus ≡ None)
 
 -- A change subtracts the counts of at most one task, and adds the counts of at most one task. Its
 -- interrupt time is at most one second. A change with interrupt time, or with a switch of
--- accounting, has no counts, and no change has both.
+-- accounting, has no counts. No change has both interrupt time and a switch of accounting.
 pub record IsOfOne (change : Change) : Type 0 where
   pub minus : IfSome change.minus (λ part. AreAtMost 1 part.1)
   pub plus : IfSome change.plus (λ part. AreAtMost 1 part.1)
@@ -192,13 +196,14 @@ pub record IsOfOne (change : Change) : Type 0 where
 abbrev pub no_counts : Counts
 no_counts = record { io = 0; stalled = 0; running = 0; stalled_running = 0 }
 
--- the counts in `part` that apply to the group in `slot`: all of them if their task is in the group
--- or below it, otherwise none
+-- The counts in `part` that apply to the group in slot `slot`: all counts if their task is in the
+-- group or in a descendant, otherwise no counts.
 abbrev pub on_chain : List (Option ℕ) → ℕ → Option (Slot × Counts) → Counts
 on_chain parents slot None = no_counts
 on_chain parents slot (Some part) = if is_under parents part.0.0 slot then part.1 else no_counts
 
--- The new counts plus the subtracted counts are the old counts plus the added counts.
+-- The counts `new` follow from the counts `old`: for each count, `new` plus the subtracted count
+-- `minus` is `old` plus the added count `plus`.
 pub record Follows (old minus plus new : Counts) : Type 0 where
   pub io : new.io + minus.io ≡ old.io + plus.io
   pub stalled : new.stalled + minus.stalled ≡ old.stalled + plus.stalled
@@ -209,22 +214,22 @@ pub record Follows (old minus plus new : Counts) : Type 0 where
 abbrev pub RunsOnce : Tasks → Type 0
 RunsOnce tasks = (cpu : ℕ) → how_many (is_running_on cpu) (tasks_by.values tasks) ≤ 1
 
--- whether a processor's running task is in the group in `slot` or below it
+-- Whether a processor's optional running task is in the group in slot `slot` or in a descendant.
 abbrev pub is_current_in : List (Option ℕ) → ℕ → Option (Slot × Bool) → Bool
 is_current_in parents slot None = false
 is_current_in parents slot (Some current) = is_under parents current.0.0 slot
 
--- whether a processor's running task is in a memory stall; false if no task is running
+-- Whether a processor's optional running task is in a memory stall.
 abbrev pub is_current_stalled : Option (Slot × Bool) → Bool
 is_current_stalled None = false
 is_current_stalled (Some current) = current.1
 
--- the interrupt time (ns) that a change takes from the group in `slot`: the time in the change if
--- the running task is in the group or below it, otherwise 0
+-- The interrupt time (ns) that a change takes from the group in slot `slot`: the interrupt time of
+-- the change if the running task is in the group or in a descendant, otherwise 0.
 abbrev pub irq_in : List (Option ℕ) → ℕ → Change → ℕ
 irq_in parents slot change = if is_current_in parents slot change.current then change.irq else 0
 
--- Each task's processor is less than `cpus`, and its slot is less than `slots`.
+-- The processor of each task is below `cpus`, and its slot is below `slots`.
 abbrev pub AreWithin : ℕ → ℕ → Tasks → Type 0
 AreWithin cpus slots tasks = (pid : ℕ) → IfSome (task_of tasks pid) (λ task. (task.cpu.0 < cpus) × (task.slot.0 < slots))
 
@@ -238,27 +243,27 @@ CountsFollow = (limits : Limits) (w : World) (event : Event) → cause_of limits
     (on_chain parents slot (part cpu (task_after w.groups w.tasks event.act)))
     (counts_among (tasks_in parents cpu slot (after_event w event).tasks))
 
--- Before the first event, at most one task runs on each processor: there are no tasks.
+-- Before the first event at most one task runs on each processor, because there are no tasks.
 abbrev pub RunsOnceFirst : Type 0
 RunsOnceFirst = RunsOnce no_tasks
 
--- Legal events preserve that at most one task runs on each processor.
+-- A legal event preserves the invariant that at most one task runs on each processor.
 abbrev pub RunsOnceKept : Type 0
 RunsOnceKept =
     (limits : Limits) (w : World) (event : Event) → cause_of limits w event ≡ None → RunsOnce w.tasks → RunsOnce (after_event w event).tasks
 
--- The running task in a change shows whether one of a group's tasks is running, and whether it is
--- in a memory stall.
+-- The running task of a processor determines whether one of a group's tasks is running there, and
+-- whether that task is in a memory stall.
 abbrev pub CurrentShows : Type 0
 CurrentShows = (tasks : Tasks) → RunsOnce tasks → (parents : List (Option ℕ)) (cpu slot : ℕ) →
     IsRunningKnown (tasks_in parents cpu slot tasks) (is_current_in parents slot (shown (running_on tasks cpu)))
     (is_current_stalled (shown (running_on tasks cpu)))
 
--- A processor's change by a legal event has everything that the times of a group there depend on.
--- The counts of the group follow what the change subtracts and adds. The change's running task
--- shows whether one of the group's tasks runs after the event. The change's interrupt time applies
--- to the group if one of the group's tasks runs before the event. The change's switch of accounting
--- is that of the event.
+-- The change that a legal event makes on a processor contains all values on which the times of a
+-- group there depend. The counts of the group follow from the counts that the change subtracts and
+-- adds. The change's running task determines whether one of the group's tasks runs after the event.
+-- The change's interrupt time applies to the group if one of the group's tasks runs before the
+-- event. The change's switch of accounting is the switch of the event.
 abbrev pub ChangeShows : Type 0
 ChangeShows =
     (limits : Limits) (w : World) (event : Event) → cause_of limits w event ≡ None → RunsOnce w.tasks → (cpu : ℕ) (change : Change)
@@ -279,8 +284,8 @@ TouchesItsOwn = (w : World) (event : Event) (cpu : ℕ) →
     × (is_some_and (task_after w.groups w.tasks event.act) (is_at cpu) ≡ true → touched event.act (before w.tasks event.act) cpu ≡ true)
 
 -- A legal event that doesn't touch a processor changes neither the counts of a group nor the
--- running task there. The event has no interrupt time on this processor, and switches no group's
--- accounting.
+-- running task there. The event reports no interrupt time on this processor, and switches no
+-- group's accounting.
 abbrev pub StaysUntouched : Type 0
 StaysUntouched =
     (limits : Limits) (w : World) (event : Event) → cause_of limits w event ≡ None → (cpu : ℕ) → change_of w event cpu ≡ None
@@ -297,12 +302,12 @@ abbrev pub OnByAccount : Type 0
 OnByAccount = (limits : Limits) (w : World) (event : Event) → cause_of limits w event ≡ None → AreGroups w.groups → (slot : ℕ) →
     is_on (after_event w event).groups slot ≡ on_with slot (is_on w.groups slot) (account_of w.groups event.act)
 
--- Before the first event, all tasks have existing processors and slots: there are no tasks.
+-- Before the first event all tasks have existing processors and slots, because there are no tasks.
 abbrev pub WithinFirst : Type 0
 WithinFirst = (cpus slots : ℕ) → AreWithin cpus slots no_tasks
 
--- Legal events preserve that each task's processor is less than the number of processors, and its
--- slot less than the number of groups.
+-- A legal event preserves the invariant that each task has an existing processor and an existing
+-- slot.
 abbrev pub WithinKept : Type 0
 WithinKept =
     (limits : Limits) (w : World) (event : Event) → cause_of limits w event ≡ None → AreWithin limits.cpus (length w.groups) w.tasks

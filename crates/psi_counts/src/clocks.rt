@@ -1,5 +1,5 @@
-//! Laws of states that follow from counts, of masks and of clocks. Each function has an empty body:
-//! its contract is the law.
+//! Laws of the states that follow from counts, of masks (sets of states) and of clocks. Each
+//! function has an empty body: its contract is the law.
 
 ghost use Rattle.psi_counts.specs.Clock.{NoLongerThanClock, SameAfterChange, SameMaskIsNoChange, WordsShowClock};
 ghost use Rattle.psi_counts.specs.Counts.{CountsShow, MasksAreTheirStates};
@@ -15,14 +15,14 @@ pub fn law_masks()
     ensures { MasksAreTheirStates }
 {}
 
-/// If a clock's time in a state doesn't exceed the clock's start, it doesn't exceed any later time
-/// up to which the clock is read either.
+/// The time in a state never exceeds the time up to which a clock is read, if the time in the state
+/// doesn't exceed the clock's start at the start.
 pub fn law_clock_times()
     ensures { NoLongerThanClock }
 {}
 
-/// A change with an unchanged mask gives an equivalent clock, and equivalent clocks are equal after
-/// a change.
+/// Advancing a clock with an unchanged mask gives an equivalent clock. Equivalent clocks are equal
+/// after they are advanced to the same time with the same mask.
 pub fn law_same_clocks()
     ensures no_change { SameMaskIsNoChange }
     ensures same_after { SameAfterChange }

@@ -9,8 +9,8 @@ pub fn law_legal_worlds()
 {}
 
 /// In a legal world, groups that are created later don't change which tasks count for a group, and
-/// no count of a group exceeds the limit of live tasks. The counts are the sums that the changes
-/// since the first event added, minus the sums that they subtracted.
+/// no count of a group exceeds the limit of live tasks. The counts of a group are the sums that the
+/// changes since the first event added to it, minus the sums that they subtracted.
 pub fn law_legal_counts()
     ensures later { SameTasksLater }
     ensures few { CountsAreFew }

@@ -1,11 +1,11 @@
-//! Counts of tasks and clocks: the states that psi_spec defines over the tasks of a world follow
-//! from counts of tasks, and a clock adds up the time in each state. So a program needn't look at
-//! all tasks at every event.
+//! Counts of tasks, and clocks. The states that psi_spec defines over the tasks of a world follow
+//! from counts of tasks, and a clock adds up the time in each state. So a program needn't visit all
+//! tasks at every event.
 //!
 //! In `specs/`: `Counts` (states from counts of tasks, masks), `Clock`, `Touch` (the changes that
 //! an event makes on processors), `Legal` (the invariant of legal worlds).
 //!
-//! These are types, definitions and laws, without code that runs. plan_laws has the laws over a
+//! This crate has types, definitions and laws, but no code that runs. plan_laws has the laws over a
 //! whole trace; cpu_clock and slot_clocks have the code.
 #![tactic(auto)]
 

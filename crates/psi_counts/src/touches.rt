@@ -2,9 +2,9 @@
 //! contract is the law.
 ghost use Rattle.psi_counts.specs.Touch.{ChangeShows, ChangesAreWithin, CountsFollow, CurrentShows, OnByAccount, RunsOnceFirst, RunsOnceKept, StaysUntouched, TouchesItsOwn, WithinFirst, WithinKept};
 
-/// A legal event changes the counts of each group on each processor by what the event's change
-/// subtracts and adds on the chain of the task's slot, as `psi_group_change` in the kernel's psi.c
-/// does for each group.
+/// A legal event changes the counts of each group on each processor by the counts that the event's
+/// change subtracts from and adds to the group of the task and its ancestors, as `psi_group_change`
+/// in the kernel's psi.c does for each group.
 pub fn law_counts_follow()
     ensures { CountsFollow }
 {}
@@ -15,21 +15,22 @@ pub fn law_runs_once()
     ensures unchanged { RunsOnceKept }
 {}
 
-/// The running task of a processor shows whether one of a group's tasks is running there, so the
-/// group's states follow from its counts.
+/// The running task of a processor determines whether one of a group's tasks is running there, so
+/// the group's states follow from its counts.
 pub fn law_current_shows()
     ensures { CurrentShows }
 {}
 
-/// The change of a processor has everything that the times of each group there depend on: how the
-/// counts change, the running task, the interrupt time, and the group whose accounting is switched.
+/// The change of a processor contains all values on which the times of each group there depend: how
+/// the counts change, the running task, the interrupt time, and the group whose accounting is
+/// switched.
 pub fn law_change_shows()
     ensures { ChangeShows }
 {}
 
 /// A legal event that doesn't touch a processor changes no counts and no running task there, and
-/// has no interrupt time there. An event touches the processor that it names, and the processors of
-/// the task that it changes, before and after the event.
+/// reports no interrupt time there. An event touches the processor that it names, and the
+/// processors of the task that it changes, before and after the event.
 pub fn law_touched()
     ensures others { StaysUntouched }
     ensures own { TouchesItsOwn }

@@ -19,7 +19,7 @@ pub enum TaskAct {
         pid: Pid,
         cpu: Cpu,
     },
-    /// The running task leaves its processor, and the next one, if any, runs there.
+    /// The running task, if any, leaves its processor, and the next task, if any, runs there.
     Switch {
         cpu: Cpu,
         next: Option<Pid>,
