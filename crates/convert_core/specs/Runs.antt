@@ -59,7 +59,7 @@ PutsOutput old new output _ = ⊥
 abbrev pub Converts : Option (List ℕ) → Option (List ℕ) → Result Output TableFault → Status → Type 0
 Converts old new (Ok output) (status.NoMemory _) = Keeps old new
 Converts old new (Ok output) result = PutsOutput old new output result
-Converts old new (Err why) (status.Table told) = (why ≡ told) × Keeps old new
+Converts old new (Err why) (status.Table reported) = (why ≡ reported) × Keeps old new
 Converts old new (Err why) (status.NoFile file) = Keeps old new
 Converts old new (Err why) status.ReadFault = Keeps old new
 Converts old new (Err why) (status.NoMemory _) = Keeps old new

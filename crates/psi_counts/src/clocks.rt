@@ -15,8 +15,8 @@ pub fn law_masks()
     ensures { MasksAreTheirStates }
 {}
 
-/// The time in a state never exceeds the time up to which a clock is read, if the time in the state
-/// doesn't exceed the clock's start at the start.
+/// If a clock's time in a state doesn't exceed the clock's start, the time in the state up to any
+/// later time doesn't exceed that time.
 pub fn law_clock_times()
     ensures { NoLongerThanClock }
 {}
