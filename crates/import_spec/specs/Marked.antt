@@ -1,5 +1,5 @@
--- Parsing of a line of an ftrace text. A marked line contains the name of one of the tracepoints
--- that are imported; other lines are ignored.
+-- Parsing of a line of an ftrace text. A *marked* line contains the name of a tracepoint that is
+-- imported; other lines are ignored.
 use Rattle.std.specs.Prelude.{ℕ, ◌+◌, List, [], ◌∷◌, take, drop, length, find, Bool, if◌then◌else◌, codes, Option, None, Some, is_some, Result, Ok, Err}
 use Rattle.import_spec.specs.declared.cause.ImportCause.{ImportCause}
 use Rattle.import_spec.specs.declared.cause.ImportCause.TheVariants as cause
@@ -20,7 +20,7 @@ pub record Mark : Type 0 where
   pub text : List ℕ
   pub kind : LineKind
 
--- the mark with this text and kind
+-- Makes a mark from its text and the kind of its lines.
 abbrev pub mark : List ℕ → LineKind → Mark
 mark text which = record { text = text; kind = which }
 
@@ -32,7 +32,7 @@ marks =
     ∷ mark (codes ": sched_wakeup_new: ") kind.Wakeup
     ∷ mark (codes ": sched_migrate_task: ") kind.Migration ∷ []
 
--- the mark at the beginning of the bytes, or `None`
+-- The mark at the beginning of the bytes, or `None` if the bytes begin with no mark.
 unfoldable pub mark_of : List ℕ → Option Mark
 mark_of bytes = find (λ (each : Mark). begins_with each.text bytes) marks
 
@@ -40,8 +40,8 @@ mark_of bytes = find (λ (each : Mark). begins_with each.text bytes) marks
 abbrev pub begins_marked : List ℕ → Bool
 begins_marked bytes = is_some (mark_of bytes)
 
--- a marked line: its kind, the bytes before its mark (the head), and the bytes after its mark (the
--- tail)
+-- A marked line, split at its mark: its kind, the bytes before the mark (the head), and the bytes
+-- after the mark (the tail).
 pub record Marked : Type 0 where
   pub kind : LineKind
   pub head : List ℕ

@@ -4,7 +4,7 @@ use Rattle.std.specs.Prelude.{ℕ, ◌+◌, List, [], ◌∷◌, length, drop, n
 use Rattle.std.specs.List.{starts_with}
 use Rattle.psi_base.specs.OptionSteps.{◌>>=◌}
 
--- the first position that passes the test, or `None`
+-- The first position of the bytes that passes the test, or `None`.
 unfoldable pub first_place : (List ℕ → Bool) → List ℕ → Option ℕ
 first_place test [] = None
 first_place test (byte ∷ bytes) = if test (byte ∷ bytes) then Some 0 else option_map (λ at. at + 1) (first_place test bytes)
@@ -15,7 +15,7 @@ abbrev pub or_here : Option ℕ → Bool → Option ℕ
 or_here (Some at) passes = Some (at + 1)
 or_here None passes = if passes then Some 0 else None
 
--- the last position that passes the test, or `None`
+-- The last position of the bytes that passes the test, or `None`.
 unfoldable pub last_place : (List ℕ → Bool) → List ℕ → Option ℕ
 last_place test [] = None
 last_place test (byte ∷ bytes) = or_here (last_place test bytes) (test (byte ∷ bytes))

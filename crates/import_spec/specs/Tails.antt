@@ -12,11 +12,11 @@ use Rattle.import_spec.specs.Places.{begins_with, after_last, last_place}
 
 -- ---- numbers
 
--- the byte is a space (32)
+-- Whether the byte is a space (32).
 abbrev pub is_space : ℕ → Bool
 is_space byte = byte == 32
 
--- the byte is a point (46)
+-- Whether the byte is a point (46).
 abbrev pub is_point : ℕ → Bool
 is_point byte = byte == 46
 
@@ -39,7 +39,7 @@ time_of word = do
   fraction ← short_number 9 (after_first is_point word)
   Some (seconds * 10 ^ 9 + fraction * 10 ^ (9 - length (after_first is_point word)))
 
--- the time (ns) in a head, which is the word after its last space
+-- The time (ns) in the head of a line, which is the word after the last space.
 unfoldable pub time_in : List ℕ → Option ℕ
 time_in head = do
   word ← after_last (codes " ") head
@@ -55,7 +55,7 @@ is_bracketed bytes =
     begins_with (codes "[") bytes && nat_lt 0 (digit_count (drop 1 bytes))
     && begins_with (codes "]") (drop (digit_count (drop 1 bytes)) (drop 1 bytes))
 
--- the processor in a head: the last number in brackets, which has at most 3 digits
+-- The processor in the head of a line: the last number in brackets, which has at most 3 digits.
 unfoldable pub cpu_in : List ℕ → Option ℕ
 cpu_in head = do
   at ← last_place is_bracketed head
@@ -71,7 +71,7 @@ field_in key part = do
   number ← short_number 10 (before_first is_space rest)
   if_small number
 
--- the task with this pid, or `None` for pid 0 (the idle task)
+-- The task with pid `number`, or `None` for pid 0 (the idle task).
 abbrev pub pid_in : ℕ → Option Pid
 pid_in number = if number == 0 then None else Some (record { 0 = number })
 

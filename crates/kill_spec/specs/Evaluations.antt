@@ -27,13 +27,13 @@ last_or before (x ∷ xs) = last_or x xs
 
 -- ---- the latest samples
 
--- a sample of a group's memory: memory and swap in use (bytes), and the number of scanned pages
+-- A sample of a group's memory: memory and swap in use (bytes), and the number of scanned pages.
 pub record MemorySample : Type 0 where
   pub current : ℕ
   pub swap : ℕ
   pub scan : ℕ
 
--- the memory sample of a group before its first sample: zeros
+-- The memory sample of a group before its first sample: all numbers are 0.
 abbrev pub no_memory_sample : MemorySample
 no_memory_sample = record { current = 0; swap = 0; scan = 0 }
 

@@ -28,7 +28,7 @@ pub record HeldFor (condition : Reading → Bool) (duration at : ℕ) (readings 
   pub starts : condition first ≡ true
   pub long : duration ≤ at - first.at
 
--- The Boolean test `held_for` decides the relation `HeldFor`.
+-- The Boolean test `held_for` is true if and only if the relation `HeldFor` holds.
 abbrev pub HeldForShows : Type 0
 HeldForShows = (condition : Reading → Bool) (duration at : ℕ) (readings : List Reading) →
     (held_for condition duration at readings ≡ true) ↔ HeldFor condition duration at readings
@@ -56,8 +56,8 @@ LongerIsLater = (condition : Reading → Bool) (shorter_s longer_s : ℕ) (now :
 abbrev pub IsPopulatedIn : Reading → GroupReading → Type 0
 IsPopulatedIn reading group = Contains reading.groups group × (group.populated ≡ true)
 
--- The victim of an action is populated. It matches the action's patterns unless the action is
--- recursive.
+-- The victim of an action has a live task in it or in a descendant. It matches the action's
+-- patterns unless the action is recursive.
 abbrev pub VictimsMatch : Type 0
 VictimsMatch = (lives : List GroupLife) (act : Action) (now : Reading) (past : List Reading) (group : GroupReading) →
     victim lives act now past ≡ Some group →

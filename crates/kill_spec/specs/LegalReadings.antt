@@ -21,7 +21,7 @@ pub record IsGroupReading (slots : ℕ) (group : GroupReading) : Type 0 where
   pub rows : length group.averages ≡ irq_quantity
   pub each : All IsRow group.averages
 
--- a sample of the host's memory is in range: each size is at most 2^60 bytes
+-- A sample of the host's memory is in range: each size is at most 2^60 bytes.
 pub record IsHostReading (host : HostReading) : Type 0 where
   pub mem_total : host.mem_total ≤ 2 ^ 60
   pub swap_total : host.swap_total ≤ 2 ^ 60

@@ -21,8 +21,9 @@ pub fn law_choices()
     ensures largest { LargestIsChoice }
 {}
 
-/// A victim is populated and matches its action's patterns; for a recursive action it may be a
-/// descendant of a matching group. A descent ends after at most as many steps as there are groups.
+/// A victim has a live task in it or in a descendant. It matches the patterns of its action; for a
+/// recursive action it may instead be a descendant of a matching group. A descent takes at most one
+/// step for each group.
 pub fn law_victims()
     ensures matching { VictimsMatch }
     ensures ends { DescentEnds }

@@ -70,7 +70,7 @@ samples_requested request trace = tick_count trace (timing_on request.path) * re
 
 -- ---- statuses
 
--- the trace's file isn't known to be missing
+-- The trace's file isn't known to be missing.
 abbrev pub IsTraceThere : Request → Option Files → Type 0
 IsTraceThere request files = IsAbsent files request.trace → ⊥
 
@@ -82,11 +82,11 @@ HasObservedOutput request files IsSo =
     × (samples_requested request trace ≤ most_samples)
     × ((text : List ℕ) × IsObservedText trace (timing_on request.path) request.path request.observers text × IsSo text)
 
--- What a status implies, given the content of the file (if known) and the bytes of the output
--- before and after. Done: a whole valid output was written. WriteFault: a prefix of a valid output
--- was written. Trace: the first rejected line of the trace. TooManySamples: the number of samples,
--- which is too large. NoFile: the trace's file is missing. For every status except Done and
--- WriteFault the output is unchanged.
+-- The implications of a status, given the content of the file (if known) and the bytes of the
+-- output before and after the run. Done: a whole valid output was written. WriteFault: a prefix of
+-- a valid output was written. Trace: the first rejected line of the trace. TooManySamples: the
+-- number of samples, which is too large. NoFile: the trace's file is missing. For every status
+-- except Done and WriteFault the output is unchanged.
 abbrev pub ObservingEnds : Request → Option Files → Option (List ℕ) → Option (List ℕ) → ObserveStatus → Type 0
 ObservingEnds request files old new status.Done = HasObservedOutput request files (λ text. Appends old new text)
 ObservingEnds request files old new status.WriteFault = HasObservedOutput request files (λ text. AppendsPrefix old new text)
@@ -132,7 +132,7 @@ RejectsManySamples request files before now result = (bytes : List ℕ) (trace :
     → (Increased before.shelf.faults now.shelf.faults → ⊥)
     → (result ≡ status.TooManySamples (samples_requested request trace)) ⊎ (result ≡ status.NoMemory no_memory)
 
--- If the trace is rejected, the result is the status with its first rejected line, unless a read
+-- If the trace is rejected, the result is a status with its first rejected line, unless a read
 -- fails or memory runs out.
 abbrev pub RejectsTrace : Request → Option Files → RunCounts → RunCounts → ObserveStatus → Type 0
 RejectsTrace request files before now result = (bytes : List ℕ) (refusal : Refusal)

@@ -24,7 +24,7 @@ is_of observer cpu look = look.observer == observer && look.cpu == cpu
 abbrev pub looks_by : ℕ → List Look → List Look
 looks_by observer looks = filter (λ (look : Look). look.observer == observer) looks
 
--- the change counts of the samples that `observer` took on processor `cpu`
+-- The change counts of the samples that `observer` took on processor `cpu`, in order.
 abbrev pub counts_by : ℕ → ℕ → List Look → List ℕ
 counts_by observer cpu looks = map (λ (look : Look). look.count) (filter (is_of observer cpu) looks)
 

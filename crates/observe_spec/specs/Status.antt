@@ -16,12 +16,12 @@ code_of status.WriteFault = 6
 code_of (status.NoMemory _) = 7
 code_of (status.TooManySamples samples) = 8
 
--- the name of the trace's file, or no bytes if the words aren't a request
+-- The name of the trace's file of an optional request, or no bytes for `None`.
 abbrev pub trace_text : Option Request → List ℕ
 trace_text None = []
 trace_text (Some request) = request.trace
 
--- the message for a status: one line with its newline, or no bytes for Done
+-- The message for a status: one line with its newline, or no bytes for Done.
 abbrev pub observe_status_text : Option Request → ObserveStatus → List ℕ
 observe_status_text request status.Done = []
 observe_status_text request status.Usage = codes "usage: psi_observe TRACE OBSERVERS PATH\n"

@@ -3,8 +3,8 @@ use Rattle.std.specs.Prelude.{ℕ, List, [], ◌∷◌, ◌&&◌, not, Bool, if�
 use Rattle.psi_base.specs.Path.{is_path}
 use Rattle.run_spec.specs.Words.{is_dashed, is_name, number_within}
 
--- A parsed command line: the name of the trace's file, the number of observers, and the path of the
--- group that they observe.
+-- A parsed command line of psi_observe: the name of the trace's file, the number of observers, and
+-- the path of the group that they sample.
 pub record Request : Type 0 where
   pub trace : List ℕ
   pub observers : ℕ

@@ -42,7 +42,7 @@ pub record ReadsBytes (bytes : List ℕ) (at n : ℕ) (before into : List ℕ) :
   pub end : n ≡ 0 → 0 < length into → length bytes ≤ at
   pub rest : drop n into ≡ drop n before
 
--- the number of bytes that a read returned: 0 if it failed
+-- The number of bytes that a read returned, or 0 if the read failed.
 abbrev pub count_read : {E : Type 0} → Result ℕ E → ℕ
 count_read (Ok n) = n
 count_read (Err fault) = 0

@@ -12,7 +12,7 @@ use Rattle.path_match.specs.Answers.{ArePatterns, Matches, MatchesComponent, Mat
 abbrev pub TestShows : Type 0
 TestShows = (patterns : List Pattern) (path : List ℕ) → (is_match patterns path ≡ true) ↔ MatchesSome patterns path
 
--- The pattern `/` matches only the root.
+-- The pattern `/`, which has no components, matches only the root.
 abbrev pub RootAlone : Type 0
 RootAlone = (path : List ℕ) → Matches [] path ↔ (path ≡ codes "/")
 
@@ -20,7 +20,7 @@ RootAlone = (path : List ℕ) → Matches [] path ↔ (path ≡ codes "/")
 abbrev pub PathMatchesItself : Type 0
 PathMatchesItself = (text path : List ℕ) → is_path text ≡ true → is_path path ≡ true → Matches (components text) path ↔ (path ≡ text)
 
--- A single star matches any component.
+-- The pattern component `*` matches any component of a path.
 abbrev pub StarMatchesAny : Type 0
 StarMatchesAny = (bytes : List ℕ) → MatchesComponent (codes "*") bytes
 
@@ -48,6 +48,6 @@ ReadsPatterns =
 abbrev pub ReadAgain : Type 0
 ReadAgain = (patterns : List Pattern) → ArePatterns patterns → patterns_of (patterns_text patterns) ≡ Ok patterns
 
--- A slash before the first component doesn't change the components of a pattern.
+-- A slash before the first component of a pattern doesn't change its components.
 abbrev pub SlashIsFree : Type 0
 SlashIsFree = (byte : ℕ) (bytes : List ℕ) → byte ≢ 47 → components (47 ∷ byte ∷ bytes) ≡ components (byte ∷ bytes)

@@ -61,8 +61,8 @@ fn are_stars(pattern: &[u8]) -> bool
     pattern.iter().all(|c| *c == b'*')
 }
 
-// Returns whether the pattern and the path have the same number of components, and each component
-// matches.
+// Returns whether the pattern and the path have equally many components, and each component of the
+// pattern matches the path's component at its position.
 fn matches_components(pattern: &[u8], path: &[u8]) -> bool
     ensures { result ≡ are_matches (parts_at 47 pattern.now) (parts_at 47 path.now) }
 {

@@ -8,7 +8,7 @@ ghost use Rattle.path_match.specs.Match.{after_slash, is_pattern, is_pattern_byt
 
 use psi_base::Parts;
 
-/// The greatest number of patterns in a text.
+/// The maximum number of patterns in a text.
 const MOST_PATTERNS: u8 = 16;
 
 // Returns whether a component of a pattern may contain the byte: a letter, a digit, one of

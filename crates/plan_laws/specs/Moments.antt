@@ -1,5 +1,5 @@
 -- Laws of a trace at a given time (ns): how stall time and interrupt time grow, which groups are
--- live (also sorted by path), and which triggers are set.
+-- live (in order of creation and sorted by path), and which triggers are set.
 use Rattle.std.specs.Prelude.{◌≡◌, ℕ, ◌+◌, ◌-◌, ◌≤◌, List, length, map, take, filter, slice_get, slice_index_or, nat_le, All, IfSome, Bool, Some}
 use Rattle.std.specs.List.Sorted.{IsNonDecreasingBy}
 use Rattle.psi_base.specs.declared.event.State.{State}

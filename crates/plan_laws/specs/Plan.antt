@@ -42,8 +42,8 @@ pub record PlanView : Type 0 where
 abbrev pub no_plan : PlanView
 no_plan = record { changes = []; parents = [] }
 
--- the plan of processor `cpu` for a trace: the changes that the events make on the processor, and
--- the parents of all groups ever created
+-- The plan of processor `cpu` for the events of a trace: the changes that the events make on the
+-- processor, and the parents of all groups that they create.
 abbrev pub plan_of : ℕ → List Event → PlanView
 plan_of cpu events = record { changes = changes_from cpu first_world events; parents = parents_of (after events).groups }
 

@@ -14,9 +14,9 @@ period = 2000000000
 abbrev pub factors : List ℕ
 factors = 1677 ∷ 1981 ∷ 2034 ∷ []
 
--- an average after one period with pressure `active`: its weight is `factor`, and `active` has the
--- remaining weight (2048 - `factor`). The result is rounded down if the average falls, and up if it
--- doesn't.
+-- An average after one period with pressure `active`. The weight of the old average is `factor` /
+-- 2048, and the weight of `active` is the remainder. The result is rounded down if the average
+-- falls, and up otherwise.
 abbrev pub load : ℕ → ℕ → ℕ → ℕ
 load average factor active = (average * factor + active * (2048 - factor) + (if nat_le average active then 2047 else 0)) / 2048
 
@@ -50,7 +50,7 @@ pub record AverageState : Type 0 where
   pub sampled : List ℕ
   pub averages : List (List ℕ)
 
--- the initial averages of a group that is created at time `at` (ns): all are 0
+-- The initial averages of a group that is created at time `at` (ns). All are 0.
 abbrev pub new_averages : ℕ → AverageState
 new_averages at = record {
   last = at;
@@ -73,7 +73,7 @@ sampled_time old now = now - (old.last + missed old now * period)
 abbrev pub sample_of : ℕ → ℕ → ℕ → ℕ
 sample_of time sampled total = min (total - sampled) time
 
--- a sample (ns) as a whole percentage of the covered time (ns), rounded down
+-- A sample (ns) as a whole percentage of the covered time `time` (ns), rounded down.
 abbrev pub percent_of : ℕ → ℕ → ℕ
 percent_of time sample = sample * 100 / time
 
@@ -93,7 +93,8 @@ row_after missed_periods time averages sample = zip_with (average_after missed_p
 abbrev pub samples_of : ℕ → List ℕ → List ℕ → List ℕ
 samples_of time sampled totals = zip_with (sample_of time) sampled totals
 
--- the averages after an update at time `now` (ns), given the totals (ns) of the pressure quantities
+-- The averages after an update at time `now` (ns), given the totals (ns) of the pressure quantities
+-- at that time.
 abbrev pub updated : AverageState → ℕ → List ℕ → AverageState
 updated old now totals = record {
   last = now;

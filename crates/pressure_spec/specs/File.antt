@@ -13,7 +13,7 @@ use Rattle.pressure_spec.specs.Samples.{state_of}
 abbrev pub two_digits : ℕ → List ℕ
 two_digits n = decimal (n / 10) ++ decimal (n % 10)
 
--- the fraction of an average (2,048 is 1 percent) in hundredths of a percent, rounded down
+-- The fractional part of an average (2,048 is 1 percent) in hundredths of a percent, rounded down.
 abbrev pub hundredths : ℕ → ℕ
 hundredths average = (average % 2048) * 100 / 2048
 

@@ -31,7 +31,7 @@ abbrev pub SharesWithin : Type 0
 SharesWithin =
     (rows : List (List ℕ)) (most most_irq : ℕ) → All (AreTimesWithin most most_irq) rows → AreAmountsWithin most most_irq (shares rows)
 
--- A share is at most the sum of the processors' times.
+-- A share is at most the sum of the processors' times of the quantity.
 abbrev pub ShareWithinSum : Type 0
 ShareWithinSum = (rows : List (List ℕ)) (place : ℕ) → share_of rows place ≤ time_sum rows place
 
@@ -226,7 +226,7 @@ GroupsAtMostHundred =
     (cpus : ℕ) (lives : List GroupLife) (ticks : List Tick) (slot place factor : ℕ)
     → average_of (group_averages cpus lives ticks slot) place factor ≤ 204800
 
--- Two signals of a trigger are at least its window apart, if the times of the ticks are
+-- Two signals of a trigger in a replay are at least its window apart, if the times of the ticks are
 -- non-decreasing.
 abbrev pub FiredApart : Type 0
 FiredApart = (cpus : ℕ) (lives : List GroupLife) (trigger : TriggerSpec) (before between : List Tick) (first second : Tick) →

@@ -6,8 +6,8 @@ use Rattle.psi_spec.specs.Within.{last_moment, longest_tick}
 use Rattle.pressure_spec.specs.Share.{irq_place}
 use Rattle.pressure_spec.specs.Ticks.{Tick, no_row}
 
--- the state before the first tick, for `slots` groups and `cpus` processors: the time of the tick
--- and all times of the groups are 0
+-- The state before the first tick, for `slots` groups and `cpus` processors. The time of the tick
+-- and all times of the groups are 0.
 abbrev pub no_tick : ℕ → ℕ → Tick
 no_tick cpus slots = record { at = 0; table = replicate slots (no_row cpus) }
 

@@ -33,9 +33,9 @@ growths before now = zip_with (zip_with (λ time earlier. time - earlier)) now b
 abbrev pub with_shares : List ℕ → List (List ℕ) → List (List ℕ) → List ℕ
 with_shares totals before now = plus totals (shares (growths before now))
 
--- The history of a group over a list of ticks: for each tick at which it is live, the tick's time
--- and the group's totals (ns). Such a tick adds the shares of the interval since the previous tick.
--- `before` and `totals` are the group's times and its totals before the first tick.
+-- The history of a group over a list of ticks: for each tick at which the group is live, the tick's
+-- time and the group's totals (ns). The totals grow by the shares of the interval since the
+-- previous tick. `before` and `totals` are the group's times and its totals before the first tick.
 abbrev pub history_from : GroupLife → ℕ → List (List ℕ) → List ℕ → List Tick → List (ℕ × List ℕ)
 history_from life slot before totals [] = []
 history_from life slot before totals (tick ∷ ticks) =
@@ -51,7 +51,7 @@ history_of cpus lives ticks slot = history_from (life_of lives slot) slot (no_ro
 
 -- ---- totals and averages
 
--- the totals (ns) at the end of a history, or `before` if the history is empty
+-- The totals (ns) at the end of a history, or `before` if the history is empty.
 abbrev pub last_totals : List ℕ → List (ℕ × List ℕ) → List ℕ
 last_totals before [] = before
 last_totals before (tick ∷ history) = last_totals tick.1 history

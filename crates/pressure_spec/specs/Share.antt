@@ -14,7 +14,7 @@ zip_with f (x ∷ xs) [] = []
 zip_with f (x ∷ xs) (y ∷ ys) = f x y ∷ zip_with f xs ys
 
 -- The index of interrupt time in the times (ns) of a group on a processor. The times in the seven
--- states come before it, in the order of the states' numbers.
+-- states precede it, in the order of the states' numbers.
 abbrev pub irq_place : ℕ
 irq_place = 7
 
@@ -36,17 +36,17 @@ at_state numbers state = slice_index numbers (state_number state)
 abbrev pub weight : List ℕ → ℕ
 weight times = at_state times Nonidle / 1000000
 
--- the sum of the weights of all processors
+-- The sum of the weights of all processors.
 abbrev pub total_weight : List (List ℕ) → ℕ
 total_weight rows = sum_by weight rows
 
--- the sum of the processors' times (ns) at index `place`, each multiplied by the weight of its
--- processor
+-- The sum of the processors' times (ns) of the quantity at index `place`, each multiplied by the
+-- weight of its processor.
 abbrev pub weighted_time : List (List ℕ) → ℕ → ℕ
 weighted_time rows place = sum_by (λ times. slice_index times place * weight times) rows
 
--- the share (ns) of the quantity at index `place`: the weighted mean of the processors' times,
--- rounded down
+-- The share (ns) of the quantity at index `place`: the mean of the processors' times, weighted by
+-- the processors' weights and rounded down.
 abbrev pub share_of : List (List ℕ) → ℕ → ℕ
 share_of rows place = weighted_time rows place / max (total_weight rows) 1
 

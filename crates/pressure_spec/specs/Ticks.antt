@@ -47,7 +47,7 @@ pub record Tick : Type 0 where
 abbrev pub times_with : (State → ℕ) → ℕ → List ℕ
 times_with in_state irq = map in_state states ++ irq ∷ []
 
--- the times (ns) of the group in `slot` on processor `cpu` up to time `at`
+-- The times (ns) of the group in slot `slot` on processor `cpu` up to time `at` (ns).
 abbrev pub times_until : ℕ → ℕ → List Event → ℕ → List ℕ
 times_until cpu slot events at =
     times_with (λ state. stall state cpu slot (up_to events at) at) (irq_time cpu slot (up_to events at))
@@ -60,11 +60,11 @@ row_until cpus slot events at = map (λ cpu. times_until cpu slot events at) (ra
 abbrev pub table_until : ℕ → List Event → ℕ → List (List (List ℕ))
 table_until cpus events at = map (λ slot. row_until cpus slot events at) (range_with_len 0 (length (after events).groups))
 
--- tick number `i` (from 1) of a trace
+-- Tick number `i` (from 1) of a trace on `cpus` processors, given the length (ns) of a tick.
 abbrev pub tick_of : ℕ → List Event → ℕ → ℕ → Tick
 tick_of cpus events length i = record { at = tick_moment length i; table = table_until cpus events (tick_moment length i) }
 
--- the first `count` ticks of a trace
+-- The first `count` ticks of a trace on `cpus` processors, given the length (ns) of a tick.
 unfoldable pub ticks_of : ℕ → List Event → ℕ → ℕ → List Tick
 ticks_of cpus events length count = map (tick_of cpus events length) (range_with_len 1 count)
 

@@ -27,7 +27,7 @@ pub record AreAmountsWithin (most most_irq : ℕ) (amounts : List ℕ) : Type 0 
 
 -- ---- the range of averages
 
--- the row has three averages of at most 100 percent
+-- The row of a quantity has three averages of at most 100 percent (204,800) each.
 pub record IsRow (row : List ℕ) : Type 0 where
   pub three : length row ≡ 3
   pub most : All (λ average. average ≤ 204800) row

@@ -1,4 +1,4 @@
--- Out of memory.
+-- The error for out of memory.
 use Rattle.psi_base.specs.declared.text.NoMemory as token
 
 -- The only value of the error type for out of memory.

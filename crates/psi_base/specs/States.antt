@@ -7,7 +7,7 @@ use Rattle.psi_base.specs.declared.event.Res.TheVariants.{Io, Memory, Cpu}
 use Rattle.psi_base.specs.declared.event.Level.{Level}
 use Rattle.psi_base.specs.declared.event.Level.TheVariants.{SomeStalled, FullStalled}
 
--- the number of a state, from 0
+-- The number of a state, from 0 to 6.
 abbrev pub state_number : State → ℕ
 state_number IoSome = 0
 state_number IoFull = 1

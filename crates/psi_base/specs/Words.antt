@@ -11,7 +11,7 @@ use Rattle.psi_base.specs.declared.event.Res.TheVariants.{Io, Memory, Cpu}
 use Rattle.psi_base.specs.declared.event.Level.{Level}
 use Rattle.psi_base.specs.declared.event.Level.TheVariants.{SomeStalled, FullStalled}
 
--- the word for how the running task leaves its processor
+-- The word for the way in which the running task leaves its processor.
 abbrev pub how_word : How → List ℕ
 how_word Preempt = codes "preempt"
 how_word Sleep = codes "sleep"
@@ -36,7 +36,7 @@ abbrev pub level_word : Level → List ℕ
 level_word SomeStalled = codes "some"
 level_word FullStalled = codes "full"
 
--- all ways to leave a processor
+-- All ways in which a task leaves its processor.
 abbrev pub hows : List How
 hows = Preempt ∷ Sleep ∷ IoWait ∷ Exit ∷ Idle ∷ []
 

@@ -51,7 +51,7 @@ pub enum Res {
     Cpu,
 }
 
-/// One of the two lines of a pressure file.
+/// The two lines of a pressure file.
 #[derive(Clone, Copy, Debug, PartialEq, Eq)]
 pub enum Level {
     /// `some`: at least one task is stalled.
@@ -153,8 +153,8 @@ pub enum Act {
         swap_total: u64,
         swap_free: u64,
     },
-    /// `trigger`: a group's pressure is watched, with a threshold and a window in microseconds
-    /// (us).
+    /// `trigger`: a trigger is set on a group's pressure, with a threshold and a window in
+    /// microseconds (us).
     Trigger {
         path: Path,
         res: Res,
@@ -249,7 +249,7 @@ pub enum Cause {
     /// The next task of a switch isn't ready on that processor, or a task that migrates isn't
     /// ready.
     NotReady,
-    /// The task that wakes is ready or running.
+    /// The task that is woken is ready or running, so it isn't blocked.
     NotBlocked,
     /// A switch says `idle` although a task is running, or another way to leave although no task is
     /// running.

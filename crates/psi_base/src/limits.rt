@@ -7,7 +7,7 @@ pub const MOST_EVENTS: u32 = 4_000_000;
 /// The maximum number of ticks of a trace.
 pub const MOST_TICKS: u64 = 1_000_000;
 
-/// A millisecond in ns: the shortest tick.
+/// A millisecond in ns, which is the length of the shortest tick.
 pub const MILLISECOND: Ns = 1_000_000;
 
 /// The default length of a tick (ns): 2 s, as in the kernel.

@@ -1,5 +1,5 @@
--- The clock of a group on a processor: how long the group was in each state, and its current
--- states.
+-- The clock of a group on a processor: the times (ns) that the group spent in each state, and its
+-- current states.
 use Rattle.std.specs.Prelude.{◌≡◌, ℕ, ◌+◌, ◌-◌, ◌≤◌, List, [], ◌∷◌, ◌++◌, length, map, slice_index, if◌then◌else◌}
 use Rattle.psi_base.specs.declared.event.State.{State}
 use Rattle.psi_spec.specs.Within.{last_moment}
@@ -85,12 +85,12 @@ NoLongerThanClock =
 abbrev pub SameMaskIsNoChange : Type 0
 SameMaskIsNoChange = (clock : ClockView) (at : ℕ) → clock.start ≤ at → SameClock (advanced clock at clock.mask) clock
 
--- Equivalent clocks are equal after they are advanced to the same time with the same mask.
+-- Equivalent clocks are equal after they are advanced to one time with one mask.
 abbrev pub SameAfterChange : Type 0
 SameAfterChange =
     (one other : ClockView) (at mask : ℕ) → one.start ≤ at → other.start ≤ at → SameClock one other
     → advanced one at mask ≡ advanced other at mask
 
--- Clocks with the same words are equal.
+-- Two clocks whose words are equal are equal.
 abbrev pub WordsShowClock : Type 0
 WordsShowClock = (one other : ClockView) → words_of one ≡ words_of other → one ≡ other

@@ -1,4 +1,5 @@
--- Counts of tasks, the states that follow from them, and masks of states.
+-- Counts of tasks, the states of a group that follow from them, and masks, which are sets of
+-- states.
 use Rattle.std.specs.Prelude.{◌≡◌, ℕ, ◌≤◌, ◌<◌, List, length, filter, nat_lt, ◌==◌, ◌&&◌, ◌||◌, not, Bool, if◌then◌else◌}
 use Rattle.std.specs.List.{list_any}
 use Rattle.std.specs.Int.{bit_at}
@@ -55,8 +56,7 @@ pub record IsRunningKnown (tasks : List Task) (on_cpu current_stalled : Bool) : 
   pub one_runs : on_cpu ≡ list_any runs tasks
   pub it_is_stalled : (on_cpu && current_stalled) ≡ list_any runs_stalled tasks
 
--- The states that are defined over a list of tasks follow from the list's counts and its running
--- task.
+-- The states of a list of tasks follow from the counts of the list and its running task.
 abbrev pub CountsShow : Type 0
 CountsShow = (tasks : List Task) (on_cpu current_stalled : Bool) → IsRunningKnown tasks on_cpu current_stalled → (state : State) →
     holds_of state tasks ≡ shows state (counts_among tasks) on_cpu current_stalled

@@ -275,8 +275,8 @@ ChangeShows =
     × (irq_in parents slot change ≡ (if list_any runs (tasks_in parents cpu slot w.tasks) then irq_time_by cpu event.act else 0))
     × (change.account ≡ account_of w.groups event.act)
 
--- An act touches the processor that it names, and the processors of the task that it changes, both
--- before and after the act.
+-- An event touches the processor that it names, and the processors of the task that it changes,
+-- both before and after the event.
 abbrev pub TouchesItsOwn : Type 0
 TouchesItsOwn = (w : World) (event : Event) (cpu : ℕ) →
     ((names event.act).cpu ≡ Some cpu → touched event.act (before w.tasks event.act) cpu ≡ true)

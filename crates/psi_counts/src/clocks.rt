@@ -4,13 +4,13 @@
 ghost use Rattle.psi_counts.specs.Clock.{NoLongerThanClock, SameAfterChange, SameMaskIsNoChange, WordsShowClock};
 ghost use Rattle.psi_counts.specs.Counts.{CountsShow, MasksAreTheirStates};
 
-/// If at most one task of a list is running, the kernel's rules over counts give the same states as
-/// the definition over tasks.
+/// If at most one task of a list is running, the kernel's rules over counts give the states that
+/// are defined over the tasks.
 pub fn law_states_by_counts()
     ensures { CountsShow }
 {}
 
-/// Masks with the same states are equal.
+/// Masks that contain the same states are equal.
 pub fn law_masks()
     ensures { MasksAreTheirStates }
 {}
@@ -28,7 +28,7 @@ pub fn law_same_clocks()
     ensures same_after { SameAfterChange }
 {}
 
-/// Clocks with the same words are equal.
+/// Two clocks whose words are equal are equal.
 pub fn law_clock_words()
     ensures { WordsShowClock }
 {}

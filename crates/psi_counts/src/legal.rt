@@ -2,7 +2,7 @@
 //! is the law.
 ghost use Rattle.psi_counts.specs.Legal.{CountsAreFew, CountsAreSums, LegalFirst, LegalKept, SameTasksLater};
 
-/// The first world is legal, and each legal event takes a legal world to a legal world.
+/// The first world is legal, and each legal event preserves the invariant of legal worlds.
 pub fn law_legal_worlds()
     ensures first { LegalFirst }
     ensures unchanged { LegalKept }

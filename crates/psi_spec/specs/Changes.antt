@@ -67,20 +67,21 @@ touches w (Some event) cpu = touched event.act (before w.tasks event.act) cpu
 abbrev pub is_change : ℕ → List Event → ℕ → Bool
 is_change cpu events i = touches (after (take (i - 1) events)) (slice_get events (i - 1)) cpu
 
--- the numbers (from 1) of the events that change processor `cpu`, in order
+-- The numbers (from 1) of the events that change processor `cpu`, in order.
 unfoldable pub changes_of : ℕ → List Event → List ℕ
 changes_of cpu events = filter (is_change cpu events) (range_with_len 1 (length events))
 
--- the number of the event that is change number `k` (from 1) of processor `cpu`; 0 for k = 0
+-- The number (from 1) of the event that is change number `k` (from 1) of processor `cpu`, or 0 for
+-- k = 0.
 abbrev pub event_of_change : ℕ → List Event → ℕ → ℕ
 event_of_change cpu events k = slice_index_or (0 ∷ changes_of cpu events) k 0
 
--- The events up to change number `k` of processor `cpu`, or none for k = 0. Requires that `k` is at
--- most the number of changes.
+-- The events up to change number `k` of processor `cpu`, or no events for k = 0. Requires that `k`
+-- is at most the number of changes.
 abbrev pub until_change : ℕ → List Event → ℕ → List Event
 until_change cpu events k = take (event_of_change cpu events k) events
 
--- the number of changes of processor `cpu` up to a time (ns)
+-- The number of changes of processor `cpu` up to time `at` (ns).
 abbrev pub count_at : ℕ → List Event → ℕ → ℕ
 count_at cpu events at = length (changes_of cpu (up_to events at))
 

@@ -15,18 +15,19 @@ abbrev pub values_from : {A : Type 0} → (World → Event → List A) → World
 values_from shows w [] = []
 values_from shows w (event ∷ events) = shows w event ++ values_from shows (after_event w event) events
 
--- the slot of the live group with a path, or the root's slot if there is no such group
+-- The slot of the live group with path `path`, or the root's slot if there is no such group.
 abbrev pub slot_named : List GroupLife → List ℕ → Slot
 slot_named groups path = record { 0 = unwrap_or (slot_of groups path) 0 }
 
 -- ---- triggers
 
--- the trigger that an act at time `at` (ns) sets, as a list of at most one element
+-- The trigger that an act (what an event does) sets at time `at` (ns), as a list of at most one
+-- element.
 abbrev pub trigger_by : ℕ → List GroupLife → Act → List TriggerSpec
 trigger_by at groups (act.Trigger path res level threshold_us window_us) =
     record { at = at; slot = slot_named groups path; res = res; level = level; threshold_us = threshold_us; window_us = window_us } ∷ []
 trigger_by at groups _ = []
 
--- the triggers that events set, in order
+-- The triggers that the events of a trace set, in order.
 abbrev pub triggers_of : List Event → List TriggerSpec
 triggers_of events = values_from (λ w event. trigger_by event.at w.groups event.act) first_world events

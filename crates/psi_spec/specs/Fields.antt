@@ -27,7 +27,7 @@ pub data Kind : Type 0 where
   level : Kind
   account : Kind
 
--- the type of the values of a kind
+-- The type of the values of fields of a kind.
 abbrev pub Value : Kind → Type 0
 Value pid = Pid
 Value next = Option Pid
@@ -41,7 +41,7 @@ Value resource = Res
 Value level = Level
 Value account = Bool
 
--- a pid is between 1 and 2^32 - 1
+-- The pid is between 1 and 2^32 - 1.
 abbrev pub IsPid : Pid → Type 0
 IsPid task = (0 < task.0) × (task.0 < 2 ^ 32)
 
@@ -106,7 +106,7 @@ task_or_none n = if nat_lt 0 n then Some (record { 0 = n }) else None
 abbrev pub accounts : List Bool
 accounts = true ∷ false ∷ []
 
--- the value that a word spells, or `None` if it spells no value of this kind
+-- The value of a kind that a word spells, or `None` if the word spells no value of this kind.
 unfoldable pub value_of : (kind : Kind) → List ℕ → Option (Value kind)
 value_of pid text = option_map (λ n. let task : Pid = record { 0 = n } in task) (number_in (λ n. nat_lt 0 n && nat_lt n (2 ^ 32)) text)
 value_of next text = option_map task_or_none (number_in (λ n. nat_lt n (2 ^ 32)) text)

@@ -1,4 +1,4 @@
--- The grammar of the lines of a trace: which bytes spell a header or an event, and the cause of
+-- The grammar of the lines of a trace: the bytes that spell a header or an event, and the cause of
 -- rejection for all other lines.
 use Rattle.std.specs.Prelude.{ℕ, ◌+◌, ◌<◌, ◌^◌, List, [], ◌∷◌, ◌++◌, map, codes, decimal, Option, None, Some, Result, Ok, Err}
 use Rattle.std.specs.List.{flat_map, range_with_len}
@@ -13,7 +13,7 @@ use Rattle.psi_base.specs.ResultSteps.{◌>>=◌}
 use Rattle.psi_spec.specs.Fields.{Kind, Value, InRange, word, IsAmong, value_of, named}
 use Rattle.psi_spec.specs.Fields as kind
 
--- words separated by one space
+-- The words, separated by one space each.
 abbrev pub joined : List (List ℕ) → List ℕ
 joined [] = []
 joined (text ∷ []) = text
@@ -24,7 +24,7 @@ pub data Version : Type 0 where
   One : Version
   Two : Version
 
--- all versions
+-- All versions of the trace format.
 abbrev pub versions : List Version
 versions = One ∷ Two ∷ []
 
@@ -38,7 +38,7 @@ pub record Header : Type 0 where
   pub version : Version
   pub cpus : ℕ
 
--- the header line for a version number and a number of processors, without its newline
+-- The header line for a version number and a number of processors, without a newline.
 unfoldable pub header : ℕ → ℕ → List ℕ
 header version cpus = codes "psitrace " ++ decimal version ++ codes " cpus=" ++ decimal cpus
 
@@ -48,7 +48,7 @@ abbrev pub Maker : List Kind → Type 0
 Maker [] = Act
 Maker (k ∷ ks) = Value k → Maker ks
 
--- the verbs of event lines, each named after its act
+-- The verbs of event lines. Each verb has the name of the act (what an event does) that it spells.
 pub data Verb : Type 0 where
   Group : Verb
   Remove : Verb
@@ -67,8 +67,8 @@ pub data Verb : Type 0 where
   Pressure : Verb
   End : Verb
 
--- the syntax of a verb: its word, the kinds of its fields, and the function from their values to
--- the act
+-- The syntax of a verb: its word, the kinds of its fields, and the function from the values of the
+-- fields to the act.
 pub record Form : Type 0 where
   pub word : List ℕ
   pub kinds : List Kind
@@ -79,7 +79,7 @@ pub record Form : Type 0 where
 abbrev pub form : (text : List ℕ) (kinds : List Kind) → Maker kinds → Form
 form text kinds act = record { word = text; kinds = kinds; act = act }
 
--- the table of verbs: the syntax of each
+-- The table of verbs, which gives the syntax of each verb.
 abbrev pub form_of : Verb → Form
 form_of Group = form (codes "group") (kind.path ∷ []) act.Group
 form_of Remove = form (codes "rmgroup") (kind.path ∷ []) act.Remove
@@ -110,16 +110,16 @@ kinds_of verb = (form_of verb).kinds
 abbrev pub first_verbs : List Verb
 first_verbs = Switch ∷ Wake ∷ Stall ∷ Unstall ∷ Migrate ∷ Move ∷ Fork ∷ Mem ∷ Host ∷ Group ∷ Remove ∷ Prefer ∷ Trigger ∷ End ∷ []
 
--- the verbs that a version adds to the verbs of every version
+-- The verbs of a version that are not in `first_verbs`.
 abbrev pub more_verbs : Version → List Verb
 more_verbs One = []
 more_verbs Two = Irq ∷ Pressure ∷ []
 
--- the verbs of a version; no two have the same word
+-- All verbs of a version. Different verbs have different words.
 abbrev pub verbs_of : Version → List Verb
 verbs_of version = first_verbs ++ more_verbs version
 
--- a tuple with one value of each kind
+-- The type of tuples with one value of each kind of the list.
 abbrev pub Values : List Kind → Type 0
 Values [] = Unit {0}
 Values (k ∷ ks) = Value k × Values ks
@@ -129,7 +129,7 @@ pub record Phrase : Type 0 where
   pub verb : Verb
   pub values : Values (kinds_of verb)
 
--- the phrase with this verb and these values
+-- The phrase with a given verb and given values.
 abbrev pub phrase : (verb : Verb) → Values (kinds_of verb) → Phrase
 phrase verb values = record { verb = verb; values = values }
 
@@ -159,12 +159,12 @@ abbrev pub field_words : (ks : List Kind) → Values ks → List (List ℕ)
 field_words [] values = []
 field_words (k ∷ ks) values = word k values.0 ∷ field_words ks values.1
 
--- each value is in the range that a trace allows for its kind
+-- Each of the values is in the range that a trace allows for its kind.
 abbrev pub AreInRange : (ks : List Kind) → Values ks → Type 0
 AreInRange [] values = Unit {0}
 AreInRange (k ∷ ks) values = InRange k values.0 × AreInRange ks values.1
 
--- the words of an act: its verb, followed by the spellings of its fields
+-- The words by which a line spells an act: its verb, followed by the values of its fields.
 abbrev pub act_words : Act → List (List ℕ)
 act_words what = verb_word (phrase_of what).verb ∷ field_words (kinds_of (phrase_of what).verb) (phrase_of what).values
 
@@ -172,11 +172,11 @@ act_words what = verb_word (phrase_of what).verb ∷ field_words (kinds_of (phra
 unfoldable pub spelling : Event → List ℕ
 spelling event = joined (decimal event.at ∷ act_words event.act)
 
--- the values of an act are in range
+-- The values of the fields of an act are in range.
 abbrev pub ActFits : Act → Type 0
 ActFits what = AreInRange (kinds_of (phrase_of what).verb) (phrase_of what).values
 
--- the time and the values of an event are in range
+-- The time (ns) of an event and the values of its fields are in range.
 pub record Fits (event : Event) : Type 0 where
   pub at : event.at < 2 ^ 64
   pub act : ActFits event.act
@@ -193,13 +193,14 @@ abbrev pub or_bad : {A : Type 0} → ℕ → Option A → List (List ℕ) → Re
 or_bad i None words = Err (cause.BadField i)
 or_bad i (Some x) words = Ok (x, words)
 
--- parses the first word as field number `i` of kind `k`; returns its value and the remaining words
+-- Parses the first word as a value of kind `k`, which is field number `i` of a line. The result is
+-- the value with the remaining words, or the cause that field `i` is bad.
 abbrev pub field : ℕ → (k : Kind) → List (List ℕ) → Result (Value k × List (List ℕ)) Cause
 field i k [] = Err (cause.BadField i)
 field i k (text ∷ words) = or_bad i (value_of k text) words
 
--- parses the words as fields of these kinds, numbered from `i`, and passes their values to `make`;
--- the cause is the leftmost bad field, including a missing or a superfluous field
+-- Parses the words as fields of the kinds of the list, numbered from `i`, and passes their values
+-- to `make`. The error names the leftmost bad field, which may be missing or superfluous.
 abbrev pub made_from : ℕ → (ks : List Kind) → Maker ks → List (List ℕ) → Result Act Cause
 made_from i [] made [] = Ok made
 made_from i [] made (text ∷ words) = Err (cause.BadField i)
@@ -207,11 +208,11 @@ made_from i (k ∷ ks) make words = do
   first ← field i k words
   made_from (i + 1) ks (make first.0) first.1
 
--- parses the fields of a verb, and returns the act
+-- Parses the words as the fields of `verb`, and returns the act.
 unfoldable pub act_from : Verb → List (List ℕ) → Result Act Cause
 act_from verb words = made_from 1 (kinds_of verb) (form_of verb).act words
 
--- the verb of the list with this word, or `None`
+-- The verb of the list that the word `text` names, or `None`.
 unfoldable pub verb_of : List Verb → List ℕ → Option Verb
 verb_of verbs text = named verb_word verbs text
 
@@ -233,17 +234,17 @@ event_in verbs (Some at) words = do
   what ← act_at verbs words
   Ok (record { at = at; act = what })
 
--- parses the words of a line: a time, a verb of the list, and the fields
+-- Parses the words of a line as an event: a time, a verb of the list, and the fields of the verb.
 unfoldable pub event_at : List Verb → List (List ℕ) → Result Event Cause
 event_at verbs [] = Err cause.BadTime
 event_at verbs (time ∷ words) = event_in verbs (number_of time) words
 
--- parses a line without its newline as an event with one of the verbs, or returns the first cause
--- against it
+-- Parses a line without its newline as an event with a verb of the list. The error is the first
+-- cause for which the line is rejected.
 unfoldable pub event_of : List Verb → List ℕ → Result Event Cause
 event_of verbs line = event_at verbs (parts_at 32 line)
 
--- the line of a header, without its newline
+-- The line of a header, without a newline.
 abbrev pub header_line : Header → List ℕ
 header_line head = header (version_number head.version) head.cpus
 

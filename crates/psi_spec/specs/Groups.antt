@@ -1,4 +1,4 @@
--- The groups of a world at a time: which groups are live, and the order in which they are printed.
+-- The live groups of a world at a time, and the order in which groups are printed.
 use Rattle.std.specs.Prelude.{ℕ, ◌+◌, if◌then◌else◌, List, [], ◌∷◌, map, slice_index_or, nat_le, not, ◌&&◌, Bool, false, Option, None, Some}
 use Rattle.std.specs.Ordering.{nat_cmp}
 use Rattle.std.specs.Cmp.Lexicographic.{slice_cmp}
@@ -6,7 +6,7 @@ use Rattle.std.specs.FinMap as entries
 use Rattle.psi_spec.specs.declared.machine.GroupLife.{GroupLife}
 use Rattle.psi_spec.specs.World.{is_live}
 
--- the path of the group in a slot
+-- The path of the group in slot `slot`.
 abbrev pub path_at : List GroupLife → ℕ → List ℕ
 path_at groups slot = slice_index_or (map (λ group. group.path) groups) slot []
 
@@ -29,7 +29,7 @@ abbrev pub live_from : ℕ → List GroupLife → List (List ℕ × ℕ)
 live_from slot [] = []
 live_from slot (group ∷ groups) = if is_live group then (group.path, slot) ∷ live_from (slot + 1) groups else live_from (slot + 1) groups
 
--- sorts pairs by the bytes of their paths
+-- Sorts pairs of a path and a slot by the bytes of the paths.
 abbrev pub in_order : List (List ℕ × ℕ) → List (List ℕ × ℕ)
 in_order [] = []
 in_order (pair ∷ pairs) = entries.put (slice_cmp nat_cmp) pair.0 pair.1 (in_order pairs)

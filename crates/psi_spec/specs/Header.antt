@@ -6,7 +6,7 @@ use Rattle.psi_spec.specs.Grammar.{Version, One, Two, Header}
 abbrev pub IsVersion : ℕ → Type 0
 IsVersion number = (number ≡ 1) ⊎ (number ≡ 2)
 
--- the version with this number, or version 1 for any other number
+-- The version of the trace format with this number, or version 1 for any other number.
 abbrev pub version_of : ℕ → Version
 version_of number = if number == 2 then Two else One
 

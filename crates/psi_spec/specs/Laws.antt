@@ -14,7 +14,7 @@ use Rattle.psi_spec.specs.Trace.{Accepts, AllFit, AreKnown, IsAccepted, IsCpuCou
 
 -- ---- groups
 
--- The list with only the root satisfies the invariant of groups.
+-- The list that contains only the root satisfies the invariant of groups.
 abbrev pub AreGroupsFirst : Type 0
 AreGroupsFirst = AreGroups (root ∷ [])
 
@@ -34,8 +34,8 @@ ClimbsKept =
     (parents more : List (Option ℕ)) (low high : ℕ) → AreOlder parents → low < length parents
     → is_under (parents ++ more) low high ≡ is_under parents low high
 
--- Slot `low` is at or below slot `high` if and only if the two are equal or the parent of `low` is
--- at or below `high`.
+-- Slot `low` is slot `high` or one of its descendants if and only if the two are equal, or the
+-- parent of `low` is `high` or one of its descendants.
 abbrev pub UnderByStep : Type 0
 UnderByStep =
     (parents : List (Option ℕ)) (low high : ℕ) → AreOlder parents
@@ -58,8 +58,8 @@ GrowsByEvent = (state : State) (cpu slot : ℕ) (events : List Event) (event : E
     stall state cpu slot (events ++ event ∷ []) at ≡ stall state cpu slot events event.at
     + (if holds state cpu slot (after (events ++ event ∷ [])) then at - event.at else 0)
 
--- After the last event, stall time grows with time if the group is in the state then, and is
--- constant if it isn't.
+-- After the last event, stall time grows with time if the group is in the state after the event,
+-- and is constant otherwise.
 abbrev pub GrowsWithTime : Type 0
 GrowsWithTime = (state : State) (cpu slot : ℕ) (events : List Event) (event : Event) (at later : ℕ) → event.at ≤ at → at ≤ later →
     stall state cpu slot (events ++ event ∷ []) later
@@ -87,7 +87,7 @@ pub record IsTrace (accepts : Accepts) (bytes : List ℕ) (trace : Trace) : Type
 abbrev pub Accepted : Type 0
 Accepted = (accepts : Accepts) (bytes : List ℕ) (trace : Trace) → (trace_of accepts bytes ≡ Ok trace) ↔ IsTrace accepts bytes trace
 
--- the bytes contain no newline
+-- The bytes contain no newline (byte 10).
 abbrev pub NoNewline : List ℕ → Type 0
 NoNewline bytes = (k : ℕ) → k < length bytes → slice_index bytes k ≢ 10
 
@@ -127,7 +127,7 @@ pub record IsRefusedLater (accepts : Accepts) (bytes : List ℕ) (line : ℕ) (w
   pub line_is : line ≡ length prefix + 2
   pub has : IsLineCause (accepts.verbs version) (limits_of accepts.tick cpus) (after prefix) rest why
 
--- The bytes are rejected at line `line` with cause `why`. This definition doesn't refer to a
+-- `bytes` is rejected at line number `line` with cause `why`. This definition doesn't refer to a
 -- parser.
 abbrev pub IsRefused : Accepts → List ℕ → ℕ → Cause → Type 0
 IsRefused accepts bytes line why = ((line ≡ 1) × IsFirstLineCause accepts.versions bytes why) ⊎ IsRefusedLater accepts bytes line why

@@ -18,18 +18,18 @@ use Rattle.psi_spec.specs.Groups.{path_at}
 abbrev pub AreOlder : List (Option ℕ) → Type 0
 AreOlder parents = (slot parent : ℕ) → slice_index_or parents slot None ≡ Some parent → parent < slot
 
--- each slot except the first has a parent
+-- Each slot except the first has a parent.
 abbrev pub HaveParents : List (Option ℕ) → Type 0
 HaveParents parents = (slot : ℕ) → 0 < slot → slot < length parents → IsSome (slice_index_or parents slot None)
 
--- each parent's path is its child's path up to the last slash
+-- The path of each parent is the path of its child up to the last slash.
 abbrev pub AreAbove : List GroupLife → Type 0
 AreAbove groups =
     (slot parent : ℕ) → slice_index_or (parents_of groups) slot None ≡ Some parent
     → path_at groups parent ≡ parent_path (path_at groups slot)
 
--- looking up the path of a live group finds the slot of that group, so no two live groups have the
--- same path
+-- Looking up the path of a live group finds the slot of that group. So no two live groups have one
+-- path.
 abbrev pub IsOneLive : List GroupLife → Type 0
 IsOneLive groups =
     (slot : ℕ) (group : GroupLife) → slice_get groups slot ≡ Some group → is_live group ≡ true → slot_of groups group.path ≡ Some slot
@@ -45,7 +45,7 @@ pub record AreGroups (groups : List GroupLife) : Type 0 where
   pub above : AreAbove groups
   pub one_live : IsOneLive groups
 
--- the group in a slot exists and is live
+-- Whether the group in slot `slot` exists and is live.
 abbrev pub is_live_in : List GroupLife → ℕ → Bool
 is_live_in groups slot = is_some_and (slice_get groups slot) is_live
 

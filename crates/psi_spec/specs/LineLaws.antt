@@ -9,7 +9,7 @@ use Rattle.psi_spec.specs.Fields.{Kind, Value, InRange, word, IsAmong}
 use Rattle.psi_spec.specs.Fields as kind
 use Rattle.psi_spec.specs.Grammar.{Header, Verb, Version, Fits, IsKnown, event_of, header, header_line, header_of, kinds_of, spelling, verb_word}
 
--- the word spells some value of kind `k`
+-- The word `text` spells some value of kind `k`.
 abbrev pub Spells : Kind → List ℕ → Type 0
 Spells k text = (value : Value k) × (InRange k value × (text ≡ word k value))
 
@@ -68,12 +68,13 @@ ReadsSpelled =
     (verbs : List Verb) (line : List ℕ) (event : Event)
     → (event_of verbs line ≡ Ok event) ↔ (Fits event × IsKnown verbs event × (line ≡ spelling event))
 
--- A line is rejected with a cause if and only if that is the cause of its leftmost error.
+-- A line is rejected with a cause if and only if the cause is the cause of the line's leftmost
+-- error (`IsCause`).
 abbrev pub FindsCauses : Type 0
 FindsCauses = (verbs : List Verb) (line : List ℕ) (why : Cause) → (event_of verbs line ≡ Err why) ↔ IsCause verbs (parts_at 32 line) why
 
--- A line is parsed as a header if and only if it is the line of that header, the version is one of
--- the versions, and there are 1 to 64 processors.
+-- A line is parsed as a header if and only if it is the line of that header, the list of versions
+-- contains the header's version, and the number of processors is from 1 to 64.
 abbrev pub HeadersSpelled : Type 0
 HeadersSpelled = (versions : List Version) (line : List ℕ) (head : Header) →
     (header_of versions line ≡ Some head) ↔ (IsAmong head.version versions × (1 ≤ head.cpus) × (head.cpus ≤ 64) × (line ≡ header_line head))
@@ -83,7 +84,7 @@ pub record IsLine (bytes : List ℕ) : Type 0 where
   pub one : EachIndex bytes (λ k. slice_index bytes k ≢ 10)
   pub short : length bytes ≤ 512
 
--- The spelling of an event in range is a valid line.
+-- The spelling of an event whose values are in range is a valid line.
 abbrev pub SpelledInLine : Type 0
 SpelledInLine = (event : Event) → Fits event → IsLine (spelling event)
 
@@ -91,6 +92,6 @@ SpelledInLine = (event : Event) → Fits event → IsLine (spelling event)
 abbrev pub HeadedByLine : Type 0
 HeadedByLine = (version cpus : ℕ) → version < 2 ^ 64 → cpus < 2 ^ 64 → IsLine (header version cpus)
 
--- Spelling is injective: two events with the same spelling are equal.
+-- Spelling is injective: two events with one spelling are equal.
 abbrev pub SpelledApart : Type 0
 SpelledApart = (first second : Event) → Fits first → Fits second → spelling first ≡ spelling second → first ≡ second

@@ -1,5 +1,5 @@
--- The groups, tasks and processors that the line of an act names, one row per verb. An *act* is
--- what an event does.
+-- The groups, tasks and processors that an event line names, with one row for each verb. An *act*
+-- is what an event does.
 use Rattle.std.specs.Prelude.{ℕ, List, Bool, Option, None, Some}
 use Rattle.psi_base.specs.declared.event.Pid.{Pid}
 use Rattle.psi_base.specs.declared.event.Act.{Act}

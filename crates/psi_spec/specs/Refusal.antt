@@ -49,11 +49,11 @@ abbrev pub is_slot : Option ℕ → Option Slot → Bool
 is_slot (Some n) (Some slot) = slot.0 == n
 is_slot _ _ = false
 
--- the group in `slot` has a live child
+-- Whether the group in an optional slot has a live child.
 abbrev pub has_child : List GroupLife → Option ℕ → Bool
 has_child groups slot = list_any (λ group. is_live group && is_slot slot group.parent) groups
 
--- the group in `slot` has a live task
+-- Whether the group in an optional slot has a live task.
 abbrev pub has_member : Tasks → Option ℕ → Bool
 has_member tasks slot = list_any (λ task. is_slot slot (Some task.slot)) (tasks_by.values tasks)
 
@@ -62,7 +62,7 @@ abbrev pub is_busy : World → Option (List ℕ) → Bool
 is_busy w None = false
 is_busy w (Some path) = is_root path || has_child w.groups (slot_of w.groups path) || has_member w.tasks (slot_of w.groups path)
 
--- the group whose accounting is switched is the root
+-- Whether an act switches the accounting of the root.
 abbrev pub switches_root : Option (List ℕ × Bool) → Bool
 switches_root None = false
 switches_root (Some switched) = is_root switched.0
@@ -96,46 +96,49 @@ isnt_ready tasks cpu (Some pid) = not (is_some_and (task_of tasks pid.0) (is_rea
 abbrev pub is_window : ℕ → ℕ → Bool
 is_window threshold window = nat_le 500000 window && nat_le window 10000000 && nat_le 1 threshold && nat_le threshold window
 
--- a memory stall begins or ends although its task isn't running
+-- Whether an act begins or ends a memory stall of a task that isn't running.
 abbrev pub not_running : Tasks → Act → Bool
 not_running tasks (act.Stall pid) = is_some_and (task_of tasks pid.0) (λ task. not (is_running task.mode))
 not_running tasks (act.Unstall pid) = is_some_and (task_of tasks pid.0) (λ task. not (is_running task.mode))
 not_running tasks _ = false
 
--- the next task isn't ready on the switched processor, or the task that migrates isn't ready
+-- Whether an act switches to a next task that isn't ready on the switched processor, or migrates a
+-- task that isn't ready.
 abbrev pub not_ready : Tasks → Act → Bool
 not_ready tasks (act.Switch cpu next how) = isnt_ready tasks cpu.0 next
 not_ready tasks (act.Migrate pid cpu) = is_some_and (task_of tasks pid.0) (λ task. not (is_ready task.mode))
 not_ready tasks _ = false
 
--- the task that is woken isn't blocked: it is ready or running
+-- Whether an act wakes a task that isn't blocked: the task is ready or running.
 abbrev pub not_blocked : Tasks → Act → Bool
 not_blocked tasks (act.Wake pid cpu) = is_some_and (task_of tasks pid.0) (λ task. is_active task.mode)
 not_blocked tasks _ = false
 
--- the way in which a switch leaves the processor doesn't fit the running task (see `is_wrong`)
+-- Whether the way in which a switch leaves the processor contradicts the running task (see
+-- `is_wrong`).
 abbrev pub wrong_how : Tasks → Act → Bool
 wrong_how tasks (act.Switch cpu next how) = is_wrong how (running_on tasks cpu.0)
 wrong_how tasks _ = false
 
--- a memory stall begins in a task that is in one already, or a task exits in a memory stall
+-- Whether an act begins a memory stall of a task that is in a memory stall already, or makes a task
+-- exit in a memory stall.
 abbrev pub in_stall : Tasks → Act → Bool
 in_stall tasks (act.Stall pid) = is_some_and (task_of tasks pid.0) (λ task. task.stalled)
 in_stall tasks (act.Switch cpu next how) = is_exit how && is_some_and (task_part (running_on tasks cpu.0)) (λ task. task.stalled)
 in_stall tasks _ = false
 
--- a memory stall ends in a task that isn't in one
+-- Whether an act ends a memory stall of a task that isn't in a memory stall.
 abbrev pub not_in_stall : Tasks → Act → Bool
 not_in_stall tasks (act.Unstall pid) = is_some_and (task_of tasks pid.0) (λ task. not task.stalled)
 not_in_stall tasks _ = false
 
--- a trigger's window or threshold is out of range
+-- Whether an act sets a trigger whose window or threshold is out of range.
 abbrev pub bad_window : Act → Bool
 bad_window (act.Trigger path res level threshold_us window_us) = not (is_window threshold_us window_us)
 bad_window _ = false
 
--- the interrupts of an `irq` line took more than a second, or more than the time (ns) since the
--- previous `irq` line of the processor
+-- Whether the interrupts of an `irq` line at time `at` (ns) took more than a second, or more than
+-- the time since the previous `irq` line of the processor.
 abbrev pub irq_too_long : List ℕ → ℕ → Act → Bool
 irq_too_long irqs at (act.Irq cpu ns) = nat_lt longest_irq ns || nat_lt (at - slice_index_or irqs cpu.0 0) ns
 irq_too_long irqs at _ = false

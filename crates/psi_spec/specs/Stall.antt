@@ -21,7 +21,7 @@ abbrev pub number_of_slot : Option Slot → Option ℕ
 number_of_slot None = None
 number_of_slot (Some slot) = Some slot.0
 
--- the parents of all slots, as numbers
+-- The parent of each slot, as an optional number.
 abbrev pub parents_of : List GroupLife → List (Option ℕ)
 parents_of groups = map (λ group. number_of_slot group.parent) groups
 
@@ -83,12 +83,12 @@ holds_of CpuSome tasks = list_any queues tasks
 holds_of CpuFull tasks = list_any queues tasks && not (list_any runs tasks)
 holds_of Nonidle tasks = list_any (λ task. waits task || stalls task || is_up task) tasks
 
--- the states, in the order of their numbers
+-- All states, in the order of their numbers.
 abbrev pub states : List State
 states = IoSome ∷ IoFull ∷ MemSome ∷ MemFull ∷ CpuSome ∷ CpuFull ∷ Nonidle ∷ []
 
--- a group is in a state on processor `cpu`: its accounting is on, and the tasks that count for it
--- there satisfy the state's condition
+-- Whether the group in slot `slot` is in `state` on processor `cpu` in world `w`: its accounting is
+-- on, and the tasks that count for it there satisfy the state's condition (`holds_of`).
 unfoldable pub holds : State → ℕ → ℕ → World → Bool
 holds state cpu slot w = is_on w.groups slot && holds_of state (tasks_in (parents_of w.groups) cpu slot w.tasks)
 

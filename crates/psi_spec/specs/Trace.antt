@@ -1,4 +1,5 @@
--- Parsing of a trace: the trace that bytes spell, or the first bad line with its cause.
+-- Parsing of a trace: the trace that the bytes of a file spell, or the first bad line with its
+-- cause.
 use Rattle.std.specs.Prelude.{◌≡◌, ℕ, ◌+◌, ◌*◌, ◌≤◌, List, [], ◌∷◌, ◌++◌, length, nat_lt, if◌then◌else◌, Option, None, Some, Result, Ok, Err}
 use Rattle.std.specs.List.{flat_map}
 use Rattle.psi_base.specs.Path.{parts_at}
@@ -11,18 +12,18 @@ use Rattle.psi_spec.specs.Grammar.{Fits, Header, IsKnown, Verb, Version, event_o
 use Rattle.psi_spec.specs.World.{World, Limits, first_world, after_event, most_cpus}
 use Rattle.psi_spec.specs.Refusal.{cause_of, AreLegal}
 
--- a trace: the version of its format, its number of processors, and its events
+-- A trace: the version of its format, its number of processors, and its events.
 pub record Trace : Type 0 where
   pub version : Version
   pub cpus : ℕ
   pub events : List Event
 
--- the number of processors is allowed in a trace: from 1 to 64
+-- `cpus` is a number of processors that a trace may have: from 1 to 64.
 abbrev pub IsCpuCount : ℕ → Type 0
 IsCpuCount cpus = (1 ≤ cpus) × (cpus ≤ most_cpus)
 
--- the limits of a trace with this tick length (ns) and number of processors: its times are at most
--- a million ticks
+-- The limits of a trace, given the length `tick` (ns) of a tick and the number of processors. The
+-- latest time is a million ticks.
 abbrev pub limits_of : ℕ → ℕ → Limits
 limits_of tick cpus = record { cpus = cpus; latest = 1000000 * tick }
 
@@ -36,7 +37,7 @@ lines_of events = flat_map (λ event. spelling event ++ 10 ∷ []) events
 abbrev pub text_of : Trace → List ℕ
 text_of trace = header (version_number trace.version) trace.cpus ++ 10 ∷ lines_of trace.events
 
--- the values of each event are in range
+-- The values of each event of the list are in range.
 abbrev pub AllFit : List Event → Type 0
 AllFit [] = Unit {0}
 AllFit (event ∷ events) = Fits event × AllFit events
@@ -57,8 +58,8 @@ abbrev pub AreKnown : List Verb → List Event → Type 0
 AreKnown verbs [] = Unit {0}
 AreKnown verbs (event ∷ events) = IsKnown verbs event × AreKnown verbs events
 
--- What a parser accepts: the tick length (ns), which limits the times, the versions, and the verbs
--- of each version.
+-- The rules by which a parser accepts traces: the tick length (ns), which limits the times; the
+-- versions; and the verbs of each version.
 pub record Accepts : Type 0 where
   pub tick : ℕ
   pub versions : List Version
@@ -82,9 +83,9 @@ abbrev pub then_legal : Limits → World → Result Event Cause → Result Event
 then_legal limits w (Err why) = Err why
 then_legal limits w (Ok event) = if_legal (cause_of limits w event) event
 
--- Parses a line after the header, without its newline. The first cause that applies is returned:
--- the trace has ended, the line is longer than 512 bytes, it spells no event with one of the verbs,
--- or the event isn't legal.
+-- Parses a line after the header, without its newline, in world `w`. The error is the first cause
+-- that applies: the trace has ended, the line is longer than 512 bytes, it spells no event with a
+-- verb of the list, or the event isn't legal.
 unfoldable pub line_event : List Verb → Limits → World → List ℕ → Result Event Cause
 line_event verbs limits w line =
     if w.ended then Err cause.AfterEnd else if nat_lt 512 (length line) then Err cause.LineTooLong
@@ -133,9 +134,9 @@ abbrev pub or_refused : {A : Type 0} → ℕ → Result A Cause → (A → Resul
 or_refused line (Err why) next = Err (refused line why)
 or_refused line (Ok event) next = next event
 
--- Parses the parts of the input between newlines: the first part is line number `line`, and the
--- last part is the rest after the last newline. The result is the events, or the first bad line and
--- its cause.
+-- Parses the parts of the input between newlines. The first part is line number `line`, and the
+-- last part is the incomplete line after the last newline. The result is the events, or the first
+-- bad line and its cause.
 unfoldable pub events_from : List Verb → Limits → World → ℕ → List (List ℕ) → Result (List Event) Refusal
 events_from verbs limits w line [] = at_end line (rest_cause w [])
 events_from verbs limits w line (rest ∷ []) = at_end line (rest_cause w rest)

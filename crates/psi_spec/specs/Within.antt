@@ -5,7 +5,7 @@ use Rattle.std.specs.List.{All}
 use Rattle.psi_base.specs.declared.event.TriggerSpec.{TriggerSpec}
 use Rattle.psi_spec.specs.Refusal.{is_window}
 
--- an optional value as a list of at most one element
+-- An optional value as a list of at most one element.
 abbrev pub listed : {A : Type 0} → Option A → List A
 listed None = []
 listed (Some x) = x ∷ []

@@ -21,32 +21,32 @@ use Rattle.psi_spec.specs.declared.machine.GroupLife.{GroupLife}
 
 -- ---- tasks
 
--- the task is blocked until IO completes
+-- Whether a task with this mode is blocked until IO completes.
 abbrev pub is_waiting : Mode → Bool
 is_waiting Waiting = true
 is_waiting Ready = false
 is_waiting Running = false
 is_waiting Blocked = false
 
--- the task is ready but not running
+-- Whether a task with this mode is ready but not running.
 abbrev pub is_ready : Mode → Bool
 is_ready Ready = true
 is_ready Running = false
 is_ready Waiting = false
 is_ready Blocked = false
 
--- the task is running
+-- Whether a task with this mode is running.
 abbrev pub is_running : Mode → Bool
 is_running Running = true
 is_running Ready = false
 is_running Waiting = false
 is_running Blocked = false
 
--- the task is ready or running
+-- Whether a task with this mode is ready or running.
 abbrev pub is_active : Mode → Bool
 is_active mode = is_ready mode || is_running mode
 
--- the live tasks, keyed by pid
+-- The type of the live tasks, keyed by pid.
 abbrev pub Tasks : Type 0
 Tasks = tasks_by.FinMap nat_cmp Task
 
@@ -54,38 +54,38 @@ Tasks = tasks_by.FinMap nat_cmp Task
 abbrev pub no_tasks : Tasks
 no_tasks = tasks_by.empty
 
--- the live task with a pid, or `None`
+-- The live task with pid `pid`, or `None`.
 abbrev pub task_of : Tasks → ℕ → Option Task
 task_of tasks pid = tasks_by.get tasks pid
 
--- adds a task under a pid, or replaces the task with that pid
+-- The tasks after `task` was added with pid `pid`, or replaced the task with this pid.
 abbrev pub put : Tasks → ℕ → Task → Tasks
 put tasks pid task = tasks_by.insert tasks pid task
 
--- removes the task with a pid
+-- The tasks without the task with pid `pid`.
 abbrev pub remove : Tasks → ℕ → Tasks
 remove tasks pid = tasks_by.remove tasks pid
 
--- the task is running on processor `cpu`
+-- Whether a task is running on processor `cpu`.
 abbrev pub is_running_on : ℕ → Task → Bool
 is_running_on cpu task = task.cpu.0 == cpu && is_running task.mode
 
--- the task is ready on processor `cpu`
+-- Whether a task is ready on processor `cpu`.
 abbrev pub is_ready_on : ℕ → Task → Bool
 is_ready_on cpu task = task.cpu.0 == cpu && is_ready task.mode
 
--- the running task of processor `cpu` with its pid, or `None`
+-- The running task of processor `cpu` with its pid, or `None` if no task is running there.
 abbrev pub running_on : Tasks → ℕ → Option (ℕ × Task)
 running_on tasks cpu = find (λ e. is_running_on cpu e.1) (tasks_by.entries tasks)
 
--- the task without its pid
+-- Drops the pid of an optional task with its pid.
 abbrev pub task_part : Option (ℕ × Task) → Option Task
 task_part None = None
 task_part (Some e) = Some e.1
 
 -- ---- groups
 
--- the group wasn't removed
+-- Whether a group is live: it wasn't removed.
 abbrev pub is_live : GroupLife → Bool
 is_live group = not (is_some group.gone)
 
@@ -95,7 +95,7 @@ abbrev pub slot_from : ℕ → List GroupLife → List ℕ → Option ℕ
 slot_from slot [] path = None
 slot_from slot (group ∷ groups) path = if is_live group && bytes_eq group.path path then Some slot else slot_from (slot + 1) groups path
 
--- the slot of the live group with a path, or `None`
+-- The slot of the live group with path `path`, or `None`.
 abbrev pub slot_of : List GroupLife → List ℕ → Option ℕ
 slot_of groups path = slot_from 0 groups path
 
@@ -113,11 +113,11 @@ or_root (byte ∷ bytes) = byte ∷ bytes
 abbrev pub parent_path : List ℕ → List ℕ
 parent_path path = or_root (before_last_slash path)
 
--- the path is the path of the root
+-- Whether the path is the path of the root.
 abbrev pub is_root : List ℕ → Bool
 is_root path = bytes_eq path (codes "/")
 
--- an optional number as an optional slot
+-- Converts an optional number to an optional slot.
 abbrev pub as_slot : Option ℕ → Option Slot
 as_slot None = None
 as_slot (Some n) = Some (record { 0 = n })
@@ -126,8 +126,8 @@ as_slot (Some n) = Some (record { 0 = n })
 abbrev pub root : GroupLife
 root = record { path = codes "/"; parent = None; made = 0; gone = None; on = true }
 
--- a new group that is created at time `at` (ns): its parent is the live group with the parent's
--- path, and its accounting is on
+-- The group that is created with path `path` at time `at` (ns): its parent is the live group with
+-- the parent's path, and its accounting is on.
 abbrev pub new_group : List GroupLife → List ℕ → ℕ → GroupLife
 new_group groups path at = record { path = path; parent = as_slot (slot_of groups (parent_path path)); made = at; gone = None; on = true }
 
@@ -219,7 +219,8 @@ change_to tasks pid f (Some task) = put tasks pid (f task)
 abbrev pub change : Tasks → ℕ → (Task → Task) → Tasks
 change tasks pid f = change_to tasks pid f (task_of tasks pid)
 
--- a new task on processor `cpu` in the group with a path: it is ready, and not in a memory stall
+-- The task that is created on processor `cpu` in the group with path `path`: it is ready, and not
+-- in a memory stall.
 abbrev pub new_task : List GroupLife → List ℕ → ℕ → Task
 new_task groups path cpu =
     record { slot = record { 0 = unwrap_or (slot_of groups path) 0 }; cpu = record { 0 = cpu }; mode = Ready; stalled = false }
@@ -266,7 +267,7 @@ pub data Effect : Type 0 where
   interrupts : Cpu → Effect
   switches_account : Effect
 
--- the effect of each act on tasks
+-- The effect of an act (what an event does) on tasks.
 abbrev pub effect_of : Act → Effect
 effect_of (act.Group path) = none
 effect_of (act.Remove path) = none
@@ -285,7 +286,7 @@ effect_of (act.Irq cpu ns) = interrupts cpu
 effect_of (act.Pressure path on) = switches_account
 effect_of act.End = none
 
--- the tasks after an effect
+-- The tasks after an effect, given the groups and the tasks before it.
 abbrev pub tasks_by_effect : List GroupLife → Tasks → Effect → Tasks
 tasks_by_effect groups tasks none = tasks
 tasks_by_effect groups tasks (forks pid path cpu) = put tasks pid.0 (new_task groups path cpu.0)
@@ -297,7 +298,7 @@ tasks_by_effect groups tasks (switches cpu next how) = start next (leave how tas
 tasks_by_effect groups tasks (interrupts cpu) = tasks
 tasks_by_effect groups tasks switches_account = tasks
 
--- the tasks after an act
+-- The tasks after an act, given the groups and the tasks before it.
 abbrev pub tasks_after : List GroupLife → Tasks → Act → Tasks
 tasks_after groups tasks what = tasks_by_effect groups tasks (effect_of what)
 
@@ -318,27 +319,27 @@ abbrev pub with_switched : Option (List ℕ × Bool) → List GroupLife → List
 with_switched None groups = groups
 with_switched (Some switched) groups = map (marked_switched switched.0 switched.1) groups
 
--- the groups after an act at time `at` (ns)
+-- The groups after the act `what` at time `at` (ns), given the groups before it.
 abbrev pub groups_after : ℕ → List GroupLife → Act → List GroupLife
 groups_after at groups what =
     with_new at (names what).new_path (with_removed at (names what).removed_path (with_switched (names what).switched groups))
 
--- the times (ns) of the last `irq` lines of all processors after an act at time `at`
+-- For each processor the time (ns) of its last `irq` line, or 0, after an act at time `at` (ns).
 abbrev pub irqs_after : ℕ → List ℕ → Act → List ℕ
 irqs_after at irqs (act.Irq cpu ns) = slice_set irqs cpu.0 at
 irqs_after at irqs _ = irqs
 
--- the act sets a trigger
+-- Whether the act sets a trigger.
 abbrev pub is_trigger : Act → Bool
 is_trigger (act.Trigger path res level threshold_us window_us) = true
 is_trigger _ = false
 
--- the act switches the accounting of a group
+-- Whether the act switches the accounting of a group.
 abbrev pub is_pressure : Act → Bool
 is_pressure (act.Pressure path on) = true
 is_pressure _ = false
 
--- the act ends the trace
+-- Whether the act ends the trace.
 abbrev pub ends : Act → Bool
 ends act.End = true
 ends _ = false
@@ -356,12 +357,12 @@ after_event w event = record {
   ended = w.ended || ends event.act;
 }
 
--- the world after a list of events, starting from world `w`
+-- The world after a list of events, given the world `w` before the first event.
 abbrev pub after_from : World → List Event → World
 after_from w [] = w
 after_from w (event ∷ events) = after_from (after_event w event) events
 
--- the world after a list of events, starting from the first world
+-- The world after a list of events that begins a trace.
 abbrev pub after : List Event → World
 after events = after_from first_world events
 

@@ -11,21 +11,21 @@ pub struct GroupLife {
     pub parent: Option<Slot>,
     pub made: Ns,
     pub gone: Option<Ns>,
-    /// The group's accounting is on: stalls and interrupts are counted for it. Ancestors and
-    /// children have their own setting.
+    /// Whether the group's accounting is on: stalls and interrupts are counted for it. Ancestors
+    /// and children have their own setting.
     pub on: bool,
 }
 
 /// The scheduling state of a live task.
 #[derive(Clone, Copy, Debug, PartialEq, Eq)]
 pub enum Mode {
-    /// Blocked, but not for IO.
+    /// The task is blocked, but not for IO.
     Blocked,
-    /// Blocked until IO completes.
+    /// The task is blocked until IO completes.
     Waiting,
-    /// Ready to run, on the run queue of its processor.
+    /// The task is ready to run, on the run queue of its processor.
     Ready,
-    /// Running on its processor.
+    /// The task is running on its processor.
     Running,
 }
 
@@ -36,6 +36,6 @@ pub struct Task {
     pub slot: Slot,
     pub cpu: Cpu,
     pub mode: Mode,
-    /// The task is in a memory stall, which may continue while it is blocked.
+    /// Whether the task is in a memory stall, which may continue while the task is blocked.
     pub stalled: bool,
 }

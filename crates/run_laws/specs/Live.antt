@@ -60,7 +60,7 @@ TextsGoOn = (limits : Limits) (trace : Trace) (timing : Timing) (rules : List Ru
 abbrev pub NoTextAtFirst : Type 0
 NoTextAtFirst = (trace : Trace) (timing : Timing) (rules : List Rule) → AreTickTexts trace timing rules 0 []
 
--- If no group is watched, there is exactly one possible output.
+-- There is exactly one possible output if no group is watched.
 abbrev pub OneTextUnwatched : Type 0
 OneTextUnwatched = (trace : Trace) (timing : Timing) (rules : List Rule) (text : List ℕ) →
     timing.watch ≡ None → IsReplayText trace timing rules text → text ≡ replay_text trace timing (with_rules rules)

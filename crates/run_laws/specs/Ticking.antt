@@ -22,7 +22,7 @@ TicksFollow =
     0 < length → length ≤ longest_tick → tick_moment length (i + 1) ≤ last_moment →
     IsNextTick (last_tick (before_ticks cpus events) (ticks_of cpus events length i)) (tick_of cpus events length (i + 1))
 
--- The first i + 1 ticks are the first `i` ticks, followed by tick i + 1.
+-- The list of the first i + 1 ticks is the list of the first `i` ticks, followed by tick i + 1.
 abbrev pub TicksMore : Type 0
 TicksMore = (cpus : ℕ) (events : List Event) (length i : ℕ) →
     ticks_of cpus events length (i + 1) ≡ ticks_of cpus events length i ++ tick_of cpus events length (i + 1) ∷ []

@@ -41,7 +41,7 @@ pub fn law_live_texts()
     ensures none { NoTextAtFirst }
 {}
 
-/// If no group is watched, there is exactly one possible output.
+/// There is exactly one possible output if no group is watched.
 pub fn law_unwatched()
     ensures { OneTextUnwatched }
 {}

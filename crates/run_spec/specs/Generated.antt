@@ -164,6 +164,6 @@ generated shape = record {
       ++ random_events shape shape.events (after (first_events shape)) shape.seed;
 }
 
--- the output of `gen`
+-- The output of `gen` for a shape: the text of the generated trace.
 abbrev pub gen_text : Shape → List ℕ
 gen_text shape = text_of (generated shape)

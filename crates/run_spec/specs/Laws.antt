@@ -35,7 +35,7 @@ SpelledInRange = (words : List (List ℕ)) (command : Command)
 abbrev pub assigned_word : List ℕ → List ℕ → List ℕ
 assigned_word name value = codes "--" ++ name ++ 61 ∷ value
 
--- the text contains no `=`
+-- The text contains no `=` (byte 61).
 abbrev pub HasNoEquals : List ℕ → Type 0
 HasNoEquals text = list_any is_equals text ≡ false
 

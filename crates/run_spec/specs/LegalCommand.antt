@@ -28,7 +28,7 @@ pub record AreOptions (options : Options) : Type 0 where
   pub live : IfSome options.live (λ path. is_path path ≡ true)
   pub live_count : IsWithin 1 16 options.live_count
 
--- the numbers of a shape are in range
+-- The numbers of the shape of a generated trace are in range.
 pub record IsShape (shape : Shape) : Type 0 where
   pub seed : shape.seed < 2 ^ 64
   pub cpus : IsWithin 1 64 shape.cpus

@@ -62,8 +62,8 @@ head_line at path word = line_of (codes "report" ∷ decimal at ∷ path ∷ wor
 abbrev pub report_head : ℕ → List ℕ → Res → List ℕ
 report_head at path res = head_line at path (resource_word res)
 
--- the report on one resource of a group at time `at` (ns): its head line, and the pressure file
--- with the totals (ns) and averages
+-- The report on the resource `res` of a group at time `at` (ns): its head line, and the pressure
+-- file with the totals (ns) and averages.
 abbrev pub report_text : ℕ → List ℕ → Res → Bool → List ℕ → List (List ℕ) → List ℕ
 report_text at path res is_root totals averages =
     report_head at path res ++ file_text res is_root totals averages

@@ -57,19 +57,20 @@ abbrev pub import_name : Command → Option (List ℕ)
 import_name (Import file cpus) = Some file
 import_name _ = None
 
--- the name of a command's file of a given kind, or `None` if it reads no such file
+-- The name of a command's file of a given kind, or `None` if the command reads no such file.
 abbrev pub file_of : Command → Which → Option (List ℕ)
 file_of command RulesFile = rules_name command
 file_of command TraceFile = trace_name command
 file_of command ImportFile = import_name command
 file_of command DropInFile = drop_in_name command
 
--- the kind of file from which a command gets its trace
+-- The kind of the file from which a command reads its trace: an ftrace text for `import`, otherwise
+-- a trace.
 abbrev pub source_of : Command → Which
 source_of (Import file cpus) = ImportFile
 source_of _ = TraceFile
 
--- the name of the file from which a command gets its trace, or `None` if it reads no such file
+-- The name of the file from which a command reads its trace, or `None` if it reads no such file.
 abbrev pub source_name : Command → Option (List ℕ)
 source_name command = file_of command (source_of command)
 
@@ -109,8 +110,8 @@ abbrev pub or_not_imported : ℕ → Result (List Event) Refused → Result Trac
 or_not_imported cpus (Ok events) = Ok (import_trace cpus events)
 or_not_imported cpus (Err refusal) = Err (status.Import refusal.line refusal.cause)
 
--- Parses a command's file: `import` converts an ftrace text, and every other command parses a
--- trace. The result is the trace, or the status that reports the first rejected line.
+-- Parses the content of a command's file: `import` converts an ftrace text, and every other command
+-- parses a trace. The result is the trace, or a status that reports the first rejected line.
 abbrev pub parse_of : Command → List ℕ → Result Trace Status
 parse_of (Import file cpus) bytes = or_not_imported cpus (import_of cpus bytes)
 parse_of command bytes = or_refused_trace (trace_of (accepts_of command) bytes)
@@ -144,11 +145,12 @@ abbrev pub watch_of_path : ℕ → Option (List ℕ) → Option LiveWatch
 watch_of_path count None = None
 watch_of_path count (Some path) = Some (record { path = path; count = count })
 
--- the group that the options watch, if any
+-- The group that `--live` watches, if any.
 abbrev pub watch_of : Options → Option LiveWatch
 watch_of options = watch_of_path options.live_count options.live
 
--- the tick length, report period, evaluation interval and watched group that the options request
+-- The tick length, report period, evaluation interval and watched group of the options, with times
+-- in ns.
 abbrev pub timing_of : Options → Timing
 timing_of options = record {
   length = of_ms options.tick_ms;

@@ -1,5 +1,5 @@
--- The result of a run for accepted files and for rejected files, given the failure counts or the
--- log of read calls before the run and at its end.
+-- The results of a run for accepted files and for rejected files, given the failure counts or the
+-- log of read calls before and after the run.
 use Rattle.std.specs.Prelude.{◌≡◌, ◌⊎◌, ℕ, List, Option, Some, Ok, Err}
 use Rattle.psi_base.specs.Memory.{no_memory}
 use Rattle.outside.specs.Outside.{Files, Increased, content_of}
@@ -26,8 +26,8 @@ Completes command files before now result = (rules : List Rule) (bytes : List �
     → (Increased before.shelf.faults now.shelf.faults → ⊥) → (Increased before.writes now.writes → ⊥)
     → (result ≡ outcome_of command trace rules) ⊎ (result ≡ status.NoMemory no_memory)
 
--- If the rules are accepted, `rules` prints them, unless a read or a write fails or memory runs
--- out.
+-- If the rules are accepted, the command `rules` prints them, unless a read or a write fails or
+-- memory runs out.
 abbrev pub PrintsRules : List ℕ → Option (List ℕ) → Option Files → RunCounts → RunCounts → Status → Type 0
 PrintsRules name drop_in files before now result = (rules : List Rule)
     → RulesContent (words.Rules name drop_in) files rules
@@ -39,14 +39,14 @@ abbrev pub MakesOutput : Command → RunCounts → RunCounts → Status → Type
 MakesOutput command before now result = (ReadsFiles command → ⊥) → (Increased before.writes now.writes → ⊥)
     → (result ≡ status.Done) ⊎ (result ≡ status.NoMemory no_memory)
 
--- A rejected rules file gives the status with its first error, unless a read of that file fails or
--- memory runs out.
+-- If the rules file is rejected, the result is a status with its first error, unless a read of that
+-- file fails or memory runs out.
 abbrev pub RejectsRules : Command → Option Files → List ReadCall → List ReadCall → Status → Type 0
 RejectsRules command files before now result = (name bytes : List ℕ) (fault : RulesFault)
     → rules_name command ≡ Some name → content_of files name ≡ Some bytes → rules_of bytes ≡ Err fault
     → (result ≡ status.Rules fault) ⊎ (result ≡ status.NoMemory no_memory) ⊎ FailedAt command before now RulesFile result
 
--- If the rules file is accepted and the drop-in file is rejected, the result is the status with the
+-- If the rules file is accepted and the drop-in file is rejected, the result is a status with the
 -- first error of the drop-in file, unless a read of one of the two files fails or memory runs out.
 abbrev pub RejectsDropIn : Command → Option Files → List ReadCall → List ReadCall → Status → Type 0
 RejectsDropIn command files before now result = (bytes drop_in : List ℕ) (fault : DropFault)
@@ -55,7 +55,7 @@ RejectsDropIn command files before now result = (bytes drop_in : List ℕ) (faul
     → (result ≡ status.DropIn fault) ⊎ (result ≡ status.NoMemory no_memory) ⊎ FailedAt command before now RulesFile result
     ⊎ FailedAt command before now DropInFile result
 
--- If the rules are accepted and the trace or ftrace text is rejected, the result is the status with
+-- If the rules are accepted and the trace or ftrace text is rejected, the result is a status with
 -- its first rejected line, unless a read fails or memory runs out.
 abbrev pub RejectsSource : Command → Option Files → RunCounts → RunCounts → Status → Type 0
 RejectsSource command files before now result = (rules : List Rule) (bytes : List ℕ) (why : Status)

@@ -1,5 +1,5 @@
--- The order in which a command reads its files, given the log of read calls before the run and at
--- its end.
+-- The order in which a command reads its files, given the log of read calls before and after the
+-- run.
 use Rattle.std.specs.Prelude.{◌≡◌, ℕ, List, [], ◌∷◌, ◌++◌, Option, None, Some}
 use Rattle.outside.specs.Outside.{Files}
 use Rattle.outside.specs.Reads.{ReadCall, ReadsEach, ReadsFile}
@@ -18,7 +18,7 @@ abbrev pub listed : Option (List ℕ) → List (List ℕ)
 listed None = []
 listed (Some name) = name ∷ []
 
--- the names of an optional rules file and an optional drop-in file, in this order
+-- The names of the optional rules file and of the optional drop-in file, in this order.
 abbrev pub names_of_rules : Option (List ℕ) → Option (List ℕ) → List (List ℕ)
 names_of_rules named drop_in = listed named ++ listed drop_in
 

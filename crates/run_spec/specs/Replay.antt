@@ -21,7 +21,7 @@ use Rattle.run_spec.specs.Lines.{end_line, event_line, irq_report, kill_line, re
 use Rattle.run_spec.specs.Text.{end_of}
 use Rattle.run_spec.specs.Live.{IsLiveText, LiveWatch}
 
--- How a trace is replayed: the length of a tick (ns), the period of reports (ns; 0 means only at
+-- The parameters of a replay: the length of a tick (ns), the period of reports (ns; 0 means only at
 -- the last tick), the interval of evaluations (ns), and the watched group, if any.
 pub record Timing : Type 0 where
   pub length : ℕ
@@ -35,7 +35,7 @@ pub record Beside : Type 0 where
   pub live : ℕ → List ℕ
   pub rules : List Rule
 
--- the inputs of a replay with these rulesets and without live lines
+-- The inputs of a replay with the rulesets `rules` and without live lines.
 abbrev pub with_rules : List Rule → Beside
 with_rules rules = record { live = λ _. []; rules = rules }
 
@@ -43,7 +43,7 @@ with_rules rules = record { live = λ _. []; rules = rules }
 abbrev pub tick_count : Trace → Timing → ℕ
 tick_count trace timing = ticks_until timing.length (end_of trace.events)
 
--- all groups that a trace ever creates
+-- All groups that a trace ever creates, by slot.
 abbrev pub lives_of : Trace → List GroupLife
 lives_of trace = (after trace.events).groups
 
@@ -80,7 +80,8 @@ kills_in trace timing rules i =
     (readings_until trace.cpus trace.events timing.length timing.interval (i - 1))
     else []
 
--- the lines of kills, in order
+-- The lines of the kills, in order. The paths of the victims are found in `lives`, which are all
+-- groups of the trace.
 abbrev pub kill_lines : List GroupLife → List Kill → List ℕ
 kill_lines lives kills =
     flat_map (λ (kill : Kill). kill_line kill.at kill.rule kill.action (path_at lives kill.victim.0)) kills
@@ -114,11 +115,11 @@ group_report trace timing i group =
     (totals_after trace.cpus (lives_of trace) (ticks_of trace.cpus trace.events timing.length i) group.1)
     (group_averages trace.cpus (lives_of trace) (ticks_of trace.cpus trace.events timing.length i) group.1).averages
 
--- the groups that are live at tick `i` with their slots, sorted by the bytes of their paths
+-- The paths and slots of the groups that are live at tick `i`, sorted by the bytes of the paths.
 abbrev pub live_groups_at : Trace → Timing → ℕ → List (List ℕ × ℕ)
 live_groups_at trace timing i = live_groups (after (up_to trace.events (tick_moment timing.length i))).groups
 
--- the reports of all groups that are live at tick `i`
+-- The reports on all groups that are live at tick `i`, in the order of paths.
 abbrev pub reports : Trace → Timing → ℕ → List ℕ
 reports trace timing i = flat_map (group_report trace timing i) (live_groups_at trace timing i)
 
@@ -136,13 +137,13 @@ tick_text trace timing beside i =
 abbrev pub ticks_text : Trace → Timing → Beside → ℕ → List ℕ
 ticks_text trace timing beside count = flat_map (tick_text trace timing beside) (range_with_len 1 count)
 
--- the last line: the end time (ns), and the numbers of ticks, signals and kills
+-- The last line of the output: the end time (ns), and the numbers of ticks, signals and kills.
 abbrev pub last_line : Trace → Timing → Beside → List ℕ
 last_line trace timing beside =
     end_line (end_of trace.events) (tick_count trace timing) (signals_until trace timing (tick_count trace timing))
     (kills_until trace timing beside.rules (tick_count trace timing))
 
--- the output of `replay` with given live lines
+-- The output of `replay`, given the live lines and the rulesets.
 unfoldable pub replay_text : Trace → Timing → Beside → List ℕ
 replay_text trace timing beside = ticks_text trace timing beside (tick_count trace timing) ++ last_line trace timing beside
 
@@ -155,7 +156,7 @@ IsReplayText trace timing rules text =
 
 -- ---- the output of `stress`
 
--- the root's path and slot
+-- The path and the slot of the root.
 abbrev pub root_group : List ℕ × ℕ
 root_group = (codes "/", 0)
 

@@ -24,7 +24,7 @@ pub record RunCounts : Type 0 where
   pub shelf : ShelfCounts
   pub writes : ℕ
 
--- the failure counts with these numbers of failed reads, missing files and failed writes
+-- The failure counts with given numbers of failed reads, missing files and failed writes.
 abbrev pub run_counts : ℕ → ℕ → ℕ → RunCounts
 run_counts faults absent writes = record { shelf = counts_of faults absent; writes = writes }
 
@@ -33,7 +33,7 @@ pub record RisesWhere (Happened : Type 0) (before now : ℕ) : Type 0 where
   pub increased : Happened → Increased before now
   pub same : ¬ Happened → now ≡ before
 
--- the status reports a missing file
+-- The status reports that some file is missing.
 abbrev pub IsNoFile : Status → Type 0
 IsNoFile result = (which : Which) × (result ≡ status.NoFile which)
 
@@ -104,7 +104,7 @@ RulesContent command files rules = MatchOption (rules_name command) (rules ≡ [
 abbrev pub IsThere : Command → Option Files → Which → Type 0
 IsThere command files which = (name : List ℕ) → file_of command which ≡ Some name → IsAbsent files name → ⊥
 
--- neither the rules file of a command nor its drop-in file is known to be missing
+-- Neither the rules file of a command nor its drop-in file is known to be missing.
 abbrev pub RulesAreThere : Command → Option Files → Type 0
 RulesAreThere command files = IsThere command files RulesFile × IsThere command files DropInFile
 
@@ -148,12 +148,12 @@ Refuses command files old new which result =
     Keeps old new × IsSome (file_of command which) × IsPassed command files which × IsThere command files which
     × ((bytes : List ℕ) → HasContent command which files bytes → parse_of command bytes ≡ Err result)
 
--- What a status implies, given the contents of the files (if known) and the bytes of the output
--- before and after. Done: the whole output for a valid trace and valid rulesets was written.
--- WriteFault: a prefix of it was written. Rules, DropIn: the first error in the rules file or in
--- the drop-in file. Trace, Import: the first rejected line of the trace or of the ftrace text,
--- after accepted rules. TooLarge: a round of `whatif` leaves too many events. NoFile: a file is
--- missing. For every status except Done and WriteFault the output is unchanged.
+-- The implications of a status, given the contents of the files (if known) and the bytes of the
+-- output before and after the run. Done: the whole output for a valid trace and valid rulesets was
+-- written. WriteFault: a prefix of it was written. Rules, DropIn: the first error in the rules file
+-- or in the drop-in file. Trace, Import: the first rejected line of the trace or of the ftrace
+-- text, after accepted rules. TooLarge: a round of `whatif` leaves too many events. NoFile: a file
+-- is missing. For every status except Done and WriteFault the output is unchanged.
 abbrev pub Ends : Command → Option Files → Option (List ℕ) → Option (List ℕ) → Status → Type 0
 Ends command files old new status.Done = HasOutput command files (λ text. Appends old new text)
 Ends command files old new status.WriteFault = HasOutput command files (λ text. AppendsPrefix old new text)

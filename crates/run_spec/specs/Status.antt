@@ -30,7 +30,7 @@ abbrev pub name_or_none : Option (List ℕ) → List ℕ
 name_or_none None = []
 name_or_none (Some name) = name
 
--- the name of the command's file `which`, or no bytes if it is unknown
+-- The name of the command's file `which`, or no bytes if the command or the name is missing.
 abbrev pub name_text : Option Command → Which → List ℕ
 name_text None which = []
 name_text (Some command) which = name_or_none (file_of command which)
@@ -43,7 +43,7 @@ refusal_text line why = codes "trace line " ++ (decimal line ++ (codes ": " ++ (
 abbrev pub import_refusal_text : ℕ → ImportCause → List ℕ
 import_refusal_text line why = codes "import line " ++ (decimal line ++ (codes ": " ++ (import_cause_text why ++ codes "\n")))
 
--- the message for a status: one line with its newline, or no bytes for Done
+-- The message for a status: one line with its newline, or no bytes for Done.
 abbrev pub status_text : Option Command → Status → List ℕ
 status_text command status.Done = []
 status_text command status.Usage = codes "usage: psi_oomd stall or check or replay or gen or stress or import or rules or whatif\n"

@@ -1,4 +1,4 @@
--- What `stall` and `check` print, byte for byte, and the printed names of causes.
+-- The output of `stall` and `check`, byte for byte, and the printed names of causes.
 use Rattle.std.specs.Prelude.{ℕ, List, [], ◌∷◌, ◌++◌, length, map, Option, None, Some, codes, decimal}
 use Rattle.std.specs.List.{flat_map, range_with_len}
 use Rattle.psi_base.specs.declared.event.Event.{Event}
@@ -15,7 +15,7 @@ use Rattle.run_spec.specs.Lines.{check_line, stall_line}
 
 -- ---- stall sums
 
--- the time (ns) of the last event, which is the end of a trace
+-- The end time (ns) of a trace: the time of its last event.
 abbrev pub end_of : List Event → ℕ
 end_of events = (after events).last
 
@@ -30,13 +30,13 @@ abbrev pub stall_times_of : Version → ℕ → ℕ → List Event → List ℕ
 stall_times_of One cpu slot events = stall_times cpu slot events
 stall_times_of Two cpu slot events = stall_times cpu slot events ++ irq_time cpu slot events ∷ []
 
--- the lines of `stall` for processor `cpu`: one for each group that is live at the end, in the
--- order of their paths
+-- The lines of `stall` for processor `cpu`: one for each group that is live at the end of the
+-- trace, in the order of paths.
 abbrev pub stall_lines : Version → ℕ → List Event → List ℕ
 stall_lines version cpu events =
     flat_map (λ (pair : List ℕ × ℕ). stall_line cpu pair.0 (stall_times_of version cpu pair.1 events)) (live_groups (after events).groups)
 
--- the output of `stall`: the lines of all processors, in order
+-- The output of `stall`: the lines of all processors, in the order of processors.
 unfoldable pub stall_text : Trace → List ℕ
 stall_text trace = flat_map (λ cpu. stall_lines trace.version cpu trace.events) (range_with_len 0 trace.cpus)
 
@@ -48,7 +48,7 @@ check_text trace = check_line (length trace.events) (end_of trace.events)
 
 -- ---- causes of rejection
 
--- the printed name of a cause
+-- The printed name of a cause of rejection.
 abbrev pub cause_name : Cause → List ℕ
 cause_name cause.BadHeader = codes "BadHeader"
 cause_name cause.LineTooLong = codes "LineTooLong"

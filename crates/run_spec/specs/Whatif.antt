@@ -1,5 +1,5 @@
--- The trace that `whatif` replays: what remains of a trace after the victims of its kills were
--- removed, one kill per round.
+-- The trace that `whatif` replays, which remains after the victims of the kills were removed from
+-- the original trace, one kill in each round.
 use Rattle.std.specs.Prelude.{ℕ, zero, suc, List, length, nat_lt, if◌then◌else◌, Option, None, Some, Result, Ok, Err, slice_get}
 use Rattle.std.specs.List.{flat_map, range_with_len}
 use Rattle.psi_spec.specs.World.{most_events}
@@ -9,15 +9,15 @@ use Rattle.kill_spec.specs.declared.kill.Kill.{Kill}
 use Rattle.whatif_spec.specs.Without.{trace_without}
 use Rattle.run_spec.specs.Replay.{Timing, kills_in, tick_count}
 
--- the maximum number of rounds, and so of kills that are removed
+-- The maximum number of rounds, each of which removes one kill.
 abbrev pub most_rounds : ℕ
 most_rounds = 64
 
--- the kills at the first `count` ticks, ordered by tick, ruleset and action
+-- The kills at the first `count` ticks, in the order of ticks, rulesets and actions.
 abbrev pub kills_by : Trace → Timing → List Rule → ℕ → List Kill
 kills_by trace timing rules count = flat_map (kills_in trace timing rules) (range_with_len 1 count)
 
--- all kills in a replay of `trace`
+-- All kills in a replay of `trace`, in order.
 abbrev pub all_kills : Trace → Timing → List Rule → List Kill
 all_kills trace timing rules = kills_by trace timing rules (tick_count trace timing)
 
@@ -50,6 +50,7 @@ unfoldable pub after_rounds : Trace → Timing → List Rule → ℕ → Result 
 after_rounds trace timing rules zero = Ok trace
 after_rounds trace timing rules (suc count) = then_round timing rules count (after_rounds trace timing rules count)
 
--- the trace after all 64 rounds, or `Err` with the number of events of a round that left too many
+-- The trace after all 64 rounds, or `Err` with the number of events if a round left too many
+-- events.
 abbrev pub last_trace : Trace → Timing → List Rule → Result Trace ℕ
 last_trace trace timing rules = after_rounds trace timing rules most_rounds

@@ -16,7 +16,7 @@ use Rattle.run_spec.specs.declared.command.Shape.{Shape}
 
 -- ---- one word
 
--- the kind of one word of the command line
+-- The kinds of words of the command line.
 pub data Word : Type 0 where
   -- `--name=value`: the name and the value of an option
   assigned : List ℕ → List ℕ → Word
@@ -24,27 +24,27 @@ pub data Word : Type 0 where
   opened : List ℕ → Word
   -- `--`: no later word is an option
   end : Word
-  -- a word that doesn't begin with `-`, or the word `-` itself
+  -- a word that doesn't begin with `-`, or the word `-`
   plain : Word
   -- any other word that begins with `-`
   unknown : Word
 
--- the word begins with `-` (byte 45), and isn't `-` itself
+-- Whether a word begins with `-` (byte 45), and isn't `-` alone.
 abbrev pub is_dashed : List ℕ → Bool
 is_dashed [] = false
 is_dashed (first ∷ []) = false
 is_dashed (first ∷ second ∷ rest) = first == 45
 
--- the list contains the text
+-- Whether the list of texts contains `text`.
 abbrev pub is_among : List ℕ → List (List ℕ) → Bool
 is_among text texts = list_any (λ other. bytes_eq other text) texts
 
--- the byte is `=`
+-- Whether the byte is `=` (61).
 abbrev pub is_equals : ℕ → Bool
 is_equals byte = byte == 61
 
--- the kind of the word `--text`, given the known option names: the name ends at the first `=`, if
--- any
+-- The kind of the word `--text`, given the names of the known options. The name of the option ends
+-- at the first `=`, if any.
 abbrev pub option_of : List (List ℕ) → List ℕ → Word
 option_of names text =
     if not (is_among (before_first is_equals text) names) then unknown
@@ -52,7 +52,7 @@ option_of names text =
     then assigned (before_first is_equals text) (after_first is_equals text)
     else opened (before_first is_equals text)
 
--- the kind of a word, given the known option names
+-- The kind of a word, given the names of the known options.
 abbrev pub word_of : List (List ℕ) → List ℕ → Word
 word_of names word =
     if not (is_dashed word) then plain
@@ -62,7 +62,7 @@ word_of names word =
 
 -- ---- all words
 
--- the parsed words: the options with their names and values, and the positional argument, if any
+-- The parsed words: the options with their names and values, and the positional argument, if any.
 pub record ParsedWords : Type 0 where
   pub options : List (List ℕ × List ℕ)
   pub positional : Option (List ℕ)
@@ -71,7 +71,7 @@ pub record ParsedWords : Type 0 where
 abbrev pub nothing : ParsedWords
 nothing = record { options = []; positional = None }
 
--- the value of the option with a name, or `None`
+-- The value of the option with name `name`, or `None` if the option is absent.
 abbrev pub option_value : List ℕ → ParsedWords → Option (List ℕ)
 option_value name parsed =
     option_map (λ option. option.1) (find (λ option. bytes_eq option.0 name) parsed.options)
@@ -88,8 +88,8 @@ abbrev pub with_positional : List ℕ → ParsedWords → Option ParsedWords
 with_positional word parsed =
     if is_some parsed.positional then None else Some (record parsed { positional = Some word })
 
--- the state of the parser: before a word, before the value of an option with this name, or after
--- `--`
+-- The state of the parser of words: before a word, before the value of an option with this name, or
+-- after `--`.
 pub data WordState : Type 0 where
   at_word : WordState
   at_value : List ℕ → WordState
@@ -118,7 +118,8 @@ parsed_from names suffix (word ∷ words) = parsed_from names suffix words >>= w
 
 -- ---- option values
 
--- parses a decimal number without leading zeros; `None` unless it is between `least` and `most`
+-- Parses a decimal number without leading zeros. The result is `None` unless the number is between
+-- `least` and `most`.
 abbrev pub number_within : ℕ → ℕ → List ℕ → Option ℕ
 number_within least most text = do
   number ← number_of text
@@ -277,7 +278,7 @@ stall_form = record { word = codes "stall"; options = []; command = stall_of }
 abbrev pub check_form : CommandForm
 check_form = record { word = codes "check"; options = codes "tick-ms" ∷ []; command = check_of }
 
--- the option names of `replay`
+-- The names of the options of `replay`.
 abbrev pub replay_names : List (List ℕ)
 replay_names =
     codes "rules" ∷ codes "drop-in" ∷ codes "tick-ms" ∷ codes "interval-s" ∷ codes "report-s"
@@ -287,7 +288,7 @@ replay_names =
 abbrev pub replay_form : CommandForm
 replay_form = record { word = codes "replay"; options = replay_names; command = replay_of }
 
--- the option names of a shape
+-- The names of the options for the shape of a generated trace.
 abbrev pub shape_names : List (List ℕ)
 shape_names = codes "seed" ∷ codes "cpus" ∷ codes "groups" ∷ codes "events" ∷ []
 
@@ -295,7 +296,7 @@ shape_names = codes "seed" ∷ codes "cpus" ∷ codes "groups" ∷ codes "events
 abbrev pub gen_form : CommandForm
 gen_form = record { word = codes "gen"; options = shape_names; command = gen_of }
 
--- the option names of `stress`
+-- The names of the options of `stress`.
 abbrev pub stress_names : List (List ℕ)
 stress_names = codes "workers" ∷ shape_names
 
@@ -311,7 +312,7 @@ import_form = record { word = codes "import"; options = codes "cpus" ∷ []; com
 abbrev pub rules_form : CommandForm
 rules_form = record { word = codes "rules"; options = codes "drop-in" ∷ []; command = rules_command_of }
 
--- the option names of `whatif`
+-- The names of the options of `whatif`.
 abbrev pub whatif_names : List (List ℕ)
 whatif_names =
     codes "rules" ∷ codes "drop-in" ∷ codes "tick-ms" ∷ codes "interval-s" ∷ codes "report-s" ∷ codes "workers" ∷ []
@@ -320,7 +321,7 @@ whatif_names =
 abbrev pub whatif_form : CommandForm
 whatif_form = record { word = codes "whatif"; options = whatif_names; command = whatif_of }
 
--- the syntax of all commands
+-- The syntax of each command.
 abbrev pub forms : List CommandForm
 forms =
     stall_form ∷ check_form ∷ replay_form ∷ gen_form ∷ stress_form ∷ import_form ∷ rules_form ∷ whatif_form ∷ []

@@ -4,7 +4,7 @@ ghost use Rattle.run_spec.specs.Laws.{OrderIsFree, SpelledInRange, ValueMayFollo
 
 use psi_base::{Path, Text};
 
-/// A parsed command. Options that the command line leaves out have their default values.
+/// A parsed command. Options that are absent from the command line have their default values.
 #[derive(Drop)]
 pub enum Command {
     /// Prints how long each state lasted.
@@ -50,7 +50,7 @@ pub enum Command {
     Rules {
         /// The name of the rules file, or `-` for standard input.
         file: Text,
-        /// The name of the drop-in file, by default none.
+        /// The name of the drop-in file. By default there is no drop-in file.
         drop_in: Option<Text>,
     },
     /// Replays the trace that remains after the victims of its kills were removed, one kill at a
@@ -66,9 +66,9 @@ pub enum Command {
 /// The options of `replay` and `whatif`.
 #[derive(Drop)]
 pub struct Options {
-    /// The name of the rules file, by default none.
+    /// The name of the rules file. By default there is no rules file.
     pub rules: Option<Text>,
-    /// The name of the drop-in file, by default none.
+    /// The name of the drop-in file. By default there is no drop-in file.
     pub drop_in: Option<Text>,
     /// The length of a tick in ms: 1 to 60,000, by default 2,000.
     pub tick_ms: u32,
@@ -81,7 +81,8 @@ pub struct Options {
     pub report_s: u32,
     /// The largest number of threads: 1 to 64, by default 64.
     pub workers: u32,
-    /// The group whose clocks are sampled while the replay runs (`--live`), by default none.
+    /// The group whose clocks are sampled while the replay runs (`--live`). By default there is no
+    /// such group.
     pub live: Option<Path>,
     /// The number of live samples of each processor in each interval: 1 to 16, by default 1.
     pub live_count: u32,

@@ -8,7 +8,7 @@ use import_spec::ImportCause;
 use psi_base::{Cause, NoMemory};
 use ruleset_json::RulesFault;
 
-/// The kind of a command's file.
+/// The kinds of files that a command reads.
 #[derive(Clone, Copy, Debug, PartialEq, Eq)]
 pub enum Which {
     /// The rules file.
@@ -21,7 +21,7 @@ pub enum Which {
     DropInFile,
 }
 
-/// How a run ended.
+/// The status with which a run ended.
 #[derive(Clone, Copy, Debug, PartialEq, Eq)]
 pub enum Status {
     /// The whole output was written.

@@ -1,4 +1,4 @@
--- Laws of the definition of a player.
+-- Laws of players, which are state machines that process the events of a trace.
 use Rattle.std.specs.Prelude.{◌≡◌, List, Ok, Err}
 use Rattle.psi_base.specs.declared.event.Event.{Event}
 use Rattle.psi_base.specs.declared.event.Cause.{Cause}

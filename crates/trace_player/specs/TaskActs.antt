@@ -8,7 +8,7 @@ use Rattle.psi_spec.specs.Refusal.{is_exit}
 use Rattle.trace_player.specs.declared.task_act.TaskAct.{TaskAct}
 use Rattle.trace_player.specs.declared.task_act.TaskAct.TheVariants as task_act
 
--- the act that a task act represents
+-- The act that a task act represents.
 abbrev pub as_act : TaskAct → Act
 as_act (task_act.Wake pid cpu) = act.Wake pid cpu
 as_act (task_act.Switch cpu next how) = act.Switch cpu next how
