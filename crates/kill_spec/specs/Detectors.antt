@@ -1,5 +1,5 @@
 -- The conditions under which a detector is true and a ruleset fires. A detector depends on the
--- current reading and on the readings of all earlier evaluations, the newest of which comes first.
+-- current reading and on the readings of all earlier evaluations. The newest reading comes first.
 use Rattle.std.specs.Prelude.{ℕ, ◌-◌, ◌*◌, max, List, [], ◌∷◌, map, filter, fold}
 use Rattle.std.specs.Prelude.{nat_le, nat_lt, ◌&&◌, ◌||◌, not, Bool, false, if◌then◌else◌}
 use Rattle.std.specs.List.{list_all, list_any}

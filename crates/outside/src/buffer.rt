@@ -73,8 +73,8 @@ impl Pending {
     }
 }
 
-/// A sink that buffers bytes for another sink, which it borrows. It forwards the pending bytes in
-/// one write if a piece doesn't fit after them, and forwards a piece of more than 65,536 bytes
+/// A sink that buffers bytes for another sink, which it borrows. It forwards the pending bytes
+/// together if a piece doesn't fit after them, and forwards a piece of more than 65,536 bytes
 /// without a copy. It does not allocate.
 ///
 /// Its content is the content of the other sink followed by the pending bytes. Its fault count is

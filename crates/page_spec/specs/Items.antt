@@ -113,7 +113,7 @@ pages_of size bytes = pages_in (length bytes) size bytes
 abbrev pub most_pages : ℕ
 most_pages = 4294967295
 
--- The result of decoding pages, the first of which has number `number` in its file.
+-- The result of decoding pages. The first page has number `number` in its file.
 unfoldable pub pages_found : Layout → ℕ → List (List ℕ) → Found PageFault
 pages_found layout number [] = nothing
 pages_found layout number (page ∷ pages) =

@@ -27,8 +27,8 @@ IsBad (Some k) None = Unit {0}
 IsBad None (Some text) = Unit {0}
 IsBad None None = ⊥
 
--- Field `at` (from 0) is the leftmost bad field of the words `parts`, of which the kinds `ks` are
--- required.
+-- Field `at` (from 0) is the leftmost bad field among the words `parts`, for which the kinds `ks`
+-- are required.
 pub record IsFirstBad (ks : List Kind) (parts : List (List ℕ)) (at : ℕ) : Type 0 where
   pub before : (i : ℕ) → i < at → IsGood (slice_get ks i) (slice_get parts i)
   pub here : IsBad (slice_get ks at) (slice_get parts at)

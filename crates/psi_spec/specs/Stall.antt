@@ -1,5 +1,5 @@
--- The states of a group on a processor, the time (ns) that a group spent in each, and the time (ns)
--- that interrupts took from a group.
+-- The states of a group on a processor, the time (ns) that a group spent in each state, and the
+-- time (ns) that interrupts took from a group.
 use Rattle.std.specs.Prelude.{ℕ, zero, suc, ◌+◌, ◌-◌, List, [], ◌∷◌, length, sum, map, take, filter, slice_get, slice_index_or, ◌==◌, ◌&&◌, ◌||◌, not, Bool, false, if◌then◌else◌, Option, None, Some}
 use Rattle.std.specs.List.{list_any, list_all, range_with_len}
 use Rattle.std.specs.FinMap as tasks_by

@@ -139,7 +139,7 @@ needed least most (Some text) = number_within least most text
 abbrev pub is_name : List ℕ → Bool
 is_name name = nat_lt 0 (length name)
 
--- Parses the positional argument as a file name, of which `-` means standard input. The result is
+-- Parses the positional argument as a file name. The name `-` means standard input. The result is
 -- `None` if the argument is absent or empty.
 abbrev pub trace_option : ParsedWords → Option (List ℕ)
 trace_option parsed = do
