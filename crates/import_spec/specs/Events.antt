@@ -25,7 +25,7 @@ use Rattle.import_spec.specs.Marked.{read_line}
 
 -- ---- the acts of a line
 
--- the act (what an event does) that creates a task in the root group
+-- The act (what an event does) that creates a task in the root group.
 abbrev pub made : Pid → Cpu → Act
 made pid cpu = act.Fork pid (codes "/") cpu
 
@@ -106,7 +106,7 @@ pub record Reached : Type 0 where
   pub moment : ℕ
   pub world : World
 
--- the progress before the first line
+-- The progress before the first line.
 abbrev pub unreached : Reached
 unreached = record { first = None; moment = 0; world = first_world }
 
@@ -120,20 +120,20 @@ first_time reached at = unwrap_or reached.first at
 abbrev pub line_moment : Reached → ℕ → ℕ
 line_moment reached at = max reached.moment (at - first_time reached at)
 
--- the default length of a tick (ns): 2 s
+-- The default length of a tick (ns): 2 s.
 abbrev pub default_tick : ℕ
 default_tick = 2000000000
 
--- the latest time (ns) of a trace with the default tick: a million ticks
+-- The latest time (ns) of a trace with the default tick: a million ticks.
 abbrev pub latest_moment : ℕ
 latest_moment = 1000000 * default_tick
 
--- the maximum number of events before `end`
+-- The maximum number of events before `end`.
 abbrev pub most_imported : ℕ
 most_imported = 3999999
 
--- the processor that a line requires: the processor of a switch, or the target processor of a
--- wakeup or migration
+-- The processor that a line requires: the processor of a switch, or the target processor of a
+-- wakeup or migration.
 abbrev pub needed_cpu : Seen → Cpu
 needed_cpu (seen.Switch cpu previous next how) = cpu
 needed_cpu (seen.Wakeup pid cpu) = cpu

@@ -18,7 +18,7 @@ pub record Refused : Type 0 where
 abbrev pub import_refused : ℕ → ImportCause → Refused
 import_refused line why = record { line = line; cause = why }
 
--- the maximum number of lines of an ftrace text
+-- The maximum number of lines of an ftrace text.
 abbrev pub most_text_lines : ℕ
 most_text_lines = 16000000
 

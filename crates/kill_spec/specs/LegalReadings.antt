@@ -31,7 +31,7 @@ pub record IsHostReading (host : HostReading) : Type 0 where
 abbrev pub ComesBefore : List ℕ → List ℕ → Type 0
 ComesBefore first second = slice_cmp nat_cmp first second ≡ Less
 
--- the paths are in strictly ascending byte order, so no path occurs twice
+-- The paths are in strictly ascending byte order, so no path occurs twice.
 abbrev pub Ascend : List (List ℕ) → Type 0
 Ascend [] = Unit {0}
 Ascend (first ∷ []) = Unit {0}

@@ -19,7 +19,7 @@ pub record Reading : Type 0 where
   pub host : HostReading
   pub groups : List GroupReading
 
--- the sample of the host's memory before the first sample: zeros
+-- The sample of the host's memory before the first sample: zeros.
 abbrev pub no_host : HostReading
 no_host = record { mem_total = 0; swap_total = 0; swap_free = 0 }
 

@@ -61,18 +61,18 @@ children lives slot reading =
 
 -- ---- choices among groups
 
--- the first group of a list that no other group of the list beats, or `None` for an empty list
+-- The first group of a list that no other group of the list beats, or `None` for an empty list.
 abbrev pub unbeaten : (GroupReading → GroupReading → Bool) → List GroupReading → Option GroupReading
 unbeaten beats groups =
     find (λ group. not (list_any (λ other. beats other group) groups)) groups
 
--- the rank of a kill preference: groups with a higher rank are chosen first
+-- The rank of a kill preference: groups with a higher rank are chosen first.
 abbrev pub rank : Preference → ℕ
 rank Prefer = 2
 rank Plain = 1
 rank Avoid = 0
 
--- the rank of a group's kill preference
+-- The rank of a group's kill preference.
 abbrev pub rank_of : GroupReading → ℕ
 rank_of group = rank group.preference
 
@@ -121,7 +121,7 @@ chosen_by lives is_eligible measure groups = unbeaten (beats_by lives measure) (
 
 -- ---- size or growth
 
--- a group's memory in use (bytes)
+-- A group's memory in use (bytes).
 abbrev pub memory_in_use : GroupReading → ℕ
 memory_in_use group = group.current
 
@@ -129,15 +129,15 @@ memory_in_use group = group.current
 abbrev pub is_larger : List GroupLife → GroupReading → GroupReading → Bool
 is_larger lives first second = is_greater_by lives memory_in_use first second
 
--- the largest group of a list, or `None` for an empty list
+-- The largest group of a list, or `None` for an empty list.
 abbrev pub largest : List GroupLife → List GroupReading → Option GroupReading
 largest lives groups = unbeaten (is_larger lives) groups
 
--- the groups with the best kill preference in the list
+-- The groups with the best kill preference in the list.
 abbrev pub best_of : List GroupReading → List GroupReading
 best_of groups = filter (λ group. not (list_any (λ other. nat_lt (rank_of group) (rank_of other)) groups)) groups
 
--- the total memory (bytes) that the groups use
+-- The total memory (bytes) that the groups use.
 abbrev pub total_size : List GroupReading → ℕ
 total_size groups = sum_by memory_in_use groups
 
@@ -152,7 +152,7 @@ large_choice lives size_threshold groups =
 abbrev pub count_above : ℕ → ℕ → ℕ
 count_above percentile count = max 1 ((count * (100 - percentile) + 99) / 100)
 
--- the `count` largest groups
+-- The `count` largest groups.
 abbrev pub largest_few : List GroupLife → ℕ → List GroupReading → List GroupReading
 largest_few lives count groups =
     filter (λ group. nat_lt (length (filter (λ other. is_larger lives other group) groups)) count) groups

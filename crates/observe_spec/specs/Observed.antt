@@ -38,7 +38,7 @@ board_line trace timing observer =
     line_of (codes "board" ∷ labelled (codes "observer=") observer ∷ labelled (codes "tick=") (tick_count trace timing)
     ∷ labelled (codes "events=") (signals_until trace timing (tick_count trace timing)) ∷ labelled (codes "kills=") 0 ∷ [])
 
--- the last line: the end time (ns) and the number of samples
+-- The last line: the end time (ns) and the number of samples.
 abbrev pub observed_last_line : Trace → List Look → List ℕ
 observed_last_line trace looks =
     line_of (codes "end" ∷ decimal (end_of trace.events) ∷ labelled (codes "samples=") (length looks) ∷ [])

@@ -59,7 +59,7 @@ pub record TakesRequestedTrace (request : Request) (files : Option Files) (trace
 
 -- ---- the number of samples
 
--- the maximum number of samples in a run
+-- The maximum number of samples in a run.
 abbrev pub most_samples : ℕ
 most_samples = 1000000
 

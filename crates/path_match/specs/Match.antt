@@ -81,6 +81,6 @@ abbrev pub pattern_text : Pattern → List ℕ
 pattern_text [] = codes "/"
 pattern_text (component ∷ pattern) = join_with_byte 47 (component ∷ pattern)
 
--- the text of a list of patterns, separated by commas
+-- The text of a list of patterns, separated by commas.
 abbrev pub patterns_text : List Pattern → List ℕ
 patterns_text patterns = join_with_byte 44 (map pattern_text patterns)

@@ -5,12 +5,12 @@
 use Rattle.std.specs.Prelude.{ℕ, zero, suc, ◌+◌, ◌-◌, ◌*◌, ◌/◌, ◌%◌, min, List, [], ◌∷◌, map, fold, nat_le, nat_lt, ◌==◌, if◌then◌else◌}
 use Rattle.pressure_spec.specs.Share.{zip_with, pressure_places}
 
--- the time (ns) between two updates of the averages: two seconds
+-- The time (ns) between two updates of the averages: two seconds.
 abbrev pub period : ℕ
 period = 2000000000
 
--- the decay factors of the averages over 10, 60 and 300 s: the fraction of an average that remains
--- after one idle period, in units of 1/2048
+-- The decay factors of the averages over 10, 60 and 300 s: the fraction of an average that remains
+-- after one idle period, in units of 1/2048.
 abbrev pub factors : List ℕ
 factors = 1677 ∷ 1981 ∷ 2034 ∷ []
 
@@ -20,7 +20,7 @@ factors = 1677 ∷ 1981 ∷ 2034 ∷ []
 abbrev pub load : ℕ → ℕ → ℕ → ℕ
 load average factor active = (average * factor + active * (2048 - factor) + (if nat_le average active then 2047 else 0)) / 2048
 
--- the product of two fixed-point numbers, rounded to the nearest number
+-- The product of two fixed-point numbers, rounded to the nearest number.
 abbrev pub product : ℕ → ℕ → ℕ
 product x y = (x * y + 1024) / 2048
 
@@ -37,7 +37,7 @@ power_within (suc digits) result x n =
 unfoldable pub power_from : ℕ → ℕ → ℕ → ℕ
 power_from result x n = power_within n result x n
 
--- `x` to the power `n`, in fixed point
+-- `x` to the power `n`, in fixed point.
 abbrev pub power : ℕ → ℕ → ℕ
 power x n = power_from 2048 x n
 

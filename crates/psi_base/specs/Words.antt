@@ -19,19 +19,19 @@ how_word IoWait = codes "iowait"
 how_word Exit = codes "exit"
 how_word Idle = codes "idle"
 
--- the word for a kill preference
+-- The word for a kill preference.
 abbrev pub preference_word : Preference → List ℕ
 preference_word Prefer = codes "prefer"
 preference_word Avoid = codes "avoid"
 preference_word Plain = codes "none"
 
--- the word for a resource
+-- The word for a resource.
 abbrev pub resource_word : Res → List ℕ
 resource_word Io = codes "io"
 resource_word Memory = codes "memory"
 resource_word Cpu = codes "cpu"
 
--- the word for a level: some or full
+-- The word for a level: some or full.
 abbrev pub level_word : Level → List ℕ
 level_word SomeStalled = codes "some"
 level_word FullStalled = codes "full"
@@ -40,15 +40,15 @@ level_word FullStalled = codes "full"
 abbrev pub hows : List How
 hows = Preempt ∷ Sleep ∷ IoWait ∷ Exit ∷ Idle ∷ []
 
--- all kill preferences
+-- All kill preferences.
 abbrev pub preferences : List Preference
 preferences = Prefer ∷ Avoid ∷ Plain ∷ []
 
--- all resources
+-- All resources.
 abbrev pub resources : List Res
 resources = Io ∷ Memory ∷ Cpu ∷ []
 
--- both levels
+-- Both levels.
 abbrev pub levels : List Level
 levels = SomeStalled ∷ FullStalled ∷ []
 

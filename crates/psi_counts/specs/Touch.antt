@@ -192,7 +192,7 @@ pub record IsOfOne (change : Change) : Type 0 where
 
 -- ---- how counts follow changes
 
--- the counts of no tasks: all are 0
+-- The counts of no tasks: all are 0.
 abbrev pub no_counts : Counts
 no_counts = record { io = 0; stalled = 0; running = 0; stalled_running = 0 }
 

@@ -59,12 +59,12 @@ InRange resource which = Unit {0}
 InRange level which = Unit {0}
 InRange account on = Unit {0}
 
--- the spelling of the next task: its pid, or 0 for no task
+-- The spelling of the next task: its pid, or 0 for no task.
 abbrev pub next_word : Option Pid → List ℕ
 next_word None = codes "0"
 next_word (Some task) = decimal task.0
 
--- the spelling of a group's accounting: `on` or `off`
+-- The spelling of a group's accounting: `on` or `off`.
 abbrev pub account_word : Bool → List ℕ
 account_word true = codes "on"
 account_word false = codes "off"
@@ -98,11 +98,11 @@ accepted_if holds (Some n) = if holds n then Some n else None
 abbrev pub number_in : (ℕ → Bool) → List ℕ → Option ℕ
 number_in holds text = accepted_if holds (number_of text)
 
--- the task with pid `n`, or no task for n = 0
+-- The task with pid `n`, or no task for n = 0.
 abbrev pub task_or_none : ℕ → Option Pid
 task_or_none n = if nat_lt 0 n then Some (record { 0 = n }) else None
 
--- the settings of a group's accounting: on and off
+-- The settings of a group's accounting: on and off.
 abbrev pub accounts : List Bool
 accounts = true ∷ false ∷ []
 

@@ -19,7 +19,7 @@ joined [] = []
 joined (text ∷ []) = text
 joined (text ∷ next ∷ words) = text ++ 32 ∷ joined (next ∷ words)
 
--- the versions of the trace format
+-- The versions of the trace format.
 pub data Version : Type 0 where
   One : Version
   Two : Version
@@ -28,12 +28,12 @@ pub data Version : Type 0 where
 abbrev pub versions : List Version
 versions = One ∷ Two ∷ []
 
--- the number of a version, as the header spells it
+-- The number of a version, as the header spells it.
 abbrev pub version_number : Version → ℕ
 version_number One = 1
 version_number Two = 2
 
--- the content of a header line: the version of the format and the number of processors
+-- The content of a header line: the version of the format and the number of processors.
 pub record Header : Type 0 where
   pub version : Version
   pub cpus : ℕ
@@ -98,11 +98,11 @@ form_of Irq = form (codes "irq") (kind.cpu ∷ kind.number ∷ []) act.Irq
 form_of Pressure = form (codes "pressure") (kind.path ∷ kind.account ∷ []) act.Pressure
 form_of End = form (codes "end") [] act.End
 
--- the word of a verb, as a line spells it
+-- The word of a verb, as a line spells it.
 abbrev pub verb_word : Verb → List ℕ
 verb_word verb = (form_of verb).word
 
--- the kinds of a verb's fields, in order
+-- The kinds of a verb's fields, in order.
 abbrev pub kinds_of : Verb → List Kind
 kinds_of verb = (form_of verb).kinds
 
@@ -168,7 +168,7 @@ AreInRange (k ∷ ks) values = InRange k values.0 × AreInRange ks values.1
 abbrev pub act_words : Act → List (List ℕ)
 act_words what = verb_word (phrase_of what).verb ∷ field_words (kinds_of (phrase_of what).verb) (phrase_of what).values
 
--- the spelling of an event as a line without its newline; each event has exactly one spelling
+-- The spelling of an event as a line without its newline; each event has exactly one spelling.
 unfoldable pub spelling : Event → List ℕ
 spelling event = joined (decimal event.at ∷ act_words event.act)
 

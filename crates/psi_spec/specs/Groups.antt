@@ -34,6 +34,6 @@ abbrev pub in_order : List (List ℕ × ℕ) → List (List ℕ × ℕ)
 in_order [] = []
 in_order (pair ∷ pairs) = entries.put (slice_cmp nat_cmp) pair.0 pair.1 (in_order pairs)
 
--- the paths and slots of the live groups, sorted by the bytes of the paths
+-- The paths and slots of the live groups, sorted by the bytes of the paths.
 abbrev pub live_groups : List GroupLife → List (List ℕ × ℕ)
 live_groups groups = in_order (live_from 0 groups)

@@ -10,6 +10,6 @@ IsVersion number = (number ≡ 1) ⊎ (number ≡ 2)
 abbrev pub version_of : ℕ → Version
 version_of number = if number == 2 then Two else One
 
--- the header with this version number and number of processors
+-- The header with this version number and number of processors.
 abbrev pub header_with : ℕ → ℕ → Header
 header_with number cpus = record { version = version_of number; cpus = cpus }

@@ -33,7 +33,7 @@ limits_of tick cpus = record { cpus = cpus; latest = 1000000 * tick }
 abbrev pub lines_of : List Event → List ℕ
 lines_of events = flat_map (λ event. spelling event ++ 10 ∷ []) events
 
--- the text of a trace: the header line followed by the event lines
+-- The text of a trace: the header line followed by the event lines.
 abbrev pub text_of : Trace → List ℕ
 text_of trace = header (version_number trace.version) trace.cpus ++ 10 ∷ lines_of trace.events
 
@@ -103,7 +103,7 @@ abbrev pub or_bad_header : Option Header → Result Header Cause
 or_bad_header None = Err cause.BadHeader
 or_bad_header (Some head) = Ok head
 
--- parses the first line, which must be a header of at most 512 bytes
+-- Parses the first line, which must be a header of at most 512 bytes.
 unfoldable pub first_line : List Version → List ℕ → Result Header Cause
 first_line versions line = if nat_lt 512 (length line) then Err cause.LineTooLong else or_bad_header (header_of versions line)
 

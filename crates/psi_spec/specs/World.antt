@@ -50,7 +50,7 @@ is_active mode = is_ready mode || is_running mode
 abbrev pub Tasks : Type 0
 Tasks = tasks_by.FinMap nat_cmp Task
 
--- the empty set of tasks
+-- The empty set of tasks.
 abbrev pub no_tasks : Tasks
 no_tasks = tasks_by.empty
 
@@ -122,7 +122,7 @@ abbrev pub as_slot : Option ℕ → Option Slot
 as_slot None = None
 as_slot (Some n) = Some (record { 0 = n })
 
--- the root group, which exists from the start
+-- The root group, which exists from the start.
 abbrev pub root : GroupLife
 root = record { path = codes "/"; parent = None; made = 0; gone = None; on = true }
 
@@ -172,11 +172,11 @@ most_groups = 1024
 abbrev pub most_tasks : ℕ
 most_tasks = 65536
 
--- the longest interrupt time (ns) of one `irq` line: a second
+-- The longest interrupt time (ns) of one `irq` line: a second.
 abbrev pub longest_irq : ℕ
 longest_irq = 1000000000
 
--- the limits that depend on the trace: its number of processors, and its latest time (ns)
+-- The limits that depend on the trace: its number of processors, and its latest time (ns).
 pub record Limits : Type 0 where
   pub cpus : ℕ
   pub latest : ℕ
@@ -194,7 +194,7 @@ pub record World : Type 0 where
   pub last : ℕ
   pub ended : Bool
 
--- the world at the start: the root is the only group, and there are no tasks
+-- The world at the start: the root is the only group, and there are no tasks.
 abbrev pub first_world : World
 first_world =
     record {

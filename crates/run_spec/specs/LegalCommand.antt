@@ -7,7 +7,7 @@ use Rattle.run_spec.specs.declared.command.Command.TheVariants.{Stall, Check, Re
 use Rattle.run_spec.specs.declared.command.Options.{Options}
 use Rattle.run_spec.specs.declared.command.Shape.{Shape}
 
--- the number is between `least` and `most`, inclusive
+-- The number is between `least` and `most`, inclusive.
 abbrev pub IsWithin : ℕ → ℕ → ℕ → Type 0
 IsWithin least most number = (least ≤ number) × (number ≤ most)
 

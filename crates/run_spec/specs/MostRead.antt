@@ -3,20 +3,20 @@ use Rattle.std.specs.Prelude.{ℕ, ◌+◌, ◌-◌, ◌*◌, List, Option, None
 use Rattle.run_spec.specs.declared.command.Command.{Command}
 use Rattle.run_spec.specs.Outputs.{drop_in_name, import_name, rules_name, trace_name}
 
--- the maximum number of lines in a trace: the header and 4,000,000 events
+-- The maximum number of lines in a trace: the header and 4,000,000 events.
 abbrev pub most_lines : ℕ
 most_lines = 4000001
 
--- the maximum length of a line (bytes), without its newline
+-- The maximum length of a line (bytes), without its newline.
 abbrev pub longest_line : ℕ
 longest_line = 512
 
--- the number of bytes read ahead while a line is incomplete: 64 KiB
+-- The number of bytes read ahead while a line is incomplete: 64 KiB.
 abbrev pub read_ahead : ℕ
 read_ahead = 65536
 
--- the maximum number of bytes that are buffered after the last parsed line: an incomplete line and
--- the bytes read ahead
+-- The maximum number of bytes that are buffered after the last parsed line: an incomplete line and
+-- the bytes read ahead.
 abbrev pub most_buffered : ℕ
 most_buffered = longest_line + read_ahead
 
@@ -45,8 +45,8 @@ abbrev pub most_if_named : ℕ → Option (List ℕ) → ℕ
 most_if_named most None = 0
 most_if_named most (Some name) = most
 
--- an upper bound on the bytes that a command reads from all its files: the rules file, the drop-in
--- file, and the trace or ftrace text
+-- An upper bound on the bytes that a command reads from all its files: the rules file, the drop-in
+-- file, and the trace or ftrace text.
 abbrev pub most_read : Command → ℕ
 most_read command =
     most_if_named most_of_rules (rules_name command) + most_if_named most_of_rules (drop_in_name command)

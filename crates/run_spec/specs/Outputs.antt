@@ -27,7 +27,7 @@ use Rattle.run_spec.specs.Live.{LiveWatch}
 use Rattle.run_spec.specs.Replay.{IsReplayText, Timing, stress_text}
 use Rattle.run_spec.specs.Whatif.{last_trace}
 
--- the name of the trace file that a command reads, or `None`
+-- The name of the trace file that a command reads, or `None`.
 abbrev pub trace_name : Command → Option (List ℕ)
 trace_name (Stall trace) = Some trace
 trace_name (Check trace tick_ms) = Some trace
@@ -38,21 +38,21 @@ trace_name (Import file cpus) = None
 trace_name (Rules file drop_in) = None
 trace_name (Whatif trace options) = Some trace
 
--- the name of the rules file that a command reads, or `None`
+-- The name of the rules file that a command reads, or `None`.
 abbrev pub rules_name : Command → Option (List ℕ)
 rules_name (Replay trace options) = options.rules
 rules_name (Rules file drop_in) = Some file
 rules_name (Whatif trace options) = options.rules
 rules_name _ = None
 
--- the name of the drop-in file that a command reads, or `None`
+-- The name of the drop-in file that a command reads, or `None`.
 abbrev pub drop_in_name : Command → Option (List ℕ)
 drop_in_name (Replay trace options) = options.drop_in
 drop_in_name (Rules file drop_in) = drop_in
 drop_in_name (Whatif trace options) = options.drop_in
 drop_in_name _ = None
 
--- the name of the ftrace text that a command imports, or `None`
+-- The name of the ftrace text that a command imports, or `None`.
 abbrev pub import_name : Command → Option (List ℕ)
 import_name (Import file cpus) = Some file
 import_name _ = None
@@ -85,8 +85,8 @@ tick_length (Replay trace options) = of_ms options.tick_ms
 tick_length (Whatif trace options) = of_ms options.tick_ms
 tick_length _ = of_seconds 2
 
--- the trace versions that a command accepts: all versions for `stall`, `check`, `replay` and
--- `whatif`, and version 1 for the other commands
+-- The trace versions that a command accepts: all versions for `stall`, `check`, `replay` and
+-- `whatif`, and version 1 for the other commands.
 abbrev pub versions_of : Command → List Version
 versions_of (Stall trace) = versions
 versions_of (Check trace tick_ms) = versions

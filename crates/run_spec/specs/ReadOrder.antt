@@ -28,8 +28,8 @@ names_before command RulesFile = []
 names_before command DropInFile = listed (rules_name command)
 names_before command _ = names_of_rules (rules_name command) (drop_in_name command)
 
--- the names of all files of a command, in order: the rules file, the drop-in file, and the trace or
--- ftrace text
+-- The names of all files of a command, in order: the rules file, the drop-in file, and the trace or
+-- ftrace text.
 abbrev pub names_in_order : Command → List (List ℕ)
 names_in_order command = names_of_rules (rules_name command) (drop_in_name command) ++ listed (source_name command)
 

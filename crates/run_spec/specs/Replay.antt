@@ -39,7 +39,7 @@ pub record Beside : Type 0 where
 abbrev pub with_rules : List Rule → Beside
 with_rules rules = record { live = λ _. []; rules = rules }
 
--- the number of ticks of a trace
+-- The number of ticks of a trace.
 abbrev pub tick_count : Trace → Timing → ℕ
 tick_count trace timing = ticks_until timing.length (end_of trace.events)
 
@@ -65,7 +65,7 @@ signal_line at lives number (Some trigger) = event_line at number (path_at lives
 abbrev pub signal_lines : ℕ → List GroupLife → List TriggerSpec → List ℕ → List ℕ
 signal_lines at lives triggers numbers = flat_map (λ number. signal_line at lives number (slice_get triggers number)) numbers
 
--- the number of signals at the first `count` ticks
+-- The number of signals at the first `count` ticks.
 abbrev pub signals_until : Trace → Timing → ℕ → ℕ
 signals_until trace timing count = sum_by (λ i. length (fired_in trace timing i)) (range_with_len 1 count)
 
@@ -86,7 +86,7 @@ abbrev pub kill_lines : List GroupLife → List Kill → List ℕ
 kill_lines lives kills =
     flat_map (λ (kill : Kill). kill_line kill.at kill.rule kill.action (path_at lives kill.victim.0)) kills
 
--- the number of kills at the first `count` ticks
+-- The number of kills at the first `count` ticks.
 abbrev pub kills_until : Trace → Timing → List Rule → ℕ → ℕ
 kills_until trace timing rules count = sum_by (λ i. length (kills_in trace timing rules i)) (range_with_len 1 count)
 
@@ -133,7 +133,7 @@ tick_text trace timing beside i =
     ++ kill_lines (lives_of trace) (kills_in trace timing beside.rules i)
     ++ (if is_report timing.report timing.length (tick_count trace timing) i then reports trace timing i else [])
 
--- the output of the first `count` ticks
+-- The output of the first `count` ticks.
 abbrev pub ticks_text : Trace → Timing → Beside → ℕ → List ℕ
 ticks_text trace timing beside count = flat_map (tick_text trace timing beside) (range_with_len 1 count)
 

@@ -137,7 +137,7 @@ IsPassed command files DropInFile =
     (base : Rules) × IsSome (rules_name command) × TakesBase command files base × IsThere command files RulesFile
 IsPassed command files _ = (rules : List Rule) × TakesRules command files rules × RulesAreThere command files
 
--- the command reads at least one file
+-- The command reads at least one file.
 abbrev pub ReadsFiles : Command → Type 0
 ReadsFiles command = (which : Which) × IsSome (file_of command which)
 

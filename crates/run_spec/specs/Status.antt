@@ -35,11 +35,11 @@ abbrev pub name_text : Option Command → Which → List ℕ
 name_text None which = []
 name_text (Some command) which = name_or_none (file_of command which)
 
--- the message for a rejected line of a trace
+-- The message for a rejected line of a trace.
 abbrev pub refusal_text : ℕ → Cause → List ℕ
 refusal_text line why = codes "trace line " ++ (decimal line ++ (codes ": " ++ (cause_text why ++ codes "\n")))
 
--- the message for a rejected line of an ftrace text
+-- The message for a rejected line of an ftrace text.
 abbrev pub import_refusal_text : ℕ → ImportCause → List ℕ
 import_refusal_text line why = codes "import line " ++ (decimal line ++ (codes ": " ++ (import_cause_text why ++ codes "\n")))
 

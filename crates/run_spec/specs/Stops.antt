@@ -21,12 +21,12 @@ abbrev pub read_of_rules : Option Files → Option (List ℕ) → ℕ
 read_of_rules files None = 0
 read_of_rules files (Some name) = length_or most_of_rules (content_of files name)
 
--- an upper bound on the bytes that a command reads from its rules file and its drop-in file, before
--- it reads its trace or ftrace text
+-- An upper bound on the bytes that a command reads from its rules file and its drop-in file, before
+-- it reads its trace or ftrace text.
 abbrev pub rules_read : Command → Option Files → ℕ
 rules_read command files = read_of_rules files (rules_name command) + read_of_rules files (drop_in_name command)
 
--- the number of the rejected line that a status reports, or 0 if it reports no rejected line
+-- The number of the rejected line that a status reports, or 0 if it reports no rejected line.
 abbrev pub refused_line : Status → ℕ
 refused_line (status.Trace line why) = line
 refused_line (status.Import line why) = line

@@ -42,7 +42,7 @@ stall_text trace = flat_map (λ cpu. stall_lines trace.version cpu trace.events)
 
 -- ---- checks
 
--- the output of `check` for an accepted trace
+-- The output of `check` for an accepted trace.
 abbrev pub check_text : Trace → List ℕ
 check_text trace = check_line (length trace.events) (end_of trace.events)
 
@@ -81,7 +81,7 @@ cause_name cause.IrqTooLong = codes "IrqTooLong"
 cause_name cause.RootPressure = codes "RootPressure"
 cause_name cause.TooManyPressures = codes "TooManyPressures"
 
--- the number (from 1) of the field that a cause reports, if any
+-- The number (from 1) of the field that a cause reports, if any.
 abbrev pub field_number : Cause → Option ℕ
 field_number (cause.BadField field) = Some field
 field_number _ = None
@@ -95,7 +95,7 @@ field_text (Some field) = codes " " ++ decimal field
 abbrev pub cause_text : Cause → List ℕ
 cause_text why = cause_name why ++ field_text (field_number why)
 
--- the printed name of the cause of a rejected ftrace line
+-- The printed name of the cause of a rejected ftrace line.
 abbrev pub import_cause_text : ImportCause → List ℕ
 import_cause_text import_cause.LineTooLong = codes "LineTooLong"
 import_cause_text import_cause.Cut = codes "Cut"

@@ -18,15 +18,15 @@ use Rattle.run_spec.specs.declared.command.Shape.{Shape}
 
 -- The kinds of words of the command line.
 pub data Word : Type 0 where
-  -- `--name=value`: the name and the value of an option
+  -- `--name=value`: the name and the value of an option.
   assigned : List ℕ → List ℕ → Word
-  -- `--name`: an option whose value is the next word
+  -- `--name`: an option whose value is the next word.
   opened : List ℕ → Word
-  -- `--`: no later word is an option
+  -- `--`: no later word is an option.
   end : Word
-  -- a word that doesn't begin with `-`, or the word `-`
+  -- A word that doesn't begin with `-`, or the word `-`.
   plain : Word
-  -- any other word that begins with `-`
+  -- Any other word that begins with `-`.
   unknown : Word
 
 -- Whether a word begins with `-` (byte 45), and isn't `-` alone.
@@ -67,7 +67,7 @@ pub record ParsedWords : Type 0 where
   pub options : List (List ℕ × List ℕ)
   pub positional : Option (List ℕ)
 
--- the result of parsing no words
+-- The result of parsing no words.
 abbrev pub nothing : ParsedWords
 nothing = record { options = []; positional = None }
 

@@ -117,7 +117,7 @@ rest_without dead w (event ∷ events) =
 
 -- ---- the whole trace
 
--- the events after time `at` (ns)
+-- The events after time `at` (ns).
 abbrev pub suffix : List Event → ℕ → List Event
 suffix events at = drop (length (up_to events at)) events
 
