@@ -1,4 +1,4 @@
--- The events of a trace up to a time, in order.
+-- The events of a trace up to a time, in order of time.
 use Rattle.std.proofs.Common.{◌≡◌, ℕ, ◌≤◌, ◌<◌, List, [], ◌∷◌, ◌++◌, refl, ap, ◌∙◌, arith, true, false, cond, ◌⊎◌, inl, inr}
 use Rattle.std.specs.Prelude.{nat_le}
 use Rattle.std.proofs.lemmas.Bool.Decides.{nat_tests}
@@ -18,11 +18,11 @@ pub by_legal : (limits : Limits) (P : List Event → Type 0) → P [] → ((es :
 by_legal limits P none step events =
     by_last (λ es. AreLegal limits first_world es → P es) (λ _. none) (λ es event before legal. step es event legal (before (legal_prefix limits first_world es (event ∷ []) legal))) events
 
--- the last time is that of the last event
+-- The last time of a world is the time of the last event.
 pub last-push : (events : List Event) (event : Event) → (after (events ++ event ∷ [])).last ≡ event.at
 last-push events event = ap (λ (w : World). w.last) (after-push events event)
 
--- and no event comes before the others
+-- The last of legal events isn't before the events that precede it.
 pub after_others : (limits : Limits) (events : List Event) (event : Event) → AreLegal limits first_world (events ++ event ∷ []) → (after events).last ≤ event.at
 after_others limits events event legal = in_turn limits (after events) event (legal_last limits first_world events event legal)
 
@@ -37,11 +37,11 @@ is_to_come at moment off = grind (arith, nat_tests)
 come : (at moment : ℕ) → moment ≤ at → nat_le moment at ≡ true
 come at moment low = grind (arith, nat_tests)
 
--- the events up to a time, after one more event
+-- Appending an event appends it to the events up to a time if the event is at or before that time.
 up_to-push : (events : List Event) (event : Event) (at : ℕ) → up_to (events ++ event ∷ []) at ≡ up_to events at ++ cond (nat_le event.at at) (event ∷ []) []
 up_to-push events event at = filter-append (λ (e : Event). nat_le e.at at) events (event ∷ [])
 
--- from the last event's time on, all events have come
+-- If no event is after a time, the events up to that time are all events.
 pub up_to_all : (limits : Limits) (events : List Event) → AreLegal limits first_world events → (at : ℕ) → (after events).last ≤ at → up_to events at ≡ events
 up_to_all limits events legal = by_legal limits (λ es. (at : ℕ) → (after es).last ≤ at → up_to es at ≡ es) (λ at low. refl)
     (λ es event turn before at low.
@@ -50,8 +50,7 @@ up_to_all limits events legal = by_legal limits (λ es. (at : ℕ) → (after es
     up_to-push es event at ∙ rw (come at event.at here, others) refl)
     events legal
 
--- either the last event has come by a time, and so have all, or it hasn't, and those that have are
--- among the others
+-- The appended event is at or before time `at`, and the events up to `at` are all events.
 pub record HaveAllCome (events : List Event) (event : Event) (at : ℕ) : Type 0 where
   pub early : event.at ≤ at
   pub all : up_to (events ++ event ∷ []) at ≡ events ++ event ∷ []

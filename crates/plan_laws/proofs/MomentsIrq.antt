@@ -25,7 +25,7 @@ use Rattle.plan_laws.proofs.PlanUpTo.{ends_by, past_it, up_to_prefix}
 
 -- ---- the times of the last interrupts
 
--- the time of a processor's last `irq` line, or 0
+-- The time (ns) of the last `irq` line of processor `cpu`, or 0.
 abbrev last_irq : World → ℕ → ℕ
 last_irq w cpu = slice_index_or w.irqs cpu 0
 
@@ -33,7 +33,7 @@ as_many_after : (at : ℕ) (irqs : List ℕ) (a : Act) → length (irqs_after at
 as_many_after at irqs (act.Irq named ns) = length-set irqs named.0 at
 as_many_after at irqs _ = refl
 
--- the world has such a time for each possible processor
+-- A world stores the time of the last `irq` line for each of `most_cpus` processors.
 many_irqs : (events : List Event) → length (after events).irqs ≡ most_cpus
 many_irqs events =
     by_last (λ es. length (after es).irqs ≡ most_cpus) (length-replicate {A = ℕ} most_cpus 0)
@@ -42,12 +42,14 @@ many_irqs events =
 
 -- ---- one event
 
--- either an event has no interrupt time of a processor
+-- An act has no interrupt time of processor `cpu`, and leaves the time of its last `irq` line
+-- unchanged.
 record IsQuiet (w : World) (at : ℕ) (a : Act) (cpu : ℕ) : Type 0 where
   none : irq_time_by cpu a ≡ 0
   last : slice_index_or (irqs_after at w.irqs a) cpu 0 ≡ last_irq w cpu
 
--- or it has interrupt time since the processor's previous `irq` line
+-- An act has interrupt time of processor `cpu`: at most a second, and at most the time since the
+-- processor's previous `irq` line.
 record Shows (w : World) (at : ℕ) (a : Act) (cpu : ℕ) : Type 0 where
   second : irq_time_by cpu a ≤ longest_irq
   since : irq_time_by cpu a ≤ at - last_irq w cpu
@@ -71,23 +73,24 @@ quiet_or_shows limits w at (act.Irq named ns) legal many cpu =
     (eqb_tells named.0 cpu)
 quiet_or_shows limits w at _ legal many cpu = inl (record { none = refl; last = refl })
 
--- after legal events
+-- The last of legal events satisfies `IsQuiet` or `Shows` for each processor.
 event_shows : (limits : Limits) (events : List Event) (event : Event) → AreLegal limits first_world (events ++ event ∷ []) → limits.cpus ≤ most_cpus → (cpu : ℕ) → IsQuiet (after events) event.at event.act cpu ⊎ Shows (after events) event.at event.act cpu
 event_shows limits events event legal few cpu =
     quiet_or_shows limits (after events) event.at event.act (legal_last limits first_world events event legal) (omega (arith, few, many_irqs events)) cpu
 
--- the time of the last interrupts after one more event
+-- The time of a processor's last `irq` line after appending an event.
 last_irq-push : (events : List Event) (event : Event) (cpu : ℕ) → last_irq (after (events ++ event ∷ [])) cpu ≡ slice_index_or (irqs_after event.at (after events).irqs event.act) cpu 0
 last_irq-push events event cpu = ap (λ w. last_irq w cpu) (after-push events event)
 
 -- ---- from time 0 on
 
--- a total is at most the time of the last interrupts, and these were no later than the last event
+-- The total `time` is at most the time of the last `irq` line of processor `cpu`, which is not
+-- after the last event.
 record EndsBy (time : ℕ) (w : World) (cpu : ℕ) : Type 0 where
   sum : time ≤ last_irq w cpu
   last : last_irq w cpu ≤ w.last
 
--- totals that start at 0 and grow by at most each event's interrupt time satisfy this
+-- Totals that start at 0 and grow by at most the interrupt time of each event satisfy `EndsBy`.
 all_end : (limits : Limits) → limits.cpus ≤ most_cpus → (cpu : ℕ) (time : List Event → ℕ) → time [] ≡ 0
     → ((es : List Event) (event : Event) → AreLegal limits first_world (es ++ event ∷ []) → time (es ++ event ∷ []) ≤ time es + irq_time_by cpu event.act)
     → (events : List Event) → AreLegal limits first_world events → EndsBy (time events) (after events) cpu
@@ -121,7 +124,7 @@ all_end limits few cpu time none grows = by_legal limits (λ es. EndsBy (time es
         })
         (event_shows limits es event legal few cpu)
 
--- an event adds at most its own interrupt time
+-- An event increases a group's interrupt time by at most the interrupt time of the event.
 grows_by : (cpu slot : ℕ) (events : List Event) (event : Event) → irq_time cpu slot (events ++ event ∷ []) ≤ irq_time cpu slot events + irq_time_by cpu event.act
 grows_by cpu slot events event =
     let part = at_most (is_on (after events).groups slot && has_running cpu slot (after events)) (irq_time_by cpu event.act) (irq_time_by cpu event.act) (omega arith) in
@@ -146,7 +149,7 @@ no_irq_at_first limits events legal few cpu slot = omega (arith, irq_is_within l
 
 -- ---- all interrupt time of a plan
 
--- the interrupt time (ns) of a processor
+-- The interrupt time (ns) of processor `cpu` in all its changes, whichever task was running.
 abbrev known_all : ℕ → List Event → ℕ
 known_all cpu events = sum (map (λ (change : Change). change.irq) (changes_from cpu first_world events))
 
@@ -168,8 +171,8 @@ plan_irqs_fit limits events legal few cpu k low =
 
 -- ---- from one time to a later one
 
--- A total grew since `at`: not at all, or by at most the time from `at` to the last interrupts plus
--- a second.
+-- A total grew from `before` to `now` since time `at`: not at all, or by at most a second plus the
+-- time from `at` to the last interrupts (`last`).
 record Grew (before now at last : ℕ) : Type 0 where
   least : before ≤ now
   most : (now ≡ before) ⊎ ((at ≤ last) × (now ≤ before + longest_irq + (last - at)))
@@ -177,11 +180,11 @@ record Grew (before now at last : ℕ) : Type 0 where
 grew_not : (now at last : ℕ) → Grew now now at last
 grew_not now at last = record { least = omega arith; most = inl refl }
 
--- by an event without interrupt time
+-- An event without interrupt time preserves `Grew`.
 grew_quietly : (before now next at last later : ℕ) → next ≡ now → later ≡ last → Grew before now at last → Grew before next at later
 grew_quietly before now next at last later same still grew = rw (same, still) grew
 
--- by an event with interrupt time
+-- An event with interrupt time preserves `Grew`.
 grew_more : (before now next known at last moment : ℕ) → Grew before now at last → now ≤ next → next ≤ now + known → known ≤ longest_irq → known ≤ moment - last → last ≤ moment → at ≤ moment → Grew before next at moment
 grew_more before now next known at last moment grew rises most second since turn past = record {
   least = omega (arith, grew.least, rises);
@@ -217,7 +220,7 @@ grew-push limits few cpu slot at events event legal before =
     (event_shows limits events event legal few cpu)))
     (come_or_not limits events event legal at)
 
--- the events up to a time are among those up to a later one
+-- Restricting events to a time and then to an earlier time gives the events up to the earlier time.
 up_to_both : (events : List Event) (at later : ℕ) → at ≤ later → up_to (up_to events later) at ≡ up_to events at
 up_to_both [] at later from = refl
 up_to_both (event ∷ events) at later from =

@@ -1,4 +1,4 @@
--- Values that events contribute one by one, in order of time and up to a time.
+-- Values that are collected from the events of a trace, in order of time and up to a time.
 use Rattle.std.proofs.Common.{◌≡◌, ℕ, ◌-◌, ◌≤◌, List, [], ◌∷◌, ◌++◌, refl, sym, ap, ◌∙◌, subst, append_assoc, arith, true, false, cond, length}
 use Rattle.std.specs.Prelude.{filter, nat_le, All}
 use Rattle.std.specs.List.{AllByRecursion}
@@ -13,12 +13,12 @@ use Rattle.psi_spec.specs.Collected.{values_from}
 use Rattle.plan_laws.proofs.PlanUpTo.{none_later, past_it}
 use Rattle.plan_laws.proofs.MomentsEvents.{by_legal, last-push, after_others}
 
--- an event's value comes last
+-- Appending an event appends its values.
 pub known-push : {A : Type 0} (shows : World → Event → List A) (w : World) (events : List Event) (event : Event) → values_from shows w (events ++ event ∷ []) ≡ values_from shows w events ++ shows (after_from w events) event
 known-push shows w [] event = append-nil (shows w event)
 known-push shows w (first ∷ events) event = ap (λ rest. shows w first ++ rest) (known-push shows (after_event w first) events event) ∙ sym (append_assoc (shows w first) (values_from shows (after_event w first) events) (shows (after_from (after_event w first) events) event))
 
--- each event's value has the event's time
+-- The time of each value is the time of its event.
 abbrev pub ShowsAtOnce : {A : Type 0} → (World → Event → List A) → (A → ℕ) → Type 0
 ShowsAtOnce shows moment = (w : World) (event : Event) → AllByRecursion (λ x. moment x ≡ event.at) (shows w event)
 
@@ -32,7 +32,8 @@ none_early : {A : Type 0} (moment : A → ℕ) (at now : ℕ) (xs : List A) → 
 none_early moment at now [] all off = refl
 none_early moment at now (x ∷ xs) all off = rw (all.0, off) (none_early moment at now xs all.1 off)
 
--- the values of the events up to a time are the values of all events up to it
+-- The values of the events up to a time are those of all values whose time is at or before that
+-- time.
 pub known_until : {A : Type 0} (shows : World → Event → List A) (moment : A → ℕ) → ShowsAtOnce shows moment → (limits : Limits) (w : World) (events : List Event) (at : ℕ) → AreLegal limits w events → values_from shows w (up_to events at) ≡ filter (λ x. nat_le (moment x) at) (values_from shows w events)
 known_until shows moment once limits w [] at legal = refl
 known_until shows moment once limits w (event ∷ events) at legal =
@@ -48,7 +49,7 @@ known_until shows moment once limits w (event ∷ events) at legal =
 
 -- ---- in order
 
--- values of one time after those of earlier times are in order
+-- Appending values of one time to values of earlier times preserves the order of time.
 in_order_after : {A : Type 0} (moment : A → ℕ) (now : ℕ) (xs ys : List A) → IsNonDecreasingBy moment xs → All (λ x. moment x ≤ now) xs → AllByRecursion (λ x. moment x ≡ now) ys → IsNonDecreasingBy moment (xs ++ ys)
 in_order_after moment now xs [] order early all = subst (IsNonDecreasingBy moment) (sym (append-nil xs)) order
 in_order_after moment now xs (y ∷ ys) order early all =
@@ -62,7 +63,7 @@ at_most moment now x same = omega (arith, same)
 later : {A : Type 0} (moment : A → ℕ) (last now : ℕ) → last ≤ now → (x : A) → moment x ≤ last → moment x ≤ now
 later moment last now low x early = omega (arith, low, early)
 
--- the values of events are in order of time, none after the last event
+-- The values are in order of time, and none is after time `last`.
 pub record IsKnownInOrder {A : Type 0} (moment : A → ℕ) (last : ℕ) (known : List A) : Type 0 where
   pub order : IsNonDecreasingBy moment known
   pub early : All (λ x. moment x ≤ last) known

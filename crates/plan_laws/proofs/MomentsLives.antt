@@ -1,4 +1,4 @@
--- When groups were created and removed, and which are live at a time.
+-- The times at which groups were created and removed, and the groups that are live at a time.
 use Rattle.std.proofs.Common.{◌≡◌, ℕ, zero, suc, ◌-◌, ◌≤◌, ◌<◌, List, [], ◌∷◌, ◌++◌, refl, sym, ap, ◌∙◌, subst, append_assoc, arith, Bool, true, false, Option, None, Some, length, map, take, ⊎_elim}
 use Rattle.std.specs.Prelude.{nat_le, not, ◌&&◌, is_some, slice_get, slice_index_or, IfSome, All, unwrap_or, if◌then◌else◌}
 use Rattle.std.specs.Str.{bytes_eq}
@@ -31,7 +31,7 @@ use Rattle.plan_laws.proofs.MomentsEvents.{by_legal, last-push, after_others, co
 
 -- ---- what an act does to groups, seen by some part of them
 
--- a field that doesn't change when a group is removed
+-- Removing a group doesn't change the field `part` of the group.
 abbrev Stays : {X : Type 0} → (GroupLife → X) → Type 0
 Stays {X} part = (path : List ℕ) (at : ℕ) (life : GroupLife) → part (marked_removed path at life) ≡ part life
 
@@ -42,18 +42,18 @@ stays_all part stays path at (life ∷ groups) =
     let rest = stays_all part stays path at groups in
     cc (here, rest)
 
--- a list is a prefix of another
+-- The list `some` is a prefix of the list `all`.
 abbrev Prefix : {X : Type 0} → List X → List X → Type 0
 Prefix {X} some all = (more : List X) × (all ≡ some ++ more)
 
 prefix_same : {X : Type 0} (some all : List X) → all ≡ some → Prefix some all
 prefix_same some all same = ([], same ∙ sym (append-nil some))
 
--- a field that doesn't depend on whether the accounting is on
+-- Switching the accounting of a group doesn't change the field `part` of the group.
 abbrev Unswitched : {X : Type 0} → (GroupLife → X) → Type 0
 Unswitched {X} part = (life : GroupLife) (on : Bool) → part (record life { on = on }) ≡ part life
 
--- an act doesn't change this field of existing groups
+-- An act doesn't change the field `part` of existing groups.
 prefix_act : {X : Type 0} (part : GroupLife → X) → Stays part → Unswitched part → (at : ℕ) (groups : List GroupLife) (a : Act) → Prefix (map part groups) (map part (groups_after at groups a))
 prefix_act part stays left at groups (act.Group path) = (part (new_group groups path at) ∷ [], map-append part groups (new_group groups path at ∷ []))
 prefix_act part stays left at groups (act.Remove path) = prefix_same _ _ (stays_all part stays path at groups)
@@ -63,14 +63,15 @@ prefix_act part stays left at groups _ = prefix_same _ _ refl
 prefix_more : {X : Type 0} (few some all : List X) → Prefix few some → Prefix some all → Prefix few all
 prefix_more few some all first later = (first.0 ++ later.0, later.1 ∙ ap (λ xs. xs ++ later.0) first.1 ∙ append_assoc few first.0 later.0)
 
--- and so do events
+-- Events don't change the field `part` of existing groups.
 prefix_from : {X : Type 0} (part : GroupLife → X) → Stays part → Unswitched part → (w : World) (events : List Event) → Prefix (map part w.groups) (map part (after_from w events).groups)
 prefix_from part stays left w [] = prefix_same _ _ refl
 prefix_from part stays left w (event ∷ events) = prefix_more _ _ _ (prefix_act part stays left event.at w.groups event.act) (prefix_from part stays left (after_event w event) events)
 
 -- ---- a group that may be removed
 
--- P holds for a group after a removal, if it holds for the group as it is and for the removed group
+-- `P` holds for a group that may have been removed if it holds for the unchanged group and for the
+-- removed group.
 pub without_is : (P : GroupLife → Type 0) (path : List ℕ) (at : ℕ) (life : GroupLife) → P life → P (record life { gone = Some at }) → P (marked_removed path at life)
 without_is P path at life same ended = elim (is_live life && bytes_eq life.path path) as (λ b. P (if b then record life { gone = Some at } else life)) [ true ↦ ended | false ↦ same ]
 
@@ -85,7 +86,8 @@ made_stays path at life = without_is (λ l. l.made ≡ life.made) path at life r
 
 -- ---- the groups created up to a time are a prefix
 
--- a field of the first groups, for as many as there are
+-- If the fields of some groups are a prefix of the fields of all groups, they are the first of
+-- these fields.
 first_parts : {X : Type 0} (part : GroupLife → X) (some all : List GroupLife) → Prefix (map part some) (map part all) → map part some ≡ take (length some) (map part all)
 first_parts part some all prefix =
     sym (take-append_seam (map part some) prefix.0) ∙ ap (λ n. take n (map part some ++ prefix.0)) (length-map some part) ∙ ap (take (length some)) (sym prefix.1)
@@ -122,7 +124,7 @@ life_without last at low path life is =
     let made : life.made ≤ at = omega (arith, is.made, low) in
     without_is (IsLife at) path at life (life_later last at low life is) (record { made = made; gone = (made, omega arith) })
 
--- the groups were created in order, and lived by the last time
+-- The groups are in the order of creation, and were created and removed at or before time `last`.
 pub record InTurn (last : ℕ) (groups : List GroupLife) : Type 0 where
   pub order : IsNonDecreasingBy (λ (life : GroupLife). life.made) groups
   pub each : All (IsLife last) groups
@@ -151,8 +153,8 @@ turn_without last at low path groups are =
       each = All-map (IsLife at) (marked_removed path at) groups (All-weaker (IsLife last) (λ life. IsLife at (marked_removed path at life)) (life_without last at low path) groups are.each);
     }
 
--- P holds for a group after a switch of accounting, if it holds for the group as it is and for the
--- switched group
+-- `P` holds for a group whose accounting may have been switched if it holds for the unchanged group
+-- and for the switched group.
 pub switched_is : (P : GroupLife → Type 0) (path : List ℕ) (on : Bool) (life : GroupLife) → P life → P (record life { on = on }) → P (marked_switched path on life)
 switched_is P path on life same other = elim (is_live life && bytes_eq life.path path) as (λ b. P (if b then record life { on = on } else life)) [ true ↦ other | false ↦ same ]
 
@@ -188,7 +190,7 @@ turn_first = record {
   each = All-cons (IsLife 0) root [] (record { made = omega arith; gone = tt }) (All-nil (IsLife 0));
 }
 
--- legal events preserve this
+-- The groups after legal events satisfy `InTurn`.
 pub turn_after : (limits : Limits) (events : List Event) → AreLegal limits first_world events → InTurn (after events).last (after events).groups
 turn_after limits events legal = by_legal limits (λ es. InTurn (after es).last (after es).groups) turn_first
     (λ es event turn before. subst (λ (w : World). InTurn w.last w.groups) (sym (after-push es event)) (turn_act (after es).last event.at (after_others limits es event turn) (after es).groups before event.act))
@@ -205,7 +207,7 @@ lives_are_in_order limits events legal =
 
 -- ---- which are live
 
--- a time has come, or not
+-- The Boolean comparison of two times is true if the relation holds.
 come : (at moment : ℕ) → moment ≤ at → nat_le moment at ≡ true
 come at moment low = grind (arith, nat_tests)
 
@@ -216,11 +218,11 @@ gone_now : (made last at : ℕ) → last ≤ at → (o : Option ℕ) → IfSome 
 gone_now made last at low None is = refl
 gone_now made last at low (Some gone) is = ap not (sym (come at gone (omega (arith, is.1, low))))
 
--- from the last time on, a group that wasn't removed is live
+-- A group that wasn't removed is live at any time at or after the last event.
 live_now : (last at : ℕ) → last ≤ at → (life : GroupLife) → IsLife last life → is_live life ≡ is_live_at life at
 live_now last at low life is = gone_now life.made last at low life.gone is.gone ∙ ap (λ b. b && not (is_gone_by life.gone at)) (sym (come at life.made (omega (arith, is.made, low))))
 
--- a property of every group holds for the group in a slot
+-- A property of every group holds for the group in a slot.
 each_got : (P : GroupLife → Type 0) (groups : List GroupLife) → All P groups → (slot : ℕ) (life : GroupLife) → slice_get groups slot ≡ Some life → P life
 each_got P groups each slot life is = subst P (sym (unwrap_or-slice_get groups slot life) ∙ ap (λ o. unwrap_or o life) is) (each slot life (slice_get_within groups slot life is))
 
@@ -228,14 +230,14 @@ live_in_now : (last at : ℕ) → last ≤ at → (groups : List GroupLife) → 
 live_in_now last at low groups each slot None is = refl
 live_in_now last at low groups each slot (Some life) is = live_now last at low life (each_got (IsLife last) groups each slot life is)
 
--- a group that is created later isn't live yet
+-- A group that is created after a time isn't live at that time.
 after_not_yet : (at : ℕ) (groups : List GroupLife) (life : GroupLife) (slot : ℕ) → is_live_at life at ≡ false → is_some_and (slice_get (groups ++ life ∷ []) slot) (λ l. is_live_at l at) ≡ is_some_and (slice_get groups slot) (λ l. is_live_at l at)
 after_not_yet at [] life zero off = off
 after_not_yet at [] life (suc slot) off = refl
 after_not_yet at (first ∷ groups) life zero off = refl
 after_not_yet at (first ∷ groups) life (suc slot) off = after_not_yet at groups life slot off
 
--- a group that is removed later still exists
+-- Whether a group is removed by time `at` doesn't depend on a removal at a later time `moment`.
 still_there : (at moment : ℕ) → at < moment → (o : Option ℕ) → not (is_some o) ≡ true → not (nat_le moment at) ≡ not (is_gone_by o at)
 still_there at moment past None live = ap not (to_come at moment past)
 still_there at moment past (Some gone) live = absurd (cc live)
@@ -256,14 +258,14 @@ switched_or_none : (at : ℕ) (path : List ℕ) (on : Bool) (o : Option GroupLif
 switched_or_none at path on None = refl
 switched_or_none at path on (Some life) = switched_leaves (λ l. is_live_at l at) (λ _ _. refl) path on life
 
--- an act doesn't change which groups were live before it
+-- An act doesn't change which groups were live before the act.
 live_before : (at moment : ℕ) → at < moment → (groups : List GroupLife) (slot : ℕ) (a : Act) → is_some_and (slice_get (groups_after moment groups a) slot) (λ l. is_live_at l at) ≡ is_some_and (slice_get groups slot) (λ l. is_live_at l at)
 live_before at moment past groups slot (act.Group path) = after_not_yet at groups (new_group groups path moment) slot (ap (λ b. b && not (is_gone_by None at)) (to_come at moment past))
 live_before at moment past groups slot (act.Remove path) = ap (λ o. is_some_and o (λ l. is_live_at l at)) (slice_get-map (marked_removed path moment) groups slot) ∙ removed_or_none at moment past path (slice_get groups slot)
 live_before at moment past groups slot (act.Pressure path on) = ap (λ o. is_some_and o (λ l. is_live_at l at)) (slice_get-map (marked_switched path on) groups slot) ∙ switched_or_none at path on (slice_get groups slot)
 live_before at moment past groups slot _ = refl
 
--- the groups of a trace show which slots are live at a time
+-- The groups after all events determine which slots are live at a time.
 abbrev ShowsLive : List Event → Type 0
 ShowsLive events = (at slot : ℕ) → is_live_in (after (up_to events at)).groups slot ≡ is_some_and (slice_get (after events).groups slot) (λ life. is_live_at life at)
 

@@ -1,4 +1,4 @@
--- Live groups sorted by path, by one order of all slots.
+-- The live groups sorted by path, found by one order of all slots.
 use Rattle.std.proofs.Common.{◌≡◌, ◌≢◌, ℕ, zero, suc, ◌+◌, ◌<◌, List, [], ◌∷◌, refl, sym, ap, ◌∙◌, subst, arith, Bool, true, false, cond, T, Option, None, Some, length, map}
 use Rattle.std.specs.Prelude.{◌&&◌, ◌==◌, slice_get, slice_index_or, filter, unwrap_or, All, if◌then◌else◌}
 use Rattle.std.specs.Str.{bytes_eq}
@@ -49,14 +49,14 @@ tied_test x y Equal is on = tied_only x y is
 tied_test x y Less is on = absurd (cc on)
 tied_test x y Greater is on = absurd (cc on)
 
--- a path is another by the order
+-- The equality test by the order of paths is true only for equal paths.
 pub tied : (x y : List ℕ) → eq_by_cmp (slice_cmp nat_cmp) x y ≡ true → x ≡ y
 tied x y on = tied_test x y (by_bytes x y) refl on
 
 pub ties : (x y : List ℕ) → x ≡ y → eq_by_cmp (slice_cmp nat_cmp) x y ≡ true
 ties x y same = subst (λ z. eq_by_cmp (slice_cmp nat_cmp) x z ≡ true) same (ap is_eq (tied_itself nat_list_cmp_total x))
 
--- the order's test of paths is that of bytes
+-- The equality test by the order of paths agrees with the equality test of bytes.
 same_test : (x y : List ℕ) → eq_by_cmp (slice_cmp nat_cmp) x y ≡ bytes_eq y x
 same_test x y =
     elim (bytes_eq y x) as (λ b. bytes_eq y x ≡ b → eq_by_cmp (slice_cmp nat_cmp) x y ≡ b) [
@@ -73,12 +73,12 @@ same_test x y =
 abbrev no_lives : fin.FinMap (slice_cmp nat_cmp) ℕ
 no_lives = fin.empty
 
--- the live groups, as pairs in the order of their paths, are those of a map
+-- Sorting pairs of a path and a slot gives the entries of a map from paths to slots.
 in_order_is : (pairs : List (List ℕ × ℕ)) → in_order pairs ≡ fin.entries (fin.from_entries {R = slice_cmp nat_cmp} pairs)
 in_order_is [] = sym (nil_from_length (fin.entries no_lives) (sym (fin.len-entries no_lives) ∙ fin.len-empty (slice_cmp nat_cmp) ℕ))
 in_order_is (pair ∷ pairs) = ap (fin.put (slice_cmp nat_cmp) pair.0 pair.1) (in_order_is pairs) ∙ sym (fin.entries-insert nat_list_cmp_total (fin.from_entries {R = slice_cmp nat_cmp} pairs) pair.0 pair.1)
 
--- a search of a path finds its live group
+-- A search for a path among the live groups finds the live group with the path.
 live_found : (from : ℕ) (groups : List GroupLife) (path : List ℕ) → fin.find (slice_cmp nat_cmp) path (live_from from groups) ≡ slot_from from groups path
 live_found from [] path = refl
 live_found from (group ∷ groups) path =
@@ -90,7 +90,7 @@ live_found from (group ∷ groups) path =
 
 -- ---- slots with their paths, as a map
 
--- what a search of a path finds among slots that pass a test: one of them that has the path
+-- A search for a path among slots finds a slot with that path.
 found_slot : (groups : List GroupLife) (P : ℕ → Type 0) (path : List ℕ) (slots : List ℕ) (slot : ℕ) → AllByRecursion P slots → fin.find (slice_cmp nat_cmp) path (map (with_path groups) slots) ≡ Some slot → P slot × (path_at groups slot ≡ path)
 found_slot groups P path [] slot all is = absurd (cc is)
 found_slot groups P path (first ∷ slots) slot all is =
@@ -99,12 +99,12 @@ found_slot groups P path (first ∷ slots) slot all is =
       | false ↦ λ _ i. found_slot groups P path slots slot all.1 i
     ] refl is
 
--- a first slot that a search passes doesn't have the path
+-- If a search continues after the first slot, the first slot doesn't have the path.
 passes_first : (path other : List ℕ) (slot : ℕ) (rest : Option ℕ) (b : Bool) → eq_by_cmp (slice_cmp nat_cmp) path other ≡ b → cond b (Some slot) rest ≡ None → (other ≢ path) × (rest ≡ None)
 passes_first path other slot rest true on is = absurd (cc is)
 passes_first path other slot rest false off is = (λ same. absurd (cc (off, ties path other (sym same))), is)
 
--- if it finds none, no slot that passes has the path
+-- If a search finds no slot, no slot that passes the test has the path.
 none_has : (groups : List GroupLife) (test : ℕ → Bool) (path : List ℕ) (slots : List ℕ) → fin.find (slice_cmp nat_cmp) path (map (with_path groups) (filter test slots)) ≡ None → AllByRecursion (λ slot. test slot ≡ true → path_at groups slot ≢ path) slots
 none_has groups test path [] is = tt
 none_has groups test path (first ∷ slots) is =
@@ -117,12 +117,12 @@ none_has groups test path (first ∷ slots) is =
 
 -- ---- what an order of all slots has
 
--- each existing slot is in the order
+-- An order of all slots contains each existing slot.
 has_each : (groups : List GroupLife) (order : List ℕ) → IsPathOrder groups order → (slot : ℕ) → slot < length groups → Contains order slot
 has_each groups order is slot room =
     Contains-permutation (range_with_len 0 (length groups)) order slot is.each (slot, omega (arith, length-range_with_len 0 (length groups), room), get_or-range_with_len 0 (length groups) slot slot room ∙ (let same : 0 + slot ≡ slot = omega arith in same))
 
--- and no other slot
+-- An order of all slots contains only existing slots.
 has_no_other : (groups : List GroupLife) (order : List ℕ) → IsPathOrder groups order → All (λ slot. slot < length groups) order
 has_no_other groups order is =
     All-permutation (λ slot. slot < length groups) (range_with_len 0 (length groups)) order is.each (λ k d room.
@@ -132,7 +132,7 @@ has_no_other groups order is =
 symmetric : (x y : ℕ) → (x == y) ≡ (y == x)
 symmetric x y = grind (arith, nat_tests)
 
--- no slot is in the order twice
+-- An order of all slots contains no slot twice.
 has_once : (groups : List GroupLife) (order : List ℕ) → IsPathOrder groups order → AllPairs (λ x y. x ≢ y) order
 has_once groups order is =
     let n : ℕ = length groups in
@@ -144,7 +144,7 @@ has_once groups order is =
     omega (arith, low, one, other, same)) in
     AllPairs-from_IsDistinct Decides-eqb order (IsDistinct-IsPermutation (λ x y. x == y) symmetric (range_with_len 0 n) order is.each first)
 
--- the paths of an earlier and a later one
+-- The path of slot `y` isn't before the path of slot `x`.
 abbrev NoneBefore : List GroupLife → ℕ → ℕ → Type 0
 NoneBefore groups x y = is_lt (by_bytes (path_at groups y) (path_at groups x)) ≡ false
 
@@ -182,25 +182,26 @@ are_a_map groups (first ∷ slots) all =
 
 -- ---- the groups at a time, from all groups
 
--- the group in an existing slot
+-- An existing slot has a group.
 pub got_there : (groups : List GroupLife) (slot : ℕ) → slot < length groups → slice_get groups slot ≡ Some (slice_index_or groups slot root)
 got_there [] slot room = absurd (omega (arith, room))
 got_there (first ∷ groups) zero room = refl
 got_there (first ∷ groups) (suc slot) room = got_there groups slot (omega (arith, room))
 
--- the path in a slot is that of the group there
+-- The path in a slot is the path of the group in that slot.
 path_got : (groups : List GroupLife) (slot : ℕ) (life : GroupLife) → slice_get groups slot ≡ Some life → path_at groups slot ≡ life.path
 path_got groups slot life is =
     get_or-map (λ (l : GroupLife). l.path) groups slot life [] (slice_get_within groups slot life is)
     ∙ ap (λ (l : GroupLife). l.path) (sym (unwrap_or-slice_get groups slot life) ∙ ap (λ o. unwrap_or o life) is)
 
--- a test of a group that passes
+-- A group that passes the test for live groups exists and is live.
 passing : (o : Option GroupLife) → is_some_and o is_live ≡ true → (life : GroupLife) × (o ≡ Some life) × (is_live life ≡ true)
 passing None on = absurd (cc on)
 passing (Some life) on = (life, refl, on)
 
--- How the groups after legal events and those at a time are related: the path of a live slot leads
--- to it, and a path leads only to a live slot that has it.
+-- The relation between the groups `now` at a time and the groups `all` after all events: looking up
+-- the path of a live slot finds the slot, and looking up any path finds only a live slot with that
+-- path.
 record ShowsOf (now all : List GroupLife) (test : ℕ → Bool) : Type 0 where
   finds : (slot : ℕ) → slot < length all → test slot ≡ true → slot_of now (path_at all slot) ≡ Some slot
   found : (path : List ℕ) (slot : ℕ) → slot_of now path ≡ Some slot → (slot < length all) × (test slot ≡ true) × (path_at all slot ≡ path)
@@ -243,7 +244,7 @@ shows_rest_of limits events legal at = record {
 
 -- ---- the live slots of an order
 
--- the paths of two live slots differ, and so they ascend
+-- The paths of two live slots differ, so slots in the order of paths have strictly ascending paths.
 ascends : (now all : List GroupLife) (x y : ℕ) (r : Ordering) → by_bytes (path_at all x) (path_at all y) ≡ r → slot_of now (path_at all x) ≡ Some x → slot_of now (path_at all y) ≡ Some y → x ≢ y → NoneBefore all x y → r ≡ Less
 ascends now all x y Less is one other differ none = refl
 ascends now all x y Equal is one other differ none =
@@ -272,7 +273,7 @@ live_ascend now all test order shows is =
           ascends now all (slice_index_or (filter test order) i d) (slice_index_or (filter test order) j d) _ refl one (finds j d high) (once i j d low high) (in_turn i j d low high);
     }
 
--- a path finds the same live slot in both
+-- Looking up a path gives one slot in the groups at a time and in the live slots of the order.
 same_found : (now all : List GroupLife) (test : ℕ → Bool) (order : List ℕ) → ShowsOf now all test → IsPathOrder all order → IsAscending now all (filter test order) → (path : List ℕ) (o : Option ℕ) → fin.find (slice_cmp nat_cmp) path (map (with_path all) (filter test order)) ≡ o → slot_of now path ≡ o
 same_found now all test order shows is live path (Some slot) found =
     let it = found_slot all (λ s. slot_of now (path_at all s) ≡ Some s) path (filter test order) slot (recursion_from_All _ (filter test order) live.finds) found in

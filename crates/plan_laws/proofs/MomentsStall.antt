@@ -15,12 +15,12 @@ use Rattle.plan_laws.proofs.MomentsEvents.{by_legal, last-push, up_to_all, after
 
 -- ---- the time that is added
 
--- time that is counted or not is at most the time itself
+-- A time that is counted only under a condition is at most the time.
 at_most_all : (b : Bool) (n : ℕ) → (if b then n else 0) ≤ n
 at_most_all true n = omega arith
 at_most_all false n = omega arith
 
--- a time that grew by a part of another
+-- A time grew from `before` to `now` by at most `room`.
 record Grew (before now room : ℕ) : Type 0 where
   least : before ≤ now
   most : now ≤ before + room
@@ -30,14 +30,14 @@ grew_by b before now room is = let part = at_most_all b room in record { least =
 
 -- ---- from one time to a later one
 
--- up to both times, in a group's state on a processor
+-- The stall time grows by at most the time between two times.
 abbrev Grows : State → ℕ → ℕ → List Event → Type 0
 Grows state cpu slot events = (at later : ℕ) → at ≤ later → Grew (stall state cpu slot (up_to events at) at) (stall state cpu slot (up_to events later) later) (later - at)
 
 grows-none : (state : State) (cpu slot : ℕ) → Grows state cpu slot []
 grows-none state cpu slot at later from = let none = no_time state cpu slot at in let still = no_time state cpu slot later in record { least = omega (arith, none, still); most = omega (arith, still) }
 
--- an event between the two times
+-- An event between two times preserves the bound on the growth of stall time.
 grows_between : (limits : Limits) (state : State) (cpu slot : ℕ) (events : List Event) (event : Event) (at later : ℕ) → up_to events event.at ≡ events → Grows state cpu slot events → at ≤ event.at → event.at ≤ later
     → Grew (stall state cpu slot (up_to events at) at) (stall state cpu slot (events ++ event ∷ []) later) (later - at)
 grows_between limits state cpu slot events event at later all before low high =
@@ -68,7 +68,7 @@ stall_grows limits events legal state cpu slot at later from =
 
 -- ---- from time 0 on
 
--- the stall time of all events up to a time is at most the time
+-- The stall time of all events up to a time is at most that time.
 all_within : (limits : Limits) (state : State) (cpu slot : ℕ) (events : List Event) → AreLegal limits first_world events → (at : ℕ) → (after events).last ≤ at → stall state cpu slot events at ≤ at
 all_within limits state cpu slot events legal = by_legal limits (λ es. (at : ℕ) → (after es).last ≤ at → stall state cpu slot es at ≤ at)
     (λ at low. omega (arith, no_time state cpu slot at))

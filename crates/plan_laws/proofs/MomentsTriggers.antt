@@ -51,7 +51,7 @@ triggers_up_to limits events legal at = known_until by_event (λ (trigger : Trig
 stays_there : (at moment : ℕ) → at ≤ moment → (path : List ℕ) (life : GroupLife) → IsThere life at → IsThere (marked_removed path moment life) at
 stays_there at moment low path life is = without_is (λ l. IsThere l at) path moment life is (record { made = is.made; gone = low })
 
--- a group that existed still exists after a later act
+-- A group that existed at a time still satisfies `IsThere` for this time after a later act.
 still_there : (at moment : ℕ) → at ≤ moment → (groups : List GroupLife) (slot : ℕ) → slot < length groups → IsThere (slice_index_or groups slot root) at → (a : Act) → IsThere (slice_index_or (groups_after moment groups a) slot root) at
 still_there at moment low groups slot room is (act.Group path) = subst (λ l. IsThere l at) (sym (get_or_append_left groups (new_group groups path moment ∷ []) root slot room)) is
 still_there at moment low groups slot room is (act.Remove path) = subst (λ l. IsThere l at) (sym (get_or-map (marked_removed path moment) groups slot root root room)) (stays_there at moment low path (slice_index_or groups slot root) is)
@@ -59,20 +59,21 @@ still_there at moment low groups slot room is (act.Pressure path on) =
     subst (λ l. IsThere l at) (sym (get_or-map (marked_switched path on) groups slot root root room)) (switched_is (λ l. IsThere l at) path on (slice_index_or groups slot root) is (record { made = is.made; gone = is.gone }))
 still_there at moment low groups slot room is _ = is
 
--- a live group exists from its creation on
+-- A live group has no removal time, so it wasn't removed before any time.
 live_gone : (at : ℕ) (o : Option ℕ) → not (is_some o) ≡ true → IfSome o (λ gone. at ≤ gone)
 live_gone at None live = tt
 live_gone at (Some gone) live = absurd (cc live)
 
 -- ---- one trigger more
 
--- a trigger is in its range, was set by a time, and is on a group that existed
+-- A trigger is in its range, was set at or before time `last`, and watches a group that existed
+-- when it was set.
 record IsSet (latest last : ℕ) (groups : List GroupLife) (trigger : TriggerSpec) : Type 0 where
   within : IsTriggerWithin latest (length groups) trigger
   early : trigger.at ≤ last
   there : IsThere (slice_index_or groups trigger.slot.0 root) trigger.at
 
--- later acts preserve this
+-- Later acts preserve `IsSet`.
 set_later : (latest last at : ℕ) → last ≤ at → (groups : List GroupLife) (a : Act) → length groups ≤ length (groups_after at groups a) → (trigger : TriggerSpec) → IsSet latest last groups trigger → IsSet latest at (groups_after at groups a) trigger
 set_later latest last at low groups a more trigger is =
     let slot = is.within.slot in
@@ -83,7 +84,7 @@ set_later latest last at low groups a more trigger is =
       there = still_there trigger.at at (omega (arith, early, low)) groups trigger.slot.0 slot is.there a;
     }
 
--- no cause rejects a trigger
+-- An optional slot that isn't missing is its value.
 the_slot : (o : Option ℕ) → not (is_some o) ≡ false → o ≡ Some (unwrap_or o 0)
 the_slot None h = absurd (cc h)
 the_slot (Some n) h = refl
@@ -95,7 +96,7 @@ in_range false h = cc h
 in_time : (latest at : ℕ) → nat_lt latest at ≡ false → at ≤ latest
 in_time latest at h = grind (arith, nat_tests)
 
--- a legal one is set
+-- The trigger that a legal act sets satisfies `IsSet`.
 set_now : (limits : Limits) (w : World) (at : ℕ) (a : Act) → cause_of limits w (record { at = at; act = a }) ≡ None → w.last ≤ at → InTurn w.last w.groups → AllByRecursion (IsSet limits.latest at (groups_after at w.groups a)) (trigger_by at w.groups a)
 unfolding cause_of
 set_now limits w at (act.Trigger path res level threshold_us window_us) legal low turn =

@@ -1,4 +1,4 @@
--- Clocks that represent a slot of a plan.
+-- Clocks of the slots of a plan: how they are advanced, and the times that they show.
 use Rattle.std.proofs.Common.{◌≡◌, ℕ, ◌+◌, ◌-◌, ◌≤◌, refl, sym, ap, ◌∙◌, arith, Bool, true, false, zero, suc, length}
 use Rattle.std.specs.Prelude.{if◌then◌else◌, slice_index}
 use Rattle.psi_base.specs.declared.event.State.{State}
@@ -60,7 +60,7 @@ no_more : (held : Bool) (time moment at : ℕ) → time ≤ moment → moment �
 no_more true time moment at within later = omega (arith, within, later)
 no_more false time moment at within later = omega (arith, within, later)
 
--- a state holds for no longer than from the start on
+-- The planned time of a state up to a time is at most that time.
 planned_within : (state : State) (plan : PlanView) (slot k at : ℕ) → AreInOrder plan → k ≤ length plan.changes → last_change plan k ≤ at → planned_time state plan slot k at ≤ at
 planned_within state plan slot zero at order room from = omega (arith, nothing_planned state plan slot at)
 planned_within state plan slot (suc k) at order room from =
@@ -72,7 +72,7 @@ planned_within state plan slot (suc k) at order room from =
     let same : planned_time state plan slot (suc k) at ≡ planned_time state plan slot (k + 1) at = ap (λ n. planned_time state plan slot n at) next in
     omega (arith, same, step, all)
 
--- the time at the start is part of the time at any later time
+-- The time in a state up to a clock's start is at most the time in the state up to any later time.
 start_time : (clock : ClockView) (at : ℕ) (state : State) → slice_index clock.times (state_number state) ≤ opened_time clock at state
 start_time clock at state = omega arith
 

@@ -1,4 +1,4 @@
--- Planned interrupt time by changes, and as interrupt time.
+-- Planned interrupt time, change by change, and its equality with interrupt time.
 use Rattle.std.proofs.Common.{◌≡◌, ℕ, ◌+◌, ◌≤◌, List, [], ◌∷◌, ◌++◌, length, map, take, refl, sym, ap, ◌∙◌, arith, subst, ⊎_elim, Bool, true, false}
 use Rattle.std.specs.Prelude.{sum, ◌&&◌, if◌then◌else◌, Option}
 use Rattle.std.specs.List.{list_any}
@@ -26,14 +26,15 @@ use Rattle.plan_laws.proofs.PlanUpTo.{counts_by_plan, until_of_prefix, up_to_pre
 
 -- ---- sums over changes
 
--- with one change more
+-- Appending a change adds its number to a sum over changes.
 pub sum-push : (f : Change → ℕ) (changes : List Change) (change : Change) → sum (map f (changes ++ change ∷ [])) ≡ sum (map f changes) + f change
 sum-push f changes change =
     let all = sum_by-append (λ n. n) (map f changes) (f change ∷ []) in
     let last = sum_by-cons (λ n. n) (f change) [] in
     ap sum (map-append f changes (change ∷ [])) ∙ all ∙ ap (λ n. sum (map f changes) + n) (last ∙ (let alone : f change + 0 ≡ f change = omega arith in alone))
 
--- so it is of what was taken from a group
+-- Appending a change adds its interrupt time to a group's interrupt time if the group's accounting
+-- is on before it.
 over-push : (parents : List (Option ℕ)) (slot : ℕ) (on : Bool) (changes : List Change) (change : Change) →
     irq_over parents slot on (changes ++ change ∷ []) ≡ irq_over parents slot on changes + (if on_from slot on changes then irq_in parents slot change else 0)
 over-push parents slot on [] change = omega arith
@@ -41,7 +42,7 @@ over-push parents slot on (first ∷ changes) change =
     let rest = over-push parents slot (on_with slot on first.account) changes change in
     omega (arith, rest)
 
--- a group's interrupt time is at most that of all changes
+-- A group's interrupt time is at most the interrupt time of all changes.
 over_most : (parents : List (Option ℕ)) (slot : ℕ) (on : Bool) (changes : List Change) → irq_over parents slot on changes ≤ sum (map (λ (change : Change). change.irq) changes)
 over_most parents slot on [] = omega arith
 over_most parents slot on (change ∷ changes) =
@@ -74,17 +75,17 @@ planned_irq_fits plan fits slot k low =
 
 -- ---- planned interrupt time is interrupt time
 
--- one test in another
+-- Two nested conditions are one condition.
 both_tests : (a b : Bool) (n : ℕ) → (if a then (if b then n else 0) else 0) ≡ (if a && b then n else 0)
 both_tests true b n = refl
 both_tests false b n = refl
 
--- a group has a running task by the parents of later groups if it has one by those of the world
+-- The parents of groups that are created later don't change whether a group has a running task.
 running_later : (limits : Limits) (w : World) → IsLegalWorld limits w → (parents : List (Option ℕ)) → Prolongs (parents_of w.groups) parents → (cpu slot : ℕ) → list_any runs (tasks_in parents cpu slot w.tasks) ≡ has_running cpu slot w
 unfolding has_running
 running_later limits w world parents more cpu slot = ap (λ ps. list_any runs (tasks_in ps cpu slot w.tasks)) more.1 ∙ ap (list_any runs) (same_tasks_later limits w world more.0 cpu slot)
 
--- all changes of some events give the interrupt time of these events
+-- The planned interrupt time of all changes of some events is the interrupt time of these events.
 abbrev ShowsIrq : Limits → ℕ → ℕ → List Event → Type 0
 ShowsIrq limits cpu slot events = AreLegal limits first_world events → (parents : List (Option ℕ)) → Prolongs (parents_of (after events).groups) parents →
     irq_over parents slot true (changes_from cpu first_world events) ≡ irq_time cpu slot events
@@ -131,7 +132,8 @@ planned_irq_is_irq limits events legal cpu slot k low =
 
 -- ---- up to a time
 
--- interrupt time is that of the events up to the last change
+-- The interrupt time of all events is the interrupt time of the events up to the processor's last
+-- change.
 irq_by_own_changes : (limits : Limits) (events : List Event) → AreLegal limits first_world events → (cpu slot : ℕ) → irq_time cpu slot events ≡ irq_time cpu slot (until_change cpu events (length (changes_of cpu events)))
 unfolding planned_irq
 irq_by_own_changes limits events legal cpu slot =

@@ -23,7 +23,8 @@ by_last_from : {A : Type 0} (P : List A → Type 0) → ((xs : List A) (x : A) �
 by_last_from P step prefix [] is = subst P (sym (append-nil prefix)) is
 by_last_from P step prefix (x ∷ rest) is = subst P (append_assoc prefix (x ∷ []) rest) (by_last_from P step (prefix ++ x ∷ []) rest (step prefix x is))
 
--- so it is from the empty list on
+-- Induction over lists from their ends: from the empty list, and from each list to the list with
+-- one more element at its end.
 pub by_last : {A : Type 0} (P : List A → Type 0) → P [] → ((xs : List A) (x : A) → P xs → P (xs ++ x ∷ [])) → (xs : List A) → P xs
 by_last P none step xs = by_last_from P step [] xs none
 
@@ -53,7 +54,7 @@ map_filtered f g p from (suc n) same =
 
 -- ---- an event more
 
--- the world after an event more
+-- The world after appending an event is the world after the event.
 pub after-push : (events : List Event) (event : Event) → after (events ++ event ∷ []) ≡ after_event (after events) event
 after-push events event = after_from-append first_world events (event ∷ [])
 
@@ -61,7 +62,7 @@ with_change-append : (o : Option Change) (xs ys : List Change) → with_change o
 with_change-append None xs ys = refl
 with_change-append (Some change) xs ys = refl
 
--- the changes, and those of one more event
+-- Appending an event appends its change, if any.
 pub changes_from-push : (cpu : ℕ) (w : World) (events : List Event) (event : Event) → changes_from cpu w (events ++ event ∷ []) ≡ changes_from cpu w events ++ with_change (change_of (after_from w events) event cpu) []
 changes_from-push cpu w [] event = refl
 changes_from-push cpu w (first ∷ events) event =
@@ -79,7 +80,7 @@ is_change-last cpu events event =
     let place : 1 + length events - 1 ≡ length events = omega arith in
     rw (place, take-append_seam events (event ∷ []), get_seam events event) refl
 
--- an event's number, if it touches the processor
+-- Appending an event appends its number if the event touches the processor.
 pub changes_of-push : (cpu : ℕ) (events : List Event) (event : Event) → changes_of cpu (events ++ event ∷ []) ≡ changes_of cpu events ++ cond (touches (after events) (Some event) cpu) ((1 + length events) ∷ []) []
 unfolding changes_of
 changes_of-push cpu events event =
@@ -125,7 +126,7 @@ touched_or_not w event cpu =
 pub changes_same : (cpu : ℕ) (events : List Event) (event : Event) → Untouched (after events) event cpu → changes_from cpu first_world (events ++ event ∷ []) ≡ changes_from cpu first_world events
 changes_same cpu events event off = changes_from-push cpu first_world events event ∙ rw off.none (append-nil (changes_from cpu first_world events))
 
--- an event that touches it is one more change
+-- An event that touches the processor appends its change.
 pub changes_grow : (cpu : ℕ) (events : List Event) (event : Event) (on : TouchedBy (after events) event cpu) → changes_from cpu first_world (events ++ event ∷ []) ≡ changes_from cpu first_world events ++ on.change ∷ []
 changes_grow cpu events event on = changes_from-push cpu first_world events event ∙ rw on.one refl
 
@@ -161,12 +162,13 @@ moment-last events event =
     let place : 1 + length events - 1 ≡ length (times events) = omega (arith, length-map events (λ (e : Event). e.at)) in
     rw (place, map-append (λ (e : Event). e.at) events (event ∷ [])) (get_or-append_seam (times events) event.at [] 0)
 
--- what is read by numbers of events before an event is read so with the event
+-- Two functions that agree on the numbers of all events agree on the numbers of the changes.
 mapped-prefix : {X : Type 0} (cpu : ℕ) (events : List Event) (f g : ℕ → X) → ((i : ℕ) → 1 ≤ i → i < 1 + length events → f i ≡ g i) → map f (changes_of cpu events) ≡ map g (changes_of cpu events)
 unfolding changes_of
 mapped-prefix cpu events f g same = map_filtered f g (is_change cpu events) 1 (length events) same
 
--- the changes by their numbers
+-- The contents and the times of the changes are found by the numbers of the events that make the
+-- changes.
 record AreNumbered (cpu : ℕ) (events : List Event) : Type 0 where
   contents : somes (changes_from cpu first_world events) ≡ map (change_at cpu events) (changes_of cpu events)
   at : moments (changes_from cpu first_world events) ≡ map (moment_of events 0) (changes_of cpu events)
@@ -210,12 +212,12 @@ changes_are_numbered cpu events = ((numbered cpu events).contents, (numbered cpu
 
 -- ---- the events up to a change
 
--- a prefix of a list of numbers that follow a 0
+-- A prefix of a list of numbers after a 0 has the elements of the whole list.
 pub get-prefix : (xs ys : List ℕ) (k : ℕ) → k ≤ length xs → slice_index_or (0 ∷ (xs ++ ys)) k 0 ≡ slice_index_or (0 ∷ xs) k 0
 get-prefix xs ys zero low = refl
 get-prefix xs ys (suc k) low = get_or_append_left xs ys 0 k (omega (arith, low))
 
--- what the events up to a change are
+-- The events up to change `k` are a prefix of the events, and make exactly the first `k` changes.
 pub record IsUntil (cpu : ℕ) (events : List Event) (k : ℕ) : Type 0 where
   pub within : event_of_change cpu events k ≤ length events
   pub changes : changes_from cpu first_world (until_change cpu events k) ≡ take k (changes_from cpu first_world events)
@@ -226,7 +228,7 @@ unfolding changes_of
 until-none cpu zero low = record { within = omega arith; changes = refl; last = refl }
 until-none cpu (suc k) low = absurd (omega (arith, low))
 
--- one more event doesn't affect the events up to earlier changes
+-- Appending an event doesn't affect the events up to earlier changes.
 until-prefix : (cpu : ℕ) (events : List Event) (event : Event) (numbers : List ℕ) (changes : List Change) (k : ℕ) → k ≤ length (changes_of cpu events)
     → changes_of cpu (events ++ event ∷ []) ≡ changes_of cpu events ++ numbers → changes_from cpu first_world (events ++ event ∷ []) ≡ changes_from cpu first_world events ++ changes → IsUntil cpu events k → IsUntil cpu (events ++ event ∷ []) k
 until-prefix cpu events event numbers changes k low more_numbers more_changes is =
@@ -243,7 +245,7 @@ until-prefix cpu events event numbers changes k low more_numbers more_changes is
       last = ap (λ es. (after es).last) same ∙ is.last ∙ sym moment;
     }
 
--- the event that touches the processor is the last one up to its change
+-- An appended event that touches the processor is the last of the events up to its change.
 until-last : (cpu : ℕ) (events : List Event) (event : Event) (change : Change) → change.at ≡ event.at → (k : ℕ) → k ≡ suc (length (changes_of cpu events))
     → changes_of cpu (events ++ event ∷ []) ≡ changes_of cpu events ++ (1 + length events) ∷ [] → changes_from cpu first_world (events ++ event ∷ []) ≡ changes_from cpu first_world events ++ change ∷ [] → IsUntil cpu (events ++ event ∷ []) k
 until-last cpu events event change at k is more_numbers more_changes =
@@ -287,7 +289,7 @@ until-push cpu events event so k low =
     before_or_last : (k n : ℕ) → k ≤ n + 1 → (k ≤ n) ⊎ (k ≡ suc n)
     before_or_last k n most = grind arith
 
--- the events up to each change
+-- The events up to each change satisfy `IsUntil`.
 pub until_is : (cpu : ℕ) (events : List Event) (k : ℕ) → k ≤ length (changes_of cpu events) → IsUntil cpu events k
 until_is cpu events = by_last (λ es. (k : ℕ) → k ≤ length (changes_of cpu es) → IsUntil cpu es k) (until-none cpu) (until-push cpu) events
 

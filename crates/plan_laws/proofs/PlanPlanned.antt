@@ -1,4 +1,4 @@
--- The planned times up to a time and after some changes, as stall times.
+-- The planned times up to a time and after some changes are stall times.
 use Rattle.std.proofs.Common.{◌≡◌, ℕ, List, [], ◌∷◌, map, refl, sym, ap, ◌∙◌}
 use Rattle.psi_base.specs.declared.event.State.{State}
 use Rattle.psi_spec.specs.World.{up_to}
@@ -8,7 +8,7 @@ use Rattle.psi_spec.specs.Changes.{count_at, until_change}
 use Rattle.plan_laws.proofs.PlanStalls.{planned_is_stall}
 use Rattle.plan_laws.proofs.PlanUpTo.{counts_by_plan, stall_up_to}
 
--- times that are the same state by state
+-- Times that are equal for each state are equal lists.
 same_times : (one other : State → ℕ) (states : List State) → ((state : State) → one state ≡ other state) → map one states ≡ map other states
 same_times one other [] same = refl
 same_times one other (state ∷ states) same = ap (λ time. time ∷ map one states) (same state) ∙ ap (λ times. other state ∷ times) (same_times one other states same)

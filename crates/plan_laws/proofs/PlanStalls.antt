@@ -1,4 +1,4 @@
--- Planned time is stall time.
+-- Planned time is stall time, and the times of a plan's changes are in order.
 use Rattle.std.proofs.Common.{◌≡◌, ℕ, zero, suc, ◌+◌, ◌-◌, ◌≤◌, ◌<◌, List, [], ◌∷◌, ◌++◌, length, map, take, drop, refl, sym, ap, ◌∙◌, arith, subst, Bool, true, false, nat_lt, Option, None, ◌⊎◌, ⊎_elim}
 use Rattle.std.specs.Prelude.{filter, slice_index_or, if◌then◌else◌, sum}
 use Rattle.std.proofs.lemmas.Bool.Decides.{nat_tests}
@@ -43,7 +43,7 @@ legal_rest : (limits : Limits) (w : World) (prefix rest : List Event) → AreLeg
 legal_rest limits w [] rest legal = legal
 legal_rest limits w (event ∷ prefix) rest legal = legal_rest limits (after_event w event) prefix rest legal.1
 
--- the events up to a change end no later than all
+-- The events up to a change end no later than all events.
 pub until_earlier : (limits : Limits) (cpu : ℕ) (events : List Event) (k : ℕ) → AreLegal limits first_world events → (after (until_change cpu events k)).last ≤ (after events).last
 until_earlier limits cpu events k legal =
     let prefix : List Event = until_change cpu events k in
@@ -64,18 +64,18 @@ no_state CpuSome = refl
 no_state CpuFull = refl
 no_state Nonidle = refl
 
--- at first no group is in a state
+-- No group is in a state before the first event.
 pub first_holds_nothing : (state : State) (cpu slot : ℕ) → holds state cpu slot first_world ≡ false
 unfolding holds
 first_holds_nothing state cpu slot =
     and_false (is_on (root ∷ []) slot) _ (ap (λ es. holds_of state (filter (is_in (parents_of (root ∷ [])) cpu slot) (map (λ (e : ℕ × Task). e.1) es))) no_entries ∙ no_state state)
 
--- without events no time passes
+-- The stall time without events is 0.
 pub no_time : (state : State) (cpu slot at : ℕ) → stall state cpu slot [] at ≡ 0
 unfolding stall
 no_time state cpu slot at = refl
 
--- stall time grows with time alone if the state applies after the last event
+-- After the last event, stall time grows with time if the group is in the state then.
 abbrev pub GrowsLater : State → ℕ → ℕ → List Event → Type 0
 GrowsLater state cpu slot events = (later : ℕ) → (after events).last ≤ later →
     stall state cpu slot events later ≡ stall state cpu slot events (after events).last + (if holds state cpu slot (after events) then later - (after events).last else 0)
@@ -96,7 +96,7 @@ joined : (held : Bool) (time last moment at : ℕ) → last ≤ moment → momen
 joined true time last moment at later from = omega arith
 joined false time last moment at later from = omega arith
 
--- an event that leaves the state as it was adds nothing
+-- An event that leaves a state unchanged doesn't change the stall time at later times.
 pub stall_goes_on : (state : State) (cpu slot : ℕ) (events : List Event) (event : Event) (at : ℕ) → (after events).last ≤ event.at → event.at ≤ at → holds state cpu slot (after (events ++ event ∷ [])) ≡ holds state cpu slot (after events) →
     stall state cpu slot (events ++ event ∷ []) at ≡ stall state cpu slot events at
 stall_goes_on state cpu slot events event at later from same =
@@ -135,7 +135,7 @@ planned_prefix state parents changes slot k at room =
 
 -- ---- planned time is stall time
 
--- all changes of some events give the stall time of these events
+-- The planned time of all changes of some events is the stall time of these events.
 abbrev ShowsStall : Limits → State → ℕ → ℕ → List Event → Type 0
 ShowsStall limits state cpu slot events = AreLegal limits first_world events → (parents : List (Option ℕ)) → Prolongs (parents_of (after events).groups) parents → (at : ℕ) → (after events).last ≤ at →
     planned_time state (plan_with (changes_from cpu first_world events) parents) slot (length (changes_from cpu first_world events)) at ≡ stall state cpu slot events at
@@ -144,11 +144,11 @@ shows-none : (limits : Limits) (state : State) (cpu slot : ℕ) → ShowsStall l
 unfolding planned_time stall
 shows-none limits state cpu slot legal parents more at from = refl
 
--- a list that prolongs the parents after one more event prolongs those before it
+-- A list that extends the parents after one more event also extends the parents before it.
 pub fewer_before : (events : List Event) (event : Event) (parents : List (Option ℕ)) → Prolongs (parents_of (after (events ++ event ∷ [])).groups) parents → Prolongs (parents_of (after events).groups) parents
 fewer_before events event parents more = prolongs_back (after events) event parents (subst (λ (w : World). Prolongs (parents_of w.groups) parents) (after-push events event) more)
 
--- events with the same changes leave a group in the same states
+-- An event that adds no change leaves the states of each group unchanged.
 pub held_on : (limits : Limits) (events : List Event) (event : Event) → AreLegal limits first_world (events ++ event ∷ []) → (parents : List (Option ℕ)) → Prolongs (parents_of (after (events ++ event ∷ [])).groups) parents → (state : State) (cpu slot : ℕ)
     → changes_from cpu first_world (events ++ event ∷ []) ≡ changes_from cpu first_world events → holds state cpu slot (after (events ++ event ∷ [])) ≡ holds state cpu slot (after events)
 held_on limits events event legal parents more state cpu slot same =
@@ -156,7 +156,7 @@ held_on limits events event legal parents more state cpu slot same =
     ∙ ap (known_by state parents slot) same
     ∙ known_by_changes limits events (legal_prefix limits first_world events (event ∷ []) legal) parents (fewer_before events event parents more) state cpu slot
 
--- an event that doesn't touch the processor
+-- An event that doesn't touch the processor preserves `ShowsStall`.
 shows-untouched : (limits : Limits) (state : State) (cpu slot : ℕ) (events : List Event) (event : Event) → changes_from cpu first_world (events ++ event ∷ []) ≡ changes_from cpu first_world events → ShowsStall limits state cpu slot events → ShowsStall limits state cpu slot (events ++ event ∷ [])
 shows-untouched limits state cpu slot events event same before legal parents more at from =
     let first = legal_prefix limits first_world events (event ∷ []) legal in
@@ -176,7 +176,7 @@ last_of_push changes change parents =
     ∙ ap (λ n. slice_index_or (moments changes ++ change.at ∷ []) n 0) place
     ∙ get_or-append_seam (moments changes) change.at [] 0
 
--- an event that touches it
+-- An event that touches the processor preserves `ShowsStall`.
 shows-touched : (limits : Limits) (state : State) (cpu slot : ℕ) (events : List Event) (event : Event) (change : Change) → change.at ≡ event.at → changes_from cpu first_world (events ++ event ∷ []) ≡ changes_from cpu first_world events ++ change ∷ [] → ShowsStall limits state cpu slot events → ShowsStall limits state cpu slot (events ++ event ∷ [])
 shows-touched limits state cpu slot events event change moment grown before legal parents more at from =
     let first = legal_prefix limits first_world events (event ∷ []) legal in
@@ -236,7 +236,7 @@ stall_by_own_changes limits events legal state cpu slot at from =
 abbrev pub moment_at : List Change → ℕ → ℕ
 moment_at changes k = slice_index_or (0 ∷ moments changes) k 0
 
--- the times of changes are in order, and none is after the last event
+-- The times of the changes are in order, and none is after time `last`.
 pub record EndsInOrder (changes : List Change) (last : ℕ) : Type 0 where
   pub order : (k : ℕ) → k < length changes → moment_at changes k ≤ moment_at changes (k + 1)
   pub end : moment_at changes (length changes) ≤ last

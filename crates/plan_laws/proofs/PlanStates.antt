@@ -47,7 +47,7 @@ legal_from limits w (event ∷ events) world legal = legal_from limits (after_ev
 pub legal_after : (limits : Limits) (events : List Event) → AreLegal limits first_world events → IsLegalWorld limits (after events)
 legal_after limits events legal = legal_from limits first_world events (legal_first limits) legal
 
--- parents followed by those of later groups
+-- The list `many` extends the list `few` at its end.
 abbrev pub Prolongs : List (Option ℕ) → List (Option ℕ) → Type 0
 Prolongs few many = (more : List (Option ℕ)) × (many ≡ few ++ more)
 
@@ -66,7 +66,7 @@ prolongs_back w event many later =
 abbrev pub currents : List Change → List (Option (Slot × Bool))
 currents changes = map (λ (change : Change). change.current) changes
 
--- the running task that the last of some changes shows
+-- The running task according to the last of some changes.
 abbrev pub shown_last : List Change → Option (Slot × Bool)
 shown_last changes = slice_index_or (None ∷ currents changes) (length changes) None
 
@@ -77,7 +77,7 @@ shown-push changes change =
     ∙ ap (λ is. slice_index_or is (length (currents changes)) None) (map-append (λ (c : Change). c.current) changes (change ∷ []))
     ∙ get_or-append_seam (currents changes) change.current [] None
 
--- the running task in some changes follows from them
+-- The optional running task `current` determines which task of a group is running on the processor.
 abbrev RunsAsKnown : List (Option ℕ) → ℕ → ℕ → List Event → Option (Slot × Bool) → Type 0
 RunsAsKnown parents cpu slot events current = IsRunningKnown (tasks_in parents cpu slot (after events).tasks) (is_current_in parents slot current) (is_current_stalled current)
 
@@ -115,7 +115,7 @@ runs_as_known limits parents cpu slot events =
 
 -- ---- which accounting is on
 
--- with a change more
+-- Whether accounting is on after one more change follows from whether it is on before the change.
 pub on_from-push : (slot : ℕ) (on : Bool) (changes : List Change) (change : Change) → on_from slot on (changes ++ change ∷ []) ≡ on_with slot (on_from slot on changes) change.account
 on_from-push slot on [] change = refl
 on_from-push slot on (first ∷ changes) change = on_from-push slot (on_with slot on first.account) changes change
@@ -157,17 +157,17 @@ on_as_known limits cpu slot events =
 less_than : (new taken added : ℕ) → new + taken ≡ 0 + added → new ≡ added - taken
 less_than new taken added is = omega (arith, is)
 
--- counts by their fields
+-- Counts whose fields are equal to given numbers.
 pub counts_are : (new : Counts) (io stalled running stalled_running : ℕ) → new.io ≡ io → new.stalled ≡ stalled → new.running ≡ running → new.stalled_running ≡ stalled_running → new ≡ record { io = io; stalled = stalled; running = running; stalled_running = stalled_running }
 counts_are new io stalled running stalled_running a b c d = rw (← a, ← b, ← c, ← d) refl
 
--- counts that follow from none are what was added less what was taken
+-- Counts that follow from zero counts are the added counts minus the subtracted counts.
 follows_less : (taken added new : Counts) → Follows no_counts taken added new → new ≡ less added taken
 follows_less taken added new is =
     counts_are new _ _ _ _ (less_than new.io taken.io added.io is.io) (less_than new.stalled taken.stalled added.stalled is.stalled)
     (less_than new.running taken.running added.running is.running) (less_than new.stalled_running taken.stalled_running added.stalled_running is.stalled_running)
 
--- a processor's changes determine the states of groups
+-- Whether a group is in a state, computed from the changes of the processor.
 abbrev pub known_by : State → List (Option ℕ) → ℕ → List Change → Bool
 known_by state parents slot changes = on_from slot true changes && shows state (less (added parents slot changes) (taken parents slot changes)) (is_current_in parents slot (shown_last changes)) (is_current_stalled (shown_last changes))
 
@@ -185,7 +185,8 @@ known_by_last limits events legal more state cpu slot =
     ∙ ap (λ b. on && b) (sym states ∙ ap (holds_of state) same)
     ∙ ap (λ b. b && holds_of state (tasks_in (parents_of (after events).groups) cpu slot (after events).tasks)) (on_as_known limits cpu slot events legal)
 
--- they also do with the parents of later groups
+-- The states that the changes of a processor determine are the states after the events, also with
+-- the parents of groups that are created later.
 pub known_by_changes : (limits : Limits) (events : List Event) → AreLegal limits first_world events → (parents : List (Option ℕ)) → Prolongs (parents_of (after events).groups) parents → (state : State) (cpu slot : ℕ) →
     known_by state parents slot (changes_from cpu first_world events) ≡ holds state cpu slot (after events)
 known_by_changes limits events legal parents more state cpu slot =
@@ -193,7 +194,7 @@ known_by_changes limits events legal parents more state cpu slot =
 
 -- ---- a plan after some changes
 
--- the last of the first changes
+-- The running task after the first `k` changes is the running task of change `k`.
 pub shown-take : (changes : List Change) (k : ℕ) → k ≤ length changes → shown_last (take k changes) ≡ slice_index_or (None ∷ currents changes) k None
 shown-take changes zero low = refl
 shown-take changes (suc k) low =
@@ -203,19 +204,19 @@ shown-take changes (suc k) low =
     ∙ ap (λ is. slice_index_or is k None) prefix
     ∙ get_or-take (suc k) (currents changes) k None (omega arith)
 
--- after k changes a plan gives what its first k changes give
+-- The states after `k` changes depend only on the first `k` changes.
 pub holds_by_prefix : (state : State) (parents : List (Option ℕ)) (changes : List Change) (slot k : ℕ) → k ≤ length changes → holds_after state (record { changes = changes; parents = parents }) slot k ≡ known_by state parents slot (take k changes)
 unfolding holds_after
 holds_by_prefix state parents changes slot k low =
     ap (λ current. on_from slot true (take k changes) && shows state (less (added parents slot (take k changes)) (taken parents slot (take k changes))) (is_current_in parents slot current) (is_current_stalled current)) (sym (shown-take changes k low))
 
--- the events up to a change are a prefix of all
+-- The events up to a change of legal events are legal.
 pub until_legal : (limits : Limits) (cpu : ℕ) (events : List Event) (k : ℕ) → AreLegal limits first_world events → AreLegal limits first_world (until_change cpu events k)
 until_legal limits cpu events k legal =
     let parts = take-append-drop (event_of_change cpu events k) events in
     legal_prefix limits first_world (until_change cpu events k) (drop (event_of_change cpu events k) events) (rw parts legal)
 
--- groups created after a change come after those created before it
+-- The parents after all events extend the parents after the events up to a change.
 pub until_prolongs : (cpu : ℕ) (events : List Event) (k : ℕ) → Prolongs (parents_of (after (until_change cpu events k)).groups) (parents_of (after events).groups)
 until_prolongs cpu events k =
     let rest : List Event = drop (event_of_change cpu events k) events in

@@ -1,4 +1,4 @@
--- One change of a plan.
+-- The effect of one change of a plan on counts, accounting and states.
 use Rattle.std.proofs.Common.{◌≡◌, ℕ, zero, suc, ◌+◌, ◌-◌, ◌≤◌, List, [], ◌∷◌, ◌++◌, map, take, refl, ap, ◌∙◌, arith, Bool, false, cond, Option, None, Some, ◌<◌, length, true}
 use Rattle.std.specs.Prelude.{filter, nat_le, slice_get, slice_index_or, ◌&&◌, if◌then◌else◌}
 use Rattle.std.proofs.lemmas.Bool.Decides.{nat_tests}
@@ -26,7 +26,7 @@ read_one f d [] k x is = absurd (cc is)
 read_one f d (y ∷ xs) zero x is = let same : y ≡ x = cc is in ap f same
 read_one f d (y ∷ xs) (suc k) x is = read_one f d xs k x is
 
--- the first changes with one more
+-- The first k + 1 changes are the first `k` changes, followed by the next change.
 pub one_more : (changes : List Change) (k : ℕ) (change : Change) → slice_get changes k ≡ Some change → take (k + 1) changes ≡ take k changes ++ change ∷ []
 one_more changes k change is = let next : k + 1 ≡ suc k = omega arith in ap (λ n. take n changes) next ∙ take_one changes k change is
 
@@ -43,7 +43,7 @@ on_by_change plan slot k change is = ap (on_from slot true) (one_more plan.chang
 pub on_at_first : OnAtFirst
 on_at_first plan slot = refl
 
--- a switch of another group's accounting doesn't change this one's
+-- A switch of another group's accounting doesn't change this group's accounting.
 pub account_apart : (slot : ℕ) (on : Bool) (account : Option (Slot × Bool)) → is_account_of slot account ≡ false → on_with slot on account ≡ on
 account_apart slot on None off = refl
 account_apart slot on (Some account) off = ap (λ b. if b then account.1 else on) off
@@ -111,7 +111,8 @@ no_part parents slot (Some part) off = ap (λ b. cond b part.1 no_counts) off
 nothing_more : (n : Counts) → both_counts n no_counts ≡ n
 nothing_more n = same_counts (both_counts n no_counts) n (omega arith) (omega arith) (omega arith) (omega arith)
 
--- if no counted task runs it doesn't matter whether the running task is in a stall
+-- If no counted task runs, the states don't depend on whether the running task is in a memory
+-- stall.
 no_current : (state : State) (n : Counts) (one other : Bool) → shows state n false one ≡ shows state n false other
 no_current IoSome n one other = refl
 no_current IoFull n one other = refl
@@ -142,7 +143,7 @@ aside_stays state plan slot k change is aside =
 abbrev is_early : ℕ → Change → Bool
 is_early at change = nat_le change.at at
 
--- the times of changes with `first` before them, by index
+-- The time (ns) of change `k` (from 1), or `first` for k = 0.
 abbrev moment_at : ℕ → List Change → ℕ → ℕ
 moment_at first changes k = slice_index_or (first ∷ map (λ (change : Change). change.at) changes) k 0
 
@@ -155,7 +156,7 @@ rises_later first change changes rises k low = rises (suc k) (omega (arith, low)
 rises_first : (first : ℕ) (change : Change) (changes : List Change) → Rises first (change ∷ changes) → first ≤ change.at
 rises_first first change changes rises = rises 0 (omega arith)
 
--- none is before the first time
+-- No change is before the first time.
 no_earlier : (first : ℕ) (changes : List Change) → Rises first changes → (k : ℕ) → k ≤ length changes → first ≤ moment_at first changes k
 no_earlier first changes rises zero low = omega arith
 no_earlier first [] rises (suc k) low = absurd (omega (arith, low))

@@ -1,4 +1,4 @@
--- Planned time by changes, and as stall time.
+-- Planned time, change by change, and the number of changes up to a time.
 use Rattle.std.proofs.Common.{◌≡◌, ℕ, suc, ◌+◌, ◌-◌, ◌≤◌, ◌<◌, List, [], ◌∷◌, length, map, take, cond, refl, sym, ap, ◌∙◌, arith, ◌⊎◌, ⊎_elim}
 use Rattle.std.specs.Prelude.{slice_index_or, if◌then◌else◌, nat_le, sum}
 use Rattle.std.specs.List.{count_by, range_with_len}
@@ -12,7 +12,7 @@ use Rattle.psi_spec.proofs.StallLaws.{map_same}
 
 -- ---- planned time, change by change
 
--- the times of changes
+-- The times (ns) of the changes.
 abbrev pub moments : List Change → List ℕ
 moments changes = map (λ (change : Change). change.at) changes
 
@@ -31,7 +31,8 @@ moment_past plan n at j room past =
 pub last_change-next : (plan : PlanView) (k : ℕ) → last_change plan (k + 1) ≡ slice_index_or (moments plan.changes) k 0
 last_change-next plan k = let next : k + 1 ≡ suc k = omega arith in ap (last_change plan) next
 
--- times up to a change don't depend on what comes after
+-- The time of one of the first k + 1 changes follows from the first `k` changes and the time of
+-- change k + 1.
 moment_kept : (plan : PlanView) (k at j : ℕ) → k < length plan.changes → 1 ≤ j → j ≤ k + 1 → change_moment plan (k + 1) at j ≡ change_moment plan k (last_change plan (k + 1)) j
 moment_kept plan k at j room low high =
     let case : (j ≤ k) ⊎ (j ≡ k + 1) = grind (arith, high) in
@@ -84,7 +85,7 @@ counts_more at later forward (change ∷ changes) =
     let others = counts_more at later forward changes in
     omega (arith, before, suffix, one, others)
 
--- no fewer changes come up to a later time
+-- The number of changes up to a later time is at least the number up to an earlier time.
 pub changes_more : (plan : PlanView) (at later : ℕ) → at ≤ later → changes_up_to plan at ≤ changes_up_to plan later
 changes_more plan at later forward =
     let few = length-filter (λ (change : Change). nat_le change.at at) plan.changes in

@@ -41,7 +41,7 @@ past_it at moment off = grind (arith, nat_tests)
 at_most : (at moment : ℕ) → nat_le moment at ≡ true → moment ≤ at
 at_most at moment on = grind (arith, nat_tests)
 
--- no event comes up to a time that has passed
+-- None of the remaining events is at or before a time that is before the last event.
 pub none_later : (limits : Limits) (w : World) (events : List Event) (at : ℕ) → AreLegal limits w events → at < w.last → up_to events at ≡ []
 none_later limits w [] at legal past = refl
 none_later limits w (event ∷ events) at legal past =
@@ -49,7 +49,7 @@ none_later limits w (event ∷ events) at legal past =
     let off = late w.last at event.at past turn in
     rw off (none_later limits (after_event w event) events at legal.1 (omega (arith, past, turn)))
 
--- the events up to a time are a prefix of all
+-- The events up to a time are a prefix of all events.
 pub up_to_prefix : (limits : Limits) (w : World) (events : List Event) (at : ℕ) → AreLegal limits w events → (rest : List Event) × (events ≡ up_to events at ++ rest)
 up_to_prefix limits w [] at legal = ([], refl)
 up_to_prefix limits w (event ∷ events) at legal =
@@ -58,7 +58,7 @@ up_to_prefix limits w (event ∷ events) at legal =
       | false ↦ λ off. (event ∷ events, ap (λ es. es ++ event ∷ events) (sym (none_later limits (after_event w event) events at legal.1 (past_it at event.at off))))
     ] refl
 
--- the world after the events up to a time has a last time no later than it
+-- The last time of the world after the events up to a time is at most that time.
 pub ends_by : (w : World) (events : List Event) (at : ℕ) → w.last ≤ at → (after_from w (up_to events at)).last ≤ at
 ends_by w [] at low = low
 ends_by w (event ∷ events) at low =
@@ -69,7 +69,7 @@ ends_by w (event ∷ events) at low =
 
 -- ---- their changes
 
--- the numbers of changes of a prefix are a prefix of all numbers
+-- The numbers of the changes of a prefix of the events are a prefix of all numbers.
 numbers_prefix : (cpu : ℕ) (prefix rest : List Event) → (more : List ℕ) × (changes_of cpu (prefix ++ rest) ≡ changes_of cpu prefix ++ more)
 numbers_prefix cpu prefix rest =
     by_last (λ es. (more : List ℕ) × (changes_of cpu (prefix ++ es) ≡ changes_of cpu prefix ++ more))
@@ -79,7 +79,7 @@ numbers_prefix cpu prefix rest =
     (is.0 ++ numbers, ap (changes_of cpu) (sym (append_assoc prefix es (event ∷ []))) ∙ changes_of-push cpu (prefix ++ es) event ∙ ap (λ ns. ns ++ numbers) is.1 ∙ append_assoc (changes_of cpu prefix) is.0 numbers))
     rest
 
--- the events up to an early change are those of the prefix
+-- The events up to a change of a prefix are the events up to this change of all events.
 pub until_of_prefix : (cpu : ℕ) (prefix rest : List Event) (k : ℕ) → k ≤ length (changes_of cpu prefix) → until_change cpu (prefix ++ rest) k ≡ until_change cpu prefix k
 until_of_prefix cpu prefix rest k low =
     let numbers = numbers_prefix cpu prefix rest in
@@ -106,7 +106,7 @@ nothing_either : (b : Bool) → cond {A = List Change} b [] [] ≡ []
 nothing_either true = refl
 nothing_either false = refl
 
--- an early event's change is early, and a late one's is not
+-- An event's change is at or before a time if and only if the event is.
 own_change : (w : World) (event : Event) (cpu at : ℕ) (b : Bool) → nat_le event.at at ≡ b → filter (is_early at) (with_change (change_of w event cpu) []) ≡ cond b (with_change (change_of w event cpu) []) []
 own_change w event cpu at b is =
     ⊎_elim
@@ -118,7 +118,7 @@ with_change-split : (o : Option Change) (changes : List Change) → with_change 
 with_change-split None changes = refl
 with_change-split (Some change) changes = refl
 
--- the changes by the events up to a time are the early ones of all
+-- The changes of the events up to a time are the changes at or before that time.
 early_changes : (limits : Limits) (cpu : ℕ) (w : World) (events : List Event) (at : ℕ) → AreLegal limits w events → changes_from cpu w (up_to events at) ≡ filter (is_early at) (changes_from cpu w events)
 early_changes limits cpu w [] at legal = refl
 early_changes limits cpu w (event ∷ events) at legal =

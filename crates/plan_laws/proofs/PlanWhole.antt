@@ -1,4 +1,4 @@
--- Plans of legal events are whole.
+-- The plan of legal events satisfies the invariant of plans.
 use Rattle.std.proofs.Common.{◌≡◌, ℕ, zero, suc, ◌≤◌, ◌<◌, List, [], ◌∷◌, ◌++◌, length, sym, ap, ◌∙◌, arith, subst, Option, None, Some, ⊎_elim, refl, ◌+◌}
 use Rattle.std.specs.Prelude.{IfSome, slice_get, take}
 use Rattle.std.proofs.lemmas.List.{length-append}
@@ -34,7 +34,7 @@ slots_later change few many more below = record {
   account = slot_later change.account few many more below.account;
 }
 
--- a change of one task that names slots below a bound
+-- A change is of one task, and names slots below `bound`.
 record IsGood (bound : ℕ) (change : Change) : Type 0 where
   slots : HasSlotsBelow bound change
   one : IsOfOne change
@@ -92,7 +92,7 @@ few-push cpu events event few =
     (λ on. let more = ap length (changes_grow cpu events event on) ∙ length-append (changes_from cpu first_world events) (on.change ∷ []) in omega (arith, lines, few, more))
     (touched_or_not (after events) event cpu)
 
--- there are no more changes than events
+-- The number of changes is at most the number of events.
 no_more_changes : (cpu : ℕ) (events : List Event) → length (changes_from cpu first_world events) ≤ (after events).lines
 no_more_changes cpu events = by_last (λ es. length (changes_from cpu first_world es) ≤ (after es).lines) (omega arith) (few-push cpu) events
 

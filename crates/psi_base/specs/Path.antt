@@ -13,7 +13,7 @@ unfoldable pub parts_at : ℕ → List ℕ → List (List ℕ)
 parts_at at [] = [] ∷ []
 parts_at at (byte ∷ bytes) = if byte == at then [] ∷ parts_at at bytes else onto_first byte (parts_at at bytes)
 
--- Whether the byte `c` may occur in a component of a path: a letter, a digit, or one of _ . @ : - \
+-- Whether the byte `c` may occur in a component of a path: a letter, a digit, or one of `_.@:-\`.
 abbrev pub is_path_byte : ℕ → Bool
 is_path_byte c =
     (nat_le 97 c && nat_le c 122) || (nat_le 65 c && nat_le c 90) || (nat_le 48 c && nat_le c 57) || c == 95 || c == 46 || c == 64

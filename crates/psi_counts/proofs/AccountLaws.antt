@@ -1,4 +1,4 @@
--- What follows from a legal event that switches accounting.
+-- Consequences of a legal event that switches accounting.
 use Rattle.std.proofs.Common.{◌≡◌, ℕ, List, refl, ap, ◌∙◌, sym, Bool, true, false, Option, None, Some, ◌==◌}
 use Rattle.std.specs.Prelude.{not, is_some, unwrap_or, IfSome, if◌then◌else◌}
 use Rattle.psi_base.specs.declared.event.Act.{Act}
@@ -21,17 +21,17 @@ pub account_alone : (groups : List GroupLife) (tasks : Tasks) (a : Act) (cpu : �
 account_alone groups tasks (act.Pressure path on) cpu = ((refl, refl), refl)
 account_alone groups tasks _ cpu = tt
 
--- an act that doesn't touch some processor switches no accounting
+-- An act that leaves some processor untouched switches no accounting.
 pub no_account : (groups : List GroupLife) (tasks : Tasks) (a : Act) (cpu : ℕ) → touched a (before tasks a) cpu ≡ false → account_of groups a ≡ None
 no_account groups tasks (act.Pressure path on) cpu off = absurd (cc off)
 no_account groups tasks _ cpu off = refl
 
--- a path that must be live has a slot
+-- An optional slot that isn't missing has a value.
 the_slot : (o : Option ℕ) → not (is_some o) ≡ false → (n : ℕ) × (o ≡ Some n)
 the_slot None h = absurd (cc h)
 the_slot (Some n) h = (n, refl)
 
--- the switch of a legal act determines the accounting that is on afterwards
+-- The switch of a legal act determines whether a group's accounting is on after the act.
 on_act : (limits : Limits) (w : World) (at : ℕ) (a : Act) → cause_of limits w (record { at = at; act = a }) ≡ None → AreGroups w.groups → (slot : ℕ) →
     is_on (groups_after at w.groups a) slot ≡ on_with slot (is_on w.groups slot) (account_of w.groups a)
 on_act limits w at (act.Group path) legal are slot = made_on w.groups (new_group w.groups path at) slot refl
@@ -47,19 +47,19 @@ on_by_account limits w event legal are slot = on_act limits w event.at event.act
 
 -- ---- changes by switches of accounting
 
--- what a test lets through
+-- The value of a conditional result is the value of its first branch.
 made_then : (b : Bool) (made other : Change) → (if b then Some made else None) ≡ Some other → made ≡ other
 made_then true made other is = cc is
 made_then false made other is = absurd (cc is)
 
--- the switch of accounting in a change is that of its event
+-- The switch of accounting in a change is the switch of its event.
 pub change_account : (w : World) (event : Event) (cpu : ℕ) (change : Change) → change_of w event cpu ≡ Some change → change.account ≡ account_of w.groups event.act
 unfolding change_of
 change_account w event cpu change is =
     ap (λ (c : Change). c.account)
     (sym (made_then (touched event.act (before w.tasks event.act) cpu) (change_on w.groups event (before w.tasks event.act) (task_after w.groups w.tasks event.act) (tasks_after w.groups w.tasks event.act) cpu) change is))
 
--- a switch of accounting alone is the change of every processor
+-- An act that switches accounting has a change on every processor, which contains only the switch.
 account_act : (w : World) (at : ℕ) (a : Act) (cpu : ℕ) (account : Slot × Bool) → account_of w.groups a ≡ Some account →
     change_of w (record { at = at; act = a }) cpu ≡ Some (account_change at (shown (running_on (tasks_after w.groups w.tasks a) cpu)) account)
 unfolding change_of

@@ -7,7 +7,7 @@ use Rattle.psi_spec.specs.Stall.{state_number, states}
 use Rattle.psi_counts.specs.Counts.{mask_holds}
 use Rattle.psi_counts.specs.Clock.{ClockFollows, ClockView, zero_clock, opened_time, opened, advanced, SameMaskIsNoChange, SameAfterChange, WordsShowClock, NoLongerThanClock}
 
--- a time is at its state's index
+-- The time in a state is at the index of the state in the list of times.
 pub opened_at : (clock : ClockView) (at : ℕ) (state : State) → slice_index (opened clock at) (state_number state) ≡ opened_time clock at state
 opened_at clock at IoSome = refl
 opened_at clock at IoFull = refl
@@ -17,8 +17,8 @@ opened_at clock at CpuSome = refl
 opened_at clock at CpuFull = refl
 opened_at clock at Nonidle = refl
 
--- the time in a state after a change: the time before it, plus the open time if the state is in the
--- new mask
+-- The time in a state after a clock was advanced is the time before, plus the time since then if
+-- the new mask contains the state.
 pub advanced_time : (clock : ClockView) (at mask later : ℕ) (state : State) → opened_time (advanced clock at mask) later state ≡ opened_time clock at state + (if mask_holds mask state then later - at else 0)
 advanced_time clock at mask later state = rw (opened_at clock at state) refl
 

@@ -1,4 +1,5 @@
--- Lists of tasks by how many of them pass a test.
+-- The numbers of tasks in a list that pass a test, and the Boolean tests that follow from these
+-- numbers.
 use Rattle.std.proofs.Common.{◌≡◌, ℕ, ◌+◌, ◌≤◌, List, [], ◌∷◌, refl, ap, ◌∙◌, Bool, true, false, arith, nat_lt, ◌==◌, length}
 use Rattle.std.specs.Prelude.{filter, ◌&&◌, ◌||◌, not, if◌then◌else◌, cond}
 use Rattle.std.specs.List.{list_any, list_all}
@@ -14,7 +15,7 @@ use Rattle.psi_spec.specs.declared.machine.Mode.TheVariants.{Blocked, Waiting, R
 abbrev pub one : Bool → ℕ
 one test = if test then 1 else 0
 
--- a task more counts by itself
+-- Prepending a task increases the number of tasks that pass by one if the task passes.
 pub how_many-cons : (test : Task → Bool) (task : Task) (tasks : List Task) → how_many test (task ∷ tasks) ≡ one (test task) + how_many test tasks
 how_many-cons test task tasks =
     elim (test task) as (λ b. length (cond b (task ∷ filter test tasks) (filter test tasks)) ≡ one b + how_many test tasks) [
@@ -22,7 +23,7 @@ how_many-cons test task tasks =
       | false ↦ omega arith
     ]
 
--- some task passes if and only if the number of those that pass isn't 0
+-- Some task passes if and only if the number of tasks that pass isn't 0.
 pub any_counted : (test : Task → Bool) (tasks : List Task) → list_any test tasks ≡ nat_lt 0 (how_many test tasks)
 any_counted test [] = refl
 any_counted test (task ∷ tasks) =
@@ -33,7 +34,7 @@ any_counted test (task ∷ tasks) =
       | false ↦ rest ∙ ap (nat_lt 0) (let goal : how_many test tasks ≡ 0 + how_many test tasks = omega arith in goal)
     ])
 
--- those that are up and stalled are some of those that are up
+-- At most as many tasks are ready or running in a memory stall as are ready or running.
 pub stalled_of_up : (tasks : List Task) → how_many is_up_stalled tasks ≤ how_many is_up tasks
 stalled_of_up [] = omega arith
 stalled_of_up (task ∷ tasks) =
@@ -44,7 +45,8 @@ stalled_of_up (task ∷ tasks) =
       | false ↦ omega (arith, rest)
     ])
 
--- all tasks that are up are stalled if and only if as many are up as are up and stalled
+-- Every ready or running task is in a memory stall if and only if the number of ready or running
+-- tasks equals the number of them that are in a memory stall.
 pub all_counted : (tasks : List Task) → list_all (λ task. not (is_up task) || stalls task) tasks ≡ (how_many is_up tasks == how_many is_up_stalled tasks)
 all_counted [] = refl
 all_counted (task ∷ tasks) =
@@ -65,7 +67,8 @@ active_by_mode Running = refl
 active_by_mode Blocked = refl
 active_by_mode Waiting = refl
 
--- those that are up are those that are ready and those that run
+-- The number of tasks that are ready or running is the sum of the number of ready tasks and the
+-- number of running tasks.
 pub up_counted : (tasks : List Task) → how_many is_up tasks ≡ how_many queues tasks + how_many runs tasks
 up_counted [] = refl
 up_counted (task ∷ tasks) =
@@ -76,7 +79,8 @@ up_counted (task ∷ tasks) =
     let running = how_many-cons runs task tasks in
     omega (arith, rest, here, up, ready, running)
 
--- some task passes one of two tests if and only if some passes the first or some the second
+-- Some task passes one of two tests if and only if some task passes the first test or some task
+-- passes the second.
 pub any_either : (one_test other_test : Task → Bool) (tasks : List Task) → list_any (λ task. one_test task || other_test task) tasks ≡ (list_any one_test tasks || list_any other_test tasks)
 any_either p q [] = refl
 any_either p q (t ∷ ts) =
@@ -89,7 +93,7 @@ any_either p q (t ∷ ts) =
       ]
     ]
 
--- a task that runs and is stalled is a stalled one
+-- If some running task is in a memory stall, then some task is in a memory stall.
 pub running_stalled_any : (tasks : List Task) → list_any (λ task. runs task && stalls task) tasks ≡ true → list_any stalls tasks ≡ true
 running_stalled_any [] h = h
 running_stalled_any (t ∷ ts) h =

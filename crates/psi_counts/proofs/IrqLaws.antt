@@ -1,4 +1,4 @@
--- The interrupt time of a legal event, and the processor that it is on.
+-- The interrupt time of a legal event, and the processor that the event names.
 use Rattle.std.proofs.Common.{◌≡◌, ℕ, ◌-◌, ◌≤◌, ◌<◌, List, refl, ap, Bool, true, false, arith, None, ◌==◌, nat_lt}
 use Rattle.std.specs.Prelude.{◌||◌, if◌then◌else◌, slice_index_or}
 use Rattle.std.proofs.lemmas.Bool.Decides.{nat_tests}
@@ -19,15 +19,15 @@ pub unknown_of : (tasks : Tasks) (a : Act) (cpu : ℕ) → touched a (before tas
 unknown_of tasks (act.Irq named ns) cpu off = ap (λ b. if b then ns else 0) off
 unknown_of tasks _ cpu off = refl
 
--- an act with interrupt time there changes no task's counts
+-- An act with interrupt time on a processor changes no task's counts there.
 pub known_alone : (groups : List GroupLife) (tasks : Tasks) (a : Act) (cpu : ℕ) → 0 < irq_time_by cpu a → (part cpu (before tasks a) ≡ None) × (part cpu (task_after groups tasks a) ≡ None)
 known_alone groups tasks (act.Irq named ns) cpu some = (refl, refl)
 known_alone groups tasks _ cpu some = absurd (omega (arith, some))
 
 -- ---- how much
 
--- what a test of interrupts lets through is a second at most, and no longer than the time since the
--- last of them
+-- The interrupt time `ns` is at most a second, and at most the time since the previous `irq` line
+-- of processor `cpu`.
 pub record AreShort (irqs : List ℕ) (at cpu ns : ℕ) : Type 0 where
   pub second : ns ≤ longest_irq
   pub since : ns ≤ at - slice_index_or irqs cpu 0

@@ -1,4 +1,5 @@
--- What a legal event does to counts of tasks, on the processors that it touches and on the others.
+-- The effect of a legal event on counts of tasks, on the processors that it touches and on all
+-- other processors.
 use Rattle.std.proofs.Common.{◌≡◌, ℕ, ◌+◌, List, [], ◌∷◌, refl, ap, ◌∙◌, sym, Bool, true, false, arith, cond, Option, None, Some, nat_lt, ◌==◌, ⊎_elim}
 use Rattle.std.specs.Prelude.{◌&&◌, ◌||◌, if◌then◌else◌}
 use Rattle.std.specs.List.{list_any}
@@ -29,7 +30,7 @@ use Rattle.psi_spec.proofs.RefusalLaws.{first_true, is_none, none_found_in, not_
 use Rattle.psi_spec.proofs.TaskLaws.{task_placed}
 use Rattle.psi_counts.proofs.TouchCounts.{tally, tallied_both, counted, counted_put, counted_changed, counted_leave, running_found}
 
--- two tests, neither of which passes
+-- If a disjunction of two tests is false, both tests are false.
 or_false : (a b : Bool) → (a || b) ≡ false → (a ≡ false) × (b ≡ false)
 or_false false b h = (refl, h)
 or_false true b h = cc h
@@ -48,7 +49,7 @@ not_both : (o : Option Task) (cpu : ℕ) → is_some_and o (is_ready_on cpu) ≡
 not_both None cpu r s = cc r
 not_both (Some t) cpu r s = ready_off t.mode (second_true (t.cpu.0 == cpu) (is_ready t.mode) r) (second_true (t.cpu.0 == cpu) (is_running t.mode) s)
 
--- a ready task stays as it is when the running one leaves
+-- A ready task is unchanged when the running task leaves its processor.
 pub ready_left : (tasks : Tasks) (cpu : ℕ) (how : How) (q : ℕ) → is_some_and (task_of tasks q) (is_ready_on cpu) ≡ true → (o : Option (ℕ × Task)) → running_on tasks cpu ≡ o → task_of (leave how tasks o) q ≡ task_of tasks q
 ready_left tasks cpu how q ready None is = refl
 ready_left tasks cpu how q ready (Some e) is =
@@ -60,7 +61,7 @@ ready_left tasks cpu how q ready (Some e) is =
 
 -- ---- what an act does to a count
 
--- a test that doesn't distinguish ready from running
+-- The test `p` doesn't distinguish a ready task from the task when it is running.
 abbrev pub Blind : (Task → Bool) → Type 0
 Blind p = (t : Task) → is_ready t.mode ≡ true → p (record t { mode = Running }) ≡ p t
 
@@ -69,7 +70,7 @@ ready_somewhere : (o : Option Task) (cpu : ℕ) → is_some_and o (is_ready_on c
 ready_somewhere None cpu h = h
 ready_somewhere (Some t) cpu h = second_true (t.cpu.0 == cpu) (is_ready t.mode) h
 
--- a ready task that starts counts as before
+-- A ready task that starts to run doesn't change the number of tasks that pass a blind test.
 counted_started : (p : Task → Bool) → Blind p → (tasks : Tasks) (pid : ℕ) (o : Option Task) → task_of tasks pid ≡ o → is_some_and o (λ t. is_ready t.mode) ≡ true → counted p (change_to tasks pid (λ task. record task { mode = Running }) o) ≡ counted p tasks
 counted_started p blind tasks pid None is ready = refl
 counted_started p blind tasks pid (Some t) is ready =
@@ -77,7 +78,8 @@ counted_started p blind tasks pid (Some t) is ready =
     let more = rw is at (counted_put p tasks pid (record t { mode = Running })) in
     omega (arith, same, more)
 
--- the same if the running task leaves first
+-- Starting a ready task after the running task has left doesn't change the number of tasks that
+-- pass a blind test, apart from the task that left.
 counted_start : (p : Task → Bool) → Blind p → (tasks : Tasks) (cpu : ℕ) (how : How) (next : Option Pid) → isnt_ready tasks cpu next ≡ false → counted p (start next (leave how tasks (running_on tasks cpu))) ≡ counted p (leave how tasks (running_on tasks cpu))
 counted_start p blind tasks cpu how None h = refl
 counted_start p blind tasks cpu how (Some pid) h =
@@ -85,11 +87,11 @@ counted_start p blind tasks cpu how (Some pid) h =
     let still = ready_left tasks cpu how pid.0 ready (running_on tasks cpu) refl in
     counted_started p blind (leave how tasks (running_on tasks cpu)) pid.0 _ refl (rw still (ready_somewhere (task_of tasks pid.0) cpu ready))
 
--- an act changes a count by the one task that it changes
+-- An act changes the number of tasks that pass the test `p` only by the task that it changes.
 abbrev pub CountsOne : (Task → Bool) → World → Act → Type 0
 CountsOne p w a = counted p (tasks_after w.groups w.tasks a) + one (is_some_and (before w.tasks a) p) ≡ counted p w.tasks + one (is_some_and (task_after w.groups w.tasks a) p)
 
--- each legal act counts so
+-- Each legal act satisfies `CountsOne`.
 pub counted_act : (p : Task → Bool) → Blind p → (limits : Limits) (w : World) (at : ℕ) (a : Act) → cause_of limits w (record { at = at; act = a }) ≡ None → CountsOne p w a
 counted_act p blind limits w at (act.Fork pid path cpu) h =
     let new : task_of w.tasks pid.0 ≡ None = is_none _ (none_found_in limits w _ h).task_exists in
@@ -107,11 +109,11 @@ counted_act p blind limits w at _ h = refl
 
 -- ---- the same of the four counts
 
--- one task by itself
+-- The number of tasks that pass a test in a list of one task is 1 if the task passes, otherwise 0.
 how_many_one : (kind : Task → Bool) (t : Task) → how_many kind (t ∷ []) ≡ one (kind t)
 how_many_one kind t = how_many-cons kind t [] ∙ (let goal : one (kind t) + 0 ≡ one (kind t) = omega arith in goal)
 
--- a field of a task's part on a chain is whether the task counts there
+-- A count of a task's part on a group is 1 if the task counts for the group, otherwise 0.
 chain_field : (f : Counts → ℕ) → f no_counts ≡ 0 → (kind : Task → Bool) → ((t : Task) → f (counts_among (t ∷ [])) ≡ one (kind t)) → (parents : List (Option ℕ)) (cpu slot : ℕ) (o : Option Task) → one (is_some_and o (λ t. is_in parents cpu slot t && kind t)) ≡ f (on_chain parents slot (part cpu o))
 chain_field f none kind same parents cpu slot None = sym none
 chain_field f none kind same parents cpu slot (Some t) =
@@ -120,7 +122,7 @@ chain_field f none kind same parents cpu slot (Some t) =
       | false ↦ sym none
     ]
 
--- a test stays blind beside one of group and processor
+-- A blind test that is restricted to a group and a processor is blind.
 blind_in : (kind : Task → Bool) → Blind kind → (parents : List (Option ℕ)) (cpu slot : ℕ) → Blind (λ t. is_in parents cpu slot t && kind t)
 blind_in kind blind parents cpu slot t ready = ap (λ b. is_in parents cpu slot t && b) (blind t ready)
 
@@ -131,20 +133,20 @@ ready_waits Waiting h = cc h
 ready_waits Blocked h = refl
 ready_waits Running h = refl
 
--- a ready task is up
+-- A ready task is ready or running.
 ready_up : (m : Mode) → is_ready m ≡ true → is_active m ≡ true
 ready_up Ready h = refl
 ready_up Waiting h = cc h
 ready_up Blocked h = cc h
 ready_up Running h = refl
 
--- a count of a group on a processor follows its field of the change
+-- One of the four counts of a group on a processor follows the event's change.
 abbrev FollowsField : (Counts → ℕ) → (Task → Bool) → World → Event → List (Option ℕ) → ℕ → ℕ → Type 0
 FollowsField f kind w event parents cpu slot =
     how_many kind (tasks_in parents cpu slot (after_event w event).tasks) + f (on_chain parents slot (part cpu (before w.tasks event.act)))
     ≡ how_many kind (tasks_in parents cpu slot w.tasks) + f (on_chain parents slot (part cpu (task_after w.groups w.tasks event.act)))
 
--- each field follows
+-- Each of the four counts follows the event's change, for a blind test.
 field : (f : Counts → ℕ) → f no_counts ≡ 0 → (kind : Task → Bool) → ((t : Task) → f (counts_among (t ∷ [])) ≡ one (kind t)) → Blind kind → (limits : Limits) (w : World) (event : Event) → cause_of limits w event ≡ None → (parents : List (Option ℕ)) (cpu slot : ℕ) → FollowsField f kind w event parents cpu slot
 field f none kind same blind limits w event legal parents cpu slot =
     rw (
@@ -155,7 +157,7 @@ field f none kind same blind limits w event legal parents cpu slot =
     )
     (counted_act (λ t. is_in parents cpu slot t && kind t) (blind_in kind blind parents cpu slot) limits w event.at event.act legal)
 
--- all four follow
+-- All four counts follow the event's change.
 pub counts_follow : CountsFollow
 counts_follow limits w event legal parents cpu slot = record {
   io = field (λ n. n.io) refl waits (how_many_one waits) (λ t r. sym (ready_waits t.mode r)) limits w event legal parents cpu slot;
@@ -166,15 +168,15 @@ counts_follow limits w event legal parents cpu slot = record {
 
 -- ---- what an act leaves as it was on a processor that it doesn't touch
 
--- a test of tasks on a processor
+-- Whether a task is on processor `c` and passes the test `g`.
 abbrev at_cpu : ℕ → (Task → Bool) → Task → Bool
 at_cpu c g t = is_at c t && g t
 
--- a task elsewhere doesn't count
+-- A task on another processor doesn't count.
 off : (c : ℕ) (g : Task → Bool) (t : Task) → is_at c t ≡ false → one (at_cpu c g t) ≡ 0
 off c g t h = ap (λ b. one (b && g t)) h
 
--- nor does it after it left
+-- A task on another processor doesn't count after it left that processor either.
 left_other : (how : How) (c : ℕ) (g : Task → Bool) (t : Task) → is_at c t ≡ false → one (is_some_and (left_by how t) (at_cpu c g)) ≡ 0
 left_other Preempt c g t h = off c g (record t { mode = Ready }) h
 left_other Sleep c g t h = off c g (record t { mode = Blocked }) h
@@ -182,11 +184,11 @@ left_other IoWait c g t h = off c g (record t { mode = Waiting }) h
 left_other Exit c g t h = refl
 left_other Idle c g t h = off c g t h
 
--- a processor that is another is none
+-- A number that is equal to one of two different numbers differs from the other.
 elsewhere : (x cpu c : ℕ) → (x == cpu) ≡ true → (cpu == c) ≡ false → (x == c) ≡ false
 elsewhere x cpu c s h = grind (arith, nat_tests)
 
--- a task that leaves a processor changes no count on others
+-- A task that leaves a processor changes no count on other processors.
 quiet_leave : (g : Task → Bool) (tasks : Tasks) (cpu c : ℕ) (how : How) → (cpu == c) ≡ false → (o : Option (ℕ × Task)) → running_on tasks cpu ≡ o → counted (at_cpu c g) (leave how tasks o) ≡ counted (at_cpu c g) tasks
 quiet_leave g tasks cpu c how h None is = refl
 quiet_leave g tasks cpu c how h (Some e) is =
@@ -196,7 +198,7 @@ quiet_leave g tasks cpu c how h (Some e) is =
     let gone = left_other how c g e.1 other in
     omega (arith, left, was, gone)
 
--- a task that is elsewhere before and after a change changes no count
+-- A task that is on another processor before and after a change changes no count.
 quiet_changed : (g : Task → Bool) (tasks : Tasks) (pid c : ℕ) (f : Task → Task) (o : Option Task) → task_of tasks pid ≡ o → is_some_and o (is_at c) ≡ false → is_some_and (changed f o) (is_at c) ≡ false → counted (at_cpu c g) (change_to tasks pid f o) ≡ counted (at_cpu c g) tasks
 quiet_changed g tasks pid c f None is h k = refl
 quiet_changed g tasks pid c f (Some t) is h k =
@@ -205,22 +207,22 @@ quiet_changed g tasks pid c f (Some t) is h k =
     let now = off c g (f t) k in
     omega (arith, more, was, now)
 
--- a task that is ready on a processor is on no other
+-- A task that is ready on a processor is on no other processor.
 ready_elsewhere : (o : Option Task) (cpu c : ℕ) → is_some_and o (is_ready_on cpu) ≡ true → (cpu == c) ≡ false → is_some_and o (is_at c) ≡ false
 ready_elsewhere None cpu c r h = refl
 ready_elsewhere (Some t) cpu c r h = elsewhere t.cpu.0 cpu c (first_true (t.cpu.0 == cpu) (is_ready t.mode) r) h
 
--- a change that leaves a task on its processor
+-- A task that is on another processor stays there if a change leaves its processor unchanged.
 same_cpu : (f : Task → Task) → ((t : Task) → (f t).cpu ≡ t.cpu) → (o : Option Task) (c : ℕ) → is_some_and o (is_at c) ≡ false → is_some_and (changed f o) (is_at c) ≡ false
 same_cpu f same None c h = refl
 same_cpu f same (Some t) c h = rw (same t) h
 
--- a task that comes to a processor is on no other
+-- A task that is put on the run queue of a processor is on no other processor.
 prepared_cpu : (o : Option Task) (cpu c : ℕ) → (cpu == c) ≡ false → is_some_and (changed (prepared_changes cpu) o) (is_at c) ≡ false
 prepared_cpu None cpu c h = refl
 prepared_cpu (Some t) cpu c h = h
 
--- a task that starts on a processor changes no count on others
+-- A task that starts on a processor changes no count on other processors.
 quiet_start : (g : Task → Bool) (tasks : Tasks) (cpu c : ℕ) (how : How) (next : Option Pid) → (cpu == c) ≡ false → isnt_ready tasks cpu next ≡ false → counted (at_cpu c g) (start next (leave how tasks (running_on tasks cpu))) ≡ counted (at_cpu c g) (leave how tasks (running_on tasks cpu))
 quiet_start g tasks cpu c how None h k = refl
 quiet_start g tasks cpu c how (Some pid) h k =
@@ -230,13 +232,13 @@ quiet_start g tasks cpu c how (Some pid) h k =
     quiet_changed g (leave how tasks (running_on tasks cpu)) pid.0 c (λ task. record task { mode = Running }) (task_of (leave how tasks (running_on tasks cpu)) pid.0) refl other
     (same_cpu (λ task. record task { mode = Running }) (λ _. refl) (task_of (leave how tasks (running_on tasks cpu)) pid.0) c other)
 
--- a task that comes to another processor
+-- A task that is put on the run queue of another processor changes no count on this processor.
 quiet_prepared : (g : Task → Bool) (tasks : Tasks) (pid cpu c : ℕ) → (cpu == c || is_some_and (task_of tasks pid) (is_at c)) ≡ false → counted (at_cpu c g) (change_to tasks pid (prepared_changes cpu) (task_of tasks pid)) ≡ counted (at_cpu c g) tasks
 quiet_prepared g tasks pid cpu c h =
     let both = or_false (cpu == c) (is_some_and (task_of tasks pid) (is_at c)) h in
     quiet_changed g tasks pid c (prepared_changes cpu) (task_of tasks pid) refl both.1 (prepared_cpu (task_of tasks pid) cpu c both.0)
 
--- a task on another processor changes there
+-- A change of a task on another processor, which stays there, changes no count on this processor.
 quiet_there : (g : Task → Bool) (tasks : Tasks) (pid c : ℕ) (f : Task → Task) → ((t : Task) → (f t).cpu ≡ t.cpu) → is_some_and (task_of tasks pid) (is_at c) ≡ false → counted (at_cpu c g) (change_to tasks pid f (task_of tasks pid)) ≡ counted (at_cpu c g) tasks
 quiet_there g tasks pid c f same h = quiet_changed g tasks pid c f (task_of tasks pid) refl h (same_cpu f same (task_of tasks pid) c h)
 
@@ -256,7 +258,7 @@ quiet_act g limits w at (act.Migrate pid cpu) c legal h = quiet_prepared g w.tas
 quiet_act g limits w at (act.Move pid path) c legal h = quiet_there g w.tasks pid.0 c _ (λ _. refl) h
 quiet_act g limits w at _ c legal h = refl
 
--- tests that agree on each task count the same
+-- Tests that agree on each task count equal numbers of tasks.
 pub tally_same : (p q : Task → Bool) → ((t : Task) → p t ≡ q t) → (tasks : List Task) → tally p tasks ≡ tally q tasks
 tally_same p q same [] = refl
 tally_same p q same (t ∷ tasks) =
@@ -264,18 +266,19 @@ tally_same p q same (t ∷ tasks) =
     let rest = tally_same p q same tasks in
     omega (arith, here, rest)
 
--- three tests, grouped the other way
+-- Conjunction is associative.
 and_shift : (a b c : Bool) → ((a && b) && c) ≡ (a && (b && c))
 and_shift true b c = refl
 and_shift false b c = refl
 
--- how many count for a group on a processor, as a count of tasks on that processor
+-- The number of tasks that count for a group on a processor and pass a test, as a number of tasks
+-- on that processor.
 many_in : (parents : List (Option ℕ)) (cpu slot : ℕ) (kind : Task → Bool) (tasks : Tasks) → how_many kind (tasks_in parents cpu slot tasks) ≡ counted (at_cpu cpu (λ t. is_under parents t.slot.0 slot && kind t)) tasks
 many_in parents cpu slot kind tasks =
     tallied_both (is_in parents cpu slot) kind (fin.values tasks)
     ∙ tally_same (λ t. is_in parents cpu slot t && kind t) (at_cpu cpu (λ t. is_under parents t.slot.0 slot && kind t)) (λ t. and_shift (t.cpu.0 == cpu) (is_under parents t.slot.0 slot) (kind t)) (fin.values tasks)
 
--- if nothing passes the filter, the test fails
+-- If a conditional result is `None`, its condition is false.
 not_then : (b : Bool) (change : Change) → (if b then Some change else None) ≡ None → b ≡ false
 not_then true change h = cc h
 not_then false change h = refl
@@ -286,18 +289,20 @@ unfolding change_of
 untouched w event cpu h =
     not_then (touched event.act (before w.tasks event.act) cpu) (change_on w.groups event (before w.tasks event.act) (task_after w.groups w.tasks event.act) (tasks_after w.groups w.tasks event.act) cpu) h
 
--- so it is of each count of a group
+-- An event that makes no change of a processor leaves each count of a group there unchanged.
 quiet_many : (limits : Limits) (w : World) (event : Event) → cause_of limits w event ≡ None → (cpu : ℕ) → change_of w event cpu ≡ None → (parents : List (Option ℕ)) (slot : ℕ) (kind : Task → Bool) → how_many kind (tasks_in parents cpu slot (after_event w event).tasks) ≡ how_many kind (tasks_in parents cpu slot w.tasks)
 quiet_many limits w event legal cpu none parents slot kind =
     many_in parents cpu slot kind (after_event w event).tasks
     ∙ quiet_act (λ t. is_under parents t.slot.0 slot && kind t) limits w event.at event.act cpu legal (untouched w event cpu none)
     ∙ sym (many_in parents cpu slot kind w.tasks)
 
--- as many that pass, so one or none
+-- If equally many tasks of two lists pass a test, then some task passes in both lists or in
+-- neither.
 any_same : (test : Task → Bool) (tasks others : List Task) → how_many test others ≡ how_many test tasks → list_any test tasks ≡ list_any test others
 any_same test tasks others same = any_counted test tasks ∙ ap (nat_lt 0) (sym same) ∙ sym (any_counted test others)
 
--- all four counts stay, and what runs
+-- An event that makes no change of a processor leaves all four counts and the running task there
+-- unchanged.
 pub stays_untouched : StaysUntouched
 stays_untouched limits w event legal cpu none parents slot =
     let same = quiet_many limits w event legal cpu none parents slot in (

@@ -1,4 +1,4 @@
--- The processors and slots in changes exist.
+-- The processors and slots that changes name exist.
 use Rattle.std.proofs.Common.{◌≡◌, ℕ, ◌+◌, ◌<◌, ◌≤◌, List, [], ◌∷◌, refl, ap, ◌∙◌, sym, subst, Bool, true, false, arith, cond, Option, None, Some, ◌==◌, length, ⊎_elim}
 use Rattle.std.specs.Prelude.{◌≢◌, nat_le, ◌||◌, not, if◌then◌else◌, is_some, unwrap_or, IfSome}
 use Rattle.std.specs.List.{list_any}
@@ -37,22 +37,22 @@ use Rattle.psi_spec.proofs.RefusalLaws.{first_true, none_found_in}
 use Rattle.psi_counts.proofs.TouchLaws.{counts_follow}
 use Rattle.psi_counts.proofs.RunnerLaws.{current_shows, runs_once_kept}
 
--- the task, if any, is on one of `cpus` processors and in one of `slots` slots
+-- The optional task is on one of `cpus` processors and in one of `slots` slots.
 abbrev pub Fits : ℕ → ℕ → Option Task → Type 0
 Fits cpus slots o = IfSome o (λ task. (task.cpu.0 < cpus) × (task.slot.0 < slots))
 
 -- ---- tasks
 
--- no task is anywhere
+-- Without tasks, all tasks have existing processors and slots.
 pub within_first : WithinFirst
 within_first cpus slots pid = rw (fin.get-empty nat_cmp pid) tt
 
--- another in a task's place, or none
+-- Replacing or removing a task preserves the bounds if the new task fits.
 fits_placed : (cpus slots : ℕ) (tasks : Tasks) → AreWithin cpus slots tasks → (pid : ℕ) (o : Option Task) → Fits cpus slots o → AreWithin cpus slots (placed tasks pid o)
 fits_placed cpus slots tasks within pid o fits q =
     rw (task_placed tasks pid o q) (elim (q == pid) as (λ b. Fits cpus slots (cond b o (task_of tasks q))) [ true ↦ fits | false ↦ within q ])
 
--- a task changes, if there is one
+-- Changing an optional task preserves the bounds if the changed task fits.
 fits_changed : (cpus slots : ℕ) (tasks : Tasks) → AreWithin cpus slots tasks → (pid : ℕ) (f : Task → Task) (o : Option Task) → Fits cpus slots (changed f o) → AreWithin cpus slots (change_to tasks pid f o)
 fits_changed cpus slots tasks within pid f None fits = within
 fits_changed cpus slots tasks within pid f (Some t) fits = fits_placed cpus slots tasks within pid (Some (f t)) fits
