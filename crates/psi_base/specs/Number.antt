@@ -12,6 +12,8 @@ value_after n (c ∷ cs) = value_after (n * 10 + (c - 48)) cs
 unfoldable pub digits_after : ℕ → List ℕ → Option ℕ
 digits_after n bytes = if all_ascii_digits bytes && nat_lt (value_after n bytes) (2 ^ 64) then Some (value_after n bytes) else None
 
+-- The value of decimal digits. The result is `None` if a byte isn't a digit or the number doesn't
+-- fit in 64 bits.
 abbrev pub digits_of : List ℕ → Option ℕ
 digits_of bytes = digits_after 0 bytes
 

@@ -113,6 +113,7 @@ first_rest rest = if nat_lt 512 (length rest) then cause.LineTooLong else cause.
 
 -- ---- parsing all lines
 
+-- The refusal of line number `line` (from 1) with cause `why`.
 abbrev pub refused : ℕ → Cause → Refusal
 refused line why = record { line = line; cause = why }
 
@@ -155,6 +156,7 @@ headed accepts (Err why) parts = Err (refused 1 why)
 headed accepts (Ok head) parts =
     with_events head (events_from (accepts.verbs head.version) (limits_of accepts.tick head.cpus) first_world 2 parts)
 
+-- Parses the parts of the input between newlines as a trace. The first part is the header.
 unfoldable pub trace_of_parts : Accepts → List (List ℕ) → Result Trace Refusal
 trace_of_parts accepts [] = Err (refused 1 cause.BadHeader)
 trace_of_parts accepts (rest ∷ []) = Err (refused 1 (first_rest rest))

@@ -42,7 +42,8 @@ FailsAt command before now which fault =
 
 -- The log of read calls grew by the reads of a command: it reads its files in order, each from the
 -- first byte. Nothing is read after a failed read, or after a rejected rules file or drop-in file.
--- If the status is ReadFault, the files before the failed file exist and were accepted.
+-- If the status is ReadFault, the files before the failed file aren't known to be missing, and were
+-- accepted.
 abbrev pub ReadsInOrder : Command → Option Files → List ReadCall → List ReadCall → Status → Type 0
 ReadsInOrder command files before now status.ReadFault =
     (which : Which) × FailsAt command before now which shelf.Failed × IsPassed command files which
