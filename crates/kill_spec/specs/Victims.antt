@@ -26,7 +26,7 @@ use Rattle.kill_spec.specs.Detectors.{matches}
 
 -- ---- the arguments of actions
 
--- The patterns of an action, which its victims must match.
+-- The patterns of an action, which select its candidates.
 abbrev pub action_patterns : Action → List Pattern
 action_patterns (action.SizeOrGrowth cgroup size_threshold percentile ratio after) = cgroup
 action_patterns (action.SwapUsage cgroup threshold after) = cgroup

@@ -78,13 +78,13 @@ abbrev pub known_count : Option (List ℕ) → ℕ
 known_count None = 0
 known_count (Some bytes) = length bytes
 
--- The sink to which another sink forwards its bytes: the name of its borrow, and the length of its
--- known content.
+-- The sink to which another sink forwards its bytes, represented by a number that identifies the
+-- borrow of the sink, and by the length of its content (0 if the content is unknown).
 pub record Inner : Type 0 where
   pub name : ℕ
   pub count : ℕ
 
--- The inner sink with the name of its borrow and its content, if known.
+-- Makes an inner sink from the number that identifies its borrow, and its content, if known.
 abbrev pub inner_of : ℕ → Option (List ℕ) → Inner
 inner_of name has = record { name = name; count = known_count has }
 
@@ -92,7 +92,7 @@ inner_of name has = record { name = name; count = known_count has }
 abbrev pub no_inner : Inner
 no_inner = inner_of 0 None
 
--- The inner sink `now` is the inner sink `before`, and lost no bytes.
+-- The inner sink `now` is the inner sink `before`, and has lost no bytes.
 pub record SameInner (before now : Inner) : Type 0 where
   pub same : now.name ≡ before.name
   pub more : before.count ≤ now.count

@@ -8,7 +8,7 @@ ghost use Rattle.outside.specs.Reads.{ReadCall, read_call};
 pub enum ShelfFault {
     /// There is no file with this name. The shelf counts the read as absent.
     NoFile,
-    /// The read failed. The shelf counts it as a fault.
+    /// The read failed. The shelf counts the failure.
     Failed,
 }
 

@@ -108,11 +108,11 @@ updated old now totals = record {
 unfoldable pub average_step : AverageState → ℕ → List ℕ → AverageState
 average_step old now totals = if nat_lt now old.next then old else updated old now totals
 
--- The averages after a list of ticks. Each tick is a time (ns) with the totals (ns) of the pressure
--- quantities at that time.
+-- The averages after a list of ticks, given the averages `old` before them. Each tick is a time
+-- (ns) with the totals (ns) of the pressure quantities at that time.
 abbrev pub averages_from : AverageState → List (ℕ × List ℕ) → AverageState
 averages_from old ticks = fold (λ state tick. average_step state tick.0 tick.1) old ticks
 
--- The averages of a group that is created at time `at` (ns) after a list of ticks.
+-- The averages, after a list of ticks, of a group that is created at time `at` (ns).
 abbrev pub averages_after : ℕ → List (ℕ × List ℕ) → AverageState
 averages_after at ticks = averages_from (new_averages at) ticks
