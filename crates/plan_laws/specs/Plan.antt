@@ -1,5 +1,5 @@
--- The plan of one processor: the changes that a trace makes on the processor. A plan determines the
--- states of each group after its first `k` changes, and the clocks of each group.
+-- The plan of one processor: the changes that a trace makes on it. A plan determines the states of
+-- each group after its first `k` changes, and the clocks of each group.
 use Rattle.std.specs.Prelude.{◌≡◌, ℕ, ◌+◌, ◌-◌, ◌≤◌, ◌<◌, List, [], ◌∷◌, ◌++◌, length, sum, map, take, filter, slice_get, slice_index_or, nat_le, ◌==◌, ◌&&◌, Bool, true, false, if◌then◌else◌, Option, None, Some}
 use Rattle.std.specs.List.{range_with_len}
 use Rattle.psi_base.specs.declared.event.Slot.{Slot}
@@ -20,14 +20,12 @@ use Rattle.psi_counts.specs.Legal.{changes_from, added, taken}
 
 -- ---- what events change on a processor
 
--- The change that an optional event makes on processor `cpu` in world `w`, or `None` if it makes no
--- change.
+-- The change that an optional event makes on processor `cpu` in world `w`, or `None`.
 abbrev pub change_by : ℕ → World → Option Event → Option Change
 change_by cpu w None = None
 change_by cpu w (Some event) = change_of w event cpu
 
--- The change that event number `i` (from 1) makes on processor `cpu`, or `None` if the event
--- doesn't touch the processor.
+-- The change that event number `i` (from 1) makes on processor `cpu`, or `None`.
 abbrev pub change_at : ℕ → List Event → ℕ → Option Change
 change_at cpu events i = change_by cpu (after (take (i - 1) events)) (slice_get events (i - 1))
 
@@ -57,8 +55,7 @@ added_after plan slot k = added plan.parents slot (take k plan.changes)
 abbrev pub taken_after : PlanView → ℕ → ℕ → Counts
 taken_after plan slot k = taken plan.parents slot (take k plan.changes)
 
--- The difference of two counts, field by field. Requires that each field of `fewer` is at most that
--- field of `more`.
+-- The difference of two counts, field by field. `fewer` must be at most `more` in each field.
 abbrev pub less : Counts → Counts → Counts
 less more fewer =
     record {
@@ -68,8 +65,7 @@ less more fewer =
       stalled_running = more.stalled_running - fewer.stalled_running;
     }
 
--- The counts of the group in slot `slot` after the first `k` changes: the sum added minus the sum
--- subtracted.
+-- The counts of the group in slot `slot` after the first `k` changes: added minus subtracted.
 abbrev pub counts_after : PlanView → ℕ → ℕ → Counts
 counts_after plan slot k = less (added_after plan slot k) (taken_after plan slot k)
 
@@ -88,8 +84,8 @@ pub record LeavesFew (taken added : Counts) : Type 0 where
 abbrev pub FitsPlan : PlanView → Type 0
 FitsPlan plan = (slot k : ℕ) → k ≤ length plan.changes → LeavesFew (taken_after plan slot k) (added_after plan slot k)
 
--- The running task of the processor after the first `k` changes, according to change `k`: its slot,
--- and whether it is in a memory stall. The result is `None` if no task runs, or if k = 0.
+-- The running task after the first `k` changes: its slot, and whether it is in a memory stall. The
+-- result is `None` if no task runs, or if k = 0.
 abbrev pub current_after : PlanView → ℕ → Option (Slot × Bool)
 current_after plan k = slice_index_or (None ∷ map (λ (change : Change). change.current) plan.changes) k None
 
@@ -100,7 +96,7 @@ on_from slot on [] = on
 on_from slot on (change ∷ changes) = on_from slot (on_with slot on change.account) changes
 
 -- Whether the accounting of the group in slot `slot` is on after the first `k` changes. It is on
--- before the first change, and each switch in a change sets it.
+-- before the first change.
 abbrev pub on_after : PlanView → ℕ → ℕ → Bool
 on_after plan slot k = on_from slot true (take k plan.changes)
 
@@ -125,12 +121,12 @@ changes_up_to plan at = length (filter (λ (change : Change). nat_le change.at a
 abbrev pub AreInOrder : PlanView → Type 0
 AreInOrder plan = (k : ℕ) → k < length plan.changes → last_change plan k ≤ last_change plan (k + 1)
 
--- The interrupt time (ns) on the processor in the first `k` changes, whichever task was running.
+-- The interrupt time (ns) on the processor in the first `k` changes, for any running task.
 abbrev pub irq_after : PlanView → ℕ → ℕ
 irq_after plan k = sum (map (λ (change : Change). change.irq) (take k plan.changes))
 
--- The interrupts of a processor took at most the elapsed time: the interrupt time in the first `k`
--- changes is at most the time of change `k`, so it fits in 64 bits.
+-- The interrupt time in the first `k` changes is at most the time of change `k`, so it fits in 64
+-- bits.
 abbrev pub IrqsFit : PlanView → Type 0
 IrqsFit plan = (k : ℕ) → k ≤ length plan.changes → irq_after plan k ≤ last_change plan k
 
@@ -160,7 +156,7 @@ planned_after state plan slot k at j =
     if holds_after state plan slot j then change_moment plan k at (j + 1) - change_moment plan k at j else 0
 
 -- The time (ns) that the group in slot `slot` was in `state` up to time `at`, computed from the
--- first `k` changes. It is the sum of `planned_after` over these changes.
+-- first `k` changes: the sum of `planned_after` over these changes.
 unfoldable pub planned_time : State → PlanView → ℕ → ℕ → ℕ → ℕ
 planned_time state plan slot k at = sum (map (planned_after state plan slot k at) (range_with_len 1 k))
 
@@ -192,8 +188,7 @@ pub record IsClock (clock : ClockView) (plan : PlanView) (slot k : ℕ) : Type 0
 
 -- ---- slots that a change doesn't affect
 
--- Whether the counts that a change subtracts or adds are counts of a task in the group in slot
--- `slot` or in a descendant. The result is false if there are no counts.
+-- Whether the optional counts are counts of a task in the group in slot `slot` or in a descendant.
 abbrev pub is_part_in : List (Option ℕ) → ℕ → Option (Slot × Counts) → Bool
 is_part_in parents slot None = false
 is_part_in parents slot (Some part) = is_under parents part.0.0 slot
@@ -215,16 +210,14 @@ pub record IsAside (plan : PlanView) (slot k : ℕ) (change : Change) : Type 0 w
 
 -- ---- laws
 
--- The changes of a processor are the changes that the events which touch the processor make, in
--- order, each at the time of its event.
+-- The events that touch a processor make its changes, in order, at the times of these events.
 abbrev pub ChangesAreNumbered : Type 0
 ChangesAreNumbered = (cpu : ℕ) (events : List Event) →
     (map (λ change. Some change) (changes_from cpu first_world events) ≡ map (change_at cpu events) (changes_of cpu events))
     × (map (λ (change : Change). change.at) (changes_from cpu first_world events) ≡ map (moment_of events 0) (changes_of cpu events))
     × (length (changes_from cpu first_world events) ≡ length (changes_of cpu events))
 
--- The events up to change `k` make exactly the first `k` changes, and end at the time of change
--- `k`.
+-- The events up to change `k` make exactly the first `k` changes, and end at its time.
 abbrev pub ChangesUntil : Type 0
 ChangesUntil = (cpu : ℕ) (events : List Event) (k : ℕ) → k ≤ length (changes_of cpu events) →
     (changes_from cpu first_world (until_change cpu events k) ≡ take k (changes_from cpu first_world events))
@@ -266,23 +259,22 @@ abbrev pub StallUpTo : Type 0
 StallUpTo = (limits : Limits) (events : List Event) → AreLegal limits first_world events → (state : State) (cpu slot at : ℕ) →
     stall state cpu slot (up_to events at) at ≡ stall state cpu slot (until_change cpu events (count_at cpu events at)) at
 
--- The number of a processor's changes up to a time (ns) follows from the times in its plan: it is
--- the number of changes at or before that time.
+-- The number of a processor's changes up to a time (ns) is the number of changes of its plan at or
+-- before that time.
 abbrev pub CountsByPlan : Type 0
 CountsByPlan = (limits : Limits) (events : List Event) → AreLegal limits first_world events → (cpu at : ℕ) →
     (count_at cpu events at ≡ changes_up_to (plan_of cpu events) at) × (count_at cpu events at ≤ length (changes_of cpu events))
     × (last_change (plan_of cpu events) (count_at cpu events at) ≤ at)
 
--- The plan of legal events satisfies the invariant `IsPlan`. The law requires that the limit of
--- times is at most 60,000,000 s, and that there are at most 64 processors, because the world stores
--- the time of the last `irq` line only for them.
+-- The plan of legal events satisfies `IsPlan` if the limit of times is at most 60,000,000 s. There
+-- must be at most 64 processors, because the world stores the time of the last `irq` line only for
+-- them.
 abbrev pub PlanIsWhole : Type 0
 PlanIsWhole =
     (limits : Limits) (events : List Event) → AreLegal limits first_world events → limits.latest ≤ last_moment
     → limits.cpus ≤ most_cpus → (cpu : ℕ) → IsPlan (plan_of cpu events)
 
--- Change k + 1 extends planned time by the time since the change, if the group is in the state
--- after the change.
+-- Change k + 1 extends planned time by the time since it, if the group is in the state after it.
 abbrev pub PlannedByChange : Type 0
 PlannedByChange = (state : State) (plan : PlanView) (slot k at : ℕ) → k < length plan.changes →
     planned_time state plan slot (k + 1) at ≡ planned_time state plan slot k (last_change plan (k + 1))
@@ -310,16 +302,14 @@ ClockIsInTime =
 abbrev pub EmptyIsPlan : Type 0
 EmptyIsPlan = IsPlan no_plan
 
--- A clock of a slot before a change is also a clock of the slot after the change, if the change
--- leaves the slot's states unchanged.
+-- A clock of a slot is also a clock of it after a change that leaves its states unchanged.
 abbrev pub KeptIsClock : Type 0
 KeptIsClock =
     (clock : ClockView) (plan : PlanView) (slot k : ℕ) → IsClock clock plan slot k → k < length plan.changes
     → last_change plan k ≤ last_change plan (k + 1) →
     ((state : State) → holds_after state plan slot (k + 1) ≡ holds_after state plan slot k) → IsClock clock plan slot (k + 1)
 
--- If the counts of a plan fit, the counts after a change are the counts before it, minus the counts
--- that the change subtracts, plus the counts that it adds.
+-- If the counts of a plan fit, a change subtracts and adds its counts to the counts before it.
 abbrev pub CountsByChange : Type 0
 CountsByChange = (plan : PlanView) → FitsPlan plan → (slot k : ℕ) (change : Change) → slice_get plan.changes k ≡ Some change →
     Follows (counts_after plan slot k) (on_chain plan.parents slot change.minus) (on_chain plan.parents slot change.plus)
@@ -330,8 +320,7 @@ abbrev pub PlanCountsAreFew : Type 0
 PlanCountsAreFew =
     (plan : PlanView) → FitsPlan plan → (slot k : ℕ) → k ≤ length plan.changes → AreAtMost most_tasks (counts_after plan slot k)
 
--- Whether accounting is on after a change follows from whether it is on before the change, and from
--- the change's switch of accounting.
+-- A change's switch of accounting determines whether accounting is on after the change.
 abbrev pub OnByChange : Type 0
 OnByChange = (plan : PlanView) (slot k : ℕ) (change : Change) → slice_get plan.changes k ≡ Some change →
     on_after plan slot (k + 1) ≡ on_with slot (on_after plan slot k) change.account
@@ -340,8 +329,7 @@ OnByChange = (plan : PlanView) (slot k : ℕ) (change : Change) → slice_get pl
 abbrev pub OnAtFirst : Type 0
 OnAtFirst = (plan : PlanView) (slot : ℕ) → on_after plan slot 0 ≡ true
 
--- The running task and the last time of a plan after a change are the running task and the time of
--- this change.
+-- The running task and the last time of a plan after a change are those of the change.
 abbrev pub CurrentByChange : Type 0
 CurrentByChange =
     (plan : PlanView) (k : ℕ) (change : Change) → slice_get plan.changes k ≡ Some change
@@ -353,8 +341,7 @@ AsideStays =
     (state : State) (plan : PlanView) (slot k : ℕ) (change : Change) → slice_get plan.changes k ≡ Some change → IsAside plan slot k change →
     holds_after state plan slot (k + 1) ≡ holds_after state plan slot k
 
--- The number of changes up to time `at` (ns) is `k` if change `k` is the last change at or before
--- `at`.
+-- The number of changes up to time `at` (ns) is `k` if change `k` is the last at or before `at`.
 abbrev pub PlaceOfMoment : Type 0
 PlaceOfMoment =
     (plan : PlanView) → AreInOrder plan → (k at : ℕ) → k ≤ length plan.changes → last_change plan k ≤ at
@@ -373,15 +360,13 @@ ClockShowsPlanned =
     (clock : ClockView) (plan : PlanView) (slot k at : ℕ) → IsClock clock plan slot k → last_change plan k ≤ at
     → opened clock at ≡ planned plan slot k at
 
--- The planned times for the changes up to a time (ns) are the stall times of the events up to that
--- time.
+-- The planned times for the changes up to a time (ns) are the stall times up to that time.
 abbrev pub PlannedUntil : Type 0
 PlannedUntil = (limits : Limits) (events : List Event) → AreLegal limits first_world events → (cpu slot at : ℕ) →
     planned (plan_of cpu events) slot (changes_up_to (plan_of cpu events) at) at
     ≡ map (λ state. stall state cpu slot (up_to events at) at) states
 
--- The planned times after `k` changes are the times `times_after` that psi_spec defines for the
--- processor.
+-- The planned times after `k` changes are psi_spec's `times_after` for the processor.
 abbrev pub PlannedAfter : Type 0
 PlannedAfter = (limits : Limits) (events : List Event) → AreLegal limits first_world events → (cpu slot k at : ℕ) →
     k ≤ length (changes_of cpu events) → last_change (plan_of cpu events) k ≤ at →
@@ -393,26 +378,22 @@ PlannedAfter = (limits : Limits) (events : List Event) → AreLegal limits first
 abbrev pub NoPlannedIrq : Type 0
 NoPlannedIrq = (plan : PlanView) (slot : ℕ) → planned_irq plan slot 0 ≡ 0
 
--- Each change adds its interrupt time to the planned interrupt time of the groups of its running
--- task, if the accounting of the group is on before the change.
+-- Each change adds `irq_in` to a group's planned interrupt time if the group's accounting is on.
 abbrev pub PlannedIrqByChange : Type 0
 PlannedIrqByChange = (plan : PlanView) (slot k : ℕ) (change : Change) → slice_get plan.changes k ≡ Some change →
     planned_irq plan slot (k + 1) ≡ planned_irq plan slot k + (if on_after plan slot k then irq_in plan.parents slot change else 0)
 
--- Planned interrupt time is at most the time of the last change, because the interrupts of a
--- processor don't overlap.
+-- Planned interrupt time is at most the time of the last change.
 abbrev pub PlannedIrqFits : Type 0
 PlannedIrqFits = (plan : PlanView) → IrqsFit plan → (slot k : ℕ) → k ≤ length plan.changes → planned_irq plan slot k ≤ last_change plan k
 
--- The planned interrupt time after `k` changes is the interrupt time of the events up to change
--- `k`.
+-- The planned interrupt time after `k` changes is that of the events up to change `k`.
 abbrev pub PlannedIrqIsIrq : Type 0
 PlannedIrqIsIrq =
     (limits : Limits) (events : List Event) → AreLegal limits first_world events → (cpu slot k : ℕ) → k ≤ length (changes_of cpu events) →
     planned_irq (plan_of cpu events) slot k ≡ irq_time cpu slot (until_change cpu events k)
 
--- The planned interrupt time for the changes up to a time (ns) is the interrupt time of the events
--- up to that time.
+-- The planned interrupt time for the changes up to a time (ns) is that of the events up to it.
 abbrev pub PlannedIrqUntil : Type 0
 PlannedIrqUntil = (limits : Limits) (events : List Event) → AreLegal limits first_world events → (cpu slot at : ℕ) →
     planned_irq (plan_of cpu events) slot (changes_up_to (plan_of cpu events) at) ≡ irq_time cpu slot (up_to events at)

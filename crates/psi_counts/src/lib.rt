@@ -1,4 +1,4 @@
-//! Counts of tasks, and clocks. The states that psi_spec defines over the tasks of a world follow
+//! Counts of tasks and clocks: the states that psi_spec defines over the tasks of a world follow
 //! from counts of tasks, and a clock adds up the time in each state. So a program needn't visit all
 //! tasks at every event.
 //!
