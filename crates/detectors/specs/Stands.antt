@@ -1,5 +1,5 @@
--- The state of a detector in terms of the readings that led to it. A detector *represents* readings
--- if its state is the one after it has taken these readings.
+-- Relates the state of a detector to the readings that the detector has taken. A detector
+-- *represents* a list of readings if taking these readings leads to its state.
 use Rattle.std.specs.Prelude.{◌≡◌, ℕ, ◌≤◌, List, [], ◌∷◌, length, Bool, false, if◌then◌else◌}
 use Rattle.std.specs.Prelude.{Option, None, Some}
 use Rattle.psi_spec.specs.declared.machine.GroupLife.{GroupLife}
@@ -15,18 +15,20 @@ use Rattle.detectors.specs.Tables.{match_table, scan_slots}
 
 -- ---- what a detector stores of its readings
 
--- the time (ns) of the newest reading, or `None` before the first
+-- The time (ns) of the newest reading, or `None` if the list of readings is empty.
 abbrev pub newest_moment : List Reading → Option ℕ
 newest_moment [] = None
 newest_moment (reading ∷ past) = Some reading.at
 
--- after at least one reading, the table says for each slot whether the patterns match the group
+-- After at least one reading, `matched` says for each slot whether `patterns` match the path of its
+-- group. Before the first reading, nothing is required of `matched`.
 abbrev pub IsMatchTable : List GroupLife → List Pattern → List Reading → List Bool → Type 0
 IsMatchTable lives patterns [] matched = Unit {0}
 IsMatchTable lives patterns (reading ∷ past) matched = matched ≡ match_table lives patterns
 
--- the condition that must hold for the detector's duration; always false for a detector without
--- such a condition
+-- Whether the detector's condition on pressure or memory holds at `reading`. The detector is true
+-- only after this condition has held for the detector's duration. Always false for a detector
+-- without such a duration condition.
 abbrev pub condition_of : List GroupLife → DetectorSpec → Reading → Bool
 condition_of lives (detector.PressureAbove cgroup resource threshold duration_s) reading =
     is_pressed lives cgroup resource ten_seconds threshold reading
@@ -36,25 +38,26 @@ condition_of lives (detector.MemoryAbove cgroup threshold duration_s) reading =
     is_memory_above lives cgroup threshold reading
 condition_of lives _ reading = false
 
--- For a detector of rising pressure, the greatest full average over 10 s among its matches at the
--- newest reading; 0 for any other detector.
+-- For a detector of rising pressure, the greatest `full` average over 10 s among its matches at the
+-- newest reading. 0 for any other detector.
 abbrev pub greatest_kept : List GroupLife → DetectorSpec → List Reading → ℕ
 greatest_kept lives (detector.PressureRisingBeyond cgroup resource _ _ _) history =
     greatest_before lives cgroup resource history
 greatest_kept lives _ history = 0
 
--- the scan count of the group in slot `slot` at the newest reading, or `None` if it wasn't live
--- then
+-- The scan count of the group in slot `slot` at the newest reading, or `None` if the group wasn't
+-- live then.
 abbrev pub last_scan : List Reading → ℕ → Option ℕ
 last_scan [] slot = None
 last_scan (reading ∷ past) slot = scan_of (group_in reading slot)
 
--- the result of `last_scan` for a detector of memory reclaim, and `None` for any other detector
+-- The scan count that the detector stores for slot `slot`: `last_scan` for a detector of memory
+-- reclaim, `None` for any other detector.
 abbrev pub scan_kept : DetectorSpec → List Reading → ℕ → Option ℕ
 scan_kept spec history slot = if keeps_scans spec then last_scan history slot else None
 
--- For a detector of memory reclaim: pages of a match were scanned at a reading at most `duration`
--- (ns) before time `at` (ns). False for any other detector.
+-- For a detector of memory reclaim, whether reclaim scanned pages of a match at a reading at most
+-- `duration` (ns) before time `at` (ns). Always false for any other detector.
 abbrev pub is_scanned_kept : List GroupLife → DetectorSpec → ℕ → ℕ → List Reading → Bool
 is_scanned_kept lives spec duration at history =
     if keeps_scans spec
@@ -63,12 +66,10 @@ is_scanned_kept lives spec duration at history =
 
 -- ---- the readings that a detector represents
 
--- The detector's state is the one after the readings `history` (newest first). It has the arguments
--- `spec`, the time of the newest reading, one table entry for each group and, after the first
--- reading, the groups that match. The start of the current run determines, for every duration,
--- whether the condition has held for it. The state also has the greatest average and the scan
--- counts at the newest reading; and the time of the last increase determines, for every duration,
--- whether pages were scanned within it.
+-- The state of `detector` is the state after taking the readings `history` (newest first), for the
+-- arguments `spec`. The stored start of the current run determines, for every duration, whether the
+-- condition has held that long. The stored time of the last increase determines, for every
+-- duration, whether pages were scanned within it.
 pub record Represents (detector : DetectorView) (lives : List GroupLife) (spec : DetectorSpec)
     (history : List Reading) : Type 0 where
   pub spec_is : detector.spec ≡ spec
@@ -82,13 +83,15 @@ pub record Represents (detector : DetectorView) (lives : List GroupLife) (spec :
   pub increased : (duration at : ℕ) →
       is_scanned_kept lives spec duration at history ≡ is_recent detector.increased duration at
 
--- `answer` says whether the detector is true at `reading`, after the readings that led to its state
+-- `answer` says whether the detector in state `old` is true at `reading`, for every list of earlier
+-- readings that leads to `old`.
 abbrev pub Answers : DetectorView → ReadingView → Bool → Type 0
 Answers old reading answer = (spec : DetectorSpec) (history : List Reading) →
     Represents old reading.lives spec history →
     answer ≡ is_true reading.lives spec reading.seen history
 
--- After the call, the detector's state is the one after its earlier readings and `reading`.
+-- Taking `reading` leads from the state `old` to the state `new`: if `old` represents the readings
+-- `history`, `new` represents `reading` followed by `history`.
 abbrev pub DetectorTakes : DetectorView → ReadingView → DetectorView → Type 0
 DetectorTakes old reading new = (spec : DetectorSpec) (history : List Reading) →
     Represents old reading.lives spec history →
@@ -96,9 +99,9 @@ DetectorTakes old reading new = (spec : DetectorSpec) (history : List Reading) �
 
 -- ---- the invariant of a detector
 
--- The invariant of a detector: its current run and its last increase began no later than its last
--- reading, its average is at most 100 percent, and it has scan counts exactly if it is a detector
--- of memory reclaim.
+-- The invariant of a detector. The current run began, and the last increase occurred, no later than
+-- the last reading. The greatest average is at most 100 percent (204800 = 100 * 2048). Only a
+-- detector of memory reclaim has scan counts, one for each slot.
 pub record IsDetector (detector : DetectorView) : Type 0 where
   pub run : IsBy detector.run detector.last
   pub increased : IsBy detector.increased detector.last

@@ -1,4 +1,4 @@
--- The values of a reading and of a detector, as contracts see them.
+-- The mathematical values of a reading and of a detector, which the contracts of this crate use.
 use Rattle.std.specs.Prelude.{ℕ, ◌<◌, ◌≤◌, List, [], ◌∷◌, ◌++◌, length, map, Bool, Option, None}
 use Rattle.std.specs.Prelude.{Some}
 use Rattle.psi_spec.specs.declared.machine.GroupLife.{GroupLife}
@@ -11,46 +11,47 @@ use Rattle.kill_spec.specs.LegalReadings.{Ascend, IsReading}
 
 -- ---- readings
 
--- A reading: `lives` are all groups that a trace ever creates, by slot, and `seen` is what was read
--- of the live groups.
+-- A reading. `lives` has all groups that the trace ever creates, indexed by slot. `seen` has the
+-- time, the host's memory and the live groups.
 pub record ReadingView : Type 0 where
   pub lives : List GroupLife
   pub seen : Reading
 
--- the reading at time `at` (ns) of this host and these groups
+-- The reading at time `at` (ns) with this host memory and these live groups.
 abbrev pub seen_at : ℕ → HostReading → List GroupReading → Reading
 seen_at at host groups = record { at = at; host = host; groups = groups }
 
--- the reading `seen` with all groups of a trace
+-- The reading `seen` together with `lives`, all groups of the trace.
 abbrev pub reading_of : List GroupLife → Reading → ReadingView
 reading_of lives seen = record { lives = lives; seen = seen }
 
--- the reading with `group` appended to its groups
+-- The reading `seen` with `group` appended to its live groups.
 abbrev pub with_group : Reading → GroupReading → Reading
 with_group seen group = seen_at seen.at seen.host (seen.groups ++ group ∷ [])
 
--- the group's path is greater, in byte order, than the paths of all groups of the reading
+-- The path of `group` is greater, in byte order, than the paths of all groups of the reading.
 abbrev pub ComesLast : ReadingView → GroupReading → Type 0
 ComesLast reading group =
     Ascend (map (path_of reading.lives) (with_group reading.seen group).groups)
 
--- The invariant of a reading: a trace has at most 1,024 groups, and what was read is legal for
--- them.
+-- The invariant of a reading: the trace has at most 1,024 groups, and the values of the reading are
+-- valid for these groups.
 pub record IsReadingView (reading : ReadingView) : Type 0 where
   pub few : length reading.lives ≤ most_groups
   pub within : IsReading reading.lives reading.seen
 
--- the capacity suffices for `count` elements
+-- The capacity suffices for `count` elements.
 pub record IsRoom (count capacity : ℕ) : Type 0 where
   pub room : count ≤ capacity
 
 -- ---- detectors
 
--- The state of a detector: its arguments; the time (ns) of its last reading; by slot, whether the
--- group is a match; the time (ns) at which the current run of its condition began; for a detector
--- of rising pressure, the greatest full average over 10 s among its matches at the last reading,
--- otherwise 0; for a detector of memory reclaim, by slot, the scan count of the group at the last
--- reading if it was live; and the last time (ns) at which a match's scan count had increased.
+-- The state of a detector. `spec` has its arguments and `last` the time (ns) of its last reading.
+-- `matched` says for each slot whether its group is a match. `run` is the time (ns) since which the
+-- condition has held. `greatest` is, for a detector of rising pressure, the greatest `full` average
+-- over 10 s among the matches at the last reading. `scans` has, for a detector of memory reclaim,
+-- the scan count of each slot's group at the last reading. `increased` is the time (ns) of the last
+-- increase of a match's scan count.
 pub record DetectorView : Type 0 where
   pub spec : DetectorSpec
   pub last : Option ℕ
@@ -60,7 +61,7 @@ pub record DetectorView : Type 0 where
   pub scans : List (Option ℕ)
   pub increased : Option ℕ
 
--- the detector with these components
+-- The detector with these components.
 abbrev pub detector_with : DetectorSpec → Option ℕ → List Bool → Option ℕ → ℕ → List (Option ℕ) →
     Option ℕ → DetectorView
 detector_with spec last matched run greatest scans increased = record {
@@ -73,16 +74,16 @@ detector_with spec last matched run greatest scans increased = record {
   increased = increased;
 }
 
--- the number of groups for which a detector was made
+-- The number of groups for which the detector was made.
 abbrev pub slots_of : DetectorView → ℕ
 slots_of detector = length detector.matched
 
--- `at` is later than `last` (ns), or there is no `last`
+-- `at` is later than `last` (both ns), or there is no `last`.
 abbrev pub IsAfter : Option ℕ → ℕ → Type 0
 IsAfter None at = Unit {0}
 IsAfter (Some last) at = last < at
 
--- there is no `moment`, or it is at or before `last` (ns)
+-- `moment` is at or before `last` (both ns), or there is no `moment`.
 abbrev pub IsBy : Option ℕ → Option ℕ → Type 0
 IsBy None last = Unit {0}
 IsBy (Some moment) None = ⊥

@@ -1,7 +1,7 @@
-//! Tests a reading for the conditions of detectors. The *matches* of a detector are the groups that
-//! its patterns match.
+//! Evaluates the conditions of oomd's detectors on one reading of the control groups. The *matches*
+//! of a detector are the groups whose paths its patterns match.
 //!
-//! How long a condition has held is in `moments`.
+//! The module `moments` measures how long a condition has held.
 ghost use Rattle.std.specs.Prelude.{◌≡◌, ◌<◌, false, length};
 ghost use Rattle.std.specs.List.{list_any};
 ghost use Rattle.kill_spec.specs.declared.reading.GroupReading.{GroupReading};
@@ -16,12 +16,12 @@ use psi_base::{Level, Path, Res, State};
 use psi_spec::GroupLife;
 use ruleset_json::{DetectorSpec, Size};
 
-/// The indexes of the averages over 10 s and over 60 s.
+/// The indexes of the 10 s and the 60 s average in a row of pressure averages.
 const TEN_SECONDS: usize = 0;
 
 const SIXTY_SECONDS: usize = 1;
 
-/// Returns whether the group is a match, according to the table `matched`.
+/// Returns whether the group is a match. `matched` says for each slot whether its group is a match.
 pub(crate) fn has(matched: &[bool], group: &GroupReading) -> bool
     ensures { result ≡ has matched.now group.now }
 {
@@ -31,8 +31,8 @@ pub(crate) fn has(matched: &[bool], group: &GroupReading) -> bool
     }
 }
 
-/// Returns whether at least one pattern of the detector matches a path. A detector of the host's
-/// swap has no pattern.
+/// Returns whether at least one pattern of the detector matches `path`. False for a detector of
+/// free swap, which has no patterns.
 #[tactic(auto, unfolding(path_match::specs::Match::is_match))]
 fn is_match(spec: &DetectorSpec, path: &Path) -> bool
     ensures { result ≡ is_match (detector_patterns spec.now) path.now }
@@ -47,7 +47,7 @@ fn is_match(spec: &DetectorSpec, path: &Path) -> bool
     }
 }
 
-/// Stores by slot whether the group is a match of the detector.
+/// Stores in `matched`, for each slot, whether its group is a match of the detector.
 pub(crate) fn find_matches(matched: &mut [bool], spec: &DetectorSpec, lives: &[GroupLife])
     requires { length matched.old ≡ length lives.now }
     ensures { matched.new ≡ match_table lives.now (detector_patterns spec.now) }
@@ -64,8 +64,8 @@ fn full_average(group: &GroupReading, resource: Res, window: usize) -> u64
     group.averages[State::of(resource, Level::FullStalled) as usize][window]
 }
 
-/// Returns the greatest full average of a resource over a window among the matches, or 0 if there
-/// are none.
+/// Returns the greatest `full` pressure average of a resource over a window, among all matches.
+/// Returns 0 if no group matches.
 fn greatest_full(matched: &[bool], groups: &[GroupReading], resource: Res, window: usize) -> u64
     requires { window < 3 }
     ensures { result ≡ greatest_among resource window (found matched.now groups.now) }
@@ -77,8 +77,8 @@ fn greatest_full(matched: &[bool], groups: &[GroupReading], resource: Res, windo
         .fold(0, |greatest, average| greatest.max(average))
 }
 
-/// Returns the greatest full average over 10 s among the matches, for a detector of rising
-/// pressure; 0 for any other detector.
+/// Returns, for a detector of rising pressure, the greatest `full` average over 10 s among the
+/// matches. Returns 0 for any other detector.
 pub(crate) fn greatest_of(spec: &DetectorSpec, matched: &[bool], groups: &[GroupReading]) -> u64
     ensures { result ≡ greatest_of spec.now (found matched.now groups.now) }
 {
@@ -90,8 +90,8 @@ pub(crate) fn greatest_of(spec: &DetectorSpec, matched: &[bool], groups: &[Group
     }
 }
 
-/// Returns whether `current` (bytes) is above a threshold in bytes or in percent of the host's
-/// memory.
+/// Returns whether `current` (bytes) is above `threshold`, a number of bytes or a percentage of the
+/// host's memory.
 fn is_above(threshold: Size, host: &HostReading, current: u64) -> bool
     ensures { result ≡ is_above threshold host.now current }
 {
@@ -118,8 +118,9 @@ fn is_some_above(
         .any(|group| is_above(threshold, host, group.current))
 }
 
-/// Returns whether the condition that must hold for the detector's duration holds at this reading.
-/// False for a detector without such a condition.
+/// Returns whether the detector's condition on pressure or memory holds at this reading. The
+/// detector is true only after its condition has held for the detector's duration. False for a
+/// detector without such a duration condition.
 pub(crate) fn has_condition(
     spec: &DetectorSpec,
     matched: &[bool],
@@ -150,7 +151,7 @@ pub(crate) fn has_condition(
     }
 }
 
-/// Returns whether there is a match.
+/// Returns whether at least one group of the reading is a match.
 pub(crate) fn has_match(matched: &[bool], groups: &[GroupReading]) -> bool
     ensures { result ≡ list_any (has matched.now) groups.now }
 {

@@ -1,6 +1,6 @@
-//! Copies the groups of a trace, so that a reading has its own.
+//! Copies the list of a trace's groups, so that each reading owns its copy.
 //!
-//! Patterns and arguments are copied in their own crates.
+//! Other crates copy patterns and detector arguments.
 ghost use Rattle.std.specs.Prelude.{◌≡◌, IfOk};
 
 use psi_base::NoMemory;
@@ -19,7 +19,7 @@ fn copy_life(alloc: Global, life: &GroupLife) -> Result<GroupLife, NoMemory>
     })
 }
 
-/// Returns a copy of all groups.
+/// Returns a copy of the list of groups. Fails only if memory runs out.
 pub(crate) fn copy_lives(alloc: Global, lives: &[GroupLife]) -> Result<Vec<GroupLife>, NoMemory>
     ensures { IfOk result (λ copies. copies.items ≡ lives.now) }
 {

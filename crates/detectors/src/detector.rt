@@ -1,6 +1,7 @@
-//! A detector of oomd, which takes readings one by one.
+//! One oomd detector with its state. The detector takes readings one by one and says after each
+//! reading whether it is true.
 //!
-//! Single conditions are in `conditions`.
+//! The module `conditions` evaluates the condition at a single reading.
 ghost use Rattle.std.specs.Prelude.{◌≡◌, ◌≤◌, List, [], None, Some, IfOk, length};
 ghost use Rattle.psi_spec.specs.declared.machine.GroupLife.{GroupLife};
 ghost use Rattle.detectors.specs.Views.{IsAfter, slots_of};
@@ -17,26 +18,27 @@ use ruleset_json::DetectorSpec;
 use std::alloc::Global;
 use std::marker::Model;
 
-/// The state of one of oomd's detectors after the readings that it has taken. It doesn't store the
-/// readings.
+/// An oomd detector and its state after the readings that it has taken. The readings themselves
+/// aren't stored.
 #[derive(Drop)]
 pub struct Detector {
     spec: DetectorSpec,
-    /// The time of the last reading (ns).
+    /// The time of the last reading (ns), or `None` before the first reading.
     last: Option<Ns>,
-    /// By slot, whether the group is a match (its path matches a pattern); computed at the first
+    /// For each slot, whether a pattern matches the path of its group. Computed at the first
     /// reading.
     matched: Vec<bool>,
-    /// The time at which the current run of the condition began (ns), or `None` if it didn't hold
-    /// at the last reading.
+    /// The time (ns) since which the detector's condition has held without interruption. `None` if
+    /// the condition didn't hold at the last reading.
     run: Option<Ns>,
-    /// For a detector of rising pressure, the greatest full average over 10 s among the matches at
-    /// the last reading; 0 for any other detector.
+    /// For a detector of rising pressure, the greatest `full` average over 10 s among the matches
+    /// at the last reading. 0 for any other detector.
     greatest: u64,
-    /// By slot, the scan count of the group at the last reading, if it was live. Empty unless this
-    /// is a detector of memory reclaim.
+    /// For each slot, the scan count of its group at the last reading, or `None` if the group
+    /// wasn't live then. Empty unless this is a detector of memory reclaim.
     scans: Vec<Option<u64>>,
-    /// The last time at which the scan count of a match had increased (ns).
+    /// The time (ns) of the last reading at which the scan count of a match was greater than at the
+    /// reading before. `None` if there was no such reading.
     increased: Option<Ns>,
 }
 
@@ -53,7 +55,8 @@ impl Model for Detector {
         d.run d.greatest d.scans.items d.increased) };
 }
 
-/// Returns the number of slots for which a detector stores scan counts.
+/// Returns the number of slots for which a detector stores scan counts: all `slots` for a detector
+/// of memory reclaim, 0 for any other detector.
 fn scan_slots(spec: &DetectorSpec, slots: u32) -> u32
     ensures { result ≡ scan_slots spec.now slots }
 {
@@ -64,8 +67,8 @@ fn scan_slots(spec: &DetectorSpec, slots: u32) -> u32
 }
 
 impl Detector {
-    /// Returns a detector with these arguments for `slots` groups, before the first reading.
-    /// Allocates all its memory.
+    /// Returns a detector with the arguments `spec` for a trace with `slots` groups, before the
+    /// first reading. Allocates all memory that the detector ever needs.
     pub fn new(alloc: Global, spec: &DetectorSpec, slots: u32) -> Result<Detector, NoMemory>
         ensures { IfOk result (λ detector. (lives : List GroupLife) → length lives ≡ slots →
             Represents detector lives spec.now []) }
@@ -81,15 +84,16 @@ impl Detector {
         })
     }
 
-    /// Takes the next reading. Returns whether the detector is true at `reading`, given the earlier
-    /// readings. Doesn't allocate. Precondition: `reading` is later than the last reading.
+    /// Takes the next reading, and returns whether the detector is true at that reading. Doesn't
+    /// allocate. Precondition: `reading` is later than the previous reading.
     pub fn step(&mut self, reading: &Reading) -> bool
         requires later { IsAfter self.old.last reading.now.seen.at }
         requires slots { length reading.now.lives ≡ slots_of self.old }
         ensures answer { Answers self.old reading.now result }
         ensures stands { DetectorTakes self.old reading.now self.new }
 
-        // The next three clauses hold for any state, even if no readings are known that lead to it.
+        // The next three clauses hold for every state, even for a state that no list of readings
+        // leads to.
         ensures last { self.new.last ≡ Some reading.now.seen.at }
         ensures slots { slots_of self.new ≡ slots_of self.old }
         ensures spec { self.new.spec ≡ self.old.spec }
@@ -110,7 +114,7 @@ impl Detector {
         }
     }
 
-    /// Updates the state for a reading. Precondition: the table of matches is computed.
+    /// Updates the state for a reading. Precondition: the table of matches has been computed.
     fn take(&mut self, reading: &Reading)
         requires later { IsAfter self.old.last reading.now.seen.at }
         requires slots { length reading.now.lives ≡ slots_of self.old }
@@ -133,8 +137,8 @@ impl Detector {
         self.last = Some(now);
     }
 
-    /// Returns whether the detector is true, from its state after it has taken the reading.
-    /// `before` is the greatest average at the previous reading.
+    /// Returns whether the detector is true at a reading that it has just taken. `before` is the
+    /// greatest average at the previous reading.
     fn answer(&self, before: u64, reading: &Reading) -> bool
         requires last { self.now.last ≡ Some reading.now.seen.at }
         requires before { before ≤ 204800 }

@@ -1,6 +1,6 @@
-//! Readings of groups, and whether oomd's detectors are true at them.
+//! Readings of control groups, and oomd's detectors, which are true or false at a reading.
 //!
-//! A reading is what an evaluation of the rules sees: the time, the host's memory and the live
+//! A reading is the input of one evaluation of the rules: the time, the host's memory and the live
 //! groups. This crate doesn't combine detectors into rulesets (kill_engine does), and doesn't
 //! choose victims (victim_rank does).
 #![tactic(auto)]

@@ -1,6 +1,6 @@
-//! Updates and tests the times that a detector stores.
+//! Updates and compares the times (ns) that a detector stores.
 //!
-//! It doesn't test the conditions themselves: `conditions` does.
+//! The module `conditions` evaluates the conditions themselves.
 ghost use Rattle.std.specs.Prelude.{◌≡◌, None, Some, if◌then◌else◌};
 ghost use Rattle.detectors.specs.Tables.{is_long, is_recent, run_after};
 ghost use Rattle.detectors.specs.Views.{IsBy};
@@ -8,15 +8,16 @@ ghost use Rattle.kill_spec.specs.Detectors.{of_seconds};
 
 use psi_base::Ns;
 
-/// Returns a number of seconds in ns.
+/// Converts seconds to ns.
 pub(crate) fn of_seconds(seconds: u32) -> Ns
     ensures { result ≡ of_seconds seconds }
 {
     u64::from(seconds) * 1_000_000_000
 }
 
-/// Returns the start (ns) of the current run of a condition, after it was tested at `now` (ns).
-/// `None` if it doesn't hold.
+/// Returns the time (ns) since which a condition has held without interruption, after it was tested
+/// at time `now` (ns). `run` is that time before the test, and `holds` is the result of the test.
+/// Returns `None` if the condition doesn't hold.
 pub(crate) fn run_after(run: Option<Ns>, holds: bool, now: Ns) -> Option<Ns>
     ensures { result ≡ run_after run holds now }
 {
@@ -29,14 +30,16 @@ pub(crate) fn run_after(run: Option<Ns>, holds: bool, now: Ns) -> Option<Ns>
     }
 }
 
-/// Returns the time (ns) of the last increase, after the counts were compared at `now` (ns).
+/// Returns the time (ns) of the last increase of a scan count, after a comparison at time `now`
+/// (ns). `increased` is the time of the last increase before that comparison.
 pub(crate) fn rise_after(increased: Option<Ns>, has_risen: bool, now: Ns) -> Option<Ns>
     ensures { result ≡ (if has_risen then Some now else increased) }
 {
     if has_risen { Some(now) } else { increased }
 }
 
-/// Returns whether there is a run and it has lasted at least `duration` (ns) at `now` (ns).
+/// Returns whether a run that began at time `run` (ns) has lasted at least `duration` (ns) at time
+/// `now` (ns). False if there is no run.
 pub(crate) fn is_long(run: Option<Ns>, duration: Ns, now: Ns) -> bool
     requires { IsBy run (Some now) }
     ensures { result ≡ is_long run duration now }
@@ -47,7 +50,8 @@ pub(crate) fn is_long(run: Option<Ns>, duration: Ns, now: Ns) -> bool
     }
 }
 
-/// Returns whether there is a time and it is at most `duration` (ns) before `now` (ns).
+/// Returns whether `moment` (ns) is at most `duration` (ns) before time `now` (ns). False if
+/// `moment` is `None`.
 pub(crate) fn is_recent(moment: Option<Ns>, duration: Ns, now: Ns) -> bool
     requires { IsBy moment (Some now) }
     ensures { result ≡ is_recent moment duration now }

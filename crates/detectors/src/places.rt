@@ -1,6 +1,7 @@
-//! The places (indexes) of groups in a reading, and of the children of each group.
+//! Lists of places. A *place* is the index of a group in a reading. There is a list of all groups,
+//! and a list of the children of each group.
 //!
-//! They let a walk over the children of a group skip all other groups.
+//! With these lists a loop over the children of a group skips all other groups.
 ghost use Rattle.std.specs.Prelude.{◌≡◌, ◌<◌, ◌≤◌, ℕ, [], IfOk, length, slice_index_or, true};
 ghost use Rattle.psi_spec.specs.Stall.{number_of_slot};
 ghost use Rattle.kill_spec.specs.Victims.{names_slot};
@@ -11,7 +12,7 @@ use psi_spec::GroupLife;
 use std::alloc::Global;
 use std::marker::Model;
 
-/// A list of places of groups in a reading, in ascending order.
+/// A list of places (indexes of groups in a reading) in ascending order.
 #[derive(Drop)]
 pub(crate) struct Places {
     places: Vec<u32>,
@@ -27,7 +28,7 @@ impl Model for Places {
 }
 
 impl Places {
-    /// Returns an empty list with a capacity of at least `room`.
+    /// Returns an empty list with a capacity of at least `room` places.
     pub(crate) fn with_room(alloc: Global, room: usize) -> Result<Places, NoMemory>
         ensures none { IfOk result (λ made. made.places ≡ []) }
         ensures room { IfOk result (λ made. room ≤ made.room) }
@@ -54,7 +55,7 @@ impl Places {
         }
     }
 
-    /// Returns the places.
+    /// Returns the places in ascending order.
     pub(crate) fn items(&self) -> &[u32]
         ensures { result.now ≡ self.now.places }
     {
@@ -62,7 +63,6 @@ impl Places {
     }
 }
 
-// Returns the number of children that the group in slot `slot` ever has.
 fn child_count(lives: &[GroupLife], slot: Slot) -> usize
     ensures { result ≡ child_count lives.now slot.0 }
 {
@@ -75,8 +75,8 @@ fn child_count(lives: &[GroupLife], slot: Slot) -> usize
     count
 }
 
-/// Returns, by slot, an empty list with capacity for the places of all children that the group ever
-/// has.
+/// Returns one empty list for each slot. Each list has capacity for the places of all children that
+/// the trace ever creates in that slot's group.
 pub(crate) fn room_below(alloc: Global, lives: &[GroupLife]) -> Result<Vec<Places>, NoMemory>
     requires { length lives.now ≤ 1024 }
     ensures slots { IfOk result (λ below. length below.items ≡ length lives.now) }
@@ -102,8 +102,8 @@ pub(crate) fn clear_below(below: &mut Vec<Places>)
     }
 }
 
-/// Appends a place to the list of slot `parent`, if any. Doesn't allocate. Precondition: that list
-/// isn't full.
+/// Appends a place to the list of slot `parent`, or does nothing if `parent` is `None`. Doesn't
+/// allocate. Precondition: that list isn't full.
 pub(crate) fn place_below(below: &mut Vec<Places>, parent: Option<Slot>, place: u32)
     requires { (slot : ℕ) (d : PlacesView) → slot < length below.old.items →
         names_slot slot (number_of_slot parent) ≡ true →

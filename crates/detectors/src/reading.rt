@@ -1,6 +1,6 @@
-//! A reading: what an evaluation of the rules sees.
+//! A reading: the input of one evaluation of the rules.
 //!
-//! The values are filled in by the caller; nothing is measured here.
+//! The caller fills in the values. This module measures nothing.
 ghost use Rattle.std.specs.Prelude.{◌≡◌, ◌<◌, ◌≤◌, [], IfOk, filter, length};
 ghost use Rattle.psi_spec.specs.Groups.{path_at};
 ghost use Rattle.psi_spec.specs.World.{most_groups};
@@ -17,20 +17,20 @@ use psi_spec::GroupLife;
 use std::alloc::Global;
 use std::marker::Model;
 
-/// A reading for an evaluation: the time, the host's memory, and the live groups in the byte order
-/// of their paths. It also has all groups that a trace ever creates. All memory is allocated when
-/// it is made.
+/// The input of one evaluation: the time, the host's memory, and the live groups in the byte order
+/// of their paths. A reading also has the list of all groups that the trace ever creates. `make`
+/// allocates all memory, and a reading is reused for later evaluations.
 #[derive(Drop)]
 pub struct Reading {
     lives: Vec<GroupLife>,
     at: Ns,
     host: HostReading,
-    /// The live groups, with capacity for all groups.
+    /// The live groups, with capacity for all groups of the trace.
     groups: Vec<GroupReading>,
-    /// The places of all live groups, in order.
+    /// The places (indexes in `groups`) of all live groups, in ascending order.
     all: Places,
-    /// By slot, the places of the group's live children, with capacity for all children that it
-    /// ever has.
+    /// For each slot, the places of the live children of its group, with capacity for all children
+    /// that the trace ever creates.
     below: Vec<Places>,
 }
 
@@ -50,7 +50,8 @@ impl Model for Reading {
 }
 
 impl Reading {
-    /// Returns an empty reading at time 0, with capacity for all groups of `lives`.
+    /// Returns an empty reading at time 0, with capacity for all groups of `lives`, the list of the
+    /// trace's groups.
     pub fn make(alloc: Global, lives: &[GroupLife]) -> Result<Reading, NoMemory>
         requires { length lives.now ≤ most_groups }
         ensures { IfOk result (λ reading.
@@ -70,8 +71,8 @@ impl Reading {
         })
     }
 
-    /// Starts a new reading at time `at` (ns), with the last sample of the host's memory and no
-    /// groups.
+    /// Starts a new reading at time `at` (ns), with the last sample of the host's memory and
+    /// without groups.
     pub fn start(&mut self, at: Ns, host: HostReading)
         requires { IsHostReading host }
         ensures { self.new ≡ reading_of self.old.lives (seen_at at host []) }
@@ -84,8 +85,8 @@ impl Reading {
     }
 
     /// Appends a live group. Doesn't allocate. Precondition: the group's path is greater, in byte
-    /// order, than the paths of the groups in the reading. So no group occurs twice, and there is
-    /// room.
+    /// order, than the paths of all groups already in the reading. Therefore no group occurs twice,
+    /// and the capacity suffices.
     pub fn push(&mut self, group: GroupReading)
         requires group { IsGroupReading (length self.old.lives) group }
         requires order { ComesLast self.old group }
@@ -107,7 +108,7 @@ impl Reading {
         self.at
     }
 
-    /// Returns the host's memory according to its last sample.
+    /// Returns the last sample of the host's memory.
     pub fn host(&self) -> HostReading
         ensures host { result ≡ self.now.seen.host }
         ensures within { IsHostReading result }
@@ -157,7 +158,7 @@ impl Reading {
         self.below[slot.0 as usize].items()
     }
 
-    /// Returns all groups that a trace ever creates, by slot.
+    /// Returns all groups that the trace ever creates, indexed by slot.
     pub fn lives(&self) -> &[GroupLife]
         ensures lives { result.now ≡ self.now.lives }
         ensures few { length result.now ≤ most_groups }
@@ -165,7 +166,7 @@ impl Reading {
         &self.lives
     }
 
-    /// Returns the path of the group in slot `slot`, whether it is live or not.
+    /// Returns the path of the group in slot `slot`. The group needn't be live.
     pub fn path(&self, slot: Slot) -> &Path
         requires { slot.0 < length self.now.lives }
         ensures { result.now ≡ path_at self.now.lives slot.0 }

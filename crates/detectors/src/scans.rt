@@ -1,7 +1,7 @@
-//! Stores and compares scan counts: the numbers of pages of each group that memory reclaim has
-//! scanned.
+//! Stores and compares scan counts. The scan count of a group is the number of its pages that
+//! memory reclaim has scanned.
 //!
-//! Only detectors of memory reclaim use them.
+//! Only detectors of memory reclaim use scan counts.
 ghost use Rattle.std.specs.Prelude.{◌≡◌, ◌<◌, ℕ, All, length, nat_lt};
 ghost use Rattle.detectors.specs.Tables.{found, have_risen, last_rise, risen_from, scan_after};
 ghost use Rattle.detectors.specs.Tables.{scan_among, scan_in, scan_slots};
@@ -22,7 +22,8 @@ fn scan_in(scans: &[Option<u64>], slot: Slot) -> Option<u64>
     }
 }
 
-/// Returns whether a count is greater than the previous one. False if there is no previous one.
+/// Returns whether the count `scan` is greater than the previous count `before`. False if there is
+/// no previous count.
 fn has_risen(before: Option<u64>, scan: u64) -> bool
     ensures { result ≡ nat_lt 0 (risen_from before scan) }
 {
@@ -32,7 +33,7 @@ fn has_risen(before: Option<u64>, scan: u64) -> bool
     }
 }
 
-/// Returns whether at least one match has a greater scan count than the stored one.
+/// Returns whether the scan count of at least one match is greater than its stored count.
 pub(crate) fn have_risen(scans: &[Option<u64>], matched: &[bool], groups: &[GroupReading]) -> bool
     ensures { result ≡ have_risen scans.now (found matched.now groups.now) }
 {
@@ -42,8 +43,9 @@ pub(crate) fn have_risen(scans: &[Option<u64>], matched: &[bool], groups: &[Grou
         .any(|group| has_risen(scan_in(scans, group.slot), group.scan))
 }
 
-/// Stores the scan counts of the groups in a reading, and discards all others. The code would use
-/// the first of two groups with the same slot, but a reading has no such groups.
+/// Replaces the stored scan counts by the counts of the groups in a reading. A slot without a group
+/// in the reading gets `None`. No two groups of a reading have the same slot; if two had, the first
+/// group's count would be stored.
 pub(crate) fn take_scans(scans: &mut [Option<u64>], groups: &[GroupReading])
     requires { All (λ (group : GroupReading). group.slot.0 < length scans.old) groups.now }
     ensures { (slot : ℕ) → scan_in scans.new slot ≡ scan_among groups.now slot }
@@ -57,8 +59,8 @@ pub(crate) fn take_scans(scans: &mut [Option<u64>], groups: &[GroupReading])
     }
 }
 
-/// For a detector of memory reclaim, stores the scan counts of a reading at `now` (ns), and returns
-/// the last time (ns) at which a match's count had increased. For any other detector, changes
+/// For a detector of memory reclaim, stores the scan counts of a reading at time `now` (ns), and
+/// returns the time (ns) of the last increase of a match's count. For any other detector, changes
 /// nothing and returns `increased`.
 pub(crate) fn take_rise(
     spec: &DetectorSpec,
