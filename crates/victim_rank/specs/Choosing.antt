@@ -1,5 +1,5 @@
--- Choices of a victim that depend on earlier readings only through the stored past. The past
--- *represents* readings if it is what is stored after them.
+-- States that the choice of a victim depends on earlier readings only through the stored past. A
+-- stored past *represents* a list of readings if it is the past stored after these readings.
 use Rattle.std.specs.Prelude.{◌≡◌, ℕ, List, length, filter, option_map, Option}
 use Rattle.psi_base.specs.declared.event.Slot.{Slot}
 use Rattle.psi_spec.specs.declared.machine.GroupLife.{GroupLife}
@@ -12,25 +12,28 @@ use Rattle.victim_rank.specs.Pasts.{IsPastOf, Kept}
 use Rattle.victim_rank.specs.Growth.{has_grown_more_over, is_growing_over}
 use Rattle.victim_rank.specs.Scopes.{ScopeView, among}
 
--- `result` is the slot of the group that the action kills at the reading `now`, for any earlier
--- readings (newest first) that the stored past represents; `None` if there is no victim.
+-- For every list of earlier readings (newest first) that the stored past represents, `result` is
+-- the slot of the group that the action kills at the reading `now`, or `None` if there is no
+-- victim.
 abbrev pub IsVictim : List GroupLife → Action → Reading → Kept → Option Slot → Type 0
 IsVictim lives act now kept result = (history : List Reading) → IsPastOf kept history →
     result ≡ option_map (λ (group : GroupReading). group.slot) (victim lives act now history)
 
--- `result` is the action's choice among the groups of the scope, for any earlier readings that the
--- stored past represents
+-- For every list of earlier readings that the stored past represents, `result` is the action's
+-- choice among the groups of the scope.
 abbrev pub Chooses : ScopeView → Reading → Kept → Option GroupReading → Type 0
 Chooses scope now kept result = (history : List Reading) → IsPastOf kept history →
     result ≡ choice scope.lives scope.act now history (among scope.lives scope.act scope.above now)
 
--- `result` is the last of at most `count` further choices, each among the children of the group
--- chosen before it
+-- `result` is the group chosen last, after at most `count` further choices that start at the group
+-- `chosen`. Each choice is among the children of the group chosen before it.
 abbrev pub Descends : ScopeView → Reading → Kept → ℕ → GroupReading → GroupReading → Type 0
 Descends scope now kept count chosen result = (history : List Reading) → IsPastOf kept history →
     result ≡ descended scope.lives scope.act now history count chosen
 
--- the choice by size or growth, if `sizes` gives the past sizes of each group
+-- The choice by size or growth among `groups`, if `sizes` returns the past sizes of a group.
+-- Returns the largest group if it is large enough, otherwise the group that has grown most,
+-- otherwise the largest group of the best preference.
 abbrev pub size_choice : (GroupReading → List ℕ) → List GroupLife → ℕ → ℕ → ℕ →
     List GroupReading → Option GroupReading
 size_choice sizes lives size_threshold percentile ratio groups =

@@ -1,5 +1,5 @@
--- The growth of a group as the code stores it, and the comparison of the group that has grown most
--- with the next group.
+-- Relates the record `Grown`, which stores the growth of a group, to the group. Compares the best
+-- growth found with the growth of the next group.
 use Rattle.std.specs.Prelude.{◌≡◌, ℕ, ◌*◌, ◌<◌, ◌≤◌, ◌^◌, List, length, sum, nat_lt, ◌==◌, ◌&&◌, ◌||◌}
 use Rattle.std.specs.Prelude.{Bool}
 use Rattle.kill_spec.specs.declared.reading.GroupReading.{GroupReading}
@@ -7,7 +7,7 @@ use Rattle.kill_spec.specs.Victims.{memory_in_use}
 use Rattle.detectors.specs.Inner.{group_at}
 use Rattle.victim_rank.specs.declared.growth.Grown.{Grown}
 
--- `grown` is the growth of the group `seen` over its past sizes
+-- `grown` stores the growth of the group `seen` over its past sizes, which `sizes_had` returns.
 pub record IsGrown (sizes_had : GroupReading → List ℕ) (grown : Grown) (seen : GroupReading)
     : Type 0 where
   pub current_is : grown.current ≡ memory_in_use seen
@@ -16,15 +16,15 @@ pub record IsGrown (sizes_had : GroupReading → List ℕ) (grown : Grown) (seen
   pub sizes_fit : grown.sizes ≤ 2 ^ 62
   pub sum_fits : grown.sum ≤ 2 ^ 62
 
--- The growth `next` beats the earlier growth `best`: it is greater, or it is equal and the group
--- uses more memory.
+-- Whether the growth `next` beats the earlier growth `best`: `next` is greater, or both are equal
+-- and the group of `next` uses more memory.
 abbrev pub leads_grown : Grown → Grown → Bool
 leads_grown next best =
     nat_lt (best.sizes * next.sum) (next.sizes * best.sum)
     || (next.sizes * best.sum == best.sizes * next.sum
     && nat_lt best.current next.current)
 
--- `grown` is the growth of the group at its place
+-- `grown` stores the growth of the group at index `grown.place`.
 pub record IsGrownAt (sizes_had : GroupReading → List ℕ) (groups : List GroupReading)
     (grown : Grown) : Type 0 where
   pub within : grown.place < length groups

@@ -1,4 +1,4 @@
--- The growth of groups over their past sizes, as a function of the group.
+-- Defines the growth of a group over its past sizes, and when a group has grown more than another.
 use Rattle.std.specs.Prelude.{ℕ, ◌*◌, List, [], length, sum, nat_le, nat_lt, ◌==◌, ◌&&◌, ◌||◌, Bool}
 use Rattle.std.specs.Prelude.{slice_index_or}
 use Rattle.psi_spec.specs.declared.machine.GroupLife.{GroupLife}
@@ -6,23 +6,23 @@ use Rattle.kill_spec.specs.declared.reading.GroupReading.{GroupReading}
 use Rattle.kill_spec.specs.Victims.{is_larger, memory_in_use}
 use Rattle.victim_rank.specs.Pasts.{Kept}
 
--- the stored past sizes (bytes) of a group
+-- The past sizes (bytes) that are stored for the group.
 abbrev pub sizes_from : Kept → GroupReading → List ℕ
 sizes_from kept group = slice_index_or kept.sizes group.slot.0 []
 
--- the group has past sizes that aren't all 0, and its size is at least `ratio` thousandths of their
--- mean
+-- Whether the group's size is at least `ratio` thousandths of the mean of its past sizes. False if
+-- the group has no past sizes, or if all of them are 0.
 abbrev pub is_growing_over : (GroupReading → List ℕ) → ℕ → GroupReading → Bool
 is_growing_over sizes ratio group =
     nat_lt 0 (sum (sizes group))
     && nat_le (ratio * sum (sizes group)) (memory_in_use group * length (sizes group) * 1000)
 
--- The growth of `group` (its size over the mean of its past sizes), multiplied by the sums of the
--- past sizes of both groups. So two growths are compared without division.
+-- The growth of `group` (its size divided by the mean of its past sizes), multiplied by the sums of
+-- the past sizes of `group` and `other`. Two growths scaled this way are compared without division.
 abbrev pub growth_over : (GroupReading → List ℕ) → GroupReading → GroupReading → ℕ
 growth_over sizes group other = memory_in_use group * length (sizes group) * sum (sizes other)
 
--- the first group has grown more than the second, or as much and is larger
+-- Whether the group `first` has grown more than `second`, or has grown equally and is larger.
 abbrev pub has_grown_more_over : (GroupReading → List ℕ) → List GroupLife →
     GroupReading → GroupReading → Bool
 has_grown_more_over sizes lives first second =

@@ -1,5 +1,5 @@
--- The scope of a choice (the groups among which it is made), and the measure by which an action
--- ranks groups.
+-- Defines the scope of a choice (the groups that an action may choose from), and the measure by
+-- which an action orders groups.
 use Rattle.std.specs.Prelude.{◌≡◌, ℕ, length, ◌-◌, ◌&&◌, ◌==◌, List, Option, None, Some, Bool, true}
 use Rattle.std.specs.Prelude.{nat_lt, slice_index_or}
 use Rattle.psi_base.specs.declared.event.Slot.{Slot}
@@ -19,41 +19,42 @@ use Rattle.victim_rank.specs.Pasts.{Kept}
 
 -- ---- scopes
 
--- A scope: all groups that a trace ever creates, the action, and the slot of the group chosen
--- before, if any. The choice is made among the children of that group, or else among the action's
--- candidates (the populated groups that its patterns match).
+-- A scope. `lives` has all groups that the trace ever creates, `act` is the action, and `above` is
+-- the slot of the group chosen before. The action chooses among the children of that group. If
+-- `above` is `None`, the action chooses among its candidates: the populated groups that its
+-- patterns match.
 pub record ScopeView : Type 0 where
   pub lives : List GroupLife
   pub act : Action
   pub above : Option Slot
 
--- the groups of a reading that are in the scope
+-- The groups of the reading `now` that are in the scope with these arguments.
 abbrev pub among : List GroupLife → Action → Option Slot → Reading → List GroupReading
 among lives act None now = candidates lives (action_patterns act) now
 among lives act (Some above) now = children lives above.0 now
 
--- the group is in the scope of these arguments
+-- Whether `group` is in the scope with these arguments.
 abbrev pub is_in_scope : List GroupLife → Action → Option Slot → GroupReading → Bool
 is_in_scope lives act None group = group.populated && is_match (action_patterns act) (path_of lives group)
 is_in_scope lives act (Some above) group =
     group.populated && names_slot above.0 (slice_index_or (parents_of lives) group.slot.0 None)
 
--- the group is in the scope
+-- Whether `group` is in the scope `scope`.
 abbrev pub is_in_view : ScopeView → GroupReading → Bool
 is_in_view scope group = is_in_scope scope.lives scope.act scope.above group
 
--- the group is in the scope, and its preference has the rank `best_rank`
+-- Whether `group` is in the scope and its preference has the rank `best_rank`.
 abbrev pub is_in_rank : ScopeView → ℕ → GroupReading → Bool
 is_in_rank scope best_rank group = is_in_view scope group && rank_of group == best_rank
 
--- The scope, the reading and the past are about the same groups, and the action's numbers are in
--- range. This is the precondition of a choice.
+-- The precondition of a choice: the scope, the reading and the stored past are about the groups of
+-- one trace, and the action's numbers are in range.
 pub record IsUse (scope : ScopeView) (reading : ReadingView) (kept : Kept) : Type 0 where
   pub fits : FitsAction scope.act
   pub lives : reading.lives ≡ scope.lives
   pub slots : length kept.sizes ≡ length scope.lives
 
--- the action chooses by size or growth
+-- The action chooses by size or growth.
 abbrev pub IsSizes : Action → Type 0
 IsSizes (action.SizeOrGrowth cgroup size_threshold percentile ratio after) = Unit {0}
 IsSizes (action.SwapUsage cgroup threshold after) = ⊥
@@ -62,16 +63,16 @@ IsSizes (action.PgScan cgroup after) = ⊥
 
 -- ---- measures
 
--- the increase of a scan count over an earlier count, or 0 if there is no earlier count
+-- The increase of the scan count `scan` over the earlier count, or 0 if there is no earlier count.
 abbrev pub above_count : ℕ → Option ℕ → ℕ
 above_count scan None = 0
 above_count scan (Some before) = scan - before
 
--- the increase of the group's scan count over the stored count
+-- The increase of the group's scan count over its stored count.
 abbrev pub rise_from : Kept → GroupReading → ℕ
 rise_from kept group = above_count group.scan (slice_index_or kept.scans group.slot.0 None)
 
--- the measure of a group for this action: groups with a greater measure are chosen first
+-- The measure by which the action orders groups. Groups with a greater measure are chosen first.
 abbrev pub measure_of : Action → Kept → GroupReading → ℕ
 measure_of (action.SizeOrGrowth cgroup size_threshold percentile ratio after) kept group =
     memory_in_use group
@@ -79,7 +80,7 @@ measure_of (action.SwapUsage cgroup threshold after) kept group = group.swap
 measure_of (action.Pressure cgroup resource after) kept group = pressure_measure resource group
 measure_of (action.PgScan cgroup after) kept group = rise_from kept group
 
--- the action may choose the group
+-- Whether the action may choose `group`.
 abbrev pub is_eligible : Action → HostReading → Kept → GroupReading → Bool
 is_eligible (action.SizeOrGrowth cgroup size_threshold percentile ratio after) host kept group =
     true

@@ -1,9 +1,9 @@
--- The stored sizes of a group after one more reading.
+-- Defines how one more reading changes the stored sizes of a group.
 use Rattle.std.specs.Prelude.{ℕ, List, ◌∷◌, take, Option, None, Some}
 use Rattle.kill_spec.specs.declared.reading.GroupReading.{GroupReading}
 
--- The stored sizes (bytes) after a reading: the size of the group, if it was live, and then the
--- earlier sizes; at most four in total.
+-- The stored sizes (bytes) of a group after a reading. If the group was live at the reading, its
+-- size there is put before the earlier sizes, and at most four sizes remain.
 abbrev pub newer_sizes : Option GroupReading → List ℕ → List ℕ
 newer_sizes None sizes = sizes
 newer_sizes (Some group) sizes = take 4 (group.current ∷ sizes)

@@ -1,6 +1,6 @@
-//! Chooses the victim of an action.
+//! Chooses the victim of an action: the group whose tasks are killed.
 //!
-//! It doesn't decide whether the action is taken.
+//! This module doesn't decide whether the action runs.
 ghost use Rattle.std.specs.Prelude.{◌≡◌, length};
 ghost use Rattle.detectors.specs.Tables.{match_table};
 ghost use Rattle.kill_spec.specs.Victims.{action_patterns};
@@ -22,9 +22,9 @@ use psi_base::Slot;
 use psi_spec::GroupLife;
 use ruleset_json::Action;
 
-// Returns the choice by size or growth: the largest group of the best preference if it uses the
-// required share of the memory that all groups of the scope use; else the growing group of that
-// preference that has grown most; else the largest group of that preference after all.
+// Chooses by size or growth, among the groups of the best preference in the scope. Returns the
+// largest of them if its share of the memory of all groups in the scope is large enough. Otherwise
+// returns the group that has grown most, or the largest group if no group is growing.
 fn by_size_or_growth(
     scope: &Scope<'_>,
     reading: &Reading,
@@ -70,8 +70,8 @@ fn choose(scope: &Scope<'_>, reading: &Reading, past: &Past) -> Option<GroupRead
     }
 }
 
-// Repeats the choice among the children of the group chosen last, until none can be chosen. Returns
-// the group chosen last.
+// Chooses again among the children of the chosen group, until no child can be chosen. Returns the
+// group chosen last.
 fn descend(scope: &Scope<'_>, reading: &Reading, past: &Past, chosen: GroupReading) -> GroupReading
     requires { IsUse scope.now reading.now past.now }
     ensures { Descends scope.now reading.now.seen past.now (length scope.now.lives) chosen result }
@@ -86,14 +86,14 @@ fn descend(scope: &Scope<'_>, reading: &Reading, past: &Past, chosen: GroupReadi
     last
 }
 
-/// Returns the slot of the group that an action kills at a reading, after the earlier readings in
-/// `past`; `None` if there is no victim. The first choice is among the populated groups that match
-/// according to `table`; a recursive action repeats the choice among the children of the chosen
-/// group. Doesn't allocate.
+/// Returns the slot of the group that an action kills at a reading, or `None` if there is no
+/// victim. `past` has what was stored of the earlier readings. The first choice is among the
+/// populated groups that match according to `table`. A recursive action then chooses among the
+/// children of the chosen group, level by level. Doesn't allocate.
 ///
-/// A choice by a measure walks the groups of its scope once. A choice by size or growth walks them
-/// up to four times, plus the walks of `grown_most`. A recursive action chooses once for each
-/// level, and there only among the children.
+/// Cost: a choice by swap, pressure or page scans visits each group of its scope once. A choice by
+/// size or growth visits each group up to four times, plus the visits of `grown_most`. A recursive
+/// action makes one choice per level, and each choice below the first visits only children.
 pub fn victim(
     action: &Action,
     table: &MatchTable,

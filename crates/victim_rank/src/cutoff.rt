@@ -1,6 +1,7 @@
-//! Finds the largest groups of a scope that have the same preference rank.
+//! Finds the largest groups among the groups of a scope that have the same preference rank.
 //!
-//! It sorts nothing: a *cutoff* is the key (in the order of sizes) that exactly these groups reach.
+//! The groups aren't sorted. Each group has a numeric key that grows with its size. The *cutoff* is
+//! a key that exactly the largest groups reach; binary search finds it.
 ghost use Rattle.std.specs.Prelude.{◌≡◌, ◌<◌, ◌≤◌, ◌^◌, ◌*◌, ◌+◌, ◌-◌, Contains, IfSome, filter, length, nat_le, nat_lt, true};
 ghost use Rattle.detectors.specs.Inner.{AreAmong, group_at, groups_at};
 ghost use Rattle.kill_spec.specs.LegalReadings.{IsGroupReading};
@@ -13,8 +14,8 @@ use crate::size::is_in_rank;
 use detectors::Reading;
 use kill_spec::GroupReading;
 
-/// Returns the key of the group at index `place`: a larger group has a greater key; of two groups
-/// with the same size, the group whose path comes first has the greater key.
+/// Returns the key of the group at index `place` of a reading. A larger group has a greater key. Of
+/// two groups with equal size, the group whose path comes first in byte order has the greater key.
 fn size_key(place: u32, group: &GroupReading) -> u128
     requires place { place < 1024 }
     ensures { result ≡ memory_in_use group.now * 1024 + (1023 - place) }
@@ -22,7 +23,8 @@ fn size_key(place: u32, group: &GroupReading) -> u128
     u128::from(group.current) * 1024 + u128::from(1023 - place)
 }
 
-/// Returns the number of groups of the scope with rank `best_rank` whose key is at least `key`.
+/// Returns the number of groups of the scope with preference rank `best_rank` whose key is at least
+/// `key`.
 fn count_reaching(
     scope: &Scope<'_>,
     best_rank: u8,
@@ -44,8 +46,8 @@ fn count_reaching(
     count
 }
 
-/// Returns the greatest key of the groups of the scope with rank `best_rank`, or 0 if there are
-/// none.
+/// Returns the greatest key of the groups of the scope with preference rank `best_rank`, or 0 if
+/// there are no such groups.
 fn greatest_key(scope: &Scope<'_>, best_rank: u8, reading: &Reading, places: &[u32]) -> u128
     requires { IsRanking scope.now best_rank reading.now places.now }
     ensures none { count_reaching (is_in_rank scope.now best_rank)
@@ -62,9 +64,9 @@ fn greatest_key(scope: &Scope<'_>, best_rank: u8, reading: &Reading, places: &[u
     greatest
 }
 
-/// Returns the key that exactly the `few` largest groups of the scope with rank `best_rank` reach.
-/// Finds it by binary search: each step halves the range of keys, and walks the groups once. If
-/// there are at most `few` groups, all of them reach the key.
+/// Returns a key that exactly the `few` largest groups of the scope with preference rank
+/// `best_rank` reach. If there are at most `few` such groups, all of them reach the key. Each step
+/// of the binary search halves the range of keys and visits each group once.
 fn cutoff(scope: &Scope<'_>, best_rank: u8, reading: &Reading, places: &[u32], few: u128) -> u128
     requires ranking { IsRanking scope.now best_rank reading.now places.now }
     requires few { 0 < few }
@@ -87,9 +89,9 @@ fn cutoff(scope: &Scope<'_>, best_rank: u8, reading: &Reading, places: &[u32], f
     low
 }
 
-/// Returns whether fewer than `few` groups of the scope with rank `best_rank` are larger than the
-/// group at index `place`. Precondition: that group is in the scope and has this rank. The cutoff
-/// is computed at the first call, and stored in `known`.
+/// Returns whether fewer than `few` groups of the scope with preference rank `best_rank` are larger
+/// than the group at index `place`. Precondition: that group is in the scope and has this rank. The
+/// first call computes the cutoff and stores it in `known`; later calls use it.
 pub(crate) fn is_among_largest(
     scope: &Scope<'_>,
     best_rank: u8,

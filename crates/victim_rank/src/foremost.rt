@@ -1,6 +1,7 @@
-//! Finds the group that ranks first: by preference, then by the action's measure, then by path.
+//! Finds the first group in the order of an action: by preference, then by the action's measure,
+//! then by path.
 //!
-//! The choice by growth is in `growth`.
+//! The module `growth` makes the choice by growth.
 ghost use Rattle.std.specs.Prelude.{◌≡◌, ◌&&◌, ◌<◌, MatchOption, false, filter, length, map, true, if◌then◌else◌};
 ghost use Rattle.ruleset_json.specs.Ranges.{FitsAction};
 ghost use Rattle.kill_spec.specs.Readings.{path_of};
@@ -15,7 +16,7 @@ use crate::scope::Scope;
 use detectors::Reading;
 use kill_spec::{GroupReading, HostReading};
 
-/// The place (index) of a group in a reading, the rank of its preference, and its measure.
+/// A candidate: the place (index) of its group in a reading, its preference rank, and its measure.
 #[derive(Clone, Copy)]
 pub(crate) struct Measured {
     place: u32,
@@ -23,15 +24,15 @@ pub(crate) struct Measured {
     measure: u64,
 }
 
-// Returns whether `next` beats the earlier group `best`: its preference is better, or equal and its
-// measure is greater.
+// Returns whether `next` beats the earlier candidate `best`: its preference rank is greater, or the
+// ranks are equal and its measure is greater.
 fn leads(next: &Measured, best: &Measured) -> bool
     ensures { result ≡ leads_measured next.now best.now }
 {
     next.rank > best.rank || (next.rank == best.rank && next.measure > best.measure)
 }
 
-// Returns the better of two groups, or `next` if there is no earlier group.
+// Returns the better of two candidates, or `next` if there is no earlier candidate.
 fn better(best: Option<Measured>, next: Measured) -> Measured
     ensures { MatchOption best (result ≡ next)
         (λ before. result ≡ (if leads_measured next before then next else before)) }
@@ -42,8 +43,8 @@ fn better(best: Option<Measured>, next: Measured) -> Measured
     }
 }
 
-// Returns the measure of a group, by which the action ranks groups. `None` if the group isn't in
-// the scope, or the action may not choose it.
+// Returns the measure by which the action orders groups. `None` if the group isn't in the scope, or
+// if the action may not choose it.
 fn measured_in(
     scope: &Scope<'_>,
     host: HostReading,
@@ -67,9 +68,9 @@ fn measured_in(
     measured(scope.action(), host, past, group)
 }
 
-/// Returns the group that ranks first among the groups of the scope that the action may choose: by
-/// preference, then by the action's measure, then by path. `None` if there is none. Walks the
-/// groups of the scope once.
+/// Returns the first group of the scope by preference, then by the action's measure, then by path,
+/// among the groups that the action may choose. `None` if the action may choose no group. Visits
+/// each group of the scope once.
 pub(crate) fn foremost(scope: &Scope<'_>, reading: &Reading, past: &Past) -> Option<GroupReading>
     requires { IsUse scope.now reading.now past.now }
     ensures choice { result

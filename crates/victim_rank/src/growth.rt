@@ -1,6 +1,7 @@
-//! Finds the group that has grown most over its past sizes.
+//! Finds the group that has grown most. The growth of a group is its size divided by the mean of
+//! its past sizes.
 //!
-//! Growth is a quotient; growths are compared by products, so nothing is rounded.
+//! Two growths are compared by cross multiplication, so nothing is rounded.
 ghost use Rattle.std.specs.Prelude.{◌≡◌, ◌≤◌, ◌<◌, ◌^◌, ◌*◌, All, MatchOption, filter, length, nat_le, nat_lt, sum, true, ◌&&◌};
 ghost use Rattle.ruleset_json.specs.Ranges.{IsRatio};
 ghost use Rattle.kill_spec.specs.Victims.{largest_few, unbeaten};
@@ -15,9 +16,9 @@ use crate::size::is_in_rank;
 use detectors::Reading;
 use kill_spec::GroupReading;
 
-/// The growth of a group: its place (index) in a reading, its size (bytes), its size times the
-/// number of its past sizes, and the sum of its past sizes. The growth is `sizes / sum`: the size
-/// over the mean of the past sizes.
+/// The growth of a group. `place` is the index of the group in a reading, `current` is its size
+/// (bytes), `sizes` is its size times the number of its past sizes, and `sum` is the sum of its
+/// past sizes. The growth is `sizes / sum`: the size divided by the mean of the past sizes.
 #[derive(Clone, Copy)]
 pub(crate) struct Grown {
     place: u32,
@@ -39,7 +40,6 @@ fn sum(sizes: &[u64]) -> u64
     total
 }
 
-// Returns the growth of a group over its past sizes.
 fn growth_of(past: &Past, place: u32, group: &GroupReading) -> Grown
     requires { group.now.current ≤ 2 ^ 60 }
     ensures place { result.place ≡ place }
@@ -54,8 +54,8 @@ fn growth_of(past: &Past, place: u32, group: &GroupReading) -> Grown
     }
 }
 
-// Returns whether the growth is at least `ratio` (thousandths). False if the past sizes are all 0,
-// or there are none.
+// Returns whether the growth is at least `ratio` thousandths. False if the group has no past sizes,
+// or if all of them are 0.
 fn is_growing(ratio: u32, grown: &Grown) -> bool
     requires ratio { IsRatio ratio }
     requires sizes { grown.now.sizes ≤ 2 ^ 62 }
@@ -66,8 +66,8 @@ fn is_growing(ratio: u32, grown: &Grown) -> bool
     grown.sum > 0 && u128::from(grown.sizes) * 1000 >= u128::from(ratio) * u128::from(grown.sum)
 }
 
-// Returns whether `next` beats the earlier `best`: the group has grown more, or as much and uses
-// more memory.
+// Returns whether `next` beats the earlier group `best`: it has grown more, or it has grown equally
+// and uses more memory.
 fn leads(next: &Grown, best: &Grown) -> bool
     ensures { result ≡ leads_grown next.now best.now }
 {
@@ -76,7 +76,7 @@ fn leads(next: &Grown, best: &Grown) -> bool
     next_growth > best_growth || (next_growth == best_growth && next.current > best.current)
 }
 
-// Returns whether there is no earlier group, or `next` beats it.
+// Returns whether `next` beats the earlier group, or there is no earlier group.
 fn leads_any(next: &Grown, best: Option<Grown>) -> bool
     ensures { MatchOption best (result ≡ true) (λ before.
         result ≡ leads_grown next.now before) }
@@ -87,9 +87,10 @@ fn leads_any(next: &Grown, best: Option<Grown>) -> bool
     }
 }
 
-/// Returns the growing group that has grown most, among the `few` largest groups of the scope with
-/// rank `best_rank`. `None` if none of them is growing. Walks the groups once, and up to 72 times
-/// more to find the cutoff if a group is growing.
+/// Returns the group that has grown most, among the `few` largest groups of the scope with
+/// preference rank `best_rank`. Only a group whose growth is at least `ratio` thousandths counts;
+/// returns `None` if no group has grown that much. Visits each group once. If a group is growing,
+/// finding the cutoff takes up to 72 more visits of each group.
 pub(crate) fn grown_most(
     scope: &Scope<'_>,
     best_rank: u8,

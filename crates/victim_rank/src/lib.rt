@@ -1,11 +1,11 @@
-//! The choice of a victim: the group that an action kills at a reading, after the earlier readings.
+//! Chooses victims. The victim of an action is the control group that the action kills.
 //!
-//! A reading is what an evaluation of the rules sees: the time, the host's memory and the live
-//! groups. [`Past`] stores what later choices need of each reading, and [`victim`] chooses. Neither
-//! allocates after the `Past` is made. [`after_of`] returns the settings of an action that apply
-//! after a kill.
+//! A reading is the input of one evaluation of the rules: the time, the host's memory and the live
+//! groups. [`Past`] stores the values of earlier readings that later choices need, and [`victim`]
+//! chooses. Only [`Past::make`] and [`MatchTable::of`] allocate. [`after_of`] returns the settings
+//! of an action that apply after a kill.
 //!
-//! This crate doesn't decide when an action is taken: kill_engine does.
+//! This crate doesn't decide when an action runs: kill_engine does.
 #![tactic(auto)]
 
 mod choice;

@@ -1,6 +1,7 @@
-//! The preference rank and the measure by which an action ranks groups.
+//! The two numbers by which an action orders groups: the rank of the group's preference, and the
+//! action's own measure (size, swap, pressure or pages scanned).
 //!
-//! The walks over the groups are in `foremost`.
+//! The module `foremost` uses both to find the first group.
 ghost use Rattle.std.specs.Prelude.{◌≡◌, ◌<◌, ◌≤◌, ◌^◌, All, MatchOption, false, length, true};
 ghost use Rattle.pressure_spec.specs.Within.{IsRow};
 ghost use Rattle.pressure_spec.specs.Share.{irq_quantity};
@@ -14,7 +15,8 @@ use kill_spec::{GroupReading, HostReading};
 use psi_base::{Level, Preference, Res, State};
 use ruleset_json::{Action, Size};
 
-/// Returns the rank of a group's preference: groups with a greater rank are chosen first.
+/// Returns the rank of a group's preference. A group with a greater rank is chosen before a group
+/// with a lower rank.
 pub(crate) fn rank(group: &GroupReading) -> u8
     ensures { result ≡ rank_of group.now }
 {
@@ -25,7 +27,7 @@ pub(crate) fn rank(group: &GroupReading) -> u8
     }
 }
 
-// Returns the sum of the full averages of a resource over 10 s and 60 s.
+// Returns the sum of the `full` pressure averages of a resource over 10 s and over 60 s.
 fn pressure(group: &GroupReading, resource: Res) -> u64
     requires rows { length group.now.averages ≡ irq_quantity }
     requires each { All IsRow group.now.averages }
@@ -35,8 +37,8 @@ fn pressure(group: &GroupReading, resource: Res) -> u64
     averages[0] + averages[1]
 }
 
-// Returns whether the swap in use is at least `threshold`, which is in bytes or in percent of the
-// host's swap.
+// Returns whether `swap` (bytes in use) is at least `threshold`, a number of bytes or a percentage
+// of the host's swap.
 fn is_at_least(threshold: Size, host: HostReading, swap: u64) -> bool
     requires threshold { IsSize threshold }
     requires host { IsHostReading host }
@@ -51,15 +53,15 @@ fn is_at_least(threshold: Size, host: HostReading, swap: u64) -> bool
     }
 }
 
-// Returns the number, or `None` for 0.
+// Returns the measure, or `None` if the measure is 0.
 fn above_zero(measure: u64) -> Option<u64>
     ensures { MatchOption result (measure ≡ 0) (λ same. (0 < measure) × (same ≡ measure)) }
 {
     if measure > 0 { Some(measure) } else { None }
 }
 
-/// Returns the measure of a group, by which the action ranks groups. `None` if the action may not
-/// choose the group.
+/// Returns the measure by which the action orders groups. `None` if the action may not choose the
+/// group.
 pub(crate) fn measured(
     action: &Action,
     host: HostReading,

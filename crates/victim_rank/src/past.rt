@@ -1,6 +1,6 @@
-//! The stored past: what is stored of earlier readings for the choice of victims.
+//! The stored past: for each group, the values of earlier readings that a choice of a victim needs.
 //!
-//! It stores no whole readings.
+//! Whole readings aren't stored.
 ghost use Rattle.std.specs.Prelude.{◌≡◌, ◌≤◌, ◌^◌, ℕ, [], ◌∷◌, All, IfOk, Some, length, map, option_map, replicate, slice_index_or, take, None};
 ghost use Rattle.kill_spec.specs.declared.reading.GroupReading.{GroupReading};
 ghost use Rattle.kill_spec.specs.Readings.{group_in};
@@ -15,12 +15,12 @@ use psi_base::NoMemory;
 use std::alloc::Global;
 use std::marker::Model;
 
-/// The last sizes of a group, at most four, newest first.
+/// The last sizes of a group: at most four, newest first.
 #[derive(Clone, Copy)]
 pub(crate) struct Sizes {
     /// The sizes (bytes); only the first `count` are valid.
     bytes: [u64; 4],
-    /// The number of sizes.
+    /// The number of valid sizes.
     count: usize,
 }
 
@@ -41,7 +41,8 @@ fn no_scans(alloc: Global, slots: u32) -> Result<Vec<Option<u64>>, NoMemory>
     Ok(vec![in alloc; None; slots as usize]?)
 }
 
-// Returns the sizes with `newest` first, and without the fifth.
+// Returns the sizes with `newest` added at the front. Drops the oldest size if there were already
+// four.
 fn suffix(newest: u64, sizes: Sizes) -> Sizes
     requires newest { newest ≤ 2 ^ 60 }
     requires within { AreSizes sizes }
@@ -55,7 +56,7 @@ fn suffix(newest: u64, sizes: Sizes) -> Sizes
     }
 }
 
-// Adds the size of each group in the reading to the stored sizes of the group.
+// Adds the current size of each group in the reading to the stored sizes of that group.
 fn take_sizes(sizes: &mut [Sizes], reading: &Reading)
     requires slots { length sizes.old ≡ length reading.now.lives }
     requires within { All AreSizes sizes.old }
@@ -70,7 +71,8 @@ fn take_sizes(sizes: &mut [Sizes], reading: &Reading)
     }
 }
 
-// Stores the scan counts of the groups in the reading, and discards all others.
+// Replaces the stored scan counts by the scan counts of the groups in the reading. A slot without a
+// group in the reading gets `None`.
 fn take_scans(scans: &mut [Option<u64>], reading: &Reading)
     requires { length scans.old ≡ length reading.now.lives }
     ensures { (slot : ℕ) → slice_index_or scans.new slot None
@@ -82,9 +84,10 @@ fn take_scans(scans: &mut [Option<u64>], reading: &Reading)
     }
 }
 
-/// The stored past of each group, by slot: its sizes (bytes) at the last four evaluations at which
-/// it was live, and its scan count (pages that memory reclaim has scanned) at the last evaluation,
-/// if it was live then.
+/// The stored past of each group, indexed by slot. `sizes` has the group's sizes (bytes) at the
+/// last four evaluations at which it was live. `scans` has its scan count (the number of its pages
+/// that memory reclaim has scanned) at the last evaluation, or `None` if the group wasn't live
+/// then.
 #[derive(Drop)]
 pub struct Past {
     sizes: Vec<Sizes>,
@@ -102,7 +105,8 @@ impl Model for Past {
 }
 
 impl Past {
-    /// Returns the past of `slots` groups before the first evaluation. Allocates all its memory.
+    /// Returns the past of `slots` groups before the first evaluation. Allocates all memory that
+    /// the past ever needs.
     pub fn make(alloc: Global, slots: u32) -> Result<Past, NoMemory>
         ensures slots { IfOk result (λ past. length past.sizes ≡ slots) }
         ensures first { IfOk result (λ past. IsPastOf past []) }
@@ -113,7 +117,8 @@ impl Past {
         })
     }
 
-    /// Stores the reading of the next evaluation. Doesn't allocate.
+    /// Stores the sizes and scan counts of a reading. Call it once for each evaluation, in order.
+    /// Doesn't allocate.
     pub fn push(&mut self, reading: &Reading)
         requires { length self.old.sizes ≡ length reading.now.lives }
         ensures slots { length self.new.sizes ≡ length self.old.sizes }
@@ -123,8 +128,8 @@ impl Past {
         take_scans(&mut self.scans, reading);
     }
 
-    // Returns the number of pages scanned for a group since the last evaluation, or 0 if it wasn't
-    // live then.
+    // Returns the number of pages of the group that were scanned since the last evaluation. Returns
+    // 0 if the group wasn't live at the last evaluation.
     pub(crate) fn rise(&self, group: &GroupReading) -> u64
         ensures { result ≡ rise_from self.now group.now }
     {
@@ -134,7 +139,7 @@ impl Past {
         }
     }
 
-    // Returns the last sizes of a group (bytes), at most four, newest first.
+    // Returns the stored sizes of the group (bytes): at most four, newest first.
     pub(crate) fn sizes(&self, group: &GroupReading) -> &[u64]
         ensures sizes { result.now ≡ sizes_from self.now group.now }
         ensures few { length result.now ≤ 4 }

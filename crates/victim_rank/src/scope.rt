@@ -1,6 +1,6 @@
-//! The scope of a choice: the groups among which it is made.
+//! The scope of a choice: the groups that an action may choose from.
 //!
-//! The choice itself is in `choice`.
+//! The module `choice` makes the choice.
 ghost use Rattle.std.specs.Prelude.{◌≡◌, ◌<◌, ◌≤◌, None, Some, filter, length};
 ghost use Rattle.kill_spec.specs.Victims.{action_patterns, after_of};
 ghost use Rattle.detectors.specs.Inner.{AreAmong, groups_at};
@@ -17,15 +17,16 @@ use psi_spec::GroupLife;
 use ruleset_json::{Action, After};
 use std::marker::Model;
 
-/// The groups among which an action chooses: its candidates, or the children of a group. Only
-/// populated groups count: a live task is in them or below them.
+/// The groups that an action chooses from: either the action's candidates (the groups that its
+/// patterns match), or the children of one group. Only populated groups are in the scope: groups
+/// that have a live task in them or in a descendant.
 #[derive(Drop)]
 pub(crate) struct Scope<'a> {
     lives: &'a [GroupLife],
     action: &'a Action,
-    /// By slot, whether the action's patterns match the group.
+    /// For each slot, whether the action's patterns match its group.
     matched: &'a [bool],
-    /// The group among whose children the choice is made; `None` for the action's candidates.
+    /// The group whose children are the scope, or `None` if the scope is the action's candidates.
     above: Option<Slot>,
 }
 
@@ -43,7 +44,7 @@ impl<'a> Model for Scope<'a> {
         s.matched.now ≡ match_table s.lives.now (action_patterns s.action.now) };
 }
 
-/// Returns the patterns of an action.
+/// Returns the patterns of the action.
 pub(crate) fn patterns(action: &Action) -> &Patterns
     ensures { result.now ≡ action_patterns action.now }
 {
@@ -55,7 +56,7 @@ pub(crate) fn patterns(action: &Action) -> &Patterns
     }
 }
 
-/// Returns the settings of an action that apply after a kill: delay, recursive, always_continue.
+/// Returns the settings of the action that apply after a kill: delay, recursive, always_continue.
 pub fn after_of(action: &Action) -> After
     ensures { result ≡ after_of action.now }
 {
@@ -68,8 +69,8 @@ pub fn after_of(action: &Action) -> After
 }
 
 impl<'a> Scope<'a> {
-    /// Returns the scope of an action's candidates. `matched` says, by slot, whether the action's
-    /// patterns match the group.
+    /// Returns the scope of the action's candidates. `matched` says for each slot whether the
+    /// action's patterns match its group.
     pub(crate) fn candidates(
         lives: &'a [GroupLife],
         action: &'a Action,
@@ -102,22 +103,23 @@ impl<'a> Scope<'a> {
         }
     }
 
-    /// Returns the action.
+    /// Returns the action that chooses from this scope.
     pub(crate) fn action(&self) -> &'a Action
         ensures { result.now ≡ self.now.act }
     {
         self.action
     }
 
-    /// Returns all groups that a trace ever creates, by slot.
+    /// Returns all groups that the trace ever creates, indexed by slot.
     pub(crate) fn lives(&self) -> &'a [GroupLife]
         ensures { result.now ≡ self.now.lives }
     {
         self.lives
     }
 
-    /// Returns the places (indexes) in a reading at which groups of the scope can be, in ascending
-    /// order: the places of the children of the group `above`, or else all places.
+    /// Returns the places (indexes in the reading) to search for groups of the scope, in ascending
+    /// order: the places of the children of the group `above`, or all places if there is no such
+    /// group.
     pub(crate) fn places<'r>(&self, reading: &'r Reading) -> &'r [u32]
         requires { reading.now.lives ≡ self.now.lives }
         ensures groups { filter (is_in_view self.now)
@@ -128,8 +130,8 @@ impl<'a> Scope<'a> {
         ensures all { length reading.now.seen.groups ≤ most_groups }
         ensures read { IsReading reading.now.lives reading.now.seen }
     {
-        // The slot in `above` is always a group's. The test makes the index safe, and for any other
-        // slot all places would be correct.
+        // `above` is always the slot of a group. The comparison makes the index safe; if it failed,
+        // searching all places would still be correct.
         match self.above {
             Some(above) if (above.0 as usize) < self.lives.len() => reading.below(above),
             _ => reading.places(),

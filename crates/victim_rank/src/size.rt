@@ -1,6 +1,6 @@
-//! Sizes of groups: sums, shares and counts.
+//! Computes with the sizes of groups: sums, shares and counts.
 //!
-//! The size of a group is the memory that it uses.
+//! The size of a group is the memory (bytes) that the group uses.
 ghost use Rattle.std.specs.Prelude.{◌≡◌, ◌<◌, ◌^◌, ◌*◌, filter, length, nat_le, nat_lt};
 ghost use Rattle.ruleset_json.specs.Ranges.{IsPercent};
 ghost use Rattle.kill_spec.specs.Victims.{count_above, is_larger, memory_in_use, total_size};
@@ -12,7 +12,7 @@ use detectors::Reading;
 use kill_spec::GroupReading;
 use psi_spec::GroupLife;
 
-/// Returns the sum of the memory (bytes) that the groups of a scope use.
+/// Returns the sum of the sizes (bytes) of the groups in the scope.
 pub(crate) fn total_size(scope: &Scope<'_>, reading: &Reading) -> u128
     requires { reading.now.lives ≡ scope.now.lives }
     ensures sum { result ≡ total_size (filter (is_in_view scope.now) reading.now.seen.groups) }
@@ -28,7 +28,7 @@ pub(crate) fn total_size(scope: &Scope<'_>, reading: &Reading) -> u128
     total
 }
 
-/// Returns whether a group uses at least `size_threshold` percent of `total`.
+/// Returns whether the group uses at least `size_threshold` percent of `total` (bytes).
 pub(crate) fn is_large(size_threshold: u32, total: u128, group: &GroupReading) -> bool
     requires percent { IsPercent size_threshold }
     requires total { total < 2 ^ 120 }
@@ -37,7 +37,7 @@ pub(crate) fn is_large(size_threshold: u32, total: u128, group: &GroupReading) -
     u128::from(group.current) * 100 >= u128::from(size_threshold) * total
 }
 
-/// Returns whether a group is in the scope and its preference has the rank `best_rank`.
+/// Returns whether the group is in the scope and its preference has the rank `best_rank`.
 pub(crate) fn is_in_rank(scope: &Scope<'_>, best_rank: u8, group: &GroupReading) -> bool
     requires { group.now.slot.0 < length scope.now.lives }
     ensures { result ≡ is_in_rank scope.now best_rank group.now }
@@ -59,7 +59,8 @@ pub(crate) fn count_in_rank(scope: &Scope<'_>, best_rank: u8, reading: &Reading)
     count
 }
 
-/// Returns how many of `count` groups are above a percentile: rounded up, and at least one.
+/// Returns the number of groups above a percentile, out of `count` groups. The number is rounded
+/// up, and is at least 1.
 pub(crate) fn count_above(percentile: u32, count: usize) -> u128
     requires { IsPercent percentile }
     ensures { result ≡ count_above percentile count }

@@ -1,6 +1,6 @@
-//! The groups that an action's patterns match.
+//! A table that says which groups an action's patterns match.
 //!
-//! The table is computed once, instead of at each evaluation.
+//! The table is computed once, before the first evaluation, and not at each evaluation.
 ghost use Rattle.std.specs.Prelude.{◌≡◌, IfOk};
 ghost use Rattle.detectors.specs.Tables.{match_table};
 ghost use Rattle.kill_spec.specs.Victims.{action_patterns};
@@ -12,8 +12,8 @@ use ruleset_json::Action;
 use std::alloc::Global;
 use std::marker::Model;
 
-/// By slot, whether the patterns of an action match the group, for all groups that a trace ever
-/// creates.
+/// For each slot, whether the patterns of an action match the path of its group. The table has an
+/// entry for every group that the trace ever creates.
 #[derive(Drop)]
 pub struct MatchTable {
     slots: Vec<bool>,
@@ -28,7 +28,7 @@ impl Model for MatchTable {
 }
 
 impl MatchTable {
-    /// Returns the table of an action for the groups `lives`.
+    /// Returns the table of an action for the groups `lives`, all groups of the trace.
     pub fn of(alloc: Global, action: &Action, lives: &[GroupLife]) -> Result<MatchTable, NoMemory>
         ensures { IfOk result (λ table.
             table ≡ match_table lives.now (action_patterns action.now)) }
@@ -41,7 +41,7 @@ impl MatchTable {
         Ok(MatchTable { slots })
     }
 
-    /// Returns the entries of the table, by slot.
+    /// Returns the entries of the table, indexed by slot.
     pub(crate) fn slots(&self) -> &[bool]
         ensures { result.now ≡ self.now }
     {
