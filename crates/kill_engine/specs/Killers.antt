@@ -1,6 +1,6 @@
--- The state of a killer (all rulesets of a rules file) in terms of the readings that led to it. A
--- killer, a ruleset or a past *represents* readings if its state is the one after it has taken
--- these readings.
+-- Relates the state of a killer (all rulesets of a rules file) to the readings that the killer has
+-- taken. A killer, a ruleset or a stored past *represents* a list of readings if taking these
+-- readings leads to its state.
 use Rattle.std.specs.Prelude.{◌≡◌, ℕ, ◌+◌, ◌≤◌, List, [], ◌∷◌, length, Option, All}
 use Rattle.psi_spec.specs.declared.machine.GroupLife.{GroupLife}
 use Rattle.ruleset_json.specs.declared.types.Rule.{Rule}
@@ -20,18 +20,19 @@ pub record KillerView : Type 0 where
   pub last : Option ℕ
   pub found : List Kill
 
--- the killer with these components
+-- The killer with these components.
 abbrev pub killer_of : List RulesetView → Kept → Option ℕ → List Kill → KillerView
 killer_of rulesets past last found =
     record { rulesets = rulesets; past = past; last = last; found = found }
 
--- the number of groups for which a killer was made
+-- The number of groups for which the killer was made.
 abbrev pub killer_slots : KillerView → ℕ
 killer_slots killer = length killer.past.sizes
 
 -- ---- the readings that a killer represents
 
--- each ruleset's state is the one after these readings; the first ruleset has number `number`
+-- Each ruleset's state is the state after the readings `history`. The first ruleset in the list has
+-- the index `number`, and its successors have the next indexes.
 abbrev pub RulesetsRepresent :
     List GroupLife → List Reading → ℕ → List RulesetView → List Rule → Type 0
 RulesetsRepresent lives history number [] [] = Unit {0}
@@ -41,14 +42,14 @@ RulesetsRepresent lives history number (state ∷ states) (rule ∷ rules) =
     RulesetRepresents lives history number state rule
     × RulesetsRepresent lives history (number + 1) states rules
 
--- the kills at the newest reading; none before the first reading
+-- The kills at the newest reading. Empty before the first reading.
 abbrev pub newest_kills : List GroupLife → List Rule → List Reading → List Kill
 newest_kills lives rules [] = []
 newest_kills lives rules (now ∷ past) = kills lives rules now past
 
--- The killer's state is the one after the readings `history` (newest first), for these rules and
--- groups: so are its rulesets and its past, and it has the time of the newest reading and the kills
--- at it.
+-- The killer's state is the state after the readings `history` (newest first), for the rules
+-- `rules` and the groups `lives`. Its rulesets and its stored past represent `history`; it has the
+-- time of the newest reading and the kills at that reading.
 pub record Represents (killer : KillerView) (lives : List GroupLife) (rules : List Rule)
     (history : List Reading) : Type 0 where
   pub slots : killer_slots killer ≡ length lives
@@ -57,19 +58,20 @@ pub record Represents (killer : KillerView) (lives : List GroupLife) (rules : Li
   pub last : killer.last ≡ newest_moment history
   pub found : killer.found ≡ newest_kills lives rules history
 
--- the killer is in a valid state for these groups: some rules and some readings lead to it
+-- The killer is in a valid state for these groups: some rules and some list of readings lead to it.
 abbrev pub IsStanding : KillerView → List GroupLife → Type 0
 IsStanding killer lives = (rules : List Rule) × (history : List Reading) ×
     Represents killer lives rules history
 
--- `found` are the kills of the rules at `reading`, after the readings that led to the killer's
--- state
+-- `found` has the kills of the rules at `reading`, for every list of earlier readings that leads to
+-- the killer's state `old`.
 abbrev pub Decides : KillerView → ReadingView → List Kill → Type 0
 Decides old reading found = (rules : List Rule) (history : List Reading) →
     Represents old reading.lives rules history →
     found ≡ kills reading.lives rules reading.seen history
 
--- After the call, the killer's state is the one after its earlier readings and `reading`.
+-- Taking `reading` leads from the killer's state `old` to its state `new`: if `old` represents the
+-- readings `history`, `new` represents `reading` followed by `history`.
 abbrev pub KillerTakes : KillerView → ReadingView → KillerView → Type 0
 KillerTakes old reading new = (rules : List Rule) (history : List Reading) →
     Represents old reading.lives rules history →
@@ -77,19 +79,21 @@ KillerTakes old reading new = (rules : List Rule) (history : List Reading) →
 
 -- ---- lists of rulesets
 
--- the rulesets are in a valid state for these groups: some rules and some readings lead to it
+-- The rulesets are in a valid state for these groups: some rules and some list of readings lead to
+-- it.
 abbrev pub AreStanding : List GroupLife → List RulesetView → Type 0
 AreStanding lives states = (rules : List Rule) × (history : List Reading) ×
     RulesetsRepresent lives history 0 states rules
 
--- `found` are the kills of all rulesets at `reading`, after the readings that led to their states
+-- `found` has the kills of all rulesets at `reading`, for every list of earlier readings that leads
+-- to their states `old` and to the stored past.
 abbrev pub AllDecide : List RulesetView → ReadingView → Kept → List Kill → Type 0
 AllDecide old reading past found = (rules : List Rule) (history : List Reading) →
     RulesetsRepresent reading.lives history 0 old rules → IsPastOf past history →
     found ≡ kills reading.lives rules reading.seen history
 
--- After the call, the states of the rulesets are the ones after their earlier readings and
--- `reading`.
+-- Taking `reading` leads from the rulesets' states `old` to their states `new`: if `old` represents
+-- the readings `history`, `new` represents `reading` followed by `history`.
 abbrev pub RulesetsTake : List RulesetView → ReadingView → Kept → List RulesetView → Type 0
 RulesetsTake old reading past new = (rules : List Rule) (history : List Reading) →
     RulesetsRepresent reading.lives history 0 old rules → IsPastOf past history →
@@ -97,8 +101,8 @@ RulesetsTake old reading past new = (rules : List Rule) (history : List Reading)
 
 -- ---- the invariant of a killer
 
--- The invariant of a killer: it has at most 64 rulesets, and their detectors were made for the same
--- number of groups and have the same last reading as the killer.
+-- The invariant of a killer: it has at most 64 rulesets, and each of their detectors was made for
+-- the killer's number of groups and took its last reading at the time of the killer's last reading.
 pub record IsKiller (killer : KillerView) : Type 0 where
   pub few : length killer.rulesets ≤ 64
   pub at : All (λ state. IsRulesetAt killer.last (killer_slots killer) state) killer.rulesets

@@ -1,5 +1,6 @@
--- The state of a ruleset in terms of the readings that led to it. A detector or a ruleset
--- *represents* readings if its state is the one after it has taken these readings.
+-- Relates the state of a ruleset to the readings that the ruleset has taken. A detector or a
+-- ruleset *represents* a list of readings if taking these readings leads to its state. A ruleset
+-- *rests* during the delay after a kill that ended its chain of actions: then it runs no actions.
 use Rattle.std.specs.Prelude.{◌≡◌, ℕ, ◌+◌, List, ◌∷◌, ◌++◌, length, find, map, option_map, slice_get}
 use Rattle.std.specs.Prelude.{Bool, Option, None, Some, All}
 use Rattle.std.specs.List.{AllZip, list_all, list_any}
@@ -21,21 +22,22 @@ use Rattle.victim_rank.specs.Pasts.{IsPastOf, Kept}
 
 -- ---- preconditions of a reading
 
--- the detector can take the reading: it was made for the same number of groups, and the reading is
--- later than its last
+-- The detector can take the reading: it was made for this number of groups, and the reading is
+-- later than its last reading.
 pub record IsStateReady (reading : ReadingView) (detector : DetectorView) : Type 0 where
   pub later : IsAfter detector.last reading.seen.at
   pub slots : length reading.lives ≡ slots_of detector
 
--- the detector was made for `slots` groups, and its last reading was at `moment` (ns), or there was
--- none
+-- The detector was made for `slots` groups, and took its last reading at time `moment` (ns), or
+-- hasn't taken a reading if `moment` is `None`.
 pub record IsAt (moment : Option ℕ) (slots : ℕ) (detector : DetectorView) : Type 0 where
   pub last : detector.last ≡ moment
   pub places : slots_of detector ≡ slots
 
 -- ---- groups of detectors
 
--- each detector's state is the one after the readings `history`, for its own arguments
+-- Each detector's state is the state after the readings `history`, for the arguments at its index
+-- in `specs`.
 abbrev pub DetectorsRepresent :
     List GroupLife → List Reading → List DetectorView → List DetectorSpec → Type 0
 DetectorsRepresent lives history detectors specs =
@@ -43,21 +45,22 @@ DetectorsRepresent lives history detectors specs =
     Represents detector lives spec history)
     detectors specs
 
--- `answer` says whether all detectors are true at `reading`, after the readings that led to their
--- states
+-- `answer` says whether all detectors are true at `reading`, for every list of earlier readings
+-- that leads to their states `old`.
 abbrev pub AllAnswer : List DetectorView → ReadingView → Bool → Type 0
 AllAnswer old reading answer = (specs : List DetectorSpec) (history : List Reading) →
     DetectorsRepresent reading.lives history old specs →
     answer ≡
     list_all (λ (spec : DetectorSpec). is_true reading.lives spec reading.seen history) specs
 
--- After the call, the detectors' states are the ones after their earlier readings and `reading`.
+-- Taking `reading` leads from the detectors' states `old` to their states `new`: if `old`
+-- represents the readings `history`, `new` represents `reading` followed by `history`.
 abbrev pub AllTake : List DetectorView → ReadingView → List DetectorView → Type 0
 AllTake old reading new = (specs : List DetectorSpec) (history : List Reading) →
     DetectorsRepresent reading.lives history old specs →
     DetectorsRepresent reading.lives (reading.seen ∷ history) new specs
 
--- the states of the detectors of all groups are the ones after the readings `history`
+-- In every group, each detector's state is the state after the readings `history`.
 abbrev pub GroupsRepresent :
     List GroupLife → List Reading → List (List DetectorView) → List DetectorGroup → Type 0
 GroupsRepresent lives history groups specs =
@@ -65,60 +68,60 @@ GroupsRepresent lives history groups specs =
     DetectorsRepresent lives history group spec.detectors)
     groups specs
 
--- `answer` says whether all detectors of at least one group are true at `reading`, after the
--- readings that led to their states
+-- `answer` says whether at least one group has only true detectors at `reading`, for every list of
+-- earlier readings that leads to the states `old`.
 abbrev pub SomeAnswers : List (List DetectorView) → ReadingView → Bool → Type 0
 SomeAnswers old reading answer = (specs : List DetectorGroup) (history : List Reading) →
     GroupsRepresent reading.lives history old specs →
     answer ≡
     list_any (λ (group : DetectorGroup). group_holds reading.lives group reading.seen history) specs
 
--- After the call, the states of the detectors of all groups are the ones after their earlier
--- readings and `reading`.
+-- Taking `reading` leads from the states `old` of all groups of detectors to the states `new`: if
+-- `old` represents the readings `history`, `new` represents `reading` followed by `history`.
 abbrev pub GroupsTake : List (List DetectorView) → ReadingView → List (List DetectorView) → Type 0
 GroupsTake old reading new = (specs : List DetectorGroup) (history : List Reading) →
     GroupsRepresent reading.lives history old specs →
     GroupsRepresent reading.lives (reading.seen ∷ history) new specs
 
--- the property holds for each detector of each group
+-- The property `Holds` is true for each detector of each group.
 abbrev pub EachDetector : (DetectorView → Type 0) → List (List DetectorView) → Type 0
 EachDetector Holds groups = All (λ (group : List DetectorView). All Holds group) groups
 
 -- ---- groups that actions match
 
--- for each action and by slot, whether the action's patterns match the group
+-- For each action, a table that says for each slot whether the action's patterns match its group.
 abbrev pub match_tables : List GroupLife → List Action → List (List Bool)
 match_tables lives actions =
     map (λ (action : Action). match_table lives (action_patterns action)) actions
 
 -- ---- chains of actions
 
--- the time (ns) until which a ruleset rests after a kill that ended its chain of actions
+-- The end (ns) of a ruleset's delay after a kill that ended its chain of actions.
 abbrev pub rest_of : List Action → Kill → ℕ
 rest_of actions kill = kill.at + delay_of (slice_get actions kill.action)
 
--- the time (ns) until which a ruleset rests after the last kill that ended its chain, or 0 if there
--- was none
+-- The end (ns) of a ruleset's delay after the last kill that ended its chain of actions, or 0 if no
+-- kill has ended it.
 abbrev pub rest_after : List Action → Option Kill → ℕ
 rest_after actions None = 0
 rest_after actions (Some kill) = rest_of actions kill
 
--- `kill` is the kill of an action at `reading`, for any earlier readings that the past represents.
--- `number` is the ruleset's number, `act` the action's number.
+-- `kill` is the kill of an action at `reading`, for every list of earlier readings that the stored
+-- past represents. `number` is the index of the ruleset, `act` the index of the action.
 abbrev pub IsKillBy : ℕ → ℕ → Action → ReadingView → Kept → Option Kill → Type 0
 IsKillBy number act action reading past kill = (history : List Reading) → IsPastOf past history →
     kill ≡ kill_by number act reading.seen (victim reading.lives action reading.seen history)
 
--- The kills of a ruleset's chain were appended to the earlier kills `before`. `act` is the number
--- of the first action in `actions`.
+-- `after` is the list `before` followed by the kills of a ruleset's chain of actions. `act` is the
+-- index of the first action in `actions`.
 abbrev pub HasChain :
     ℕ → ℕ → List Action → ReadingView → Kept → List Kill → List Kill → Type 0
 HasChain number act actions reading past before after =
     (history : List Reading) → IsPastOf past history →
     after ≡ before ++ chain reading.lives number act actions reading.seen history
 
--- `until` is the time (ns) until which the ruleset rests after its chain, or `None` if no kill ends
--- the chain
+-- `until` is the end (ns) of the ruleset's delay after its chain of actions, or `None` if no kill
+-- ends the chain.
 abbrev pub IsRestOf : ℕ → List Action → ReadingView → Kept → Option ℕ → Type 0
 IsRestOf number actions reading past until = (history : List Reading) → IsPastOf past history →
     until ≡
@@ -127,23 +130,23 @@ IsRestOf number actions reading past until = (history : List Reading) → IsPast
 
 -- ---- rulesets
 
--- The state of a ruleset: its detectors in groups, its actions, the groups that the patterns of
--- each action match, and the time (ns) until which it rests.
+-- The state of a ruleset: its groups of detectors, its actions, for each action a table of the
+-- groups that its patterns match, and the end (ns) of the delay in which it runs no actions.
 pub record RulesetView : Type 0 where
   pub groups : List (List DetectorView)
   pub actions : List Action
   pub tables : List (List Bool)
   pub rests_until : ℕ
 
--- the ruleset with these components
+-- The ruleset with these components.
 abbrev pub ruleset_of :
     List (List DetectorView) → List Action → List (List Bool) → ℕ → RulesetView
 ruleset_of groups actions tables rests_until =
     record { groups = groups; actions = actions; tables = tables; rests_until = rests_until }
 
--- The ruleset's state is the one after the readings `history` (newest first): so are its detectors,
--- it has the rule's actions and the groups that they match, and it rests for the delay after the
--- last kill that ended its chain.
+-- The ruleset's state is the state after the readings `history` (newest first). Its detectors
+-- represent `history`, and it has the actions of `rule` and their tables. `rests_until` is the end
+-- of its delay after the last kill that ended its chain. `number` is the index of the ruleset.
 pub record RulesetRepresents (lives : List GroupLife) (history : List Reading) (number : ℕ)
     (state : RulesetView) (rule : Rule) : Type 0 where
   pub groups : GroupsRepresent lives history state.groups rule.groups
@@ -152,23 +155,23 @@ pub record RulesetRepresents (lives : List GroupLife) (history : List Reading) (
   pub rests : state.rests_until ≡
       rest_after rule.actions (last_ending rule.actions (kills_of lives number rule history))
 
--- each detector of the ruleset can take the reading
+-- Each detector of the ruleset can take the reading.
 abbrev pub IsRulesetReady : ReadingView → RulesetView → Type 0
 IsRulesetReady reading state = EachDetector (IsStateReady reading) state.groups
 
--- the ruleset is in a valid state for these groups: some rule and some readings lead to it;
--- `number` is the ruleset's number
+-- The ruleset is in a valid state for these groups: some rule and some list of readings lead to it.
+-- `number` is the index of the ruleset.
 abbrev pub IsStanding : List GroupLife → ℕ → RulesetView → Type 0
 IsStanding lives number state = (rule : Rule) × (history : List Reading) ×
     RulesetRepresents lives history number state rule
 
--- each detector of the ruleset was made for `slots` groups, and its last reading was at `moment`
--- (ns), or there was none
+-- Each detector of the ruleset was made for `slots` groups, and took its last reading at time
+-- `moment` (ns), or hasn't taken a reading if `moment` is `None`.
 abbrev pub IsRulesetAt : Option ℕ → ℕ → RulesetView → Type 0
 IsRulesetAt moment slots state = EachDetector (IsAt moment slots) state.groups
 
--- the kills of the ruleset at `reading`, after the readings that led to its state, were appended to
--- the earlier kills `before`
+-- `after` is the list `before` followed by the kills of the ruleset at `reading`, for every list of
+-- earlier readings that leads to its state `old` and to the stored past.
 abbrev pub HasKills : ℕ → RulesetView → ReadingView → Kept → List Kill → List Kill → Type 0
 HasKills number old reading past before after = (rule : Rule) (history : List Reading) →
     RulesetRepresents reading.lives history number old rule → IsPastOf past history →
@@ -177,7 +180,8 @@ HasKills number old reading past before after = (rule : Rule) (history : List Re
     ++ kills_at reading.lives number rule reading.seen history
     (kills_of reading.lives number rule history)
 
--- After the call, the ruleset's state is the one after its earlier readings and `reading`.
+-- Taking `reading` leads from the ruleset's state `old` to its state `new`: if `old` represents the
+-- readings `history`, `new` represents `reading` followed by `history`.
 abbrev pub RulesetTakes : ℕ → RulesetView → ReadingView → Kept → RulesetView → Type 0
 RulesetTakes number old reading past new = (rule : Rule) (history : List Reading) →
     RulesetRepresents reading.lives history number old rule → IsPastOf past history →

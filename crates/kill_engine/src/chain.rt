@@ -1,7 +1,7 @@
-//! Takes the actions of a ruleset in order: a *chain*, which the first kill without
-//! `always_continue` ends.
+//! Runs the actions of a ruleset in order, as a *chain*: the first kill by an action without
+//! `always_continue` ends the chain.
 //!
-//! The victims are chosen in victim_rank.
+//! The crate victim_rank chooses the victims.
 ghost use Rattle.std.specs.Prelude.{◌≡◌, ◌≤◌, ◌+◌, ◌++◌, ◌∷◌, [], length, vec_capacity, vec_len};
 ghost use Rattle.kill_spec.specs.Detectors.{of_seconds};
 ghost use Rattle.kill_spec.specs.Victims as victims;
@@ -15,16 +15,16 @@ use psi_base::Ns;
 use ruleset_json::Action;
 use victim_rank::{MatchTable, Past, after_of, victim};
 
-/// Returns the end (ns) of a rest of `delay_s` seconds that begins at `at` (ns). It may not fit in
-/// 64 bits.
+/// Returns the end (ns) of a delay of `delay_s` seconds that begins at time `at` (ns). The end may
+/// exceed 64 bits.
 fn end_of_rest(at: Ns, delay_s: u32) -> u128
     ensures { result ≡ at + of_seconds delay_s }
 {
     u128::from(at) + u128::from(delay_s) * 1_000_000_000
 }
 
-/// Returns the kill of an action, or `None` if it has no victim. `number` and `act` are the numbers
-/// of the ruleset and of the action.
+/// Returns the kill of an action, or `None` if the action has no victim. `number` is the index of
+/// the ruleset, `act` the index of the action.
 fn kill_by(
     number: u32,
     act: u32,
@@ -48,7 +48,7 @@ fn kill_by(
     })
 }
 
-/// Appends a kill. Precondition: there is room.
+/// Appends a kill. Precondition: the list isn't full.
 fn put(found: &mut Vec<Kill>, kill: Kill)
     requires { vec_len found.old + 1 ≤ vec_capacity found.old }
     ensures items { found.new.items ≡ found.old.items ++ kill ∷ [] }
@@ -60,9 +60,9 @@ fn put(found: &mut Vec<Kill>, kill: Kill)
     }
 }
 
-/// Takes the actions of a ruleset in order, and appends their kills. The first kill by an action
-/// without `always_continue` ends the chain: then returns the time (ns) until which the ruleset
-/// rests. Returns `None` if no kill ends the chain. Doesn't allocate.
+/// Runs the actions of a ruleset in order, and appends their kills to `found`. The first kill by an
+/// action without `always_continue` ends the chain. Returns the end (ns) of the delay that the last
+/// kill starts, or `None` if no kill ends the chain. Doesn't allocate.
 pub(crate) fn take_chain(
     actions: &[Action],
     tables: &[MatchTable],

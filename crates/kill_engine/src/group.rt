@@ -1,6 +1,6 @@
-//! A group of detectors of a ruleset.
+//! A group of detectors in a ruleset. The group *holds* if all its detectors are true.
 //!
-//! Single detectors are in the crate `detectors`.
+//! The crate `detectors` implements the single detectors.
 ghost use Rattle.std.specs.Prelude.{◌≤◌, [], IfOk, All, Some, length};
 ghost use Rattle.psi_spec.specs.World.{most_groups};
 ghost use Rattle.kill_engine.specs.Rulesets.{AllAnswer, AllTake, DetectorsRepresent, IsAt, IsStateReady};
@@ -12,7 +12,7 @@ use ruleset_json::DetectorSpec;
 use std::alloc::Global;
 use std::marker::Model;
 
-/// The detectors of a group, with their state. The group holds if all of them are true.
+/// The detectors of a group, with their state. The group holds if all its detectors are true.
 #[derive(Drop)]
 pub(crate) struct GroupState {
     detectors: Vec<Detector>,
@@ -27,8 +27,8 @@ impl Model for GroupState {
     ghost view = { λ g. g.detectors.items };
 }
 
-/// Passes a reading to every detector, also after one is false, because detectors have state.
-/// Returns whether all are true.
+/// Passes a reading to every detector, and returns whether all are true. A false detector doesn't
+/// end the loop, because every detector must see every reading.
 fn step_all(detectors: &mut [Detector], reading: &Reading) -> bool
     requires ready { All (IsStateReady reading.now) detectors.old }
     ensures answer { AllAnswer detectors.old reading.now result }
@@ -43,7 +43,7 @@ fn step_all(detectors: &mut [Detector], reading: &Reading) -> bool
 }
 
 impl GroupState {
-    /// Returns a group of detectors with these arguments, before the first reading.
+    /// Returns a group of detectors with the arguments `specs`, before the first reading.
     pub(crate) fn of(
         alloc: Global,
         specs: &[DetectorSpec],
@@ -60,8 +60,8 @@ impl GroupState {
         Ok(GroupState { detectors })
     }
 
-    /// Passes the next reading to every detector, and returns whether the group holds at it.
-    /// Doesn't allocate.
+    /// Passes the next reading to every detector, and returns whether the group holds at that
+    /// reading. Doesn't allocate.
     pub(crate) fn step(&mut self, reading: &Reading) -> bool
         requires ready { All (IsStateReady reading.now) self.old }
         ensures answer { AllAnswer self.old reading.now result }

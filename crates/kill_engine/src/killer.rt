@@ -1,6 +1,6 @@
 //! The killer: all rulesets of a rules file, with their state.
 //!
-//! It decides kills, but carries none out.
+//! The killer decides which groups to kill. It doesn't kill them.
 ghost use Rattle.std.specs.Prelude.{◌≡◌, ◌≤◌, [], IfOk, All, Some, length, vec_capacity};
 ghost use Rattle.psi_spec.specs.World.{most_groups};
 ghost use Rattle.detectors.specs.Views.{IsAfter};
@@ -18,17 +18,18 @@ use std::alloc::Global;
 use std::marker::Model;
 use victim_rank::Past;
 
-/// The greatest number of kills at an evaluation: 16 actions of each of 64 rulesets.
+/// The greatest number of kills at one evaluation: 64 rulesets with 16 actions each.
 const MOST_KILLS: usize = 1024;
 
-/// All rulesets after the readings that were taken, and the kills at the last reading.
+/// All rulesets and their state after the readings that the killer has taken, and the kills at the
+/// last reading.
 #[derive(Drop)]
 pub struct Killer {
     rulesets: Vec<RuleState>,
     past: Past,
-    /// The time of the last reading (ns).
+    /// The time of the last reading (ns), or `None` before the first reading.
     last: Option<Ns>,
-    /// The kills at the last reading, with capacity for the greatest number.
+    /// The kills at the last reading, with capacity for `MOST_KILLS` kills.
     found: Vec<Kill>,
 }
 
@@ -45,7 +46,7 @@ impl Model for Killer {
         × IsKiller (killer_of k.rulesets.items k.past k.last k.found.items) };
 }
 
-/// Returns the rulesets of these rules, before the first reading.
+/// Returns the state of all rulesets before the first reading, in the order of `rules`.
 fn rulesets_of(
     alloc: Global,
     rules: Vec<Rule>,
@@ -62,7 +63,7 @@ fn rulesets_of(
     Ok(rulesets)
 }
 
-/// Passes a reading to all rulesets, in order, and collects their kills in that order.
+/// Passes a reading to all rulesets in order, and appends their kills to `found` in that order.
 fn evaluate_all(rulesets: &mut [RuleState], reading: &Reading, past: &Past, found: &mut Vec<Kill>)
     requires few { length rulesets.old ≤ 64 }
     requires ready { All (IsRulesetReady reading.now) rulesets.old }
@@ -83,8 +84,8 @@ fn evaluate_all(rulesets: &mut [RuleState], reading: &Reading, past: &Past, foun
 }
 
 impl Killer {
-    /// Returns a killer with these rules for the groups `lives`, before the first reading.
-    /// Allocates all its memory.
+    /// Returns a killer with the rules `rules` for the groups `lives`, before the first reading.
+    /// Allocates all memory that the killer ever needs.
     pub fn make(alloc: Global, rules: Rules, lives: &[GroupLife]) -> Result<Killer, NoMemory>
         requires { length lives.now ≤ most_groups }
         ensures { IfOk result (λ killer. Represents killer lives.now rules.rules []) }
@@ -97,9 +98,9 @@ impl Killer {
         })
     }
 
-    /// Takes the next reading: each ruleset that fires at it and isn't resting takes its actions in
-    /// order. Afterwards [`Killer::kills`] returns the kills. Doesn't allocate. Precondition:
-    /// `reading` is later than the last reading.
+    /// Takes the next reading. Each ruleset that fires at the reading and isn't in its delay after
+    /// a kill runs its actions in order. Then [`Killer::kills`] returns the kills. Doesn't
+    /// allocate. Precondition: `reading` is later than the previous reading.
     pub fn evaluate(&mut self, reading: &Reading)
         requires later { IsAfter self.old.last reading.now.seen.at }
         requires stands { IsStanding self.old reading.now.lives }
@@ -114,7 +115,7 @@ impl Killer {
         self.last = Some(reading.at());
     }
 
-    /// Returns the kills at the last reading, in the order of rulesets and actions. Empty before
+    /// Returns the kills at the last reading, ordered by ruleset and then by action. Empty before
     /// the first reading.
     pub fn kills(&self) -> &[Kill]
         ensures { result.now ≡ self.now.found }

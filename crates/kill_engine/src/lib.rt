@@ -1,10 +1,12 @@
-//! Kills: at each evaluation the rulesets that fire and aren't resting take their actions in order.
+//! Decides kills: at each evaluation, every ruleset that fires runs its actions in order. A ruleset
+//! *rests* during the delay after a kill: then it runs no actions.
 //!
-//! [`Killer`] has the state of all detectors, and the past of all groups. It takes readings in
-//! order, and returns the kills at the last reading. A reading is what an evaluation sees: the
-//! time, the host's memory and the live groups. All memory is allocated when the killer is made.
+//! [`Killer`] has the state of all detectors and the stored past of all groups. It takes readings
+//! in order, and returns the kills at the last reading. A reading is the input of one evaluation:
+//! the time, the host's memory and the live groups. All memory is allocated when the killer is
+//! made.
 //!
-//! The crate kills nothing and prints nothing: it only decides.
+//! This crate kills nothing and prints nothing.
 #![tactic(auto)]
 
 mod chain;

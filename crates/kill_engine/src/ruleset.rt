@@ -1,6 +1,7 @@
-//! A ruleset with its state.
+//! A ruleset with its state. A ruleset *rests* during the delay after a kill that ended its chain
+//! of actions: then it runs no actions.
 //!
-//! Its actions are taken in `chain`.
+//! The module `chain` runs the actions.
 ghost use Rattle.std.specs.Prelude.{◌≡◌, ◌≤◌, ◌+◌, ℕ, [], IfOk, Some, length, nat_lt, vec_capacity, vec_len};
 ghost use Rattle.psi_spec.specs.World.{most_groups};
 ghost use Rattle.kill_engine.specs.Rulesets.{EachDetector, GroupsRepresent, GroupsTake, HasKills, IsAt, IsStateReady, match_tables};
@@ -17,15 +18,15 @@ use std::alloc::Global;
 use std::marker::Model;
 use victim_rank::{MatchTable, Past};
 
-/// The state of a ruleset after the readings that it has taken.
+/// A ruleset and its state after the readings that it has taken.
 #[derive(Drop)]
 pub(crate) struct RuleState {
     groups: Vec<GroupState>,
     actions: ActionList,
-    /// By action, the groups that the action's patterns match.
+    /// For each action, a table that says which groups the action's patterns match.
     tables: Vec<MatchTable>,
-    /// The time (ns) until which the ruleset rests, or 0 if no kill has ended its chain. It may not
-    /// fit in 64 bits.
+    /// The end (ns) of the delay after the last kill that ended the chain of actions, or 0 if no
+    /// kill has ended it. The end may exceed 64 bits.
     rests_until: u128,
 }
 
@@ -37,7 +38,7 @@ impl Model for RuleState {
     ghost view = { λ r. ruleset_of r.groups.items r.actions r.tables.items r.rests_until };
 }
 
-/// Returns groups of detectors with these arguments, before the first reading.
+/// Returns the groups of detectors with the arguments `specs`, before the first reading.
 fn groups_of(
     alloc: Global,
     specs: &[DetectorGroup],
@@ -54,8 +55,8 @@ fn groups_of(
     Ok(groups)
 }
 
-/// Returns, for each action, the groups that its patterns match. Patterns are matched once, instead
-/// of at each evaluation.
+/// Returns, for each action, the table of the groups that its patterns match. The patterns are
+/// matched here once, and not at each evaluation.
 fn tables_of(
     alloc: Global,
     actions: &[Action],
@@ -71,8 +72,8 @@ fn tables_of(
     Ok(tables)
 }
 
-/// Passes a reading to every detector of every group, also after a group holds, because detectors
-/// have state. Returns whether at least one group holds.
+/// Passes a reading to every detector of every group, and returns whether at least one group holds.
+/// A group that holds doesn't end the loop, because every detector must see every reading.
 fn step_groups(groups: &mut [GroupState], reading: &Reading) -> bool
     requires ready { EachDetector (IsStateReady reading.now) groups.old }
     ensures answer { SomeAnswers groups.old reading.now result }
@@ -88,7 +89,7 @@ fn step_groups(groups: &mut [GroupState], reading: &Reading) -> bool
 }
 
 impl RuleState {
-    /// Returns a ruleset before the first reading.
+    /// Returns the state of a ruleset before the first reading.
     pub(crate) fn of(alloc: Global, rule: Rule, lives: &[GroupLife]) -> Result<RuleState, NoMemory>
         requires { length lives.now ≤ most_groups }
         ensures { IfOk result (λ state. (number : ℕ) →
@@ -104,7 +105,8 @@ impl RuleState {
         })
     }
 
-    /// Passes the reading to all detectors, and returns whether the ruleset fires.
+    /// Passes a reading to all detectors, and returns whether the ruleset fires: whether at least
+    /// one of its groups holds.
     fn fires(&mut self, reading: &Reading) -> bool
         requires ready { IsRulesetReady reading.now self.old }
         ensures answer { SomeAnswers self.old.groups reading.now result }
@@ -117,15 +119,16 @@ impl RuleState {
         step_groups(&mut self.groups, reading)
     }
 
-    /// Returns whether the ruleset rests at time `at` (ns).
+    /// Returns whether the ruleset rests at time `at` (ns): whether its delay after a kill hasn't
+    /// ended.
     fn is_resting(&self, at: Ns) -> bool
         ensures { result ≡ nat_lt at self.now.rests_until }
     {
         u128::from(at) < self.rests_until
     }
 
-    /// Takes the next reading, and appends the ruleset's kills. `number` is the ruleset's number.
-    /// Doesn't allocate.
+    /// Takes the next reading, and appends the ruleset's kills to `found`. `number` is the index of
+    /// the ruleset. Doesn't allocate.
     pub(crate) fn evaluate(
         &mut self,
         number: u32,
