@@ -1,5 +1,5 @@
--- The arguments of plugins (detectors and actions): the kind of each, the meaning of its text, and
--- its default.
+-- Defines the arguments of plugins (detectors and actions): the kinds of arguments, the value that
+-- a text has for each kind, and the defaults.
 use Rattle.std.specs.Prelude.{ℕ, List, [], ◌∷◌, Bool, true, false, codes, decimal, Option, None, Some, option_and_then, Result, Ok, Err}
 use Rattle.psi_base.specs.declared.event.Res.{Res}
 use Rattle.psi_base.specs.ResultSteps.{◌>>=◌}
@@ -19,18 +19,19 @@ use Rattle.ruleset_json.specs.Forms.{number_up_to, ratio_of, size_of, truth_of, 
 
 -- ---- faults
 
--- the fault with this cause at place `at`
+-- Rejection with the cause `what` at place `at`.
 abbrev pub refused_for : {A : Type 0} → Place → RulesCause → Result A RulesFault
 refused_for at what = Err (record { place = at; what = what })
 
--- the value, or the fault with this cause at place `at` if there is none
+-- The value in the option, or rejection with the cause `what` at place `at` if the option is
+-- `None`.
 abbrev pub or_fault : {A : Type 0} → Place → RulesCause → Option A → Result A RulesFault
 or_fault at what None = refused_for at what
 or_fault at what (Some x) = Ok x
 
 -- ---- kinds of arguments
 
--- The kind of an argument: patterns of paths, a resource, a number up to a maximum, a ratio in
+-- The kind of an argument: path patterns, a resource, a number up to `most`, a ratio in
 -- thousandths, a size, or a Boolean.
 pub data ArgumentKind : Type 0 where
   patterns : ArgumentKind
@@ -40,7 +41,7 @@ pub data ArgumentKind : Type 0 where
   size : ArgumentKind
   truth : ArgumentKind
 
--- the type of the values of a kind
+-- The type of the parsed values of each kind of argument.
 abbrev pub ArgumentValue : ArgumentKind → Type 0
 ArgumentValue patterns = List (List (List ℕ))
 ArgumentValue resource = Res
@@ -49,17 +50,18 @@ ArgumentValue ratio = ℕ
 ArgumentValue size = Size
 ArgumentValue truth = Bool
 
--- the cause of a fault for a rejected list of patterns
+-- The cause of rejection for a malformed or too long list of patterns.
 abbrev pub pattern_cause : PatternFault → RulesCause
 pattern_cause pattern.BadPattern = cause.BadArg
 pattern_cause pattern.TooMany = cause.TooMany
 
--- the parsed patterns, or the fault at place `at` for their rejection
+-- The parsed patterns, or rejection at place `at` with the cause that belongs to the pattern fault.
 abbrev pub or_pattern : {A : Type 0} → Place → Result A PatternFault → Result A RulesFault
 or_pattern at (Ok x) = Ok x
 or_pattern at (Err fault) = refused_for at (pattern_cause fault)
 
--- the value that a text spells as an argument of kind `k`, or a fault
+-- The value of the text `text` as an argument of kind `k`. Rejected with `BadArg` if the text has
+-- no such value; too many patterns are rejected with `TooMany`.
 unfoldable pub argument_of : Place → (k : ArgumentKind) → List ℕ → Result (ArgumentValue k) RulesFault
 argument_of at patterns text = or_pattern at (patterns_of text)
 argument_of at resource text = or_fault at cause.BadArg (resource_of text)
@@ -70,25 +72,25 @@ argument_of at truth text = or_fault at cause.BadArg (truth_of text)
 
 -- ---- texts of arguments
 
--- the spelling of a Boolean
+-- The text of a Boolean in a rules file.
 abbrev pub truth_text : Bool → List ℕ
 truth_text true = codes "true"
 truth_text false = codes "false"
 
--- the spelling of a natural number; `None` for any other number
+-- The decimal text of a natural number, or `None` for any other JSON number.
 abbrev pub number_text : Num → Option (List ℕ)
 number_text (unsigned n) = Some (decimal n)
 number_text _ = None
 
--- the text of an argument in JSON: the string itself, or the spelling of a natural number or
--- Boolean; `None` for any other value
+-- The text of an argument in JSON. A string is its own text; a natural number or a Boolean is
+-- spelled out. `None` for any other JSON value.
 abbrev pub argument_text : Data → Option (List ℕ)
 argument_text (string text) = Some text
 argument_text (numeric n) = number_text n
 argument_text (boolean b) = Some (truth_text b)
 argument_text _ = None
 
--- the value of an argument that is present, or a fault
+-- The value of the argument with the JSON value `d`, or its fault.
 unfoldable pub value_at : Place → (k : ArgumentKind) → Data → Result (ArgumentValue k) RulesFault
 value_at at k d = do
   text ← or_fault at cause.WrongKind (argument_text d)
@@ -96,37 +98,41 @@ value_at at k d = do
 
 -- ---- tables of arguments
 
--- a known argument: its key, its kind, and its default value if it is optional
+-- A known argument of a plugin: its key, its kind, and its default. A required argument has no
+-- default.
 pub record Argument : Type 0 where
   pub key : Key
   pub kind : ArgumentKind
   pub default : Option (ArgumentValue kind)
 
--- a required argument
+-- A required argument with this key and kind.
 abbrev pub required : Key → ArgumentKind → Argument
 required key k = record { key = key; kind = k; default = None }
 
--- an optional argument
+-- An optional argument with this key, kind and default.
 abbrev pub optional : Key → (k : ArgumentKind) → ArgumentValue k → Argument
 optional key k default = record { key = key; kind = k; default = Some default }
 
--- the value of an argument; if it is missing, its default, or a fault if it has none
+-- The value of an argument that is present, or its default if it is missing. A missing argument
+-- without a default is rejected with `MissingKey`.
 abbrev pub found_or : Place → (k : ArgumentKind) → Option (ArgumentValue k) → Option Data → Result (ArgumentValue k) RulesFault
 found_or at k None None = refused_for at cause.MissingKey
 found_or at k (Some default) None = Ok default
 found_or at k default (Some d) = value_at at k d
 
--- the value of one argument of a plugin; `args` is the object of all arguments, if there is one
+-- The value of the argument `a` of a plugin. `args` is the JSON object of all arguments of the
+-- plugin, or `None` if the plugin has no `args`.
 unfoldable pub argument_at : Place → (a : Argument) → Option Data → Result (ArgumentValue a.kind) RulesFault
 argument_at at a args = found_or at a.kind a.default (option_and_then (get (key_word a.key)) args)
 
--- a function that takes the values of these arguments, in order
+-- The type of functions that take the values of the arguments in `known`, in order, and return a
+-- `Made`.
 abbrev pub ArgumentsMaker : List Argument → Type 0 → Type 0
 ArgumentsMaker [] Made = Made
 ArgumentsMaker (a ∷ known) Made = ArgumentValue a.kind → ArgumentsMaker known Made
 
--- the result of such a function for the arguments of a plugin, which are parsed in order, or the
--- first fault
+-- Parses the arguments in `known` in order, applies `make` to their values, and returns the result.
+-- Returns the first fault if an argument is rejected.
 abbrev pub made_of_arguments : {Made : Type 0} → Place → (known : List Argument) → ArgumentsMaker known Made → Option Data
     → Result Made RulesFault
 made_of_arguments at [] made args = Ok made

@@ -1,4 +1,4 @@
--- The text of a fault of a rules file, as the program prints it.
+-- Defines the text that the program prints for a fault of a rules file.
 use Rattle.std.specs.Prelude.{ℕ, List, [], ◌∷◌, ◌++◌, codes, decimal}
 use Rattle.psi_spec.specs.Grammar.{joined}
 use Rattle.ruleset_json.specs.declared.fault.Place.{Place}
@@ -7,7 +7,7 @@ use Rattle.ruleset_json.specs.declared.fault.RulesCause.{RulesCause}
 use Rattle.ruleset_json.specs.declared.fault.RulesCause.TheVariants as cause
 use Rattle.ruleset_json.specs.declared.fault.RulesFault.{RulesFault}
 
--- the name of a cause, as it is printed
+-- The printed name of a cause.
 abbrev pub rules_cause_name : RulesCause → List ℕ
 rules_cause_name cause.TooLong = codes "TooLong"
 rules_cause_name cause.BadJson = codes "BadJson"
@@ -17,7 +17,8 @@ rules_cause_name cause.UnknownPlugin = codes "UnknownPlugin"
 rules_cause_name cause.BadArg = codes "BadArg"
 rules_cause_name cause.TooMany = codes "TooMany"
 
--- the words for a place; none for the whole file
+-- The printed words for a place, for example `ruleset 0 action 1`. There are no words for the whole
+-- file.
 abbrev pub place_words : Place → List (List ℕ)
 place_words place.Whole = []
 place_words (place.Rule i) = codes "ruleset" ∷ decimal i ∷ []
@@ -25,10 +26,11 @@ place_words (place.Group i j) = codes "ruleset" ∷ decimal i ∷ codes "group" 
 place_words (place.Detector i j k) = codes "ruleset" ∷ decimal i ∷ codes "group" ∷ decimal j ∷ codes "item" ∷ decimal k ∷ []
 place_words (place.Action i k) = codes "ruleset" ∷ decimal i ∷ codes "action" ∷ decimal k ∷ []
 
--- the text of a fault: the word for the file, the words for the place, and the name of the cause
+-- The text of a fault: the word for the file, the words for the place, a colon, and the name of the
+-- cause.
 abbrev pub placed_text : List ℕ → Place → List ℕ → List ℕ
 placed_text file at why = joined (file ∷ place_words at) ++ (codes ": " ++ why)
 
--- the text of a fault of a rules file
+-- The printed text of a fault of a rules file.
 abbrev pub fault_text : RulesFault → List ℕ
 fault_text fault = placed_text (codes "rules") fault.place (rules_cause_name fault.what)

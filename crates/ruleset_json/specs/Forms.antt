@@ -1,4 +1,5 @@
--- The syntax of arguments, which follows oomd: numbers, ratios, sizes, Booleans and resources.
+-- Defines the syntax of argument values: numbers, ratios, sizes, Booleans and resources. The syntax
+-- follows oomd.
 use Rattle.std.specs.Prelude.{ℕ, ◌+◌, ◌-◌, ◌*◌, ◌/◌, ◌^◌, List, [], ◌∷◌, ◌++◌, take, length, slice_index, nat_lt, nat_le, ◌==◌, ◌&&◌, ◌||◌, Bool, true, false, if◌then◌else◌, codes, Option, None, Some, option_map}
 use Rattle.std.specs.List.{list_any}
 use Rattle.std.specs.Str.{bytes_eq}
@@ -11,24 +12,25 @@ use Rattle.psi_spec.specs.Fields.{named, resource_word}
 use Rattle.ruleset_json.specs.declared.types.Size.{Size}
 use Rattle.ruleset_json.specs.declared.types.Size.TheVariants as size
 
--- the number if it is at most `most`, or `None`
+-- The number, or `None` if it is above `most`.
 abbrev pub at_most : ℕ → Option ℕ → Option ℕ
 at_most most None = None
 at_most most (Some n) = if nat_le n most then Some n else None
 
--- the number that a text spells (in decimal, without leading zeros) if it is at most `most`, or
--- `None`
+-- The number that a text spells in decimal without leading zeros. `None` if the text isn't such a
+-- number, or if the number is above `most`.
 unfoldable pub number_up_to : ℕ → List ℕ → Option ℕ
 number_up_to most text = at_most most (number_of text)
 
 -- ---- numbers with a decimal point
 
--- the thousandths that one to three digits after a decimal point spell; missing digits are zeros
+-- The number of thousandths that one to three digits after a decimal point spell. Missing digits
+-- count as zeros.
 unfoldable pub fraction_of : List ℕ → Option ℕ
 fraction_of digits = if nat_lt 0 (length digits) && nat_le (length digits) 3 then digits_of (take 3 (digits ++ codes "00")) else None
 
--- the number, at most `most`, and the thousandths in a text that is split at its decimal point; the
--- fraction is optional
+-- The integer part and the thousandths of a number. The argument is the number's text, split at
+-- each decimal point. The integer part is at most `most`, and the fraction is optional.
 abbrev pub pointed : ℕ → List (List ℕ) → Option (ℕ × ℕ)
 pointed most [] = None
 pointed most (whole ∷ []) = do
@@ -40,20 +42,21 @@ pointed most (whole ∷ digits ∷ []) = do
   Some (n, fraction)
 pointed most (whole ∷ digits ∷ other ∷ parts) = None
 
--- the thousandths of a text: a number of at most `most`, optionally followed by a point and one to
--- three digits
+-- The number of thousandths that a text spells. The text has an integer part of at most `most`, and
+-- optionally a point and one to three digits.
 unfoldable pub thousandths_of : ℕ → List ℕ → Option ℕ
 thousandths_of most text = do
   parts ← pointed most (parts_at 46 text)
   Some (parts.0 * 1000 + parts.1)
 
--- the ratio (in thousandths) that a text spells; the number before the point is at most 1000
+-- The ratio (in thousandths) that a text spells. Its integer part is at most 1000.
 abbrev pub ratio_of : List ℕ → Option ℕ
 ratio_of text = thousandths_of 1000 text
 
 -- ---- sizes
 
--- the factor of a size's unit letter, or `None` for any other byte
+-- The number of bytes that a unit letter (K, M, G or T, in either case) stands for. `None` for any
+-- other byte.
 unfoldable pub unit_of : ℕ → Option ℕ
 unit_of letter =
     if letter == 75 || letter == 107 then Some (1024 ^ 1)  -- K, k
@@ -62,31 +65,33 @@ unit_of letter =
     else if letter == 84 || letter == 116 then Some (1024 ^ 4)  -- T, t
     else None
 
--- the last byte of a text
+-- The last byte of a text.
 abbrev pub last : List ℕ → ℕ
 last text = slice_index text (length text - 1)
 
--- a text without its last byte
+-- The text without its last byte.
 abbrev pub prefix : List ℕ → List ℕ
 prefix text = take (length text - 1) text
 
--- the greatest size (bytes)
+-- The greatest size (bytes) that an argument may have.
 abbrev pub largest_size : ℕ
 largest_size = 2 ^ 60
 
--- the size (bytes, rounded down) that a number with a unit spells; the number may have a fraction
+-- The size (bytes, rounded down) that a text spells as a number of units of `unit` bytes. The
+-- number may have a fraction.
 unfoldable pub scaled : ℕ → List ℕ → Option ℕ
 scaled unit text = do
   thousandths ← thousandths_of (2 ^ 64 - 1) text
   at_most largest_size (Some (thousandths * unit / 1000))
 
--- the size (bytes) of a text that ends with the letter of `unit`, or has no unit
+-- The size (bytes) that a text spells. With a unit, the text ends with the unit's letter; without a
+-- unit, the text is a number of bytes.
 abbrev pub bytes_in : Option ℕ → List ℕ → Option ℕ
 bytes_in None text = number_up_to largest_size text
 bytes_in (Some unit) text = scaled unit (prefix text)
 
--- The size that a text spells: a number from 0 to 100 and `%`, or a number of bytes with or without
--- a unit letter.
+-- The size that a text spells: a percentage (a number from 0 to 100 and `%`), or a number of bytes
+-- with an optional unit letter.
 unfoldable pub size_of : List ℕ → Option Size
 size_of text =
     if last text == 37 then option_map size.Percent (number_up_to 100 (prefix text))
@@ -94,18 +99,18 @@ size_of text =
 
 -- ---- words
 
--- the text is one of the words
+-- Whether the text is one of the words.
 abbrev pub is_one_of : List (List ℕ) → List ℕ → Bool
 is_one_of words text = list_any (bytes_eq text) words
 
--- the Boolean that a text spells, or `None`
+-- The Boolean that a text spells, or `None` if it spells no Boolean.
 unfoldable pub truth_of : List ℕ → Option Bool
 truth_of text =
     if is_one_of (codes "true" ∷ codes "True" ∷ codes "1" ∷ []) text then Some true
     else if is_one_of (codes "false" ∷ codes "False" ∷ codes "0" ∷ []) text then Some false
     else None
 
--- the resource that a text spells, or `None`; only resources on which a detector can watch stalls:
--- IO and memory
+-- The resource that a text names, or `None`. Only IO and memory are accepted, because detectors
+-- watch only these two.
 unfoldable pub resource_of : List ℕ → Option Res
 resource_of text = named resource_word (res.Io ∷ res.Memory ∷ []) text

@@ -1,15 +1,18 @@
--- The result of a call, compared with the result of its definition, if the call returns a
--- representation of the defined value.
+-- Relations between the result of a parsing function and the result that its specification defines.
+-- The function's value may be a representation of the specified value; `seen` maps one to the
+-- other.
 use Rattle.std.specs.Prelude.{◌≡◌, Result, Ok, Err}
 use Rattle.psi_base.specs.Gives.{FaultOf}
 use Rattle.psi_base.specs.declared.event.Fault.{Fault}
 
--- the call's result represents the definition's result; nothing is said if memory ran out
+-- The call succeeds with a representation of the specified value, or fails with the specified
+-- fault. If memory ran out, nothing is required.
 abbrev pub GivesBy : {A B E : Type 0} → (A → B) → Result A (Fault E) → Result B E → Type 0
 GivesBy seen (Ok x) read = read ≡ Ok (seen x)
 GivesBy seen (Err fault) read = FaultOf fault read
 
--- the call's result represents the definition's result; for a call that doesn't allocate
+-- The call succeeds with a representation of the specified value, or fails with the specified
+-- fault. This relation is for calls that don't allocate.
 abbrev pub ReadsBy : {A B E : Type 0} → (A → B) → Result A E → Result B E → Type 0
 ReadsBy seen (Ok x) read = read ≡ Ok (seen x)
 ReadsBy seen (Err fault) read = read ≡ Err fault

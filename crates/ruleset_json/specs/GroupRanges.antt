@@ -1,9 +1,10 @@
--- The ranges of values in a group of detectors.
+-- The ranges of the values in a group of detectors.
 use Rattle.std.specs.Prelude.{List, IsUtf8}
 use Rattle.ruleset_json.specs.declared.types.DetectorGroup.{DetectorGroup}
 use Rattle.ruleset_json.specs.Ranges.{FitsList, FitsDetectors}
 
--- A group has at most 16 detectors, their arguments are in range, and the group's name is UTF-8.
+-- A group has at most 16 detectors, the arguments of its detectors are in range, and its name is
+-- UTF-8.
 abbrev pub FitsGroup : DetectorGroup → Type 0
 FitsGroup group = FitsDetectors group.detectors × IsUtf8 group.name
 

@@ -1,5 +1,5 @@
--- Laws of parsing a list: it is accepted if all its items are; otherwise it has the fault of the
--- first rejected item.
+-- Laws about parsing a list. A list is accepted if all its items are accepted. Otherwise its fault
+-- is the fault of its first rejected item.
 use Rattle.std.specs.Prelude.{◌≡◌, ◌↔◌, ℕ, ◌+◌, ◌<◌, List, length, Some, Result, Ok, Err}
 use Rattle.std.specs.List.{slice_get}
 use Rattle.std.specs.Result.{IsOk}
@@ -7,13 +7,14 @@ use Rattle.serde_json.specs.Data.{Data}
 use Rattle.ruleset_json.specs.declared.fault.RulesFault.{RulesFault}
 use Rattle.ruleset_json.specs.Rules.{each}
 
--- Each item is accepted, and `found` are the parsed items. The first item has number `from`.
+-- Each item is accepted, and `found` has the parsed items in order. The first item has the index
+-- `from`.
 pub record AreRead {A : Type 0} (read : ℕ → Data → Result A RulesFault) (from : ℕ) (items : List Data) (found : List A) : Type 0 where
   pub equally_many : length found ≡ length items
   pub each : (k : ℕ) (item : Data) (x : A) → slice_get items k ≡ Some item → slice_get found k ≡ Some x → read (from + k) item ≡ Ok x
 
--- One item is rejected with this fault, and all items before it are accepted. The first item has
--- number `from`.
+-- One item is rejected with the fault `fault`, and all items before it are accepted. The first item
+-- has the index `from`.
 pub record IsFirstFault {A : Type 0} (read : ℕ → Data → Result A RulesFault) (from : ℕ) (items : List Data)
     (fault : RulesFault) : Type 0 where
   pub at : ℕ
@@ -22,13 +23,14 @@ pub record IsFirstFault {A : Type 0} (read : ℕ → Data → Result A RulesFaul
   pub refused : read (from + at) item ≡ Err fault
   pub before : (k : ℕ) (earlier : Data) → k < at → slice_get items k ≡ Some earlier → IsOk (read (from + k) earlier)
 
--- A list is accepted exactly if each of its items is.
+-- A list is accepted if and only if each of its items is accepted.
 abbrev pub ReadsEach : (A : Type 0) → Type 0
 ReadsEach A =
     (read : ℕ → Data → Result A RulesFault) (from : ℕ) (items : List Data) (found : List A)
     → (each read from items ≡ Ok found) ↔ AreRead read from items found
 
--- A list is rejected exactly with the fault of its first rejected item.
+-- A list is rejected with a fault if and only if that fault is the fault of its first rejected
+-- item.
 abbrev pub RefusesFirst : (A : Type 0) → Type 0
 RefusesFirst A =
     (read : ℕ → Data → Result A RulesFault) (from : ℕ) (items : List Data) (fault : RulesFault)

@@ -1,4 +1,4 @@
--- The names of detectors and actions, and the keys of their arguments, as in oomd.
+-- The names of detectors and actions, and the keys of their arguments. Most of them are oomd's.
 use Rattle.std.specs.Prelude.{ℕ, List, [], ◌∷◌, codes, Option}
 use Rattle.psi_spec.specs.Fields.{named}
 use Rattle.ruleset_json.specs.declared.name.DetectorName.{DetectorName}
@@ -8,7 +8,7 @@ use Rattle.ruleset_json.specs.declared.name.ActionName.TheVariants as action
 use Rattle.ruleset_json.specs.declared.name.Key.{Key}
 use Rattle.ruleset_json.specs.declared.name.Key.TheVariants as key
 
--- the name of a detector, as a rules file has it
+-- The detector's name in a rules file.
 unfoldable pub detector_word : DetectorName → List ℕ
 detector_word detector.PressureAbove = codes "pressure_above"
 detector_word detector.PressureRisingBeyond = codes "pressure_rising_beyond"
@@ -17,32 +17,32 @@ detector_word detector.MemoryReclaim = codes "memory_reclaim"
 detector_word detector.SwapFree = codes "swap_free"
 detector_word detector.Exists = codes "exists"
 
--- the names of all detectors
+-- All kinds of detectors.
 abbrev pub detector_names : List DetectorName
 detector_names =
     detector.PressureAbove ∷ detector.PressureRisingBeyond ∷ detector.MemoryAbove ∷ detector.MemoryReclaim ∷ detector.SwapFree
     ∷ detector.Exists ∷ []
 
--- the detector that a text names, or `None`
+-- The kind of detector with the name `text`, or `None` if there is no such detector.
 unfoldable pub detector_named : List ℕ → Option DetectorName
 detector_named text = named detector_word detector_names text
 
--- the name of an action, as a rules file has it
+-- The action's name in a rules file.
 unfoldable pub action_word : ActionName → List ℕ
 action_word action.SizeOrGrowth = codes "kill_by_memory_size_or_growth"
 action_word action.SwapUsage = codes "kill_by_swap_usage"
 action_word action.Pressure = codes "kill_by_pressure"
 action_word action.PgScan = codes "kill_by_pg_scan"
 
--- the names of all actions
+-- All kinds of actions.
 abbrev pub action_names : List ActionName
 action_names = action.SizeOrGrowth ∷ action.SwapUsage ∷ action.Pressure ∷ action.PgScan ∷ []
 
--- the action that a text names, or `None`
+-- The kind of action with the name `text`, or `None` if there is no such action.
 unfoldable pub action_named : List ℕ → Option ActionName
 action_named text = named action_word action_names text
 
--- the key of an argument, as a rules file has it
+-- The spelling of a key in a rules file.
 unfoldable pub key_word : Key → List ℕ
 key_word key.Cgroup = codes "cgroup"
 key_word key.Resource = codes "resource"

@@ -1,5 +1,5 @@
--- The parts of a drop-in file (its rulesets), or its first fault. It is parsed like a rules file,
--- with one difference: a ruleset may lack its detectors, its actions, or both.
+-- Defines the parsing of a drop-in file into its rulesets, which are called parts. A drop-in file
+-- is parsed like a rules file, except that a ruleset may lack its detectors, its actions, or both.
 use Rattle.std.specs.Prelude.{ℕ, List, codes, Option, None, Some, Result, Ok}
 use Rattle.serde_json.specs.Data.{Data}
 use Rattle.serde_json.specs.Find.{get}
@@ -9,14 +9,14 @@ use Rattle.ruleset_json.specs.declared.types.Part.{Part}
 use Rattle.psi_base.specs.ResultSteps.{◌>>=◌}
 use Rattle.ruleset_json.specs.Rules.{object_at, member_at, text_at, each, delay_at, groups_at, actions_at, rulesets_of}
 
--- the parsed value if the member is present, and `None` if it is missing
+-- The parsed value `read` if the member of the JSON object is present, and `None` if it is missing.
 abbrev pub if_there : {A : Type 0} → Option Data → Result A RulesFault → Result (Option A) RulesFault
 if_there None read = Ok None
 if_there (Some found) read = do
   x ← read
   Ok (Some x)
 
--- ruleset number `i` (from 0) of a drop-in file, or its first fault
+-- The ruleset at index `i` of a drop-in file, or its first fault.
 unfoldable pub part_at : ℕ → Data → Result Part RulesFault
 part_at i d = do
   whole ← object_at (place.Rule i) d
@@ -27,7 +27,7 @@ part_at i d = do
   chain ← if_there (get (codes "actions") whole) (actions_at i delay whole)
   Ok (record { name = name; groups = groups; actions = chain })
 
--- the parts of a drop-in file with these bytes, or its first fault
+-- The rulesets of the drop-in file with these bytes, or the file's first fault.
 unfoldable pub parts_of : List ℕ → Result (List Part) RulesFault
 parts_of bytes = do
   items ← rulesets_of bytes

@@ -1,6 +1,5 @@
--- The plugins, which are the detectors and the actions: their arguments in the order in which they
--- are parsed, and their results. They are core plugins of oomd, with the arguments that this
--- program supports.
+-- Defines each plugin (detector or action) by its arguments, in the order in which they are parsed.
+-- The plugins are core plugins of oomd, with the arguments that this program supports.
 use Rattle.std.specs.Prelude.{ℕ, List, [], ◌∷◌, false}
 use Rattle.ruleset_json.specs.declared.name.DetectorName.{DetectorName}
 use Rattle.ruleset_json.specs.declared.name.DetectorName.TheVariants.{PressureAbove, PressureRisingBeyond, MemoryAbove, MemoryReclaim, SwapFree, Exists}
@@ -15,24 +14,25 @@ use Rattle.ruleset_json.specs.declared.types.Action.{Action}
 use Rattle.ruleset_json.specs.declared.types.Action.TheVariants as action
 use Rattle.ruleset_json.specs.Arguments.{Argument, ArgumentsMaker, required, optional, patterns, resource, number, ratio, size, truth}
 
--- a plugin: its arguments, and the function from their values to the result
+-- A plugin: its arguments, and the function that makes a detector or an action from the arguments'
+-- values.
 pub record Plugin (Made : Type 0) : Type 0 where
   pub arguments : List Argument
   pub make : ArgumentsMaker arguments Made
 
--- the plugin with these components
+-- The plugin with these components.
 abbrev pub plugin : {Made : Type 0} (arguments : List Argument) → ArgumentsMaker arguments Made → Plugin Made
 plugin arguments make = record { arguments = arguments; make = make }
 
--- the greatest percentage
+-- The greatest percentage that an argument may have.
 abbrev pub percent : ℕ
 percent = 100
 
--- the longest time (s)
+-- The longest time (s) that an argument may have.
 abbrev pub longest : ℕ
 longest = 1000000
 
--- the plugin of each detector
+-- The arguments of each kind of detector.
 unfoldable pub detector_of : DetectorName → Plugin DetectorSpec
 detector_of PressureAbove =
     plugin (required key.Cgroup patterns ∷ required key.Resource resource ∷ required key.Threshold (number percent)
@@ -46,7 +46,8 @@ detector_of MemoryReclaim = plugin (required key.Cgroup patterns ∷ required ke
 detector_of SwapFree = plugin (required key.ThresholdPct (number percent) ∷ []) detector.SwapFree
 detector_of Exists = plugin (required key.Cgroup patterns ∷ optional key.Negate truth false ∷ []) detector.Exists
 
--- The plugin of each action. Its result still takes the settings that all actions share.
+-- The arguments of each kind of action, without the settings that every action has. The plugin
+-- makes a function from these settings to an action.
 unfoldable pub action_of : ActionName → Plugin (After → Action)
 action_of SizeOrGrowth =
     plugin (required key.Cgroup patterns ∷ optional key.SizeThreshold (number percent) 50
@@ -60,8 +61,8 @@ action_of Pressure =
     (λ cgroup resource after. action.Pressure cgroup resource after)
 action_of PgScan = plugin (required key.Cgroup patterns ∷ []) (λ cgroup after. action.PgScan cgroup after)
 
--- the arguments of the settings that all actions share; `delay` is the ruleset's delay (s) after a
--- kill
+-- The arguments for the settings that every action has. `delay` is the ruleset's delay (s) after a
+-- kill, and the default for the action's delay.
 unfoldable pub after_arguments : ℕ → Plugin After
 after_arguments delay =
     plugin (optional key.Recursive truth false ∷ optional key.AlwaysContinue truth false

@@ -1,4 +1,4 @@
--- The ranges of values in the arguments of detectors and actions.
+-- The ranges of the argument values of detectors and actions.
 use Rattle.std.specs.Prelude.{ℕ, ◌≤◌, ◌^◌, List, All, length}
 use Rattle.psi_base.specs.declared.event.Res.{Res}
 use Rattle.psi_base.specs.declared.event.Res.TheVariants as res
@@ -9,30 +9,30 @@ use Rattle.ruleset_json.specs.declared.types.DetectorSpec.TheVariants as detecto
 use Rattle.ruleset_json.specs.declared.types.Action.{Action}
 use Rattle.ruleset_json.specs.declared.types.Action.TheVariants as action
 
--- the percentage is at most 100
+-- The percentage is at most 100.
 abbrev pub IsPercent : ℕ → Type 0
 IsPercent n = n ≤ 100
 
--- the time is at most 1,000,000 s
+-- The time is at most 1,000,000 s.
 abbrev pub IsTime : ℕ → Type 0
 IsTime n = n ≤ 1000000
 
--- the ratio (in thousandths) is at most 1000.999
+-- The ratio, in thousandths, is at most 1,000,999.
 abbrev pub IsRatio : ℕ → Type 0
 IsRatio n = n ≤ 1000999
 
--- detectors and actions can use the resource: IO or memory
+-- The resource is one that detectors and actions can use: IO or memory.
 abbrev pub IsStallable : Res → Type 0
 IsStallable res.Io = Unit {0}
 IsStallable res.Memory = Unit {0}
 IsStallable res.Cpu = ⊥
 
--- the size is at most 2^60 bytes, or at most 100 percent
+-- The size is at most 2^60 bytes, or at most 100 percent.
 abbrev pub IsSize : Size → Type 0
 IsSize (size.Bytes n) = n ≤ 2 ^ 60
 IsSize (size.Percent n) = IsPercent n
 
--- the arguments of a detector are in range
+-- The arguments of the detector are in range.
 abbrev pub FitsDetector : DetectorSpec → Type 0
 FitsDetector (detector.PressureAbove cgroup resource threshold duration) = IsStallable resource × IsPercent threshold × IsTime duration
 FitsDetector (detector.PressureRisingBeyond cgroup resource threshold duration ratio) =
@@ -42,7 +42,7 @@ FitsDetector (detector.MemoryReclaim cgroup duration) = IsTime duration
 FitsDetector (detector.SwapFree threshold) = IsPercent threshold
 FitsDetector (detector.Exists cgroup negate) = Unit {0}
 
--- the arguments of an action are in range
+-- The arguments of the action are in range.
 abbrev pub FitsAction : Action → Type 0
 FitsAction (action.SizeOrGrowth cgroup size_threshold percentile ratio after) =
     IsPercent size_threshold × IsPercent percentile × IsRatio ratio × IsTime after.delay_s
@@ -50,7 +50,7 @@ FitsAction (action.SwapUsage cgroup threshold after) = IsSize threshold × IsTim
 FitsAction (action.Pressure cgroup resource after) = IsStallable resource × IsTime after.delay_s
 FitsAction (action.PgScan cgroup after) = IsTime after.delay_s
 
--- the list has at most `most` items, and each is in range
+-- The list has at most `most` items, and every item satisfies `Fits`.
 pub record FitsList {A : Type 0} (Fits : A → Type 0) (most : ℕ) (xs : List A) : Type 0 where
   pub few : length xs ≤ most
   pub each : All Fits xs

@@ -1,6 +1,7 @@
-//! Parses actions.
+//! Parses the actions of a rules file.
 //!
-//! There is one function for each kind of action, with one line for each argument.
+//! Each kind of action has one function, and each argument of the action has one line in that
+//! function.
 ghost use Rattle.std.specs.Prelude.{◌≡◌, option_map, IfOk};
 ghost use Rattle.serde_json.specs.View.{view};
 ghost use Rattle.ruleset_json.specs.declared.fault.RulesCause.TheVariants as cause;
@@ -21,8 +22,8 @@ use psi_base::Fault;
 use serde_json::Value;
 use std::alloc::Global;
 
-// Parses the settings that all actions share, after an action's own arguments. `delay_s` is the
-// ruleset's delay after a kill.
+// Parses the settings that every kind of action has, after the action's own arguments. `delay_s` is
+// the ruleset's delay (s) after a kill, and the default for the action's delay.
 #[tactic(auto, unfolding(crate::specs::Rules::made_at, crate::specs::Plugins::after_arguments))]
 fn after(args: &Arguments, delay_s: u32) -> Result<After, Fault<RulesFault>>
     requires { IsTime delay_s }
@@ -138,7 +139,8 @@ fn named(text: &str, place: Place) -> Result<ActionName, RulesFault>
     }
 }
 
-/// Parses the plugin object of an action, in a ruleset with this delay (s) after a kill.
+/// Parses an action from its plugin object in the JSON. `delay_s` is the ruleset's delay (s) after
+/// a kill, and the default for the action's delay.
 #[tactic(auto, unfolding(crate::specs::Rules::plugin_at))]
 pub fn action(
     alloc: Global,

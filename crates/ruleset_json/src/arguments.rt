@@ -1,7 +1,8 @@
-//! The arguments of a plugin (a detector or an action): each is looked up by its key, and parsed
-//! according to its kind.
+//! Parses the arguments of a plugin (a detector or an action). Each argument is looked up by its
+//! key and parsed according to its kind.
 //!
-//! Which arguments a plugin has is in `action` and `detector`; the syntax of values is in `form`.
+//! The modules `action` and `detector` list the arguments of each plugin; the module `form` defines
+//! the syntax of the values.
 ghost use Rattle.std.specs.Prelude.{◌≡◌, ◌<◌, ◌≤◌, Option, Some, None, option_map, option_and_then, string_bytes, IfOk, codes};
 ghost use Rattle.serde_json.specs.View.{view};
 ghost use Rattle.serde_json.specs.Find as json;
@@ -24,14 +25,14 @@ use psi_base::{Fault, NoMemory, Res};
 use serde_json::Value;
 use std::alloc::Global;
 
-/// The greatest percentage.
+/// The greatest percentage that an argument may have.
 pub const PERCENT: u32 = 100;
 
-/// The longest time (s).
+/// The longest time (s) that an argument may have.
 pub const LONGEST_S: u32 = 1_000_000;
 
-// Returns the text of an argument: the string itself, or the spelling of a natural number or
-// Boolean. `None` for any other value.
+// Returns the text of an argument. A string is its own text; a natural number or a Boolean is
+// spelled out. Returns `None` for any other JSON value.
 fn text_in(alloc: Global, value: &Value) -> Result<Option<String>, NoMemory>
     ensures { IfOk result (λ text.
         option_map string_bytes text ≡ argument_text (view value.now)) }
@@ -49,7 +50,8 @@ fn text_in(alloc: Global, value: &Value) -> Result<Option<String>, NoMemory>
     }
 }
 
-// Returns the text of an argument as `text_in` does, but fails with `WrongKind` if there is none.
+// Returns the text of an argument, as `text_in` does. Fails with `WrongKind` for a JSON value
+// without a text.
 fn text_of(alloc: Global, value: &Value, place: Place) -> Result<String, Fault<RulesFault>>
     ensures { GivesBy string_bytes result
         (or_fault place cause.WrongKind (argument_text (view value.now))) }
@@ -140,17 +142,18 @@ fn truth(alloc: Global, value: &Value, place: Place) -> Result<bool, Fault<Rules
     }
 }
 
-/// The arguments of a plugin object, and the place that their faults report.
+/// The arguments of a plugin object in the JSON, and the place in the file that their faults
+/// report.
 #[derive(Drop)]
 pub struct Arguments<'v> {
     alloc: Global,
-    /// The object with the arguments, if there is one.
+    /// The JSON object with the arguments, or `None` if the plugin has no `args`.
     found: Option<&'v Value>,
     place: Place,
 }
 
 impl<'v> Arguments<'v> {
-    /// Returns the members of an object as arguments.
+    /// Returns the members of a JSON object as arguments. Faults report `place`.
     pub fn of(alloc: Global, object: &'v Value, place: Place) -> Self
         ensures place { result.place ≡ place }
         ensures found { option_map (λ v. view v.now) result.found ≡ Some (view object.now) }
@@ -162,8 +165,8 @@ impl<'v> Arguments<'v> {
         }
     }
 
-    /// Returns the arguments of a plugin object, under its key `args`. If the key is missing, there
-    /// are no arguments.
+    /// Returns the arguments of a plugin object: the object under its key `args`, or no arguments
+    /// if that key is missing. Fails with `WrongKind` if `args` isn't an object.
     pub fn of_plugin(alloc: Global, plugin: &'v Value, place: Place) -> Result<Self, RulesFault>
         ensures found { ReadsBy (λ arguments. option_map (λ v. view v.now) arguments.found) result
             (arguments_in place (json.get (codes "args") (view plugin.now))) }
@@ -206,7 +209,7 @@ impl<'v> Arguments<'v> {
         }
     }
 
-    /// Parses the required argument `key` as patterns of paths.
+    /// Parses the required argument `key` as a list of path patterns.
     #[tactic(auto, unfolding(crate::specs::Arguments::argument_at))]
     pub fn patterns(&self, key: Key) -> Result<Patterns, Fault<RulesFault>>
         ensures { Gives result
@@ -216,7 +219,7 @@ impl<'v> Arguments<'v> {
         patterns(self.alloc, self.needed(key)?, self.place)
     }
 
-    /// Parses the required argument `key` as a resource.
+    /// Parses the required argument `key` as a resource, IO or memory.
     #[tactic(auto, unfolding(crate::specs::Arguments::argument_at))]
     pub fn resource(&self, key: Key) -> Result<Res, Fault<RulesFault>>
         ensures value { Gives result
@@ -227,7 +230,7 @@ impl<'v> Arguments<'v> {
         resource(self.alloc, self.needed(key)?, self.place)
     }
 
-    /// Parses the required argument `key` as a number of at most `most`.
+    /// Parses the required argument `key` as a natural number of at most `most`.
     #[tactic(auto, unfolding(crate::specs::Arguments::argument_at))]
     pub fn number(&self, key: Key, most: u32) -> Result<u32, Fault<RulesFault>>
         ensures value { Gives result
@@ -238,7 +241,7 @@ impl<'v> Arguments<'v> {
         number(self.alloc, self.needed(key)?, most, self.place)
     }
 
-    /// Parses the required argument `key` as a size.
+    /// Parses the required argument `key` as a size in bytes or percent.
     #[tactic(auto, unfolding(crate::specs::Arguments::argument_at))]
     pub fn size(&self, key: Key) -> Result<Size, Fault<RulesFault>>
         ensures value { Gives result
@@ -249,8 +252,8 @@ impl<'v> Arguments<'v> {
         size(self.alloc, self.needed(key)?, self.place)
     }
 
-    /// Parses the optional argument `key` as a number of at most `most`. Returns `default` if it is
-    /// missing.
+    /// Parses the optional argument `key` as a natural number of at most `most`. Returns `default`
+    /// if the argument is missing.
     #[tactic(auto, unfolding(crate::specs::Arguments::argument_at))]
     pub fn number_or(&self, key: Key, most: u32, default: u32) -> Result<u32, Fault<RulesFault>>
         requires { default ≤ most }
@@ -265,8 +268,8 @@ impl<'v> Arguments<'v> {
         }
     }
 
-    /// Parses the optional argument `key` as a ratio (in thousandths). Returns `default` if it is
-    /// missing.
+    /// Parses the optional argument `key` as a ratio in thousandths. Returns `default` if the
+    /// argument is missing.
     #[tactic(auto, unfolding(crate::specs::Arguments::argument_at))]
     pub fn ratio_or(&self, key: Key, default: u32) -> Result<u32, Fault<RulesFault>>
         requires { IsRatio default }
@@ -281,7 +284,8 @@ impl<'v> Arguments<'v> {
         }
     }
 
-    /// Parses the optional argument `key` as a size. Returns `default` if it is missing.
+    /// Parses the optional argument `key` as a size in bytes or percent. Returns `default` if the
+    /// argument is missing.
     #[tactic(auto, unfolding(crate::specs::Arguments::argument_at))]
     pub fn size_or(&self, key: Key, default: Size) -> Result<Size, Fault<RulesFault>>
         requires { IsSize default }
@@ -296,7 +300,8 @@ impl<'v> Arguments<'v> {
         }
     }
 
-    /// Parses the optional argument `key` as a Boolean. Returns `default` if it is missing.
+    /// Parses the optional argument `key` as a Boolean. Returns `default` if the argument is
+    /// missing.
     #[tactic(auto, unfolding(crate::specs::Arguments::argument_at))]
     pub fn truth_or(&self, key: Key, default: bool) -> Result<bool, Fault<RulesFault>>
         ensures { Gives result

@@ -1,7 +1,7 @@
 //! Copies rules.
 //!
-//! Copying allocates and so can fail, which `Clone` doesn't allow; so each type has a method
-//! `copy`.
+//! `Clone` can't report that memory ran out. Therefore each type has a method `copy`, which fails
+//! with `NoMemory` in that case.
 ghost use Rattle.std.specs.Prelude.{◌≡◌, IfOk};
 ghost use Rattle.ruleset_json.specs.declared.types.DetectorSpec.TheVariants as detector;
 
@@ -38,7 +38,7 @@ fn rising_beyond(
 }
 
 impl DetectorSpec {
-    /// Returns a copy of the detector's arguments.
+    /// Returns a copy of the detector.
     pub fn copy(&self, alloc: Global) -> Result<DetectorSpec, NoMemory>
         ensures { IfOk result (λ copied. copied ≡ self.now) }
     {
@@ -137,7 +137,7 @@ impl Action {
 }
 
 impl SpecList {
-    /// Returns a copy of the detectors.
+    /// Returns a copy of the list of detectors.
     pub fn copy(&self, alloc: Global) -> Result<SpecList, NoMemory>
         ensures { IfOk result (λ copied. copied ≡ self.now) }
     {
@@ -151,7 +151,7 @@ impl SpecList {
 }
 
 impl DetectorGroup {
-    /// Returns a copy of the group.
+    /// Returns a copy of the group of detectors.
     pub fn copy(&self, alloc: Global) -> Result<DetectorGroup, NoMemory>
         ensures { IfOk result (λ copied. copied ≡ self.now) }
     {
@@ -163,7 +163,7 @@ impl DetectorGroup {
 }
 
 impl GroupList {
-    /// Returns a copy of the groups.
+    /// Returns a copy of the list of groups.
     pub fn copy(&self, alloc: Global) -> Result<GroupList, NoMemory>
         ensures { IfOk result (λ copied. copied ≡ self.now) }
     {
@@ -177,7 +177,7 @@ impl GroupList {
 }
 
 impl ActionList {
-    /// Returns a copy of the actions.
+    /// Returns a copy of the list of actions.
     pub fn copy(&self, alloc: Global) -> Result<ActionList, NoMemory>
         ensures { IfOk result (λ copied. copied ≡ self.now) }
     {
@@ -204,7 +204,7 @@ impl Rule {
 }
 
 impl RuleList {
-    /// Returns a copy of the rulesets.
+    /// Returns a copy of the list of rulesets.
     pub fn copy(&self, alloc: Global) -> Result<RuleList, NoMemory>
         ensures { IfOk result (λ copied. copied ≡ self.now) }
     {
@@ -218,7 +218,7 @@ impl RuleList {
 }
 
 impl Rules {
-    /// Returns a copy of the rules.
+    /// Returns a copy of all rules of the file.
     pub fn copy(&self, alloc: Global) -> Result<Rules, NoMemory>
         ensures { IfOk result (λ copied. copied ≡ self.now) }
     {

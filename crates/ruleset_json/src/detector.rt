@@ -1,6 +1,7 @@
-//! Parses detectors.
+//! Parses the detectors of a rules file.
 //!
-//! There is one function for each kind of detector, with one line for each argument.
+//! Each kind of detector has one function, and each argument of the detector has one line in that
+//! function.
 ghost use Rattle.std.specs.Prelude.{◌≡◌, option_map, IfOk};
 ghost use Rattle.serde_json.specs.View.{view};
 ghost use Rattle.ruleset_json.specs.declared.fault.RulesCause.TheVariants as cause;
@@ -140,7 +141,7 @@ fn named(text: &str, place: Place) -> Result<DetectorName, RulesFault>
     }
 }
 
-/// Parses the plugin object of a detector.
+/// Parses a detector from its plugin object in the JSON. Faults report `place`.
 #[tactic(auto, unfolding(crate::specs::Rules::plugin_at))]
 pub fn detector(
     alloc: Global,

@@ -1,54 +1,54 @@
-//! Why a rules file is rejected, and at which place.
+//! Faults of a rules file: the cause of the rejection and the place in the file.
 //!
-//! The text that is printed for a fault is defined in `FaultText`.
+//! The specification `FaultText` defines the printed text of a fault.
 ghost use Rattle.std.specs.Prelude.{◌≡◌};
 ghost use Rattle.psi_base.specs.declared.event.Fault.TheVariants as outcome;
 
 use psi_base::Fault;
 
-/// The place of a fault in a rules file. All numbers are from 0, in the order of the file.
+/// The place of a fault in a rules file. All numbers are indexes from 0, in the order of the file.
 #[derive(Clone, Copy, Debug, PartialEq, Eq)]
 pub enum Place {
     /// The whole file, or its list of rulesets.
     Whole,
-    /// A ruleset: its number.
+    /// A ruleset, by its index in the file.
     Rule(u32),
-    /// A group of detectors: the number of its ruleset, and its number in the ruleset.
+    /// A group of detectors: the index of its ruleset, and its index in the ruleset.
     Group(u32, u32),
-    /// A detector: the number of its ruleset, the number of its group in the ruleset, and its
-    /// number in the group. The name at the start of the group isn't counted.
+    /// A detector: the index of its ruleset, the index of its group in the ruleset, and its index
+    /// in the group. The name at the start of the group has no index.
     Detector(u32, u32, u32),
-    /// An action: the number of its ruleset, and its number in the ruleset.
+    /// An action: the index of its ruleset, and its index in the ruleset.
     Action(u32, u32),
 }
 
-/// The cause for which a rules file is rejected.
+/// The reason why a rules file is rejected.
 #[derive(Clone, Copy, Debug, PartialEq, Eq)]
 pub enum RulesCause {
-    /// The file has more than 1,048,576 bytes.
+    /// The file is longer than 1,048,576 bytes.
     TooLong,
     /// The bytes aren't UTF-8, or aren't JSON that `serde_json` accepts.
     BadJson,
-    /// A required key or argument is missing, or a group of detectors is an empty list, which has
-    /// no name.
+    /// A required key or argument is missing. Also reported for a group that is an empty list,
+    /// because the group's name is missing.
     MissingKey,
     /// A value has the wrong JSON kind. Numbers must be integers from 0 to 2^64 - 1.
     WrongKind,
     /// No plugin of the required kind (detector or action) has this name.
     UnknownPlugin,
-    /// A string, or a number or Boolean in place of a string, is malformed or out of range for its
-    /// argument.
+    /// The text of an argument is malformed, or its value is out of range. The text may be a JSON
+    /// string, number or Boolean.
     BadArg,
-    /// A list is longer than its limit, or there are more than 16 patterns.
+    /// A list is longer than its limit, or an argument has more than 16 patterns.
     TooMany,
 }
 
-/// The first fault of a rules file.
+/// The first fault of a rules file, in the order of parsing.
 #[derive(Clone, Copy, Debug, PartialEq, Eq)]
 pub struct RulesFault {
-    /// The place of the fault.
+    /// The place of the fault in the file.
     pub place: Place,
-    /// The cause of the fault.
+    /// The reason for the rejection.
     pub what: RulesCause,
 }
 

@@ -1,6 +1,6 @@
 //! Parses rules files and drop-in files, in depth-first order.
 //!
-//! Single plugins are parsed in `detector` and `action`.
+//! The modules `detector` and `action` parse the single plugins.
 ghost use Rattle.std.specs.Prelude.{◌≡◌, ◌≤◌, ◌-◌, codes, drop, if◌then◌else◌, map, nat_lt, length, IfOk, Err};
 ghost use Rattle.std.specs.List.{slice_get};
 ghost use Rattle.serde_json.specs.Find.{get};
@@ -27,17 +27,17 @@ use psi_base::{Fault, Text};
 use serde_json::Value;
 use std::alloc::Global;
 
-/// The greatest size of a rules file (bytes).
+/// The greatest length of a rules file (bytes).
 const MOST_BYTES: usize = 1_048_576;
 
 /// The greatest number of rulesets in a file.
 const MOST_RULES: usize = 64;
 
-/// The greatest number of groups of a ruleset, of detectors of a group, and of actions of a
+/// The greatest number of groups in a ruleset, of detectors in a group, and of actions in a
 /// ruleset.
 const MOST_PARTS: usize = 16;
 
-/// The default delay of a ruleset after a kill (s), which is oomd's.
+/// The default delay of a ruleset after a kill (s). oomd has the same default.
 const DELAY_S: u32 = 15;
 
 fn detectors(
@@ -63,7 +63,8 @@ fn detectors(
     Ok(SpecList::new(found))
 }
 
-// Parses the actions of a ruleset with this delay (s) after a kill.
+// Parses the items of the list of actions of ruleset `rule`. `delay_s` is the ruleset's delay (s)
+// after a kill.
 fn actions(
     alloc: Global,
     rule: u32,
@@ -88,7 +89,7 @@ fn actions(
     Ok(ActionList::new(found))
 }
 
-// Returns the first item of a list, or `MissingKey` if the list is empty.
+// Returns the first item of a list. Fails with `MissingKey` if the list is empty.
 fn first(items: &[Value], place: Place) -> Result<&Value, RulesFault>
     ensures { ReadsBy (λ v. view v.now) result
         (or_fault place cause.MissingKey (slice_get (map view items.now) 0)) }
@@ -102,7 +103,7 @@ fn first(items: &[Value], place: Place) -> Result<&Value, RulesFault>
     }
 }
 
-// Returns the items of a list after the first.
+// Returns the items of a list after the first item.
 fn rest(items: &[Value]) -> &[Value]
     ensures rest { map view result.now ≡ drop 1 (map view items.now) }
     ensures fewer { length result.now ≤ length items.now - 1 }
@@ -113,7 +114,7 @@ fn rest(items: &[Value]) -> &[Value]
     }
 }
 
-// Parses a group of detectors: a list of its name and its detectors.
+// Parses a group of detectors: a JSON array with the group's name and then its detectors.
 #[tactic(auto, unfolding(crate::specs::Rules::group_at))]
 fn group(
     alloc: Global,
@@ -148,7 +149,7 @@ fn groups(alloc: Global, rule: u32, items: &[Value]) -> Result<GroupList, Fault<
     Ok(GroupList::new(found))
 }
 
-// Parses the groups of a ruleset. Fails if they are missing.
+// Parses the groups of a ruleset, under its key `detectors`. Fails if the key is missing.
 fn groups_in(alloc: Global, rule: u32, whole: &Value) -> Result<GroupList, Fault<RulesFault>>
     ensures value { Gives result (groups_at rule (view whole.now)) }
 {
@@ -157,7 +158,8 @@ fn groups_in(alloc: Global, rule: u32, whole: &Value) -> Result<GroupList, Fault
     groups(alloc, rule, items)
 }
 
-// Parses the actions of a ruleset with this delay (s) after a kill. Fails if they are missing.
+// Parses the actions of a ruleset, under its key `actions`. `delay_s` is the ruleset's delay (s)
+// after a kill. Fails if the key is missing.
 fn actions_in(
     alloc: Global,
     rule: u32,
@@ -172,7 +174,7 @@ fn actions_in(
     actions(alloc, rule, delay_s, items)
 }
 
-// Parses the delay (s) of a ruleset after a kill, for actions without a delay of their own.
+// Parses the delay (s) of a ruleset after a kill. Actions without their own delay use this delay.
 fn delay(alloc: Global, whole: &Value, place: Place) -> Result<u32, Fault<RulesFault>>
     ensures value { Gives result (delay_at place (view whole.now)) }
     ensures range { IfOk result IsTime }
@@ -199,7 +201,7 @@ fn rule(alloc: Global, index: u32, value: &Value) -> Result<Rule, Fault<RulesFau
     })
 }
 
-// Parses the groups of a part (a ruleset of a drop-in file), if it has any.
+// Parses the groups of a drop-in ruleset. Returns `None` if the key `detectors` is missing.
 fn groups_if_there(
     alloc: Global,
     rule: u32,
@@ -214,8 +216,8 @@ fn groups_if_there(
     }
 }
 
-// Parses the actions of a part (a ruleset of a drop-in file), if it has any. `delay_s` is the
-// part's delay (s) after a kill.
+// Parses the actions of a drop-in ruleset. Returns `None` if the key `actions` is missing.
+// `delay_s` is the ruleset's delay (s) after a kill.
 fn actions_if_there(
     alloc: Global,
     rule: u32,
@@ -233,7 +235,7 @@ fn actions_if_there(
     }
 }
 
-// Parses a ruleset of a drop-in file.
+// Parses a ruleset of a drop-in file, which may lack its detectors or its actions.
 #[tactic(auto, unfolding(crate::specs::Parts::part_at))]
 fn part(alloc: Global, index: u32, value: &Value) -> Result<Part, Fault<RulesFault>>
     ensures value { Gives result (part_at index (view value.now)) }
@@ -284,7 +286,7 @@ fn parts(alloc: Global, items: &[Value]) -> Result<Vec<Part>, Fault<RulesFault>>
     Ok(found)
 }
 
-// Returns the JSON values of the rulesets of a file.
+// Returns the JSON values of the rulesets in a file. Fails if there are more than 64.
 #[tactic(auto, unfolding(crate::specs::Rules::rulesets_in))]
 fn rulesets(value: &Value) -> Result<&[Value], RulesFault>
     ensures read { ReadsBy (λ items. map view items.now) result (rulesets_in (view value.now)) }
@@ -298,7 +300,8 @@ fn rulesets(value: &Value) -> Result<&[Value], RulesFault>
     )
 }
 
-// Parses the bytes of a file as JSON.
+// Parses the bytes of a file as JSON. Fails with `TooLong` if the file has more than 1,048,576
+// bytes.
 fn value_in(alloc: Global, bytes: &[u8]) -> Result<Value, Fault<RulesFault>>
     ensures value { GivesBy view result (if nat_lt 1048576 (length bytes.now)
         then refused_for place.Whole cause.TooLong
@@ -315,10 +318,10 @@ fn value_in(alloc: Global, bytes: &[u8]) -> Result<Value, Fault<RulesFault>>
 /// depth-first order.
 ///
 /// The order is: the file, its list `rulesets`, and for each ruleset `name`, `post_action_delay`,
-/// `detectors` and `actions`. A list is checked before its items; for a plugin, first its name is
-/// checked, then its `args`, and then each argument in the order of its table. The JSON is what
-/// `serde_json` accepts: at most 127 nested lists and objects, and the last value of a repeated
-/// key. `NoMemory` is possible only if the file isn't too long.
+/// `detectors` and `actions`. A list is checked before its items. For a plugin, its name is checked
+/// first, then its `args`, then each argument in the order of the plugin's definition. The accepted
+/// JSON is what `serde_json` accepts: at most 127 nested lists and objects, and the last value of a
+/// repeated key counts. Fails with `NoMemory` only if the file isn't too long.
 #[tactic(auto, unfolding(crate::specs::Rules::rules_of))]
 pub fn read(alloc: Global, bytes: &[u8]) -> Result<Rules, Fault<RulesFault>>
     ensures exact { Gives result (rules_of bytes.now) }
@@ -329,9 +332,10 @@ pub fn read(alloc: Global, bytes: &[u8]) -> Result<Rules, Fault<RulesFault>>
     Ok(Rules { rules })
 }
 
-/// Parses a drop-in file. Returns its parts (rulesets), at most 64, or its first fault. It is
-/// parsed like a rules file ([`read`]), but a ruleset may lack `detectors` or `actions`. Actions
-/// without `post_action_delay` have the delay of their part, which is 15 s by default.
+/// Parses a drop-in file. Returns its rulesets (called parts), at most 64, or its first fault. A
+/// drop-in file is parsed like a rules file ([`read`]), but a ruleset may lack `detectors` or
+/// `actions`. An action without `post_action_delay` has the delay of its ruleset, which is 15 s by
+/// default.
 #[tactic(auto, unfolding(crate::specs::Parts::parts_of))]
 pub fn read_parts(alloc: Global, bytes: &[u8]) -> Result<Vec<Part>, Fault<RulesFault>>
     ensures exact { GivesBy (λ parts. parts.items) result (parts_of bytes.now) }

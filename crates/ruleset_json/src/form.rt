@@ -1,6 +1,6 @@
-//! The syntax of arguments: parses numbers, ratios, sizes, Booleans and resources.
+//! The syntax of argument values: parses numbers, ratios, sizes, Booleans and resources.
 //!
-//! The keys and defaults of arguments are in `arguments`.
+//! The module `arguments` looks arguments up by key and fills in defaults.
 ghost use Rattle.std.specs.Prelude.{◌≡◌, ◌<◌, ◌≤◌, ◌^◌, ◌*◌, ◌+◌, ◌++◌, ◌&&◌, nat_le, nat_lt, length, take, codes, if◌then◌else◌, Some, None, IfSome};
 ghost use Rattle.ruleset_json.specs.Forms as form;
 ghost use Rattle.ruleset_json.specs.Ranges.{IsRatio, IsSize, IsStallable};
@@ -8,10 +8,10 @@ ghost use Rattle.ruleset_json.specs.Ranges.{IsRatio, IsSize, IsStallable};
 use crate::types::Size;
 use psi_base::{Parts, Res, read_digits, read_number};
 
-/// The greatest size (bytes).
+/// The greatest size (bytes) that an argument may have.
 const LARGEST_BYTES: u64 = 1 << 60;
 
-/// The greatest number before the decimal point of a ratio.
+/// The greatest integer part of a ratio.
 const LARGEST_RATIO: u64 = 1000;
 
 #[tactic(auto, unfolding(crate::specs::Forms::number_up_to))]
@@ -25,7 +25,7 @@ fn long_number(text: &[u8], most: u64) -> Option<u64>
     }
 }
 
-/// Parses a number of at most `most`, in decimal.
+/// Parses a decimal number without leading zeros. Returns `None` if the number is above `most`.
 pub fn number(text: &[u8], most: u32) -> Option<u32>
     ensures value { result ≡ form.number_up_to most text.now }
     ensures range { IfSome result (λ n. n ≤ most) }
@@ -36,7 +36,8 @@ pub fn number(text: &[u8], most: u32) -> Option<u32>
     }
 }
 
-// Pads one to three digits with zeros to three. `None` for no digits or more than three.
+// Pads one to three digits with zeros at the end, to three digits. Returns `None` for any other
+// number of digits.
 fn padded(digits: &[u8]) -> Option<[u8; 3]>
     ensures { result
         ≡ (if nat_lt 0 (length digits.now) && nat_le (length digits.now) 3
@@ -50,7 +51,7 @@ fn padded(digits: &[u8]) -> Option<[u8; 3]>
     }
 }
 
-// Parses one to three digits after a decimal point, as thousandths.
+// Parses one to three digits after a decimal point. Returns thousandths.
 #[tactic(auto, unfolding(crate::specs::Forms::fraction_of), using(crate::proofs::Fractions::padded_most))]
 fn fraction(digits: &[u8]) -> Option<u32>
     ensures value { result ≡ form.fraction_of digits.now }
@@ -62,8 +63,8 @@ fn fraction(digits: &[u8]) -> Option<u32>
     }
 }
 
-// Parses a number of at most `most`, optionally followed by a point and one to three digits.
-// Returns it in thousandths.
+// Parses a number with an integer part of at most `most` and an optional fraction of one to three
+// digits. Returns thousandths.
 #[tactic(auto, unfolding(crate::specs::Forms::thousandths_of))]
 fn thousandths(text: &[u8], most: u64) -> Option<u128>
     ensures value { result ≡ form.thousandths_of most text.now }
@@ -80,8 +81,8 @@ fn thousandths(text: &[u8], most: u64) -> Option<u128>
     Some(whole + u128::from(fraction(digits)?))
 }
 
-/// Parses a ratio: a number of at most 1000, optionally followed by a point and one to three
-/// digits. Returns it in thousandths.
+/// Parses a ratio: an integer part of at most 1000 and an optional fraction of one to three digits.
+/// Returns thousandths.
 pub fn ratio(text: &[u8]) -> Option<u32>
     ensures value { result ≡ form.ratio_of text.now }
     ensures range { IfSome result IsRatio }
@@ -92,7 +93,8 @@ pub fn ratio(text: &[u8]) -> Option<u32>
     }
 }
 
-// Returns the factor of a size's unit letter, or `None` for any other byte.
+// Returns the number of bytes that a unit letter (K, M, G or T, in either case) stands for. `None`
+// for any other byte.
 #[tactic(auto, unfolding(crate::specs::Forms::unit_of))]
 fn unit(letter: u8) -> Option<u128>
     ensures value { result ≡ form.unit_of letter }
@@ -107,8 +109,8 @@ fn unit(letter: u8) -> Option<u128>
     }
 }
 
-// Parses a number, with or without a fraction, of units of `unit` bytes. Returns the size in bytes,
-// rounded down.
+// Parses a number of units with an optional fraction. `unit` is the number of bytes of a unit.
+// Returns the size in bytes, rounded down. `None` if the size is above 2^60 bytes.
 #[tactic(auto, unfolding(crate::specs::Forms::scaled))]
 fn scaled(text: &[u8], unit: u128) -> Option<u64>
     requires { unit ≤ 2 ^ 40 }
@@ -123,8 +125,8 @@ fn scaled(text: &[u8], unit: u128) -> Option<u64>
     }
 }
 
-// Parses a number of bytes with or without a unit letter. `prefix` is the text without its last
-// byte, and `last` is its last byte.
+// Parses a number of bytes, or a number with a unit letter at its end. `prefix` is the text without
+// its last byte, and `last` is its last byte.
 fn bytes(text: &[u8], prefix: &[u8], last: u8) -> Option<u64>
     requires { prefix.now ≡ form.prefix text.now }
     ensures value { result ≡ form.bytes_in (form.unit_of last) text.now }
@@ -136,9 +138,9 @@ fn bytes(text: &[u8], prefix: &[u8], last: u8) -> Option<u64>
     }
 }
 
-/// Parses a size: a number from 0 to 100 and `%`; or at most 2^60 bytes, as a number, or as a
-/// number with or without a fraction and one of the letters `K`, `M`, `G`, `T` in either case, for
-/// powers of 1024.
+/// Parses a size: a percentage (a number from 0 to 100 and `%`), or at most 2^60 bytes. A number of
+/// bytes is an integer, or a number with an optional fraction and one of the letters `K`, `M`, `G`,
+/// `T` in either case, for powers of 1024.
 #[tactic(auto, using(crate::proofs::Texts::empty_size), unfolding(crate::specs::Forms::size_of))]
 pub fn size(text: &[u8]) -> Option<Size>
     ensures value { result ≡ form.size_of text.now }
@@ -162,7 +164,7 @@ pub fn size(text: &[u8]) -> Option<Size>
     }
 }
 
-/// Parses a Boolean: `true`, `True` or `1`, and `false`, `False` or `0`.
+/// Parses a Boolean. `true`, `True` and `1` are true; `false`, `False` and `0` are false.
 #[tactic(auto, unfolding(crate::specs::Forms::truth_of))]
 pub fn truth(text: &[u8]) -> Option<bool>
     ensures { result ≡ form.truth_of text.now }
@@ -179,7 +181,7 @@ pub fn truth(text: &[u8]) -> Option<bool>
     }
 }
 
-/// Parses a resource that detectors and actions can use: `io` or `memory`.
+/// Parses a resource that a detector or an action may name: `io` or `memory`.
 #[tactic(auto, unfolding(crate::specs::Forms::resource_of))]
 pub fn resource(text: &[u8]) -> Option<Res>
     ensures value { result ≡ form.resource_of text.now }

@@ -1,6 +1,6 @@
-//! Takes JSON values of the expected kind apart, or returns a fault.
+//! Checks that JSON values have the expected kind and returns their contents, or a fault.
 //!
-//! It knows nothing about the meaning of a rules file.
+//! This module is independent of the keys and the meaning of a rules file.
 ghost use Rattle.std.specs.Prelude.{◌≤◌, map, length, IfOk};
 ghost use Rattle.serde_json.specs.View.{view};
 ghost use Rattle.ruleset_json.specs.Arguments.{or_fault};
@@ -14,7 +14,7 @@ use psi_base::Fault;
 use serde_json::Value;
 use std::alloc::{AllocError, Global};
 
-/// Parses the bytes as JSON. Fails with `BadJson`.
+/// Parses the bytes as JSON. Fails with `BadJson` if they aren't UTF-8 or aren't valid JSON.
 pub fn value_of(alloc: Global, bytes: &[u8]) -> Result<Value, Fault<RulesFault>>
     ensures { GivesBy view result (or_fault place.Whole cause.BadJson (data_of bytes.now)) }
 {
@@ -30,7 +30,7 @@ pub fn value_of(alloc: Global, bytes: &[u8]) -> Result<Value, Fault<RulesFault>>
     }
 }
 
-/// Returns the value if it is an object. Fails with `WrongKind`.
+/// Returns the value itself if it is a JSON object. Fails with `WrongKind` otherwise.
 pub fn object<'v>(value: &'v Value, place: Place) -> Result<&'v Value, RulesFault>
     ensures { ReadsBy (λ v. view v.now) result (object_at place (view value.now)) }
 {
@@ -44,7 +44,8 @@ pub fn object<'v>(value: &'v Value, place: Place) -> Result<&'v Value, RulesFaul
     }
 }
 
-/// Returns the member of an object with this key. Fails with `MissingKey`.
+/// Returns the member with this key of a JSON object. Fails with `MissingKey` if there is no such
+/// member.
 pub fn member<'v>(value: &'v Value, key: &str, place: Place) -> Result<&'v Value, RulesFault>
     ensures { ReadsBy (λ v. view v.now) result (member_at place key.now (view value.now)) }
 {
@@ -57,7 +58,7 @@ pub fn member<'v>(value: &'v Value, key: &str, place: Place) -> Result<&'v Value
     }
 }
 
-/// Returns the string that the value is. Fails with `WrongKind`.
+/// Returns the contents of a JSON string. Fails with `WrongKind` for any other value.
 pub fn text<'v>(value: &'v Value, place: Place) -> Result<&'v str, RulesFault>
     ensures { ReadsBy (λ s. s.now) result (text_at place (view value.now)) }
 {
@@ -70,8 +71,8 @@ pub fn text<'v>(value: &'v Value, place: Place) -> Result<&'v str, RulesFault>
     }
 }
 
-/// Returns the items of the value if it is an array. Fails with `WrongKind`, or with `TooMany` if
-/// there are more than `most`.
+/// Returns the items of a JSON array. Fails with `WrongKind` for any other value, and with
+/// `TooMany` for an array of more than `most` items.
 #[tactic(auto, using(crate::proofs::Views::listed_view), unfolding(crate::specs::Rules::list_at))]
 pub fn list<'v>(value: &'v Value, most: usize, place: Place) -> Result<&'v [Value], RulesFault>
     ensures read { ReadsBy (λ v. map view v.now) result (list_at place most (view value.now)) }

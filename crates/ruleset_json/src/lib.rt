@@ -1,10 +1,13 @@
-//! Rules files for a killer of control groups, as oomd's: which groups to watch, and which to kill.
+//! Parses rules files of a killer of control groups, in the format of oomd. The rules say which
+//! groups to watch and which groups to kill.
 //!
 //! [`read`] turns any bytes into rules with every default filled in, or into the first fault with
-//! its place and cause. Each plugin (a detector or an action) is one definition in
-//! `specs/Plugins.antt` with its table of arguments, one variant of [`DetectorSpec`] or [`Action`],
-//! and one function with one line for each argument. [`read_parts`] parses drop-in files, in which
-//! a ruleset may lack its detectors or actions. What the rules mean is defined in kill_spec.
+//! its place and cause. [`read_parts`] parses drop-in files, in which a ruleset may lack its
+//! detectors or its actions.
+//!
+//! A plugin is a detector or an action. Each plugin has one definition in `specs/Plugins.antt` with
+//! its arguments, one variant of [`DetectorSpec`] or [`Action`], and one parsing function. The
+//! crate kill_spec defines the meaning of the rules.
 #![tactic(auto)]
 
 mod action;

@@ -1,10 +1,10 @@
 //! The names of plugins (detectors and actions), and the keys of their arguments.
 //!
-//! Which keys a plugin has is in `action` and `detector`.
+//! The modules `action` and `detector` list the keys that each plugin has.
 ghost use Rattle.std.specs.Prelude.{◌≡◌};
 ghost use Rattle.ruleset_json.specs.Names as names;
 
-/// The name of a detector.
+/// The kind of a detector, which its name in a rules file selects.
 #[derive(Clone, Copy, Debug, PartialEq, Eq)]
 pub enum DetectorName {
     PressureAbove,
@@ -16,7 +16,7 @@ pub enum DetectorName {
 }
 
 impl DetectorName {
-    /// Returns the name of the detector, as a rules file has it.
+    /// Returns the detector's name in a rules file.
     #[tactic(auto, unfolding(crate::specs::Names::detector_word))]
     pub fn text(self) -> &'static str
         ensures { result.now ≡ names.detector_word self }
@@ -31,7 +31,7 @@ impl DetectorName {
         }
     }
 
-    /// Returns the detector that a text names, or `None`.
+    /// Returns the kind of detector with the name `text`, or `None` if there is no such detector.
     #[tactic(auto, unfolding(crate::specs::Names::detector_named))]
     pub fn of(text: &str) -> Option<DetectorName>
         ensures { result ≡ names.detector_named text.now }
@@ -54,7 +54,7 @@ impl DetectorName {
     }
 }
 
-/// The name of an action.
+/// The kind of an action, which its name in a rules file selects.
 #[derive(Clone, Copy, Debug, PartialEq, Eq)]
 pub enum ActionName {
     SizeOrGrowth,
@@ -64,7 +64,7 @@ pub enum ActionName {
 }
 
 impl ActionName {
-    /// Returns the name of the action, as a rules file has it.
+    /// Returns the action's name in a rules file.
     #[tactic(auto, unfolding(crate::specs::Names::action_word))]
     pub fn text(self) -> &'static str
         ensures { result.now ≡ names.action_word self }
@@ -77,7 +77,7 @@ impl ActionName {
         }
     }
 
-    /// Returns the action that a text names, or `None`.
+    /// Returns the kind of action with the name `text`, or `None` if there is no such action.
     #[tactic(auto, unfolding(crate::specs::Names::action_named))]
     pub fn of(text: &str) -> Option<ActionName>
         ensures { result ≡ names.action_named text.now }
@@ -96,7 +96,7 @@ impl ActionName {
     }
 }
 
-/// The key of an argument.
+/// The key of an argument of a plugin.
 #[derive(Clone, Copy, Debug, PartialEq, Eq)]
 pub enum Key {
     Cgroup,
@@ -115,7 +115,7 @@ pub enum Key {
 }
 
 impl Key {
-    /// Returns the key, as a rules file has it.
+    /// Returns the spelling of the key in a rules file.
     #[tactic(auto, unfolding(crate::specs::Names::key_word))]
     pub fn text(self) -> &'static str
         ensures { result.now ≡ names.key_word self }

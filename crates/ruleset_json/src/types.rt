@@ -1,48 +1,47 @@
-//! The types of rules: rulesets with their detectors and actions.
+//! The types of parsed rules: rulesets with their detectors and actions.
 //!
-//! They are the result of parsing; kill_spec defines what they mean.
+//! The crate kill_spec defines the meaning of the rules.
 use path_match::Patterns;
 use psi_base::{Res, Text};
 use std::marker::Model;
 
-/// A size: a number of bytes, at most 2^60, or a percentage, at most 100.
+/// A size: a number of bytes (at most 2^60), or a percentage (at most 100).
 #[derive(Clone, Copy, Debug, PartialEq, Eq)]
 pub enum Size {
     /// A number of bytes.
     Bytes(u64),
-    /// A percentage of a total, which depends on the plugin (the host's memory or swap).
+    /// A percentage of the host's memory or swap. The plugin determines which of the two.
     Percent(u32),
 }
 
-/// The settings that all actions share: whether the choice of a victim descends to children, and
-/// what follows a kill.
+/// The settings that every kind of action has.
 #[derive(Clone, Copy, Debug, PartialEq, Eq)]
 pub struct After {
-    /// Whether the choice is repeated among the children of the chosen group.
+    /// Whether the choice of a victim is repeated among the children of the chosen group.
     pub recursive: bool,
-    /// Whether the next actions of the ruleset are taken even if this action killed.
+    /// Whether the ruleset runs its next actions even if this action killed a group.
     pub always_continue: bool,
-    /// The time for which the ruleset rests after the kill (s), at most 1,000,000.
+    /// The delay (s) after a kill, in which the ruleset runs no actions. At most 1,000,000.
     pub delay_s: u32,
 }
 
-/// A detector: a condition on the groups or on the machine. A threshold in percent is at most 100,
-/// a duration in seconds at most 1,000,000, a ratio in thousandths at most 1,000,999, and a
-/// resource is IO or memory.
+/// A detector: a condition on control groups or on the host. A percentage is at most 100, a
+/// duration at most 1,000,000 s, a ratio at most 1,000,999 thousandths, and a resource is IO or
+/// memory.
 #[derive(Drop)]
 pub enum DetectorSpec {
-    /// `pressure_above`: the greatest full pressure over 10 s among the matching groups has been
-    /// above the threshold (percent) for the duration (s).
+    /// `pressure_above`: the greatest `full` pressure over 10 s among the matching groups has been
+    /// above the threshold (percent) for at least the duration (s).
     PressureAbove {
         cgroup: Patterns,
         resource: Res,
         threshold: u32,
         duration_s: u32,
     },
-    /// `pressure_rising_beyond`: the greatest full pressure over 60 s among the matching groups has
-    /// been above the threshold (percent) for the duration (s). In addition, their greatest full
-    /// pressure over 10 s is above the threshold now, and at least the ratio (thousandths) times
-    /// its value at the previous evaluation.
+    /// `pressure_rising_beyond`: three conditions hold. The greatest `full` pressure over 60 s
+    /// among the matching groups has been above the threshold (percent) for at least the duration
+    /// (s). The greatest `full` pressure over 10 s is above the threshold now. It is at least the
+    /// ratio (thousandths) times its value at the previous evaluation.
     PressureRisingBeyond {
         cgroup: Patterns,
         resource: Res,
@@ -50,37 +49,39 @@ pub enum DetectorSpec {
         duration_s: u32,
         ratio: u32,
     },
-    /// `memory_above`: the memory in use by at least one matching group has been above the
-    /// threshold for the duration (s).
+    /// `memory_above`: at each evaluation for at least the duration (s), at least one matching
+    /// group used more memory than the threshold.
     MemoryAbove {
         cgroup: Patterns,
         threshold: Size,
         duration_s: u32,
     },
-    /// `memory_reclaim`: pages of a matching group were scanned within the duration (s).
+    /// `memory_reclaim`: reclaim scanned pages of a matching group within the last duration (s).
     MemoryReclaim {
         cgroup: Patterns,
         duration_s: u32,
     },
-    /// `swap_free`: the host's free swap is below the threshold (percent).
+    /// `swap_free`: less than the threshold (percent) of the host's swap is free.
     SwapFree {
         threshold_pct: u32,
     },
-    /// `exists`: there is a group that the patterns match; with `negate`, there is none.
+    /// `exists`: at least one live group matches the patterns. With `negate`: no live group
+    /// matches.
     Exists {
         cgroup: Patterns,
         negate: bool,
     },
 }
 
-/// An action: it determines how the victim is chosen. Percentages are at most 100, a ratio in
-/// thousandths at most 1,000,999, and a resource is IO or memory.
+/// An action: a rule that chooses the group to kill. A percentage is at most 100, a ratio at most
+/// 1,000,999 thousandths, and a resource is IO or memory.
 #[derive(Drop)]
 pub enum Action {
-    /// `kill_by_memory_size_or_growth`: the largest group, if it has at least `size_threshold`
-    /// percent of the memory that all candidates use. Otherwise the group that has grown most among
-    /// the largest groups (those above the percentile), if its size is at least the ratio
-    /// (thousandths) of the mean of its past sizes. Otherwise the largest group.
+    /// `kill_by_memory_size_or_growth`: chooses the largest group if it uses at least
+    /// `size_threshold` percent of the memory of all candidates. Otherwise chooses, among the
+    /// largest groups (those above the percentile), the group that has grown most, if its size is
+    /// at least the ratio (thousandths) times the mean of its past sizes. Otherwise chooses the
+    /// largest group.
     SizeOrGrowth {
         cgroup: Patterns,
         size_threshold: u32,
@@ -88,26 +89,28 @@ pub enum Action {
         ratio: u32,
         after: After,
     },
-    /// `kill_by_swap_usage`: the group that uses the most swap, if it uses at least the threshold.
+    /// `kill_by_swap_usage`: chooses the group that uses the most swap, among the groups whose swap
+    /// use is at least the threshold.
     SwapUsage {
         cgroup: Patterns,
         threshold: Size,
         after: After,
     },
-    /// `kill_by_pressure`: the group with the most pressure.
+    /// `kill_by_pressure`: chooses the group with the greatest pressure.
     Pressure {
         cgroup: Patterns,
         resource: Res,
         after: After,
     },
-    /// `kill_by_pg_scan`: the group with the most pages scanned since the previous evaluation.
+    /// `kill_by_pg_scan`: chooses the group with the most pages scanned since the previous
+    /// evaluation.
     PgScan {
         cgroup: Patterns,
         after: After,
     },
 }
 
-/// Detectors in order, at most 16, with their arguments in range.
+/// A list of at most 16 detectors, with arguments in range.
 #[derive(Drop)]
 pub struct SpecList {
     specs: Vec<DetectorSpec>,
@@ -129,8 +132,8 @@ impl SpecList {
     ghost use Rattle.std.specs.Prelude.{◌≡◌};
     ghost use Rattle.ruleset_json.specs.Ranges.{FitsDetectors};
 
-    /// Returns a list of these detectors. Precondition: at most 16, and their arguments are in
-    /// range.
+    /// Returns a list of these detectors. Precondition: there are at most 16 detectors, and their
+    /// arguments are in range.
     pub fn new(specs: Vec<DetectorSpec>) -> Self
         requires { FitsDetectors specs.items }
         ensures { result ≡ specs.items }
@@ -138,7 +141,7 @@ impl SpecList {
         SpecList { specs }
     }
 
-    /// Returns the detectors, in order.
+    /// Returns the detectors in the order of the file.
     pub fn items(&self) -> &[DetectorSpec]
         ensures items { result.now ≡ self.now }
         ensures fits { FitsDetectors result.now }
@@ -155,17 +158,17 @@ impl SpecList {
     }
 }
 
-/// A group of detectors with a name. It is true if all its detectors are; a group without detectors
-/// is always true.
+/// A group of detectors with a name. The group holds if all its detectors are true. A group without
+/// detectors always holds.
 #[derive(Drop)]
 pub struct DetectorGroup {
     /// The name of the group.
     pub name: Text,
-    /// The detectors of the group.
+    /// The detectors of the group, in the order of the file.
     pub detectors: SpecList,
 }
 
-/// Groups of detectors in order, at most 16.
+/// A list of at most 16 groups of detectors.
 #[derive(Drop)]
 pub struct GroupList {
     groups: Vec<DetectorGroup>,
@@ -187,7 +190,8 @@ impl GroupList {
     ghost use Rattle.std.specs.Prelude.{◌≡◌};
     ghost use Rattle.ruleset_json.specs.GroupRanges.{FitsGroups};
 
-    /// Returns a list of these groups. Precondition: at most 16, and their values are in range.
+    /// Returns a list of these groups. Precondition: there are at most 16 groups, and their values
+    /// are in range.
     pub fn new(groups: Vec<DetectorGroup>) -> Self
         requires { FitsGroups groups.items }
         ensures { result ≡ groups.items }
@@ -195,7 +199,7 @@ impl GroupList {
         GroupList { groups }
     }
 
-    /// Returns the groups, in order.
+    /// Returns the groups in the order of the file.
     pub fn items(&self) -> &[DetectorGroup]
         ensures items { result.now ≡ self.now }
         ensures fits { FitsGroups result.now }
@@ -212,7 +216,7 @@ impl GroupList {
     }
 }
 
-/// Actions in order, at most 16, with their arguments in range.
+/// A list of at most 16 actions, with arguments in range.
 #[derive(Drop)]
 pub struct ActionList {
     actions: Vec<Action>,
@@ -234,7 +238,8 @@ impl ActionList {
     ghost use Rattle.std.specs.Prelude.{◌≡◌};
     ghost use Rattle.ruleset_json.specs.Ranges.{FitsActions};
 
-    /// Returns a list of these actions. Precondition: at most 16, and their arguments are in range.
+    /// Returns a list of these actions. Precondition: there are at most 16 actions, and their
+    /// arguments are in range.
     pub fn new(actions: Vec<Action>) -> Self
         requires { FitsActions actions.items }
         ensures { result ≡ actions.items }
@@ -242,7 +247,7 @@ impl ActionList {
         ActionList { actions }
     }
 
-    /// Returns the actions, in order.
+    /// Returns the actions in the order of the file.
     pub fn items(&self) -> &[Action]
         ensures items { result.now ≡ self.now }
         ensures fits { FitsActions result.now }
@@ -259,14 +264,14 @@ impl ActionList {
     }
 }
 
-/// A ruleset: if one of its groups is true, its actions are taken in order.
+/// A ruleset. If at least one of its groups of detectors holds, its actions run in order.
 #[derive(Drop)]
 pub struct Rule {
     /// The name of the ruleset. Several rulesets may have the same name.
     pub name: Text,
-    /// The groups of detectors.
+    /// The groups of detectors, in the order of the file.
     pub groups: GroupList,
-    /// The actions, in the order in which they are taken.
+    /// The actions, in the order in which they run.
     pub actions: ActionList,
 }
 
@@ -275,7 +280,7 @@ impl Rule {
     ghost use Rattle.ruleset_json.specs.Replaced.{replaced};
     ghost use Rattle.ruleset_json.specs.RuleRanges.{FitsRule};
 
-    // Replaces the groups of the ruleset, unless `groups` is `None`.
+    // Replaces the groups of the ruleset by `groups`. Does nothing if `groups` is `None`.
     fn put_groups(&mut self, groups: Option<GroupList>)
         ensures value { self.new ≡ replaced groups None self.old }
         ensures fits { FitsRule self.old → FitsRule self.new }
@@ -285,7 +290,7 @@ impl Rule {
         }
     }
 
-    // Replaces the actions of the ruleset, unless `actions` is `None`.
+    // Replaces the actions of the ruleset by `actions`. Does nothing if `actions` is `None`.
     fn put_actions(&mut self, actions: Option<ActionList>)
         ensures value { self.new ≡ replaced None actions self.old }
         ensures fits { FitsRule self.old → FitsRule self.new }
@@ -297,18 +302,18 @@ impl Rule {
 }
 
 /// A ruleset of a drop-in file. It replaces the groups, the actions, or both, of the ruleset with
-/// its name.
+/// this name.
 #[derive(Drop)]
 pub struct Part {
-    /// The name of the ruleset that this part changes.
+    /// The name of the ruleset that is changed.
     pub name: Text,
-    /// The new groups of detectors, if any.
+    /// The new groups of detectors, or `None` to keep the old groups.
     pub groups: Option<GroupList>,
-    /// The new actions, if any.
+    /// The new actions, or `None` to keep the old actions.
     pub actions: Option<ActionList>,
 }
 
-/// Rulesets in order, at most 64.
+/// A list of at most 64 rulesets.
 #[derive(Drop)]
 pub struct RuleList {
     rules: Vec<Rule>,
@@ -331,7 +336,8 @@ impl RuleList {
     ghost use Rattle.ruleset_json.specs.Replaced.{replaced_at};
     ghost use Rattle.ruleset_json.specs.RuleRanges.{FitsRules};
 
-    /// Returns a list of these rulesets. Precondition: at most 64, and their values are in range.
+    /// Returns a list of these rulesets. Precondition: there are at most 64 rulesets, and their
+    /// values are in range.
     pub fn new(rules: Vec<Rule>) -> Self
         requires { FitsRules rules.items }
         ensures { result ≡ rules.items }
@@ -339,7 +345,7 @@ impl RuleList {
         RuleList { rules }
     }
 
-    /// Returns the rulesets, in order.
+    /// Returns the rulesets in the order of the file.
     pub fn items(&self) -> &[Rule]
         ensures items { result.now ≡ self.now }
         ensures fits { FitsRules result.now }
@@ -347,8 +353,8 @@ impl RuleList {
         &self.rules
     }
 
-    /// Replaces the groups and actions of ruleset number `rule` (from 0); `None` replaces nothing.
-    /// All else is unchanged. Doesn't allocate.
+    /// Replaces the groups and the actions of the ruleset at index `rule`. `None` keeps the old
+    /// groups or actions. Other rulesets don't change. Doesn't allocate.
     pub fn replace(&mut self, rule: u32, groups: Option<GroupList>, actions: Option<ActionList>)
         requires { rule < length self.old }
         ensures { self.new ≡ replaced_at rule groups actions self.old }
@@ -367,9 +373,9 @@ impl RuleList {
     }
 }
 
-/// The rules of a file.
+/// All rules of a rules file.
 #[derive(Drop)]
 pub struct Rules {
-    /// The rulesets, in order.
+    /// The rulesets, in the order of the file.
     pub rules: RuleList,
 }
