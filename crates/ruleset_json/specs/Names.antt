@@ -1,4 +1,5 @@
--- The names of detectors and actions, and the keys of their arguments. Most of them are oomd's.
+-- The names of detectors and actions, and the keys of their arguments. oomd uses the same names and
+-- keys.
 use Rattle.std.specs.Prelude.{ℕ, List, [], ◌∷◌, codes, Option}
 use Rattle.psi_spec.specs.Fields.{named}
 use Rattle.ruleset_json.specs.declared.name.DetectorName.{DetectorName}
