@@ -1,6 +1,6 @@
--- The rules of a rules file after a drop-in file is applied. A *part* is a ruleset of the drop-in
--- file: it names a ruleset of the rules file, and replaces its groups of detectors, its actions, or
--- both.
+-- Defines the rules that result from applying a drop-in file to a rules file. A *part* is a ruleset
+-- of the drop-in file. A part names a ruleset of the rules file, and replaces that ruleset's groups
+-- of detectors, its actions, or both.
 use Rattle.std.specs.Prelude.{ℕ, ◌+◌, List, [], ◌∷◌, position, ◌&&◌, Bool, is_none, if◌then◌else◌, Option, None, Some, Result, Ok, Err}
 use Rattle.std.specs.Str.{bytes_eq}
 use Rattle.psi_base.specs.ResultSteps.{◌>>=◌}
@@ -15,25 +15,27 @@ use Rattle.dropin_rules.specs.declared.fault.DropCause.{DropCause}
 use Rattle.dropin_rules.specs.declared.fault.DropCause.TheVariants as cause
 use Rattle.dropin_rules.specs.declared.fault.DropFault.{DropFault}
 
--- the fault with this cause at part number `i` (from 0) of a drop-in file
+-- Rejection of the part at index `i` of a drop-in file, with the cause `what`.
 abbrev pub refused_part : {A : Type 0} → ℕ → DropCause → Result A DropFault
 refused_part i what = Err (record { place = place.Rule i; what = what })
 
--- the value, or the fault with this cause at part number `i` if there is none
+-- The value in the option, or rejection of the part at index `i` with the cause `what` if the
+-- option is `None`.
 abbrev pub or_refused_part : {A : Type 0} → ℕ → DropCause → Option A → Result A DropFault
 or_refused_part i what None = refused_part i what
 or_refused_part i what (Some x) = Ok x
 
--- the ruleset has this name
+-- Whether the ruleset has the name `name`.
 abbrev pub is_named : List ℕ → Rule → Bool
 is_named name rule = bytes_eq rule.name name
 
--- the part has neither groups nor actions
+-- Whether the part has neither groups nor actions.
 abbrev pub gives_nothing : Part → Bool
 gives_nothing part = is_none part.groups && is_none part.actions
 
--- The rulesets after part number `i` is applied: it replaces the groups, the actions or both of the
--- first ruleset with its name. A fault if the part has neither, or no ruleset has its name.
+-- The rulesets after the part at index `i` is applied: the part replaces the groups, the actions or
+-- both of the first ruleset with its name. The part is rejected if it has neither groups nor
+-- actions, or if no ruleset has its name.
 unfoldable pub part_joined : ℕ → Part → List Rule → Result (List Rule) DropFault
 part_joined i part rules =
     if gives_nothing part then refused_part i cause.NoParts
@@ -41,30 +43,30 @@ part_joined i part rules =
       first ← or_refused_part i cause.UnknownRule (position (is_named part.name) rules)
       Ok (replaced_at first part.groups part.actions rules)
 
--- the rulesets after these parts are applied in order; the first part has number `i`
+-- The rulesets after the parts are applied in order. The first part has the index `i`.
 abbrev pub joined_from : ℕ → List Part → List Rule → Result (List Rule) DropFault
 joined_from i [] rules = Ok rules
 joined_from i (part ∷ parts) rules = do
   with_part ← part_joined i part rules
   joined_from (i + 1) parts with_part
 
--- the rules after the parts of a drop-in file are applied, or the first fault
+-- The rules after the parts of a drop-in file are applied, or the first fault.
 unfoldable pub parts_joined : Rules → List Part → Result Rules DropFault
 parts_joined base parts = do
   rules ← joined_from 0 parts base.rules
   Ok (record { rules = rules })
 
--- the fault of a drop-in file for a fault of parsing it
+-- A fault of parsing, as a fault of a drop-in file.
 abbrev pub of_reading : RulesFault → DropFault
 of_reading fault = record { place = fault.place; what = cause.Rules fault.what }
 
--- the parts of a drop-in file, or the fault of parsing it
+-- The parsed parts of a drop-in file, or the fault of parsing as a fault of a drop-in file.
 abbrev pub parts_read : Result (List Part) RulesFault → Result (List Part) DropFault
 parts_read (Ok parts) = Ok parts
 parts_read (Err fault) = Err (of_reading fault)
 
--- The rules after a drop-in file with these bytes is applied, or the file's first fault. Faults of
--- parsing come before faults of applying it.
+-- The rules after the drop-in file with these bytes is applied to `base`, or the file's first
+-- fault. Faults of parsing take precedence over faults of applying.
 unfoldable pub dropped_in : Rules → List ℕ → Result Rules DropFault
 dropped_in base bytes = do
   parts ← parts_read (parts_of bytes)

@@ -1,5 +1,5 @@
--- The text of rules: the compact JSON of a rules file with every default filled in. Arguments are
--- strings, and the members of each object are in byte order of their keys.
+-- Defines the text of rules: the compact JSON of a rules file with every default filled in.
+-- Argument values are strings, and the members of each object are in the byte order of their keys.
 use Rattle.std.specs.Prelude.{ℕ, ◌/◌, ◌%◌, List, [], ◌∷◌, ◌++◌, codes, decimal, map}
 use Rattle.psi_spec.specs.Fields.{resource_word}
 use Rattle.path_match.specs.Match.{patterns_text}
@@ -23,27 +23,28 @@ use Rattle.ruleset_json.specs.Names.{action_word, detector_word, key_word}
 
 -- ---- arguments
 
--- a ratio, given in thousandths, as a number with three decimals
+-- The text of a ratio, given in thousandths: a decimal number with three decimals.
 abbrev pub ratio_text : ℕ → List ℕ
 ratio_text n = decimal (n / 1000) ++ codes "." ++ decimal (n / 100 % 10) ++ decimal (n / 10 % 10) ++ decimal (n % 10)
 
--- a size: a number of bytes, or a percentage with `%`
+-- The text of a size: a number of bytes, or a percentage followed by `%`.
 abbrev pub size_text : Size → List ℕ
 size_text (size.Bytes n) = decimal n
 size_text (size.Percent n) = decimal n ++ codes "%"
 
 -- ---- plugins
 
--- the arguments of a plugin as members of an object, each a key with a string
+-- The arguments of a plugin as members of a JSON object. Each argument is a key and the string that
+-- is its value.
 abbrev pub texts : List (Key × List ℕ) → Members
 texts [] = no_members
 texts (argument ∷ arguments) = member (key_word argument.0) (string argument.1) (texts arguments)
 
--- the plugin object with this name and these arguments
+-- The plugin object with this name and these arguments.
 abbrev pub plugin_data : List ℕ → List (Key × List ℕ) → Data
 plugin_data name arguments = object (member (codes "args") (object (texts arguments)) (member (codes "name") (string name) no_members))
 
--- the plugin object of a detector
+-- The plugin object of a detector.
 abbrev pub detector_data : DetectorSpec → Data
 detector_data (detector.PressureAbove cgroup resource threshold duration) = plugin_data (detector_word detector_name.PressureAbove)
     ((key.Cgroup, patterns_text cgroup) ∷ (key.Duration, decimal duration) ∷ (key.Resource, resource_word resource)
@@ -61,7 +62,7 @@ detector_data (detector.SwapFree threshold) = plugin_data (detector_word detecto
 detector_data (detector.Exists cgroup negate) = plugin_data (detector_word detector_name.Exists)
     ((key.Cgroup, patterns_text cgroup) ∷ (key.Negate, truth_text negate) ∷ [])
 
--- the plugin object of an action
+-- The plugin object of an action.
 abbrev pub action_data : Action → Data
 action_data (action.SizeOrGrowth cgroup size_threshold percentile ratio after) = plugin_data (action_word action_name.SizeOrGrowth)
     ((key.AlwaysContinue, truth_text after.always_continue) ∷ (key.Cgroup, patterns_text cgroup)
@@ -82,27 +83,27 @@ action_data (action.PgScan cgroup after) = plugin_data (action_word action_name.
 
 -- ---- rules
 
--- the JSON array with these elements
+-- The JSON array with these items.
 abbrev pub list_data : List Data → Data
 list_data ds = array (items_of ds)
 
--- the array of a group: its name, followed by its detectors
+-- The JSON array of a group of detectors: its name, followed by its detectors.
 abbrev pub group_data : DetectorGroup → Data
 group_data group = list_data (string group.name ∷ map detector_data group.detectors)
 
--- the object of a ruleset
+-- The JSON object of a ruleset.
 abbrev pub rule_data : Rule → Data
 rule_data rule = object
     (member (codes "actions") (list_data (map action_data rule.actions))
     (member (codes "detectors") (list_data (map group_data rule.groups))
     (member (codes "name") (string rule.name) no_members)))
 
--- the object of a whole rules file
+-- The JSON object of a whole rules file.
 abbrev pub rules_data : List Rule → Data
 rules_data rules = object (member (codes "rulesets") (list_data (map rule_data rules)) no_members)
 
--- The text of rules. In a string, a quotation mark and a backslash are escaped by a backslash; a
--- byte below 32 is written as `\b`, `\t`, `\n`, `\f`, `\r`, or `\u00` with two lower-case digits;
--- every other byte is written as itself.
+-- The text of rules, as compact JSON. In a string, a quotation mark and a backslash are escaped by
+-- a backslash. A byte below 32 is written as `\b`, `\t`, `\n`, `\f`, `\r`, or `\u00` with two
+-- lower-case hexadecimal digits. Every other byte is written unchanged.
 unfoldable pub rules_text : List Rule → List ℕ
 rules_text rules = compact_text (rules_data rules)

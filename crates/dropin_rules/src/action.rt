@@ -1,6 +1,7 @@
-//! Converts actions to JSON: plugin objects with all arguments.
+//! Converts an action to JSON: a plugin object with all arguments of the action.
 //!
-//! There is one function for each kind of action, with one line for each argument.
+//! Each kind of action has one function, and each argument of the action has one line in that
+//! function.
 ghost use Rattle.std.specs.Prelude.{◌≡◌, IfOk};
 ghost use Rattle.path_match.specs.Answers.{ArePatterns};
 ghost use Rattle.serde_json.specs.View.{view};
@@ -92,7 +93,7 @@ fn pg_scan(alloc: Global, cgroup: &Patterns, after: After) -> Result<Value, NoMe
     args.plugin(ActionName::PgScan.text())
 }
 
-/// Returns an action as a plugin object.
+/// Returns the plugin object of an action as a JSON value.
 pub fn action(alloc: Global, action: &Action) -> Result<Value, NoMemory>
     ensures value { IfOk result (λ v. view v ≡ action_data action.now) }
     ensures formed { IfOk result (λ _. ActionHasPatterns action.now) }

@@ -1,6 +1,7 @@
-//! Builds the arguments of a plugin, each a string with its key.
+//! Builds the JSON object with the arguments of a plugin. Each argument is a string under the
+//! argument's key.
 //!
-//! Which arguments a plugin has is in `action` and `detector`.
+//! The modules `action` and `detector` list the arguments of each plugin.
 ghost use Rattle.std.specs.Prelude.{◌≡◌, codes, decimal, IfOk, OnOk, IsUtf8};
 ghost use Rattle.psi_spec.specs.Fields as fields;
 ghost use Rattle.path_match.specs.Match.{patterns_text};
@@ -17,7 +18,7 @@ use ruleset_json::{Key, Size};
 use serde_json::{Map, Value};
 use std::alloc::Global;
 
-/// Returns a string as a JSON value. Precondition: the bytes are UTF-8.
+/// Returns the bytes as a JSON string. Precondition: the bytes are UTF-8.
 pub fn text_value(alloc: Global, bytes: &[u8]) -> Result<Value, NoMemory>
     requires { IsUtf8 bytes.now }
     ensures { IfOk result (λ v. view v ≡ string bytes.now) }
@@ -43,7 +44,8 @@ fn truth_word(truth: bool) -> &'static str
     if truth { "true" } else { "false" }
 }
 
-// Returns a ratio, given in thousandths, as a JSON string with three decimals.
+// Returns a JSON string with a ratio, given in thousandths, as a decimal number with three
+// decimals.
 fn ratio_value(alloc: Global, ratio: u32) -> Result<Value, NoMemory>
     ensures { IfOk result (λ v. view v ≡ string (ratio_text ratio)) }
 {
@@ -66,7 +68,7 @@ fn size_value(alloc: Global, size: Size) -> Result<Value, NoMemory>
     }
 }
 
-/// The arguments of a plugin object that is being built.
+/// The JSON object of a plugin's arguments, while it is being built.
 #[derive(Drop)]
 pub struct Arguments {
     alloc: Global,
@@ -74,7 +76,7 @@ pub struct Arguments {
 }
 
 impl Arguments {
-    /// Returns an empty list of arguments.
+    /// Returns an object without arguments.
     pub fn new(alloc: Global) -> Arguments
         ensures { members_view result.members.entries ≡ no_members }
     {
@@ -84,7 +86,7 @@ impl Arguments {
         }
     }
 
-    // Adds an argument with any value.
+    // Adds an argument with this key and JSON value.
     fn put(&mut self, key: Key, value: Value) -> Result<(), NoMemory>
         ensures { OnOk result (members_view self.new.members.entries
             ≡ with_member (key_word key) (view value) (members_view self.old.members.entries)) }
@@ -92,7 +94,7 @@ impl Arguments {
         Ok(serde_json::put(&mut self.members, self.alloc, key.text(), value)?)
     }
 
-    /// Adds an argument that is a list of patterns.
+    /// Adds an argument whose value is a list of path patterns.
     pub fn patterns(&mut self, key: Key, patterns: &Patterns) -> Result<(), NoMemory>
         ensures value { OnOk result (members_view self.new.members.entries
             ≡ with_member (key_word key) (string (patterns_text patterns.now))
@@ -103,7 +105,7 @@ impl Arguments {
         self.put(key, value)
     }
 
-    /// Adds an argument that is a resource.
+    /// Adds an argument whose value is a resource.
     pub fn resource(&mut self, key: Key, resource: Res) -> Result<(), NoMemory>
         ensures { OnOk result (members_view self.new.members.entries
             ≡ with_member (key_word key) (string (fields.resource_word resource))
@@ -113,7 +115,7 @@ impl Arguments {
         self.put(key, value)
     }
 
-    /// Adds an argument that is a number.
+    /// Adds an argument whose value is a number.
     pub fn number(&mut self, key: Key, number: u32) -> Result<(), NoMemory>
         ensures { OnOk result (members_view self.new.members.entries
             ≡ with_member (key_word key) (string (decimal number))
@@ -123,7 +125,7 @@ impl Arguments {
         self.put(key, Value::String(text))
     }
 
-    /// Adds an argument that is a ratio, given in thousandths.
+    /// Adds an argument whose value is a ratio, given in thousandths.
     pub fn ratio(&mut self, key: Key, ratio: u32) -> Result<(), NoMemory>
         ensures { OnOk result (members_view self.new.members.entries
             ≡ with_member (key_word key) (string (ratio_text ratio))
@@ -133,7 +135,7 @@ impl Arguments {
         self.put(key, value)
     }
 
-    /// Adds an argument that is a size.
+    /// Adds an argument whose value is a size in bytes or percent.
     pub fn size(&mut self, key: Key, size: Size) -> Result<(), NoMemory>
         ensures { OnOk result (members_view self.new.members.entries
             ≡ with_member (key_word key) (string (size_text size))
@@ -143,7 +145,7 @@ impl Arguments {
         self.put(key, value)
     }
 
-    /// Adds an argument that is a Boolean.
+    /// Adds an argument whose value is a Boolean.
     pub fn truth(&mut self, key: Key, truth: bool) -> Result<(), NoMemory>
         ensures { OnOk result (members_view self.new.members.entries
             ≡ with_member (key_word key) (string (truth_text truth))
@@ -153,7 +155,7 @@ impl Arguments {
         self.put(key, value)
     }
 
-    /// Returns the plugin object with this name and these arguments.
+    /// Returns the plugin object with this name and the arguments added so far.
     pub fn plugin(self, name: &str) -> Result<Value, NoMemory>
         ensures { IfOk result (λ v. view v ≡ object
             (member (codes "args") (object (members_view self.members.entries))

@@ -1,6 +1,7 @@
-//! Converts detectors to JSON: plugin objects with all arguments.
+//! Converts a detector to JSON: a plugin object with all arguments of the detector.
 //!
-//! There is one function for each kind of detector, with one line for each argument.
+//! Each kind of detector has one function, and each argument of the detector has one line in that
+//! function.
 ghost use Rattle.std.specs.Prelude.{◌≡◌, IfOk};
 ghost use Rattle.path_match.specs.Answers.{ArePatterns};
 ghost use Rattle.serde_json.specs.View.{view};
@@ -108,7 +109,7 @@ fn exists(alloc: Global, cgroup: &Patterns, negate: bool) -> Result<Value, NoMem
     args.plugin(DetectorName::Exists.text())
 }
 
-/// Returns a detector as a plugin object.
+/// Returns the plugin object of a detector as a JSON value.
 pub fn detector(alloc: Global, detector: &DetectorSpec) -> Result<Value, NoMemory>
     ensures value { IfOk result (λ v. view v ≡ detector_data detector.now) }
     ensures formed { DetectorHasPatterns detector.now }

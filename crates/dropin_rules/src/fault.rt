@@ -1,17 +1,17 @@
-//! Why a drop-in file is rejected, and at which place.
+//! Faults of a drop-in file: the cause of the rejection and the place in the file.
 //!
-//! The text that is printed for a fault is defined in `FaultText`.
+//! The specification `FaultText` defines the printed text of a fault.
 use psi_base::Fault;
 use ruleset_json::{Place, RulesCause, RulesFault};
 
-/// Why a drop-in file is rejected.
+/// The reason why a drop-in file is rejected.
 #[derive(Clone, Copy, Debug, PartialEq, Eq)]
 pub enum DropCause {
-    /// The file can't be parsed; the cause is one that a rules file can have too.
+    /// The drop-in file can't be parsed. The cause is the same as for a rules file.
     Rules(RulesCause),
     /// A ruleset of the drop-in file has neither detectors nor actions.
     NoParts,
-    /// A ruleset of the drop-in file has a name that no ruleset of the rules file has.
+    /// No ruleset of the rules file has the name of this ruleset of the drop-in file.
     UnknownRule,
 }
 
@@ -20,7 +20,7 @@ pub enum DropCause {
 pub struct DropFault {
     /// The place of the fault in the drop-in file.
     pub place: Place,
-    /// The cause of the fault.
+    /// The reason for the rejection.
     pub what: DropCause,
 }
 

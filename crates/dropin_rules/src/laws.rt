@@ -1,10 +1,10 @@
-//! Laws of the text of rules.
+//! Laws about rules that are written as text.
 //!
-//! The function has an empty body: its contract is the law.
+//! The function has an empty body: its contract is the law, and the proof shows that the law holds.
 ghost use Rattle.dropin_rules.specs.Laws.{ReadAgain, SameText};
 
-/// Round trip: the text of rules whose values are in range, if it isn't too long for a file, is
-/// parsed as the same rules. Writing these again gives the same text.
+/// Round trip: if rules are in range and their text isn't too long for a rules file, parsing the
+/// text returns the same rules. Writing the parsed rules again gives the same text.
 pub fn law_text_is_read_again()
     ensures again { ReadAgain }
     ensures same { SameText }

@@ -1,7 +1,7 @@
-//! Drop-in files over a rules file, and rules as text.
+//! Applies drop-in files to the rules of a rules file, and writes rules as text.
 //!
-//! [`join`] applies the parts of a drop-in file to the rules of a rules file, and [`write_rules`]
-//! writes rules as a rules file. It doesn't parse files: ruleset_json does.
+//! [`join`] applies the rulesets of a drop-in file to the rules of a rules file. [`write_rules`]
+//! writes rules in the format of a rules file. This crate parses no files; ruleset_json does.
 #![tactic(auto)]
 
 mod action;

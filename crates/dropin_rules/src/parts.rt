@@ -1,6 +1,6 @@
-//! Applies the parts of a drop-in file (its rulesets) to the rules of a rules file.
+//! Applies the rulesets of a drop-in file, which are called parts, to the rules of a rules file.
 //!
-//! The files are parsed in ruleset_json.
+//! The crate ruleset_json parses both files.
 ghost use Rattle.std.specs.Prelude.{◌≡◌, ◌≢◌, ◌<◌, ◌^◌, length, position, Ok, Err, MatchResult};
 ghost use Rattle.psi_base.specs.Gives.{Gives, out_of_memory};
 ghost use Rattle.dropin_rules.specs.Joined.{is_named, parts_joined, part_joined};
@@ -9,15 +9,15 @@ use crate::fault::{DropCause, DropFault};
 use psi_base::Fault;
 use ruleset_json::{Part, Place, Rule, RuleList, Rules};
 
-// Returns the index of the first ruleset with this name, or `None`.
+// Returns the index of the first ruleset with this name, or `None` if no ruleset has it.
 fn first_named(rules: &[Rule], name: &[u8]) -> Option<usize>
     ensures { result ≡ position (is_named name.now) rules.now }
 {
     rules.iter().position(|rule| rule.name.bytes() == name)
 }
 
-// Applies part number `number` (from 0) to the rulesets. If it is rejected, the rulesets are
-// unchanged.
+// Applies the part at index `number` of the drop-in file to the rulesets. If the part is rejected,
+// the rulesets don't change.
 #[tactic(auto, unfolding(crate::specs::Joined::part_joined))]
 fn put_part(rules: &mut RuleList, number: u32, part: Part) -> Result<(), DropFault>
     ensures { MatchResult result
@@ -43,11 +43,11 @@ fn put_part(rules: &mut RuleList, number: u32, part: Part) -> Result<(), DropFau
     }
 }
 
-/// Applies the parts of a drop-in file to rules, in order. Each part replaces the groups, the
-/// actions or both, whichever it has, of the first ruleset with its name. Fails at the first part
-/// that has neither (`NoParts`) or whose name no ruleset has (`UnknownRule`); then the rules and
-/// the parts are dropped. Doesn't allocate, so `NoMemory` never occurs. Precondition: there are
-/// fewer than 2^32 parts.
+/// Applies the parts (rulesets) of a drop-in file to the rules `base`, in order. A part replaces
+/// the groups or the actions, or both, of the first ruleset with its name. Fails with `NoParts` at
+/// the first part that has neither groups nor actions, and with `UnknownRule` at the first part
+/// whose name no ruleset has. On failure, the rules and the parts are dropped. Doesn't allocate, so
+/// `NoMemory` never occurs. Precondition: there are fewer than 2^32 parts.
 #[tactic(auto, unfolding(crate::specs::Joined::parts_joined))]
 pub fn join(base: Rules, parts: Vec<Part>) -> Result<Rules, Fault<DropFault>>
     requires { length parts.items < 2 ^ 32 }

@@ -1,6 +1,6 @@
-//! Writes rules as the text of a rules file.
+//! Writes rules in the format of a rules file.
 //!
-//! The text is built as a JSON value first.
+//! The rules are first converted to a JSON value, and then that value is written.
 ghost use Rattle.std.specs.Prelude.{◌≡◌, ◌++◌, ◌≤◌, All, IfOk, OnOk, OnErr, length, map, Ok};
 ghost use Rattle.serde_json.specs.View.{view};
 ghost use Rattle.ruleset_json.specs.GroupRanges.{FitsGroup, FitsGroups};
@@ -17,7 +17,7 @@ use ruleset_json::{Action, DetectorGroup, Rule, Rules};
 use serde_json::{Map, Value};
 use std::alloc::Global;
 
-// Returns the JSON array of a group: its name, followed by its detectors.
+// Returns the JSON array of a group of detectors: its name, followed by its detectors.
 fn group_value(alloc: Global, group: &DetectorGroup) -> Result<Value, NoMemory>
     requires { FitsGroup group.now }
     ensures value { IfOk result (λ v. view v ≡ group_data group.now) }
@@ -33,7 +33,7 @@ fn group_value(alloc: Global, group: &DetectorGroup) -> Result<Value, NoMemory>
     Ok(Value::Array(items))
 }
 
-// Returns the JSON array of several groups.
+// Returns the JSON array of a ruleset's groups of detectors.
 fn groups_value(alloc: Global, groups: &[DetectorGroup]) -> Result<Value, NoMemory>
     requires { FitsGroups groups.now }
     ensures value { IfOk result (λ v. view v ≡ list_data (map group_data groups.now)) }
@@ -47,7 +47,7 @@ fn groups_value(alloc: Global, groups: &[DetectorGroup]) -> Result<Value, NoMemo
     Ok(Value::Array(items))
 }
 
-// Returns the JSON array of several actions.
+// Returns the JSON array of a ruleset's actions.
 fn actions_value(alloc: Global, actions: &[Action]) -> Result<Value, NoMemory>
     ensures value { IfOk result (λ v. view v ≡ list_data (map action_data actions.now)) }
     ensures formed { IfOk result (λ _. All ActionHasPatterns actions.now) }
@@ -77,7 +77,7 @@ fn rule_value(alloc: Global, rule: &Rule) -> Result<Value, NoMemory>
     Ok(Value::Object(members))
 }
 
-// Returns the JSON array of several rulesets.
+// Returns the JSON array of all rulesets.
 fn rulesets_value(alloc: Global, rules: &[Rule]) -> Result<Value, NoMemory>
     requires { FitsRules rules.now }
     ensures value { IfOk result (λ v. view v ≡ list_data (map rule_data rules.now)) }
@@ -103,8 +103,9 @@ fn rules_value(alloc: Global, rules: &[Rule]) -> Result<Value, NoMemory>
     Ok(Value::Object(members))
 }
 
-/// Appends the rules as one line of compact JSON with every default filled in, without a newline.
-/// The line is a rules file with these rules. After `NoMemory` the bytes are unchanged.
+/// Appends the text of the rules to `to`: one line of compact JSON with every default filled in,
+/// without a newline. Parsing the line as a rules file returns the same rules. If memory runs out,
+/// `to` doesn't change.
 pub fn write_rules(rules: &Rules, to: &mut Vec<u8>) -> Result<(), NoMemory>
     ensures text { OnOk result (to.new.items ≡ to.old.items ++ rules_text rules.now.rules) }
     ensures unchanged { OnErr result (to.new.items ≡ to.old.items) }
