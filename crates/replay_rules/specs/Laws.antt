@@ -1,4 +1,4 @@
--- Laws of the evaluations of a trace, from tick to tick.
+-- Laws about the evaluations of a trace. They relate each tick to the previous tick.
 use Rattle.std.specs.Prelude.{◌≡◌, ℕ, ◌+◌, ◌<◌, List, [], ◌∷◌, true, false}
 use Rattle.psi_spec.specs.Trace.{IsAccepted, Trace, limits_of}
 use Rattle.pressure_spec.specs.Ticks.{is_evaluation}
@@ -14,7 +14,7 @@ ReadingsStay = (trace : Trace) (timing : Timing) (i : ℕ) →
     is_evaluation timing.interval timing.length (i + 1) ≡ false →
     readings_of trace timing (i + 1) ≡ readings_of trace timing i
 
--- An evaluation adds one reading.
+-- A tick with an evaluation adds one reading.
 abbrev pub OneReadingMore : Type 0
 OneReadingMore = (trace : Trace) (timing : Timing) (i : ℕ) →
     is_evaluation timing.interval timing.length (i + 1) ≡ true →
@@ -25,7 +25,8 @@ abbrev pub NoKillsBetween : Type 0
 NoKillsBetween = (trace : Trace) (timing : Timing) (rules : List Rule) (i : ℕ) →
     is_evaluation timing.interval timing.length i ≡ false → kills_in trace timing rules i ≡ []
 
--- The kills of an evaluation are what the rules kill at its reading, given the previous readings.
+-- The kills at an evaluation are the kills of the rules at its reading, given the previous
+-- readings.
 abbrev pub KillsAtReading : Type 0
 KillsAtReading = (trace : Trace) (timing : Timing) (rules : List Rule) (i : ℕ) →
     is_evaluation timing.interval timing.length (i + 1) ≡ true →
@@ -37,8 +38,8 @@ abbrev pub NoneWithoutRules : Type 0
 NoneWithoutRules = (trace : Trace) (timing : Timing) (i : ℕ) → kills_in trace timing [] i ≡ []
 
 -- The readings of an accepted trace are well formed: each has the live groups in the order of their
--- paths, all values are in range, and each is later than the previous readings. So a ruleset never
--- has two chain-ending kills within the delay of the first.
+-- paths, all values are in range, and each reading is later than the previous readings. Therefore a
+-- ruleset never kills during its delay after a kill that ended its chain of actions.
 abbrev pub ReadingsAreReadings : Type 0
 ReadingsAreReadings = (trace : Trace) (timing : Timing) (i : ℕ) →
     IsAccepted (limits_of timing.length trace.cpus) trace.events → 0 < timing.length →

@@ -1,5 +1,5 @@
--- The reading of an evaluation, computed from an engine and a watch. The engine has the groups'
--- averages; the watch has their memory, preferences and tasks.
+-- Defines the reading of an evaluation by the states of an engine and a side watch. The engine has
+-- the pressure averages of the groups. The watch has their memory, preferences and tasks.
 use Rattle.std.specs.Prelude.{◌≡◌, ℕ, List, length, map, filter, take}
 use Rattle.psi_spec.specs.declared.machine.GroupLife.{GroupLife}
 use Rattle.psi_spec.specs.Groups.{path_at}
@@ -12,11 +12,11 @@ use Rattle.tick_engine.specs.Engine.{EngineView, averages_in}
 use Rattle.detectors.specs.Views.{ReadingView, reading_of, seen_at}
 use Rattle.side_watch.specs.Watch.{SideView, has_tasks, side_cell_at}
 
--- the engine has a row of averages for each pressure quantity of the group in `slot`
+-- The engine has one row of averages for each pressure quantity of the group in slot `slot`.
 abbrev pub HasRows : EngineView → ℕ → Type 0
 HasRows engine slot = length (averages_in engine slot).averages ≡ length pressure_places
 
--- the reading of the group in `slot`, from an engine and a watch
+-- The values of the group in slot `slot` for a reading, taken from the engine and the watch.
 abbrev pub group_by : EngineView → SideView → ℕ → GroupReading
 group_by engine watch slot = record {
   slot = record { 0 = slot };
@@ -28,25 +28,27 @@ group_by engine watch slot = record {
   populated = has_tasks watch slot;
 }
 
--- the slots of `order` whose groups are live at `at` (ns)
+-- The slots in `order` whose groups are live at time `at` (ns).
 abbrev pub slots_live_at : List GroupLife → ℕ → List ℕ → List ℕ
 slots_live_at lives at order = filter (is_live_slot lives at) order
 
--- the paths of the live groups are in ascending byte order
+-- The paths of the groups that are live at time `at` (ns), taken in the order of `order`, are in
+-- ascending byte order.
 abbrev pub LiveAscend : List GroupLife → ℕ → List ℕ → Type 0
 LiveAscend lives at order = Ascend (map (path_at lives) (slots_live_at lives at order))
 
--- the readings of the groups of `order` that are live at `at` (ns), from an engine and a watch
+-- The values of the groups in `order` that are live at time `at` (ns), taken from the engine and
+-- the watch.
 abbrev pub groups_by :
     EngineView → SideView → List GroupLife → ℕ → List ℕ → List GroupReading
 groups_by engine watch lives at order = map (group_by engine watch) (slots_live_at lives at order)
 
--- the reading of all live groups at `at` (ns), with the watch's values for the host
+-- The reading of all live groups at time `at` (ns), with the host's memory from the watch.
 abbrev pub reading_by : EngineView → SideView → List GroupLife → ℕ → List ℕ → Reading
 reading_by engine watch lives at order =
     seen_at at watch.host (groups_by engine watch lives at order)
 
--- the reading of all live groups at `at` (ns) as contracts see it, for the groups `lives`
+-- The reading of all live groups at time `at` (ns), together with `lives`, all groups of the trace.
 abbrev pub read_by : EngineView → SideView → List GroupLife → ℕ → List ℕ → ReadingView
 read_by engine watch lives at order =
     reading_of lives (reading_by engine watch lives at order)

@@ -1,5 +1,7 @@
-//! One evaluation of rules: reads all live groups, and lets the rules decide.
-//! When an evaluation is due is decided by `judge`.
+//! One evaluation of the rules: collects the values of all live groups, and passes them to the
+//! rules.
+//!
+//! The module `judge` decides when an evaluation is due.
 ghost use Rattle.std.specs.Prelude.{◌≡◌, ◌∷◌, ◌+◌, ◌<◌, [], ℕ, List, IfOk};
 ghost use Rattle.psi_spec.specs.Trace.{Trace};
 ghost use Rattle.ruleset_json.specs.declared.types.Rule.{Rule};
@@ -19,12 +21,12 @@ use std::alloc::Global;
 use std::marker::Model;
 use tick_engine::Engine;
 
-/// The state that rules need between evaluations.
+/// The state that the rules need between evaluations.
 #[derive(Drop)]
 pub(crate) struct Evaluator {
     killer: Killer,
     watch: SideWatch,
-    /// Space for the current reading.
+    /// The reading of the current evaluation. Its memory is reused for the next evaluation.
     reading: Reading,
 }
 
@@ -37,8 +39,8 @@ impl Model for Evaluator {
 }
 
 impl Evaluator {
-    /// Creates an evaluator of these rules, before the first evaluation of the trace of `plans`.
-    /// Allocates all of its memory at once.
+    /// Returns an evaluator of these rules for the trace of `plans`, before the first evaluation.
+    /// Allocates all memory that the evaluator ever needs.
     pub(crate) fn make(alloc: Global, plans: &Plans, rules: Rules) -> Result<Evaluator, NoMemory>
         ensures { IfOk result (λ evaluator. (trace : Trace) (timing : Timing) →
             IsPlanned plans.now trace timing → HasRead evaluator trace rules.rules []) }
@@ -51,7 +53,8 @@ impl Evaluator {
         })
     }
 
-    /// Evaluates the rules at the engine's last tick, whose time is `at` (ns). Does not allocate.
+    /// Evaluates the rules at the engine's last tick, whose time is `at` (ns). `order` has all
+    /// slots, sorted by the paths of their groups. Doesn't allocate.
     pub(crate) fn evaluate(&mut self, plans: &Plans, engine: &Engine, order: &[Slot], at: Ns)
         requires { (trace : Trace) × (timing : Timing) × (rules : List Rule) × (i : ℕ) ×
             IsToEvaluate self.old plans.now engine.now order.now trace timing rules i at }
@@ -64,7 +67,7 @@ impl Evaluator {
         self.killer.evaluate(&self.reading);
     }
 
-    /// The kills at the last evaluation.
+    /// Returns the kills at the last evaluation.
     pub(crate) fn kills(&self) -> &[Kill]
         ensures { result.now ≡ self.now.killer.found }
     {

@@ -1,5 +1,6 @@
-//! Decides at each tick of a replay what the rules kill.
-//! It neither prints nor ends anything.
+//! Decides at each tick of a replay which groups the rules kill.
+//!
+//! This module prints nothing and kills nothing.
 ghost use Rattle.std.specs.Prelude.{◌≡◌, ◌+◌, ◌<◌, ℕ, List, IfOk, None, false};
 ghost use Rattle.psi_spec.specs.Trace.{Trace};
 ghost use Rattle.pressure_spec.specs.Ticks.{is_evaluation, tick_moment};
@@ -18,14 +19,15 @@ use std::alloc::Global;
 use std::marker::Model;
 use tick_engine::Engine;
 
-/// Decides what the rules kill at the ticks of a replay, taken in order. Contracts see all fields.
+/// Decides which groups the rules kill at the ticks of a replay, which are taken in order.
+/// Contracts refer to all fields.
 #[derive(Drop)]
 pub struct Judge {
     /// The time between evaluations (ns).
     interval: Ns,
-    /// `None` without rules; then a tick costs nothing.
+    /// The evaluator of the rules, or `None` for a replay without rules.
     evaluator: Option<Evaluator>,
-    /// Whether rules were evaluated at the last tick.
+    /// Whether the rules were evaluated at the last tick.
     evaluated: bool,
 }
 
@@ -38,9 +40,9 @@ impl Model for Judge {
 }
 
 impl Judge {
-    /// Creates a judge of these rules for the trace of `plans`, before the first tick. `interval`
-    /// is the time between evaluations (ns). Allocates all memory at once, and none if there
-    /// are no rules.
+    /// Returns a judge with these rules for the trace of `plans`, before the first tick. `interval`
+    /// is the time between evaluations (ns). Allocates all memory that the judge ever needs, and
+    /// none if there are no rules.
     pub fn make(
         alloc: Global,
         plans: &Plans,
@@ -63,10 +65,10 @@ impl Judge {
         })
     }
 
-    /// Takes the engine's last tick, whose time is `at` (ns); `length` is the length of a tick
-    /// (ns), and `order` has all slots sorted by path. If an evaluation is due, reads all live
-    /// groups and lets the rules decide; [`Judge::kills`] then returns the kills. Does not
-    /// allocate.
+    /// Takes the engine's last tick, whose time is `at` (ns). `length` is the length of a tick
+    /// (ns), and `order` has all slots, sorted by the paths of their groups. If an evaluation is
+    /// due, evaluates the rules for all live groups; [`Judge::kills`] then returns the kills.
+    /// Doesn't allocate.
     pub fn tick(&mut self, plans: &Plans, engine: &Engine, order: &[Slot], at: Ns, length: Ns)
         requires { (trace : Trace) × (timing : Timing) × (rules : List Rule) × (i : ℕ) ×
             IsToJudge self.old plans.now engine.now order.now trace timing rules i at length }
@@ -85,8 +87,8 @@ impl Judge {
         }
     }
 
-    /// The kills at the last tick, by ruleset and action. Empty if the rules were not evaluated at
-    /// that tick, and before the first tick.
+    /// Returns the kills at the last tick, ordered by ruleset and then by action. Empty before the
+    /// first tick, and if the rules weren't evaluated at the last tick.
     pub fn kills(&self) -> &[Kill]
         ensures { result.now ≡ judge_kills self.now }
     {

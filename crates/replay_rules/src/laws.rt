@@ -1,11 +1,13 @@
-//! Laws of evaluations.
-//! Each function has an empty body: its contract is the law.
+//! Laws about the evaluations of a replay.
+//!
+//! Each function has an empty body: its contract is the law, and the proof shows that the law
+//! holds.
 ghost use Rattle.replay_rules.specs.Laws.{KillsAtReading, NoKillsBetween, NoneWithoutRules};
 ghost use Rattle.replay_rules.specs.Laws.{OneReadingMore, ReadingsAreReadings, ReadingsStay};
 
-/// Laws from tick to tick. A tick without an evaluation adds no reading and has no kills. An
-/// evaluation adds one reading, and its kills depend on this reading and the previous ones. Without
-/// rules there are no kills.
+/// Laws that relate a tick to the previous tick. A tick without an evaluation adds no reading and
+/// has no kills. An evaluation adds one reading, and its kills depend only on the rules, this
+/// reading and the previous readings. Without rules there are no kills.
 pub fn law_evaluations()
     ensures stay { ReadingsStay }
     ensures more { OneReadingMore }
@@ -14,7 +16,8 @@ pub fn law_evaluations()
     ensures without { NoneWithoutRules }
 {}
 
-/// The readings of an accepted trace are well formed, and each is later than the previous readings.
+/// The readings of an accepted trace are well formed, and each reading is later than the previous
+/// readings.
 pub fn law_readings()
     ensures { ReadingsAreReadings }
 {}

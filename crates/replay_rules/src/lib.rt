@@ -1,11 +1,12 @@
-//! Decides what rules kill at the ticks of a replay.
+//! Decides which groups the rules kill at the ticks of a replay.
 //!
-//! [`Judge`] has all state that rules need between ticks: that of detectors and post-action delays,
-//! and what the trace reports about memory, preferences and tasks. At each evaluation it reads all
-//! live groups and returns the kills. [`tick_moment`] is the time of a tick, and [`is_due`] says at
-//! which ticks a periodic action is due.
+//! [`Judge`] has all state that the rules need between ticks: the state of detectors, the delays
+//! after kills, and the values that the trace reports about memory, preferences and tasks. At each
+//! evaluation the judge collects the values of all live groups and returns the kills.
+//! [`tick_moment`] returns the time of a tick, and [`is_due`] returns whether a periodic action is
+//! due at a tick.
 //!
-//! It doesn't evaluate a rule itself (kill_engine does), and it neither prints nor ends anything.
+//! This crate doesn't evaluate rules (kill_engine does), prints nothing and kills nothing.
 #![tactic(auto)]
 
 mod evaluator;

@@ -1,11 +1,13 @@
-//! The times of ticks, and the ticks at which a periodic action is due.
-//! Both are functions of numbers alone.
+//! Computes the times of ticks, and the ticks at which a periodic action is due.
+//!
+//! The functions have no state.
 ghost use Rattle.std.specs.Prelude.{◌≡◌, ◌*◌, ◌<◌, ◌^◌, ℕ};
 ghost use Rattle.pressure_spec.specs.Ticks.{is_due, tick_moment};
 
 use psi_base::Ns;
 
-/// The time (ns) of tick number `tick`, counted from 1, for ticks of `length` ns.
+/// Returns the time (ns) of the tick with the number `tick`. Ticks are numbered from 1 and are
+/// `length` ns long.
 pub fn tick_moment(length: Ns, tick: u64) -> Ns
     requires { tick_moment length tick < 2 ^ 64 }
     ensures { result ≡ tick_moment length tick }
@@ -13,8 +15,9 @@ pub fn tick_moment(length: Ns, tick: u64) -> Ns
     tick * length
 }
 
-/// Whether an action with this `period` (ns) is due at the tick at `at` (ns), for ticks of `length`
-/// ns: whether a multiple of `period` lies in (at - length, at].
+/// Returns whether an action with this `period` (ns) is due at the tick at time `at` (ns), for
+/// ticks of `length` ns. The action is due if a multiple of `period` lies in the interval (at -
+/// length, at].
 pub fn is_due(period: Ns, length: Ns, at: Ns) -> bool
     requires due { 0 < period }
     requires tick { (tick : ℕ) × (0 < tick) × (at ≡ tick_moment length tick) }

@@ -1,5 +1,7 @@
-//! Fills the reading of an evaluation with the groups that are live.
-//! The averages come from the engine, all other values from the side watch.
+//! Fills the reading of an evaluation with the values of all live groups.
+//!
+//! The pressure averages come from the engine. All other values come from the side watch, which
+//! follows memory, preferences and tasks.
 ghost use Rattle.std.specs.Prelude.{◌≡◌, ◌<◌, ℕ, All, length, take};
 ghost use Rattle.pressure_spec.specs.Within.{IsRow};
 ghost use Rattle.pressure_spec.specs.Share.{irq_quantity};
@@ -15,8 +17,8 @@ use psi_base::{Ns, Slot, State};
 use side_watch::SideWatch;
 use tick_engine::{Engine, is_live_at};
 
-/// The averages of a group over 10, 60 and 300 seconds, for some and full of IO, memory and CPU, in
-/// this order.
+/// Returns the averages of a group over 10, 60 and 300 seconds. The rows are `some` and `full` of
+/// IO, memory and CPU, in this order.
 fn averages_of(engine: &Engine, slot: Slot) -> [[u64; 3]; QUANTITIES - 1]
     requires made { slot.0 < length engine.now.groups }
     requires rows { HasRows engine.now slot.0 }
@@ -34,8 +36,8 @@ fn averages_of(engine: &Engine, slot: Slot) -> [[u64; 3]; QUANTITIES - 1]
     ]
 }
 
-/// The reading of a group: its averages after the engine's last tick, and the latest values that
-/// the trace reports for it.
+/// Returns the values of a group for a reading: its averages after the engine's last tick, and the
+/// latest values that the trace reports for the group.
 fn read_group(engine: &Engine, watch: &SideWatch, slot: Slot) -> GroupReading
     requires made { slot.0 < length engine.now.groups }
     requires rows { HasRows engine.now slot.0 }
@@ -54,8 +56,9 @@ fn read_group(engine: &Engine, watch: &SideWatch, slot: Slot) -> GroupReading
     }
 }
 
-/// Adds the groups that are live at `at` (ns) to a new reading, in the order of `order`. Requires
-/// that `order` has the slots sorted by path. Does not allocate.
+/// Starts a new reading at time `at` (ns), and adds the groups that are live at `at`, in the order
+/// of `order`. Precondition: `order` has the slots sorted by the paths of their groups. Doesn't
+/// allocate.
 pub(crate) fn fill_reading(
     reading: &mut Reading,
     engine: &Engine,
