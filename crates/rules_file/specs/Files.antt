@@ -1,5 +1,6 @@
--- The results of reading a rules file and a drop-in file, if the bytes of the files are known. The
--- files come from a shelf, which is the trait for input files.
+-- Relates the results of reading a rules file and a drop-in file to the bytes of the files. The
+-- files come from a shelf, the trait for access to files. The statements about bytes apply only if
+-- the contents of the shelf are known.
 use Rattle.std.specs.Prelude.{◌≡◌, ℕ, List, Option, Result, Ok, Err, None, Some, take}
 use Rattle.outside.specs.Outside.{Files, IsAbsent, Increased, ShelfCounts, content_of}
 use Rattle.outside.specs.Reads.{ReadCall}
@@ -22,19 +23,19 @@ use Rattle.run_spec.specs.Stops.{StopsAtRefusal}
 
 -- ---- one file
 
--- the shelf's numbers of failed reads and of missing files are unchanged
+-- The shelf's counts of failed reads and of missing files didn't change.
 pub record Stays (before now : ShelfCounts) : Type 0 where
   pub faults : now.faults ≡ before.faults
   pub absent : now.absent ≡ before.absent
 
--- `bytes` were read from the file `name` without a fault: if the file's bytes are known, `bytes`
--- are their prefix up to the size limit, and the file isn't known to be missing
+-- `bytes` was read from the file `name` without a fault. If the content of the file is known,
+-- `bytes` is its prefix up to the size limit. The file isn't known to be missing.
 pub record IsPrefixOf (bytes name : List ℕ) (files : Option Files) (before now : ShelfCounts) : Type 0 where
   pub prefix : (whole : List ℕ) → content_of files name ≡ Some whole → bytes ≡ take most_of_rules whole
   pub held : IsAbsent files name → ⊥
   pub stays : Stays before now
 
--- the status says why nothing could be read from the file `name` of the kind `which`
+-- The status says why the file `name` couldn't be read. `which` is the kind of the file.
 abbrev pub Unread : Which → List ℕ → Option Files → ShelfCounts → ShelfCounts → Status → Type 0
 Unread which name files before now (status.NoFile kind) =
     (kind ≡ which) × (content_of files name ≡ None) × (now.faults ≡ before.faults) × Increased before.absent now.absent
@@ -42,27 +43,28 @@ Unread which name files before now status.ReadFault = Increased before.faults no
 Unread which name files before now (status.NoMemory _) = Stays before now
 Unread which name files before now _ = ⊥
 
--- `base` are the rules of the rules file `name`, and each ruleset is in range
+-- `base` has the rules of the rules file `name`, and each ruleset is in range.
 pub record BaseOption (name : List ℕ) (files : Option Files) (before now : ShelfCounts) (base : Rules) : Type 0 where
   pub fit : FitsRules base.rules
   pub read : (bytes : List ℕ) → content_of files name ≡ Some bytes → rules_of bytes ≡ Ok base
   pub held : IsAbsent files name → ⊥
   pub stays : Stays before now
 
--- the status says why the rules file `name` gives no rules
+-- The status says why reading the rules file `name` gave no rules.
 abbrev pub BaseFails : List ℕ → Option Files → ShelfCounts → ShelfCounts → Status → Type 0
 BaseFails name files before now (status.Rules fault) =
     ((bytes : List ℕ) → content_of files name ≡ Some bytes → rules_of bytes ≡ Err fault) × (IsAbsent files name → ⊥) × Stays before now
 BaseFails name files before now result = Unread RulesFile name files before now result
 
--- `rules` are the rules `base` with the drop-in file `name` applied, and each ruleset is in range
+-- `rules` is the result of applying the drop-in file `name` to the rules `base`, and each ruleset
+-- is in range.
 pub record OverOption (base : Rules) (name : List ℕ) (files : Option Files) (before now : ShelfCounts) (rules : Rules) : Type 0 where
   pub fit : FitsRules rules.rules
   pub read : (bytes : List ℕ) → content_of files name ≡ Some bytes → dropped_in base bytes ≡ Ok rules
   pub held : IsAbsent files name → ⊥
   pub stays : Stays before now
 
--- the status says why the drop-in file `name` can't be applied to the rules `base`
+-- The status says why the drop-in file `name` couldn't be applied to the rules `base`.
 abbrev pub OverFails : Rules → List ℕ → Option Files → ShelfCounts → ShelfCounts → Status → Type 0
 OverFails base name files before now (status.DropIn fault) =
     ((bytes : List ℕ) → content_of files name ≡ Some bytes → dropped_in base bytes ≡ Err fault)
@@ -71,38 +73,38 @@ OverFails base name files before now result = Unread DropInFile name files befor
 
 -- ---- both files, as the beginning of a run
 
--- the counts of a run, from its shelf's counts and the number of failed writes
+-- The counts of a run, made from the counts of its shelf and the number of failed writes.
 abbrev pub counts_with : ShelfCounts → ℕ → RunCounts
 counts_with shelf writes = record { shelf = shelf; writes = writes }
 
--- for every command that names these two files, a run that ends here with this status and writes
--- nothing is as specified
+-- For every command that names these two files: a run that ends now with this status, without any
+-- output, satisfies the specification `Runs`.
 abbrev pub EndsRun : Option (List ℕ) → Option (List ℕ) → Option Files → ShelfCounts → ShelfCounts → Status → Type 0
 EndsRun named drop_in files before now result =
     (command : Command) (writes : ℕ) (had : Option (List ℕ)) → rules_name command ≡ named → drop_in_name command ≡ drop_in
     → Runs command files (counts_with before writes) (counts_with now writes) had had result
 
--- for every command that names these two files, a run that ends here with this status has read no
--- more than the specification allows; `bytes_read` and `read_now` are the numbers of bytes read
--- before and after
+-- For every command that names these two files: a run that ends now with this status has read no
+-- more bytes than the specification allows. `bytes_read` and `read_now` are the numbers of bytes
+-- read before and after.
 abbrev pub StopsRun : Option (List ℕ) → Option (List ℕ) → Option Files → ℕ → ℕ → Status → Type 0
 StopsRun named drop_in files bytes_read read_now result =
     (command : Command) → rules_name command ≡ named → drop_in_name command ≡ drop_in
     → StopsAtRefusal command files bytes_read read_now result
 
--- the shelf's fault that a status reports, if any
+-- The shelf's fault that the status reports, or `None` if it reports another cause.
 abbrev pub status_fault : Status → Option ShelfFault
 status_fault (status.NoFile which) = Some shelf.NoFile
 status_fault status.ReadFault = Some shelf.Failed
 status_fault _ = None
 
--- the shelf's fault that the status of a failed result reports, if any
+-- The shelf's fault that the status of a failed result reports, or `None`.
 abbrev pub status_fault_in : {A : Type 0} → Result A Status → Option ShelfFault
 status_fault_in (Ok x) = None
 status_fault_in (Err found) = status_fault found
 
--- for every command that names these two files, a run that ends here with this status has read the
--- files in the specified order; `before` and `now` are the logs of read calls before and after
+-- For every command that names these two files: a run that ends now with this status has read the
+-- files in the specified order. `before` and `now` are the logs of read calls before and after.
 abbrev pub OrdersRun : Option (List ℕ) → Option (List ℕ) → Option Files → List ReadCall → List ReadCall → Status → Type 0
 OrdersRun named drop_in files before now result =
     (command : Command) → rules_name command ≡ named → drop_in_name command ≡ drop_in → ReadsInOrder command files before now result

@@ -1,8 +1,11 @@
-//! Reads the rules of a command from a shelf, and runs the command `rules`, which prints them.
-//! Parsing is left to `ruleset_json` and `dropin_rules`.
+//! Reads the rules that a command needs, and runs the command `rules`, which prints them. Input
+//! files come from a shelf, the trait for access to files.
 //!
-//! [`read_rules`] reads the files that the options of a replay name, [`read_joined`] a rules file
-//! with a drop-in file applied. [`put_fault`] and [`put_drop_fault`] write why one was rejected.
+//! [`read_rules`] reads the files that the options of a replay name. [`read_joined`] reads a rules
+//! file and applies a drop-in file. [`put_fault`] and [`put_drop_fault`] write the message for a
+//! rejected file.
+//!
+//! This crate doesn't parse: `ruleset_json` and `dropin_rules` do.
 #![tactic(auto)]
 
 mod name;

@@ -1,5 +1,6 @@
-//! Writes the messages for errors in a rules file or a drop-in file.
-//! The line break after a message is written by the caller.
+//! Writes the messages for faults of a rules file or a drop-in file.
+//!
+//! The caller writes the line break after a message.
 ghost use Rattle.std.specs.Prelude.{◌≡◌};
 ghost use Rattle.outside.specs.Outside.{HasCause};
 ghost use Rattle.outside.specs.Calls.{PutsAll};
@@ -25,8 +26,9 @@ fn cause_name(cause: RulesCause) -> &'static [u8]
     }
 }
 
-// Writes the message for an error in a file: the word `file`, the place as the numbers of the
-// ruleset, group, item or action (nothing for the whole file), `: ` and the name of the cause.
+// Writes the message for a fault of a file: the word `file`, the words for the place, a colon, and
+// the name of the cause. The words for a place have the indexes of the ruleset and of the group,
+// item or action. There are no words for the whole file.
 fn put_placed<K: Sink>(
     out: &mut K,
     file: &[u8],
@@ -91,8 +93,8 @@ fn put_placed<K: Sink>(
     }
 }
 
-/// Writes the message for an error in a rules file: `rules`, its place and its cause. Does not
-/// allocate.
+/// Writes the message for a fault of a rules file: the word `rules`, the place and the cause.
+/// Doesn't allocate.
 pub fn put_fault<K: Sink>(out: &mut K, fault: RulesFault) -> Result<(), WriteFailed>
     ensures bytes { PutsAll (K.has out.old) (K.has out.new) result (fault_text fault) }
     ensures cause { HasCause (K.faults out.old) (K.faults out.new) result }
@@ -110,8 +112,8 @@ fn drop_cause_name(cause: DropCause) -> &'static [u8]
     }
 }
 
-/// Writes the message for an error in a drop-in file: `drop-in`, its place as in a rules file, and
-/// its cause. Does not allocate.
+/// Writes the message for a fault of a drop-in file: the word `drop-in`, the place as for a rules
+/// file, and the cause. Doesn't allocate.
 pub fn put_drop_fault<K: Sink>(out: &mut K, fault: DropFault) -> Result<(), WriteFailed>
     ensures bytes { PutsAll (K.has out.old) (K.has out.new) result (drop_fault_text fault) }
     ensures cause { HasCause (K.faults out.old) (K.faults out.new) result }

@@ -1,5 +1,7 @@
-//! The command `rules`: prints rules as one line of text.
-//! The line is built in memory first, so nothing is written if memory runs out.
+//! The command `rules`, which prints rules as one line of text.
+//!
+//! The line is built in memory before the output begins. Therefore nothing is written if memory
+//! runs out.
 ghost use Rattle.std.specs.Prelude.{◌≡◌, ◌+◌, ◌≤◌, ◌++◌, IfOk, IfSome, IsUtf8, codes};
 ghost use Rattle.outside.specs.Outside.{SameInner};
 ghost use Rattle.dropin_rules.specs.RulesText.{rules_text};
@@ -17,7 +19,7 @@ use ruleset_json::Rules;
 use run_spec::{Command, Status};
 use std::alloc::Global;
 
-// Returns the line that rules are printed as.
+// Returns the printed line of the rules, with its newline.
 fn rules_line(alloc: Global, rules: &Rules) -> Result<Vec<u8>, NoMemory>
     ensures { IfOk result (λ line. line.items ≡ rules_text rules.now.rules ++ codes "\n") }
 {
@@ -38,7 +40,7 @@ fn put_line<K: Sink>(line: &[u8], out: &mut K) -> Status
     }
 }
 
-// Writes rules as one line. If memory runs out, nothing is written.
+// Writes the rules as one line. Writes nothing if memory runs out.
 fn print_rules<K: Sink>(alloc: Global, rules: &Rules, out: &mut K) -> Status
     ensures writes { WritesText (rules_text rules.now.rules ++ codes "\n")
         (K.faults out.old) (K.faults out.new) (K.has out.old) (K.has out.new) result }
@@ -50,7 +52,8 @@ fn print_rules<K: Sink>(alloc: Global, rules: &Rules, out: &mut K) -> Status
     }
 }
 
-/// Runs `rules` for the rules file `name`, and the drop-in file if one is named.
+/// Runs the command `rules` for the rules file `name`, with the drop-in file `drop_in` if it isn't
+/// `None`. Returns the status of the run.
 pub fn run_rules<S: Shelf, K: Sink>(
     alloc: Global,
     name: &str,

@@ -1,5 +1,7 @@
-//! Reads the rules of a command from a shelf, which is the trait for input files.
-//! The result is the rules of the rules file, with the drop-in file applied if one is named.
+//! Reads the rules of a command from a shelf, the trait for access to files.
+//!
+//! The result has the rules of the rules file. If the command names a drop-in file, it is applied
+//! to them.
 ghost use Rattle.std.specs.Prelude.{◌≡◌, ◌+◌, ◌≤◌, None, Some, IfSome, IsUtf8, MatchResult, ⊤};
 ghost use Rattle.psi_base.specs.Gives.{Gives};
 ghost use Rattle.outside.specs.Outside.{counts_of};
@@ -22,12 +24,12 @@ use ruleset_json::{RuleList, Rules, read, read_parts};
 use run_spec::{Options, Status, Which};
 use std::alloc::Global;
 
-/// The most bytes that are read from a rules file or a drop-in file: one more than the size limit,
-/// so that a longer file is detected.
+/// The greatest number of bytes that are read from a rules file or a drop-in file: one more than
+/// the limit, so that a longer file is detected.
 const MOST: usize = 1_048_577;
 
-// Returns the same rules, with a contract that each ruleset is in range: the type of the list
-// ensures it.
+// Returns the rules unchanged. The contract adds that each ruleset is in range, which the type
+// `RuleList` ensures.
 fn in_ranges(rules: Rules) -> Rules
     ensures same { result ≡ rules }
     ensures fit { FitsRules result.rules }
@@ -37,7 +39,8 @@ fn in_ranges(rules: Rules) -> Rules
     }
 }
 
-// Returns the bytes of a rules file or a drop-in file, or a prefix that is already too long.
+// Returns the bytes of a rules file or a drop-in file. Of a file that is too long, returns only a
+// prefix, which is itself too long.
 fn read_bytes<S: Shelf>(
     alloc: Global,
     name: &str,
@@ -88,7 +91,7 @@ fn read_base<S: Shelf>(alloc: Global, name: &str, shelf: &mut S) -> Result<Rules
     }
 }
 
-// Applies a drop-in file with these bytes to the rules `base`.
+// Applies the drop-in file with these bytes to the rules `base`.
 #[tactic(auto, unfolding(dropin_rules::specs::Joined::dropped_in))]
 fn dropped(alloc: Global, base: Rules, bytes: &[u8]) -> Result<Rules, Fault<DropFault>>
     ensures { Gives result (dropped_in base bytes.now) }
@@ -130,8 +133,9 @@ fn read_over<S: Shelf>(
     }
 }
 
-/// Reads the rules of the rules file `name`, and applies the drop-in file if one is named. The
-/// drop-in file is read only if the rules file is accepted. On failure, the status says why.
+/// Reads the rules file `name`, and applies the drop-in file `drop_in` if it isn't `None`. Reads
+/// the drop-in file only if the rules file is accepted. On failure, returns the status that says
+/// why.
 pub fn read_joined<S: Shelf>(
     alloc: Global,
     name: &str,
@@ -170,8 +174,8 @@ pub fn read_joined<S: Shelf>(
     }
 }
 
-/// Reads the rules that the options of a replay name. `None` if the options name no rules file. On
-/// failure, the status says why.
+/// Reads the rules that the options of a replay name. Returns `None` if the options name no rules
+/// file. On failure, returns the status that says why.
 pub fn read_rules<S: Shelf>(
     alloc: Global,
     options: &Options,
