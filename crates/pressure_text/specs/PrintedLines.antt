@@ -1,4 +1,5 @@
--- Which bytes are a pressure file, and which numbers the file contains.
+-- Defines which bytes are a pressure file, and which numbers the file has. States the round-trip
+-- laws of writing and parsing.
 use Rattle.std.specs.Prelude.{◌≡◌, ℕ, ◌/◌, ◌^◌, ◌<◌, List, [], ◌∷◌, ◌++◌, All}
 use Rattle.std.specs.Prelude.{slice_index, slice_index_or, ◌&&◌, Bool, if◌then◌else◌}
 use Rattle.psi_base.specs.declared.event.Res.{Res}
@@ -12,62 +13,63 @@ use Rattle.pressure_spec.specs.Samples.{state_of}
 use Rattle.pressure_text.specs.declared.read.PressureLine.{PressureLine}
 use Rattle.pressure_text.specs.declared.read.PressureFile.{PressureFile}
 
--- the line of a level with these numbers
+-- The bytes of the line with this level and these numbers.
 abbrev pub spelled_line : Level → PressureLine → List ℕ
 spelled_line level line = known_line level line.hundredths line.total_us
 
--- the numbers of a line are in the range that can be printed
+-- The numbers of the line are in the range that a pressure file can have.
 abbrev pub IsTellable : PressureLine → Type 0
 IsTellable line = CanShow line.hundredths line.total_us
 
--- The bytes are the pressure file with these numbers: the `some` line, the `full` line, and nothing
--- else.
+-- The bytes are the pressure file with these numbers: the `some` line, the `full` line, and no
+-- further bytes.
 pub record Shows (bytes : List ℕ) (file : PressureFile) : Type 0 where
   pub some_line : IsTellable file.some_line
   pub full_line : IsTellable file.full_line
   pub spelled : bytes ≡ spelled_line SomeStalled file.some_line ++ spelled_line FullStalled file.full_line
 
--- The bytes are the pressure file of interrupts with these numbers: the `full` line, and nothing
--- else.
+-- The bytes are the pressure file of interrupts with these numbers: the `full` line and no further
+-- bytes.
 pub record ShowsIrq (bytes : List ℕ) (line : PressureLine) : Type 0 where
   pub full_line : IsTellable line
   pub spelled : bytes ≡ spelled_line FullStalled line
 
--- the three averages in hundredths of a percent, from averages in fixed point
+-- Three fixed-point averages, converted to hundredths of a percent.
 abbrev pub three_hundredths : List ℕ → List ℕ
 three_hundredths averages =
     in_hundredths (slice_index averages 0) ∷ in_hundredths (slice_index averages 1)
     ∷ in_hundredths (slice_index averages 2) ∷ []
 
--- the numbers of a line from three averages (fixed point) and a total (ns): hundredths of a
--- percent, and whole microseconds
+-- The numbers of the line for three fixed-point averages and a total (ns). The averages are
+-- converted to hundredths of a percent, and the total to whole microseconds.
 abbrev pub numbers_known : List ℕ → ℕ → PressureLine
 numbers_known averages total = record { hundredths = three_hundredths averages; total_us = total / 1000 }
 
--- the numbers of the line of a resource at a level, from totals (ns) and averages by state
+-- The numbers of the line of a resource at a level. `totals` (ns) and `averages` are ordered by
+-- state.
 abbrev pub known_by_line : Res → Level → List ℕ → List (List ℕ) → PressureLine
 known_by_line res level totals averages =
     numbers_known (slice_index_or averages (state_number (state_of res level)) [])
     (slice_index totals (state_number (state_of res level)))
 
--- the numbers of a pressure file, from totals (ns) and averages; zeros for the root's `full` line
--- of CPU
+-- The numbers of the pressure file of a resource. At the root, the numbers of the `full` line of
+-- CPU are zeros.
 abbrev pub known_file : Res → Bool → List ℕ → List (List ℕ) → PressureFile
 known_file res is_root totals averages = record {
   some_line = known_by_line res SomeStalled totals averages;
   full_line = if is_root && is_cpu res then numbers_known [] 0 else known_by_line res FullStalled totals averages;
 }
 
--- Round trip: parsing what is written for 64-bit totals (ns) and averages of at most 100 percent
--- gives them back, in whole microseconds and hundredths of a percent.
+-- Round trip: for totals (ns) below 2^64 and averages of at most 100 percent, the written pressure
+-- file has these totals in whole microseconds and these averages in hundredths of a percent.
 abbrev pub ReadsAgain : Type 0
 ReadsAgain = (res : Res) (is_root : Bool) (totals : List ℕ) (averages : List (List ℕ)) →
     All (λ total. total < 2 ^ 64) totals → All (λ row. IsRow row) averages →
     Shows (file_text res is_root totals averages) (known_file res is_root totals averages)
 
--- Round trip for the pressure file of interrupts: parsing what is written for a 64-bit total (ns)
--- and averages of at most 100 percent gives them back, in whole microseconds and hundredths of a
--- percent.
+-- Round trip for the pressure file of interrupts: for a total (ns) below 2^64 and averages of at
+-- most 100 percent, the written file has this total in whole microseconds and these averages in
+-- hundredths of a percent.
 abbrev pub IrqReadsAgain : Type 0
 IrqReadsAgain = (averages : List ℕ) (total : ℕ) → total < 2 ^ 64 → IsRow averages →
     ShowsIrq (irq_text averages total) (numbers_known averages total)

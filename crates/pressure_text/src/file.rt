@@ -1,5 +1,6 @@
-//! Writes pressure files, and reports, which are pressure files after a head line.
-//! The averages and totals come from the caller.
+//! Writes pressure files and reports. A report is a head line followed by a pressure file.
+//!
+//! The caller passes the averages and totals.
 ghost use Rattle.std.specs.Prelude.{[], slice_index_or};
 ghost use Rattle.outside.specs.Outside.{HasCause, SameInner};
 ghost use Rattle.outside.specs.Calls.{PutsAll};
@@ -13,7 +14,8 @@ use outside::{Sink, WriteFailed};
 use pressure_spec::Amounts;
 use psi_base::{Level, Ns, Path, Res, State};
 
-// Writes a line of a pressure file from three averages and a total (ns).
+// Writes one line of a pressure file: the level, the three averages, and the total. `total` is in
+// ns; the line has us.
 fn put_line<K: Sink>(
     out: &mut K,
     level: Level,
@@ -42,7 +44,7 @@ fn put_line<K: Sink>(
     )
 }
 
-// Writes the line of a resource at a level.
+// Writes the `some` or the `full` line of a resource.
 fn put_state<K: Sink>(
     out: &mut K,
     res: Res,
@@ -59,7 +61,7 @@ fn put_state<K: Sink>(
     put_line(out, level, averages.get(state), totals[state as usize])
 }
 
-// Writes the `full` line of a resource, which is all zeros for CPU at the root.
+// Writes the `full` line of a resource. At the root, the `full` line of CPU is all zeros.
 fn put_full<K: Sink>(
     out: &mut K,
     res: Res,
@@ -78,10 +80,10 @@ fn put_full<K: Sink>(
     put_state(out, res, Level::FullStalled, totals, averages)
 }
 
-/// Writes the pressure file of a group's resource, as in `Documentation/accounting/psi.rst`: the
-/// `some` line and the `full` line. `totals` (ns) and `averages` are the group's, ordered by state;
-/// `totals` ends with the interrupt time. The root's `full` line of CPU is all zeros, as in the
-/// kernel.
+/// Writes the pressure file of a resource for one group, in the format of
+/// `Documentation/accounting/psi.rst`: the `some` line and the `full` line. `totals` (ns) and
+/// `averages` are the group's, ordered by state; the last entry of `totals` is the interrupt time.
+/// At the root, the `full` line of CPU is all zeros, as in the kernel.
 pub fn write_file<K: Sink>(
     out: &mut K,
     res: Res,
@@ -98,8 +100,8 @@ pub fn write_file<K: Sink>(
     put_full(out, res, root, &totals, averages)
 }
 
-// Writes the head line of a report: the tick's time (ns), the group's path, and the word for the
-// resource.
+// Writes the head line of a report: the time of the tick (ns), the path of the group, and the word
+// for the resource.
 #[tactic(auto, using(outside::proofs::Grows::chain))]
 fn put_head<'a, K: Sink>(
     out: &mut K,
@@ -126,8 +128,8 @@ fn put_head<'a, K: Sink>(
     )
 }
 
-/// Writes the head line of a report on a resource: the tick's time (ns), the group's path, and the
-/// resource.
+/// Writes the head line of a report on a resource: the time of the tick (ns), the path of the
+/// group, and the name of the resource.
 pub fn write_report_head<K: Sink>(
     out: &mut K,
     at: Ns,
@@ -141,8 +143,8 @@ pub fn write_report_head<K: Sink>(
     put_head(out, at, path, res.word().as_bytes())
 }
 
-/// Writes the report on a group's resource at the tick at `at` (ns): the head line
-/// ([`write_report_head`]), followed by the pressure file ([`write_file`]).
+/// Writes the report on a resource of a group, at the tick at time `at` (ns): the head line
+/// ([`write_report_head`]) and the pressure file ([`write_file`]).
 #[tactic(auto, using(outside::proofs::Grows::chain))]
 pub fn write_report<K: Sink>(
     out: &mut K,
@@ -162,8 +164,9 @@ pub fn write_report<K: Sink>(
     write_file(out, res, root, totals, averages)
 }
 
-/// Writes the report on a group's interrupts at the tick at `at` (ns): the head line, followed by
-/// the `full` line with the interrupt total (ns) and its averages. Interrupts have no `some` line.
+/// Writes the report on interrupts of a group, at the tick at time `at` (ns): the head line, and
+/// the `full` line with the averages and the total (ns) of interrupt time. Interrupts have no
+/// `some` line.
 #[tactic(auto, using(outside::proofs::Grows::chain))]
 pub fn write_irq<K: Sink>(
     out: &mut K,

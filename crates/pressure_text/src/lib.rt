@@ -1,7 +1,7 @@
-//! The lines that commands print, among them pressure files, which can also be parsed.
+//! Writes the lines that the commands print. Pressure files can also be parsed.
 //!
-//! Values come from the crates above; this crate knows only their spelling. psi_observe writes
-//! lines of its own from the same [`Piece`]s.
+//! The callers compute the values; this crate only formats them. psi_observe writes other lines
+//! from the same [`Piece`]s.
 #![tactic(auto)]
 
 mod file;

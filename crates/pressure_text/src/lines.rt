@@ -1,5 +1,6 @@
-//! Writes the single lines that commands print.
-//! Pressure files are in `file`.
+//! Writes the single lines that the commands print.
+//!
+//! The module `file` writes pressure files.
 ghost use Rattle.std.specs.Prelude.{◌-◌, ◌<◌, ◌^◌};
 ghost use Rattle.outside.specs.Outside.{HasCause, SameInner};
 ghost use Rattle.outside.specs.Calls.{PutsAll};
@@ -13,7 +14,8 @@ use outside::{Sink, WriteFailed, put_all};
 use pressure_spec::Times;
 use psi_base::{Cpu, Ns, Path, TriggerSpec};
 
-/// Writes a line: the pieces of `head` in order, and then the times (ns), each after a space.
+/// Writes a line: the pieces of `head` in order, then each of the times (ns) after a space, and a
+/// newline.
 #[tactic(auto, using(outside::proofs::Grows::chain))]
 pub fn put_timed<K: Sink>(out: &mut K, head: &[Piece], times: &[Ns]) -> Result<(), WriteFailed>
     ensures bytes { PutsAll (K.has out.old) (K.has out.new) result
@@ -26,7 +28,7 @@ pub fn put_timed<K: Sink>(out: &mut K, head: &[Piece], times: &[Ns]) -> Result<(
     put_all(out, b"\n")
 }
 
-// Writes the `stall` line of a group on a processor, with its times (ns).
+// Writes the `stall` line of a group on a processor, with the given times (ns).
 #[tactic(auto, using(crate::proofs::Puts::times))]
 fn put_stall<K: Sink>(out: &mut K, cpu: Cpu, path: &Path, times: &[Ns]) -> Result<(), WriteFailed>
     ensures bytes { PutsAll (K.has out.old) (K.has out.new) result
@@ -46,8 +48,8 @@ fn put_stall<K: Sink>(out: &mut K, cpu: Cpu, path: &Path, times: &[Ns]) -> Resul
     )
 }
 
-/// Writes the `stall` line of a group on a processor: its times (ns) in the seven states, ordered
-/// by state.
+/// Writes the `stall` line of a group on a processor, with the group's time (ns) in each of the
+/// seven states. The times are ordered by state.
 pub fn write_stall<K: Sink>(
     out: &mut K,
     cpu: Cpu,
@@ -62,8 +64,8 @@ pub fn write_stall<K: Sink>(
     put_stall(out, cpu, path, &seven)
 }
 
-/// Writes the `stall` line of a group on a processor, with interrupts: its times (ns) in the seven
-/// states, ordered by state, followed by the interrupt time.
+/// Writes the `stall` line of a group on a processor, with the group's time (ns) in each of the
+/// seven states, ordered by state, and then the interrupt time (ns).
 pub fn write_stall_irq<K: Sink>(
     out: &mut K,
     cpu: Cpu,
@@ -78,8 +80,8 @@ pub fn write_stall_irq<K: Sink>(
     put_stall(out, cpu, path, &eight)
 }
 
-/// Writes the line of an accepted trace: its number of events, including the end, and its end time
-/// (ns).
+/// Writes the line for an accepted trace: the number of events, including the end event, and the
+/// end time (ns). The number of lines is one more, because of the header.
 #[tactic(auto, using(outside::proofs::Grows::chain))]
 pub fn write_check<K: Sink>(out: &mut K, events: u64, end: Ns) -> Result<(), WriteFailed>
     requires { events < 2 ^ 64 - 1 }
@@ -101,9 +103,9 @@ pub fn write_check<K: Sink>(out: &mut K, events: u64, end: Ns) -> Result<(), Wri
     )
 }
 
-/// Writes a `live` line: a sample of the watched group's clock on processor `cpu`, taken for the
-/// tick at `at` (ns). `count` is the number of the processor's changes that the sample includes,
-/// and `seven` are the times (ns) in the seven states, ordered by state.
+/// Writes a `live` line: a sample of the watched group's clock on processor `cpu`, taken during the
+/// interval before the tick at time `at` (ns). `count` is the number of the processor's changes
+/// that the sample includes. `seven` has the times (ns) in the seven states, ordered by state.
 #[tactic(auto, using(crate::proofs::Puts::times))]
 pub fn write_live<K: Sink>(
     out: &mut K,
@@ -131,8 +133,8 @@ pub fn write_live<K: Sink>(
     )
 }
 
-/// Writes the line of a trigger that fired at the tick at `at` (ns): its number, the path of its
-/// group, and its resource, level, threshold and window (us).
+/// Writes the line for a trigger that fired at the tick at time `at` (ns): the index of the
+/// trigger, the path of its group, its resource and level, and its threshold and window (us).
 #[tactic(auto, using(outside::proofs::Grows::chain))]
 pub fn write_fired<K: Sink>(
     out: &mut K,
@@ -168,8 +170,8 @@ pub fn write_fired<K: Sink>(
     )
 }
 
-/// Writes the line of a kill at the tick at `at` (ns): the numbers of the ruleset and of its
-/// action, counted from 0, and the victim's path.
+/// Writes the line for a kill at the tick at time `at` (ns): the index of the ruleset, the index of
+/// the action in it, and the path of the victim.
 #[tactic(auto, using(outside::proofs::Grows::chain))]
 pub fn write_kill<K: Sink>(
     out: &mut K,
@@ -199,8 +201,8 @@ pub fn write_kill<K: Sink>(
     )
 }
 
-/// Writes the last line of a replay: the end time (ns), and the numbers of ticks, signals and
-/// kills.
+/// Writes the last line of a replay: the end time (ns), and the numbers of ticks, of signals of
+/// triggers, and of kills.
 #[tactic(auto, using(outside::proofs::Grows::chain))]
 pub fn write_end<K: Sink>(
     out: &mut K,

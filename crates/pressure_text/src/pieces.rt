@@ -1,4 +1,5 @@
-//! Lines in pieces, each written as soon as it is formatted.
+//! Writes a line piece by piece. Each piece is written as soon as it is formatted.
+//!
 //! No line is built in memory.
 ghost use Rattle.std.specs.Prelude.{◌≡◌, ◌++◌, codes};
 ghost use Rattle.std.specs.List.{flat_map};
@@ -9,22 +10,21 @@ ghost use Rattle.pressure_text.specs.Pieces.{piece_bytes, spaced_number};
 
 use outside::{Sink, WriteFailed, put_all, put_number};
 
-/// One percent of an average in fixed point.
+/// The fixed-point number for one percent.
 const PERCENT: u64 = 2048;
 
 /// A piece of a line.
 #[derive(Clone, Copy)]
 pub enum Piece<'a> {
-    /// A number, written in decimal digits.
+    /// A number, written in decimal.
     Number(u64),
     /// Bytes, written unchanged.
     Text(&'a [u8]),
-    /// An average in fixed point (2048 is one percent), written in percent with two decimals.
+    /// A fixed-point average (2048 is one percent), written in percent with two decimals.
     Percent(u64),
 }
 
-// Returns a point, and the fraction of an average in percent as two digits (hundredths, rounded
-// down).
+// Returns a decimal point and the two decimals of an average in percent, rounded down.
 #[tactic(auto, using(std::proofs::lemmas::Fmt::decimal_digit))]
 fn fraction_of(average: u64) -> [u8; 3]
     ensures { result ≡ codes "." ++ two_digits (hundredths average) }
@@ -35,7 +35,7 @@ fn fraction_of(average: u64) -> [u8; 3]
     [b'.', b'0' + tens, b'0' + ones]
 }
 
-// Writes an average in percent with two decimals.
+// Writes a fixed-point average in percent with two decimals.
 #[tactic(auto, using(outside::proofs::Grows::chain))]
 fn put_percent<K: Sink>(out: &mut K, average: u64) -> Result<(), WriteFailed>
     ensures bytes { PutsAll (K.has out.old) (K.has out.new) result (percent_text average) }
@@ -58,7 +58,7 @@ fn put_piece<K: Sink>(out: &mut K, piece: Piece) -> Result<(), WriteFailed>
     }
 }
 
-/// Writes the pieces in order. If a write fails, a prefix of the joined bytes has been written.
+/// Writes the pieces in order. If a write fails, only a prefix of their bytes has been written.
 #[tactic(auto, using(outside::proofs::Grows::growth))]
 pub fn put_pieces<K: Sink>(out: &mut K, pieces: &[Piece]) -> Result<(), WriteFailed>
     ensures bytes { PutsAll (K.has out.old) (K.has out.new) result
@@ -72,7 +72,6 @@ pub fn put_pieces<K: Sink>(out: &mut K, pieces: &[Piece]) -> Result<(), WriteFai
     Ok(())
 }
 
-// Writes a space and a number.
 #[tactic(auto, using(outside::proofs::Grows::chain))]
 fn put_spaced<K: Sink>(out: &mut K, number: u64) -> Result<(), WriteFailed>
     ensures bytes { PutsAll (K.has out.old) (K.has out.new) result (spaced_number number) }
@@ -83,7 +82,7 @@ fn put_spaced<K: Sink>(out: &mut K, number: u64) -> Result<(), WriteFailed>
     put_number(out, number)
 }
 
-/// Writes the numbers, each after a space.
+/// Writes each number after a space.
 #[tactic(auto, using(outside::proofs::Grows::growth))]
 pub(crate) fn put_numbers<K: Sink>(out: &mut K, numbers: &[u64]) -> Result<(), WriteFailed>
     ensures bytes { PutsAll (K.has out.old) (K.has out.new) result

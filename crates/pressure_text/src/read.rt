@@ -1,7 +1,7 @@
-//! Parsing of pressure files.
+//! Parses pressure files.
 //!
-//! No command calls it: it exists for the round-trip law of what [`write_file`](crate::write_file)
-//! writes (`law_read_again`), and for programs that read pressure files.
+//! No command parses pressure files. The parser exists for programs that do, and for the law
+//! `law_read_again`: what [`write_file`](crate::write_file) writes can be parsed again.
 ghost use Rattle.std.specs.Prelude.{◌≡◌, ◌↔◌, ◌≤◌, ◌<◌, IfSome, IsNone, MatchOption, None, Some};
 ghost use Rattle.std.specs.Prelude.{length};
 ghost use Rattle.std.specs.Char.{is_ascii_digit};
@@ -15,28 +15,28 @@ ghost use Rattle.pressure_text.specs.declared.read.PressureLine.{PressureLine};
 use psi_base::{Level, read_number};
 use std::marker::Model;
 
-/// The greatest average: 100 percent, in hundredths of a percent.
+/// The greatest average (100 percent), in hundredths of a percent.
 const ALL_TIME: u32 = 10_000;
 
-/// The numbers of a line of a pressure file.
+/// The numbers in one line of a pressure file.
 #[derive(Clone, Copy, Debug, PartialEq, Eq)]
 pub struct PressureLine {
     /// The averages over 10, 60 and 300 seconds, in hundredths of a percent.
     pub hundredths: [u32; 3],
-    /// The total, in us.
+    /// The total stall time (us).
     pub total_us: u64,
 }
 
-/// The numbers of a pressure file.
+/// The numbers in a pressure file of two lines.
 #[derive(Clone, Copy, Debug, PartialEq, Eq)]
 pub struct PressureFile {
-    /// The `some` line.
+    /// The numbers in the `some` line.
     pub some_line: PressureLine,
-    /// The `full` line.
+    /// The numbers in the `full` line.
     pub full_line: PressureLine,
 }
 
-// Returns the number of leading digits.
+// Returns the number of digits at the start of the bytes.
 fn digits_at(bytes: &[u8]) -> usize
     ensures count { result ≡ prefix_len is_ascii_digit bytes.now }
     ensures within { result ≤ length bytes.now }
@@ -47,7 +47,7 @@ fn digits_at(bytes: &[u8]) -> usize
         .count()
 }
 
-// The bytes that a parser has not consumed yet. Contracts see the bytes.
+// The bytes that the parser hasn't consumed yet.
 #[derive(Drop)]
 struct Rest<'a> {
     bytes: &'a [u8],
@@ -62,7 +62,7 @@ impl<'a> Model for Rest<'a> {
 }
 
 impl<'a> Rest<'a> {
-    // Consumes `text` if the bytes begin with it; otherwise returns `None`.
+    // Consumes `text` if the bytes begin with it. Returns `None` otherwise.
     fn skip(&mut self, text: &[u8]) -> Option<()>
         ensures { MatchOption result (suffix text.now self.old ≡ None)
             (λ _. suffix text.now self.old ≡ Some self.new) }
@@ -76,7 +76,7 @@ impl<'a> Rest<'a> {
         }
     }
 
-    // Consumes all leading digits, and returns their number.
+    // Consumes the digits at the start, and returns the number that they spell.
     #[tactic(auto, unfolding(crate::specs::FileRead::number_at))]
     fn number(&mut self) -> Option<u64>
         ensures { TakesPiece result self.new (number_at self.old) }
@@ -87,7 +87,7 @@ impl<'a> Rest<'a> {
         Some(number)
     }
 
-    // Consumes two digits, and returns their number.
+    // Consumes two digits, and returns the number that they spell.
     #[tactic(auto, unfolding(crate::specs::FileRead::two_at))]
     fn two_digits(&mut self) -> Option<u32>
         ensures found { TakesPiece result self.new (two_at self.old) }
@@ -105,7 +105,7 @@ impl<'a> Rest<'a> {
         Some(u32::from(tens - b'0') * 10 + u32::from(ones - b'0'))
     }
 
-    // Consumes an average, and returns it in hundredths of a percent.
+    // Consumes an average with two decimals, and returns it in hundredths of a percent.
     #[tactic(auto, unfolding(crate::specs::FileRead::average_at))]
     fn average(&mut self) -> Option<u32>
         ensures { TakesPiece result self.new (average_at self.old) }
@@ -123,7 +123,7 @@ impl<'a> Rest<'a> {
         Some(hundredths)
     }
 
-    // Consumes `label` and an average, and returns the average.
+    // Consumes `label` and an average after it, and returns the average in hundredths of a percent.
     fn average_past(&mut self, label: &[u8]) -> Option<u32>
         ensures { TakesPiece result self.new (past label.now average_at self.old) }
     {
@@ -131,7 +131,7 @@ impl<'a> Rest<'a> {
         self.average()
     }
 
-    // Consumes `label` and a number, and returns the number.
+    // Consumes `label` and a number after it, and returns the number.
     fn number_past(&mut self, label: &[u8]) -> Option<u64>
         ensures { TakesPiece result self.new (past label.now number_at self.old) }
     {
@@ -139,7 +139,7 @@ impl<'a> Rest<'a> {
         self.number()
     }
 
-    // Consumes the line of `level`, with its newline.
+    // Consumes the line of the given level, including the newline, and returns its numbers.
     #[tactic(auto, unfolding(crate::specs::FileRead::line_at))]
     fn line(&mut self, level: Level) -> Option<PressureLine>
         ensures { TakesPiece result self.new (line_at level self.old) }
@@ -157,7 +157,7 @@ impl<'a> Rest<'a> {
     }
 }
 
-// Parses a pressure file of two lines, with nothing after them.
+// Parses a pressure file of exactly two lines.
 #[tactic(auto, unfolding(crate::specs::FileRead::file_at))]
 fn file_of(bytes: &[u8]) -> Option<PressureFile>
     ensures { result ≡ file_at bytes.now }
@@ -174,7 +174,7 @@ fn file_of(bytes: &[u8]) -> Option<PressureFile>
     })
 }
 
-// Parses a pressure file that consists of a `full` line alone.
+// Parses a pressure file that has only a `full` line.
 #[tactic(auto, unfolding(crate::specs::FileRead::irq_at))]
 fn irq_of(bytes: &[u8]) -> Option<PressureLine>
     ensures { result ≡ irq_at bytes.now }
@@ -187,9 +187,10 @@ fn irq_of(bytes: &[u8]) -> Option<PressureLine>
     Some(line)
 }
 
-/// Parses a pressure file: the `some` line and the `full` line, each with its newline, and nothing
-/// after them. Averages are from 0.00 to 100.00 percent with two decimals, totals are below 2^64
-/// us, and numbers have no leading zeros. `None` exactly if the bytes are not such a file.
+/// Parses a pressure file: the `some` line and the `full` line, each with its newline, and no
+/// further bytes. Averages are from 0.00 to 100.00 percent with two decimals, totals are below 2^64
+/// us, and numbers have no leading zeros. Returns `None` if and only if the bytes aren't such a
+/// file.
 pub fn read_file(bytes: &[u8]) -> Option<PressureFile>
     ensures exact { (file : PressureFile) → (result ≡ Some file) ↔ Shows bytes.now file }
     ensures none { IsNone result ↔ ((file : PressureFile) → ¬ Shows bytes.now file) }
@@ -197,8 +198,8 @@ pub fn read_file(bytes: &[u8]) -> Option<PressureFile>
     file_of(bytes)
 }
 
-/// Parses the pressure file of interrupts: the `full` line with its newline, and nothing after it,
-/// with numbers as in [`read_file`]. `None` exactly if the bytes are not such a file.
+/// Parses the pressure file of interrupts: the `full` line with its newline, and no further bytes.
+/// The numbers are as in [`read_file`]. Returns `None` if and only if the bytes aren't such a file.
 pub fn read_irq(bytes: &[u8]) -> Option<PressureLine>
     ensures exact { (line : PressureLine) → (result ≡ Some line) ↔ ShowsIrq bytes.now line }
     ensures none { IsNone result ↔ ((line : PressureLine) → ¬ ShowsIrq bytes.now line) }
@@ -206,9 +207,10 @@ pub fn read_irq(bytes: &[u8]) -> Option<PressureLine>
     irq_of(bytes)
 }
 
-/// Round trips: [`read_file`] parses what [`write_file`](crate::write_file) writes, and
-/// [`read_irq`] parses what [`write_irq`](crate::write_irq) writes after the head line. The results
-/// are the 64-bit totals in whole microseconds, and the averages in hundredths of a percent.
+/// Round trips: [`read_file`] parses the output of [`write_file`](crate::write_file), and
+/// [`read_irq`] parses the output of [`write_irq`](crate::write_irq) after the head line. The
+/// parsed totals are the written totals in whole microseconds. The parsed averages are the written
+/// averages in hundredths of a percent.
 pub fn law_read_again()
     ensures file { ReadsAgain }
     ensures irq { IrqReadsAgain }
