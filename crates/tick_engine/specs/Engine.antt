@@ -1,5 +1,5 @@
--- The state of the engine in terms of the ticks that led to it. An engine *represents* ticks if its
--- state is the one after it has taken these ticks.
+-- Relates the state of the engine to the ticks that the engine has taken. An engine *represents* a
+-- list of ticks if taking these ticks leads to its state.
 use Rattle.std.specs.Prelude.{◌≡◌, ℕ, ◌<◌, ◌≤◌, List, [], ◌∷◌, ◌++◌, length, map, nat_le, Bool, if◌then◌else◌, None, Some, All, IfSome}
 use Rattle.std.specs.List.{list_any}
 use Rattle.psi_base.specs.declared.event.TriggerSpec.{TriggerSpec}
@@ -16,8 +16,8 @@ use Rattle.tick_engine.specs.declared.group.Group.{Group}
 use Rattle.tick_engine.specs.declared.watch.TriggerWatch.{TriggerWatch}
 use Rattle.tick_engine.specs.Step.{AreGroupsWithin, engine_group}
 
--- An engine: its number of processors, the last tick, the state of each group and trigger, and the
--- numbers of the triggers that fired at the last tick.
+-- An engine: the number of processors, the last tick, the state of each group and of each trigger,
+-- and the indexes of the triggers that fired at the last tick.
 pub record EngineView : Type 0 where
   pub cpus : ℕ
   pub last : Tick
@@ -25,21 +25,21 @@ pub record EngineView : Type 0 where
   pub watches : List TriggerWatch
   pub fired : List ℕ
 
--- the engine with these components
+-- The engine with these components.
 abbrev pub seen_as : ℕ → Tick → List Group → List TriggerWatch → List ℕ → EngineView
 seen_as cpus last groups watches fired = record { cpus = cpus; last = last; groups = groups; watches = watches; fired = fired }
 
--- the totals (ns) of the group in slot `slot`
+-- The totals (ns) of the group in slot `slot`.
 abbrev pub totals_in : EngineView → ℕ → List ℕ
 totals_in engine slot = (engine_group engine.groups slot).totals
 
--- the averages of the group in slot `slot`
+-- The averages of the group in slot `slot`.
 abbrev pub averages_in : EngineView → ℕ → AverageState
 averages_in engine slot = (engine_group engine.groups slot).averages
 
 -- ---- the ticks that an engine represents
 
--- the state of the group in slot `slot` after these ticks
+-- The state of the group in slot `slot` after the ticks `ticks`.
 abbrev pub group_after : ℕ → List GroupLife → List Tick → ℕ → Group
 group_after cpus lives ticks slot =
     record {
@@ -49,11 +49,12 @@ group_after cpus lives ticks slot =
       averages = group_averages cpus lives ticks slot;
     }
 
--- the trigger is active: at least one tick is at or after the time of its line
+-- Whether the trigger is active after `ticks`: at least one tick is at or after the time of its
+-- line in the trace.
 abbrev pub has_begun : List Tick → TriggerSpec → Bool
 has_begun ticks trigger = list_any (λ (tick : Tick). nat_le trigger.at tick.at) ticks
 
--- the state of a trigger after these ticks
+-- The state of a trigger after the ticks `ticks`.
 abbrev pub watch_after : ℕ → List GroupLife → List Tick → TriggerSpec → TriggerWatch
 watch_after cpus lives ticks trigger =
     record {
@@ -62,9 +63,10 @@ watch_after cpus lives ticks trigger =
           then Some (trigger_over trigger (history_of cpus lives ticks trigger.slot.0)) else None;
     }
 
--- The engine's state is the one after these ticks, for groups with the lives `lives`, `cpus`
--- processors and these triggers: so are its last tick, its groups and its triggers, and it has the
--- triggers that fired at the last tick. Each tick is a legal successor of the one before it.
+-- The engine's state is the state after `ticks`, for `cpus` processors, the groups `lives` and
+-- these triggers. Each tick is a legal successor of the tick before it. The engine has the state of
+-- each group and of each trigger after `ticks`, the last tick, and the triggers that fired at the
+-- last tick.
 pub record Represents (engine : EngineView) (cpus : ℕ) (lives : List GroupLife) (triggers : List TriggerSpec)
     (ticks : List Tick) : Type 0 where
   pub ordered : AreNextTicks (no_tick cpus (length lives)) ticks
@@ -76,20 +78,21 @@ pub record Represents (engine : EngineView) (cpus : ℕ) (lives : List GroupLife
   pub fired : (prefix : List Tick) (tick : Tick) → ticks ≡ prefix ++ tick ∷ [] → engine.fired ≡ fired_at cpus lives triggers prefix tick
   pub unfired : ticks ≡ [] → engine.fired ≡ []
 
--- After the call, the engine's state is the one after its earlier ticks and `tick`.
+-- Taking `tick` leads from the engine's state `old` to its state `new`: if `old` represents
+-- `ticks`, `new` represents `ticks` followed by `tick`.
 abbrev pub EngineTakes : EngineView → Tick → EngineView → Type 0
 EngineTakes old tick new = (cpus : ℕ) (lives : List GroupLife) (triggers : List TriggerSpec) (ticks : List Tick) →
     Represents old cpus lives triggers ticks → Represents new cpus lives triggers (ticks ++ tick ∷ [])
 
 -- ---- the invariant of an engine
 
--- each trigger is legal for a trace with `slots` groups
+-- Each trigger is legal for a trace with `slots` groups.
 abbrev pub AreWatchesWithin : ℕ → List TriggerWatch → Type 0
 AreWatchesWithin slots watches = All (λ watch. IsTriggerWithin last_moment slots watch.spec) watches
 
--- The invariant of an engine: its processors, groups and triggers are within their limits; the last
--- table has the right sizes; no total exceeds the time up to the last tick; and the triggers are in
--- range.
+-- The invariant of an engine: the numbers of processors, groups and triggers are within their
+-- limits, the table of the last tick has the right size, no total exceeds the time up to the last
+-- tick, and the triggers are legal.
 pub record IsEngine (engine : EngineView) : Type 0 where
   pub few_cpus : engine.cpus ≤ 64
   pub few_groups : length engine.groups ≤ most_groups
@@ -99,36 +102,37 @@ pub record IsEngine (engine : EngineView) : Type 0 where
   pub totals : AreGroupsWithin engine.last engine.groups
   pub watches : AreWatchesWithin (length engine.groups) engine.watches
 
--- the capacity suffices for `count` elements
+-- The capacity suffices for `count` elements.
 pub record IsRoom (count capacity : ℕ) : Type 0 where
   pub room : count ≤ capacity
 
--- the times (ns) at which a group was created and, if it was, removed, are at most `latest`
+-- The time of the group's creation and the time of its removal, if it is removed, are at most
+-- `latest` (ns).
 pub record IsLifeWithin (latest : ℕ) (life : GroupLife) : Type 0 where
   pub made : life.made ≤ latest
   pub gone : IfSome life.gone (λ gone. gone ≤ latest)
 
 -- ---- laws
 
--- The totals that an engine returns for a group are the defined totals after the ticks that led to
--- its state.
+-- The totals that an engine returns for a group are the specified totals after the ticks that the
+-- engine represents.
 abbrev pub ShowsTotals : Type 0
 ShowsTotals = (engine : EngineView) (cpus : ℕ) (lives : List GroupLife) (triggers : List TriggerSpec) (ticks : List Tick) (slot : ℕ) →
     Represents engine cpus lives triggers ticks → slot < length lives → totals_in engine slot ≡ totals_after cpus lives ticks slot
 
--- The averages that an engine returns for a group are the defined averages after the ticks that led
--- to its state.
+-- The averages that an engine returns for a group are the specified averages after the ticks that
+-- the engine represents.
 abbrev pub ShowsAverages : Type 0
 ShowsAverages = (engine : EngineView) (cpus : ℕ) (lives : List GroupLife) (triggers : List TriggerSpec) (ticks : List Tick) (slot : ℕ) →
     Represents engine cpus lives triggers ticks → slot < length lives → averages_in engine slot ≡ group_averages cpus lives ticks slot
 
--- The triggers that an engine returns as fired are those that the definition gives for the last
--- tick.
+-- The triggers that an engine returns as fired are the triggers that, by the specification, fire at
+-- the last tick that the engine represents.
 abbrev pub ShowsFired : Type 0
 ShowsFired = (engine : EngineView) (cpus : ℕ) (lives : List GroupLife) (triggers : List TriggerSpec) (prefix : List Tick) (tick : Tick) →
     Represents engine cpus lives triggers (prefix ++ tick ∷ []) → engine.fired ≡ fired_at cpus lives triggers prefix tick
 
--- The engine's last tick is the last of the ticks that led to its state.
+-- The engine's last tick is the last of the ticks that the engine represents.
 abbrev pub ShowsLast : Type 0
 ShowsLast = (engine : EngineView) (cpus : ℕ) (lives : List GroupLife) (triggers : List TriggerSpec) (prefix : List Tick) (tick : Tick) →
     Represents engine cpus lives triggers (prefix ++ tick ∷ []) → engine.last ≡ tick

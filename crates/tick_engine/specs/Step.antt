@@ -1,4 +1,4 @@
--- The effect of one tick on one group, and on one trigger.
+-- Defines the effect of one tick on a group and on a trigger.
 use Rattle.std.specs.Prelude.{◌≡◌, ℕ, ◌≤◌, ◌<◌, List, length, slice_index, slice_index_or, nat_le, not, ◌&&◌, Bool, false, if◌then◌else◌, Option, None, Some, filter}
 use Rattle.std.specs.List.{range_with_len}
 use Rattle.psi_base.specs.declared.event.Level.TheVariants.{SomeStalled}
@@ -17,24 +17,24 @@ use Rattle.tick_engine.specs.declared.watch.TriggerWatch.{TriggerWatch}
 
 -- ---- groups
 
--- the state of a new group, which wasn't sampled yet
+-- The state of a group before its first sample.
 abbrev pub unsampled_group : GroupLife → Group
 unsampled_group life = record { made = life.made; gone = life.gone; totals = no_totals; averages = new_averages life.made }
 
--- the group that `engine_group` returns for a slot without a group
+-- A dummy group. `engine_group` returns it for a slot past the end of the list.
 abbrev pub no_group : Group
 no_group = record { made = 0; gone = None; totals = no_totals; averages = new_averages 0 }
 
--- the group in slot `slot`
+-- The group in slot `slot`.
 abbrev pub engine_group : List Group → ℕ → Group
 engine_group groups slot = slice_index_or groups slot no_group
 
--- the group is live at time `at` (ns)
+-- Whether the group is live at time `at` (ns).
 abbrev pub is_live_group : Group → ℕ → Bool
 is_live_group group at = nat_le group.made at && not (is_gone_by group.gone at)
 
--- the group after the shares `added` (ns) are added to its totals, and its averages are updated at
--- time `now` (ns)
+-- The group after a sample at time `now` (ns): the shares `added` (ns) are added to its totals, and
+-- its averages are updated.
 abbrev pub sampled : Group → ℕ → List ℕ → Group
 sampled group now added =
     record {
@@ -44,65 +44,68 @@ sampled group now added =
       averages = average_step group.averages now (plus group.totals added);
     }
 
--- the group after a tick; it is sampled only if it is live
+-- The group after the tick `tick`. It is sampled only if it is live at that tick.
 abbrev pub group_step : Tick → Tick → ℕ → Group → Group
 group_step last tick slot group =
     if is_live_group group tick.at then sampled group tick.at (shares (growths (row_at last slot) (row_at tick slot))) else group
 
--- No total (ns) of the group in slot `slot` is too large for the time of the tick: state totals are
--- at most this time, and the interrupt total is at most the sum of the processors' interrupt times.
+-- The bounds of the totals (ns) of the group in slot `slot` at the tick `tick`. A total of a state
+-- is at most the time of the tick. The total of interrupt time is at most the sum of the interrupt
+-- times on all processors.
 abbrev pub AreTotalsWithin : Tick → ℕ → Group → Type 0
 AreTotalsWithin tick slot group = AreAmountsWithin tick.at (time_sum (row_at tick slot) irq_place) group.totals
 
--- the totals of every group are within the bounds of `AreTotalsWithin`
+-- The totals of every group satisfy `AreTotalsWithin`.
 abbrev pub AreGroupsWithin : Tick → List Group → Type 0
 AreGroupsWithin tick groups = (slot : ℕ) → slot < length groups → AreTotalsWithin tick slot (engine_group groups slot)
 
--- no state total (ns) of the group is above `most`
+-- Each total of a state of the group is at most `most` (ns).
 abbrev pub AreStatesWithin : ℕ → Group → Type 0
 AreStatesWithin most group = (quantity : ℕ) → quantity < irq_quantity → slice_index group.totals quantity ≤ most
 
--- every group in `new` is its group in `old` after the tick
+-- Every group in `new` is the group of the same slot in `old` after the tick `tick`.
 abbrev pub AreStepped : Tick → Tick → List Group → List Group → Type 0
 AreStepped last tick old new = (slot : ℕ) → slot < length old → engine_group new slot ≡ group_step last tick slot (engine_group old slot)
 
 -- ---- triggers
 
--- the state of a trigger that isn't active yet
+-- The state of a trigger that isn't active yet.
 abbrev pub new_watch : TriggerSpec → TriggerWatch
 new_watch spec = record { spec = spec; trigger = None }
 
--- the total (ns) that a trigger watches
+-- The total (ns) that the trigger watches.
 abbrev pub watched_total : List Group → TriggerSpec → ℕ
 watched_total groups spec = at_state (engine_group groups spec.slot.0).totals (watched_state spec)
 
--- The trigger's state before a tick at `now` (ns) is applied. A trigger that isn't active becomes
--- active, with its total at the previous tick, if `now` is at or after the time of its line.
+-- Activates a trigger at the tick at time `now` (ns). A trigger that isn't active becomes active,
+-- with its total at the previous tick, if `now` is at or after the time of its line in the trace.
+-- An active trigger doesn't change.
 abbrev pub begun_trigger : List Group → ℕ → TriggerSpec → Option TriggerState → Option TriggerState
 begun_trigger groups now spec (Some trigger) = Some trigger
 begun_trigger groups now spec None =
     if nat_le spec.at now then Some (new_trigger spec.at (watched_total groups spec) spec.threshold_us spec.window_us) else None
 
--- the state of a trigger, if it is active, after a tick at time `now` (ns) with the total `total`
--- (ns)
+-- The state of a trigger after the tick at time `now` (ns), at which its total is `total` (ns).
+-- `None` if the trigger isn't active.
 abbrev pub stepped : Option TriggerState → ℕ → ℕ → Option TriggerState
 stepped None now total = None
 stepped (Some trigger) now total = Some (trigger_step trigger now total)
 
--- the trigger is active, and fires at a tick at time `now` (ns) with the total `total` (ns)
+-- Whether the trigger is active, and fires at the tick at time `now` (ns), at which its total is
+-- `total` (ns).
 abbrev pub begun_signals : Option TriggerState → ℕ → ℕ → Bool
 begun_signals None now total = false
 begun_signals (Some trigger) now total = fires trigger now total
 
--- the trigger with its state activated if that is due at time `now` (ns)
+-- The trigger after `begun_trigger` has been applied to its state, at the tick at time `now` (ns).
 abbrev pub watch_begun : List Group → ℕ → TriggerWatch → TriggerWatch
 watch_begun groups now watch = record { spec = watch.spec; trigger = begun_trigger groups now watch.spec watch.trigger }
 
--- the group of the trigger is live at time `now` (ns)
+-- Whether the trigger's group is live at time `now` (ns).
 abbrev pub is_watching : List Group → ℕ → TriggerWatch → Bool
 is_watching groups now watch = is_live_group (engine_group groups watch.spec.slot.0) now
 
--- the trigger after a tick; it is stepped only if its group is live
+-- The trigger after the tick at time `now` (ns). It is stepped only if its group is live.
 abbrev pub watch_stepped : List Group → ℕ → TriggerWatch → TriggerWatch
 watch_stepped groups now watch =
     record {
@@ -111,22 +114,23 @@ watch_stepped groups now watch =
           then stepped watch.trigger now (watched_total groups watch.spec) else watch.trigger;
     }
 
--- the trigger fires at a tick at time `now` (ns): its group is live, and it is active and fires
+-- Whether the trigger fires at the tick at time `now` (ns): its group is live, and the trigger is
+-- active and fires.
 abbrev pub watch_signals : List Group → ℕ → TriggerWatch → Bool
 watch_signals groups now watch = is_watching groups now watch && begun_signals watch.trigger now (watched_total groups watch.spec)
 
--- the trigger that `watch_in` returns for a number without a trigger
+-- A dummy trigger. `watch_in` returns it for an index past the end of the list.
 abbrev pub no_watch : TriggerWatch
 no_watch = record {
   spec = record { at = 0; slot = record { 0 = 0 }; res = Io; level = SomeStalled; threshold_us = 0; window_us = 0 };
   trigger = None;
 }
 
--- the state of trigger number `i` (from 0)
+-- The state of the trigger at index `i`.
 abbrev pub watch_in : List TriggerWatch → ℕ → TriggerWatch
 watch_in watches i = slice_index_or watches i no_watch
 
--- the numbers below `count`, in ascending order, of the triggers that fire at a tick at time `now`
--- (ns)
+-- The indexes below `count`, in ascending order, of the triggers that fire at the tick at time
+-- `now` (ns).
 abbrev pub fired_among : List Group → ℕ → List TriggerWatch → ℕ → List ℕ
 fired_among groups now watches count = filter (λ i. watch_signals groups now (watch_in watches i)) (range_with_len 0 count)

@@ -1,6 +1,7 @@
-//! The engine: all groups and all triggers of a trace, tick by tick.
+//! The engine: the pressure totals and averages of all groups and the state of all triggers,
+//! updated tick by tick.
 //!
-//! Single groups are in `group`, single triggers in `watch`.
+//! The module `group` updates one group, and the module `watch` updates one trigger.
 
 ghost use Rattle.std.specs.Prelude.{◌≡◌, ◌≤◌, ◌<◌, [], All, IfOk, length, map};
 ghost use Rattle.aggregate.specs.Table.{HasSizes};
@@ -24,9 +25,9 @@ use psi_spec::GroupLife;
 use std::alloc::Global;
 use std::marker::Model;
 
-/// The totals and averages of all groups, and the signals of all triggers, after the ticks that
-/// were taken: the kernel's `psi_avgs_work` and `update_triggers`, with the same ticks for all
-/// groups. All memory is allocated when the engine is made, and none at a tick.
+/// The totals and averages of all groups, and the triggers that fired, after the ticks taken so
+/// far. The engine corresponds to the kernel's `psi_avgs_work` and `update_triggers`, except that
+/// all groups are updated at the same ticks. Memory is allocated only when the engine is made.
 #[derive(Drop)]
 pub struct Engine {
     last: LastTick,
@@ -34,7 +35,7 @@ pub struct Engine {
     watches: Vec<TriggerWatch>,
     /// The number of processors in the tables of times.
     cpus: u32,
-    /// The numbers of the triggers that fired at the last tick, with capacity for all triggers.
+    /// The indexes of the triggers that fired at the last tick, with capacity for all triggers.
     fired: Vec<u32>,
 }
 
@@ -75,8 +76,8 @@ fn watches_of(alloc: Global, triggers: &[TriggerSpec]) -> Result<Vec<TriggerWatc
 }
 
 impl Engine {
-    /// Returns an engine for groups with these lives, by slot, and these triggers, on `cpus`
-    /// processors, before the first tick. Allocates all its memory.
+    /// Returns an engine for the groups `lives` (indexed by slot) and these triggers, on `cpus`
+    /// processors, before the first tick. Allocates all memory that the engine ever needs.
     pub fn make(
         alloc: Global,
         lives: &[GroupLife],
@@ -102,16 +103,17 @@ impl Engine {
         })
     }
 
-    /// Takes the next tick: `now` is its time (ns), and `rows` has the times (ns) of all groups on
-    /// all processors up to then. First each trigger whose line is at or before `now` becomes
-    /// active, then each live group is sampled, and then each active trigger whose group is live is
-    /// stepped. Doesn't allocate.
+    /// Takes the next tick. `now` is the time of the tick (ns), and `rows` has the times (ns) of
+    /// all groups on all processors up to `now`. First, each trigger whose line in the trace is at
+    /// or before `now` becomes active. Then each live group is sampled. Then each active trigger of
+    /// a live group is stepped. Doesn't allocate.
     pub fn tick(&mut self, now: Ns, rows: &Rows)
         requires sizes { HasSizes self.old.cpus (length self.old.groups) rows.now }
         requires next { IsNextTick self.old.last (tick_at now rows.now) }
         ensures stands { EngineTakes self.old (tick_at now rows.now) self.new }
 
-        // The next three clauses hold for any state, even if no ticks are known that lead to it.
+        // The next three clauses hold for every state, even for a state that no list of ticks leads
+        // to.
         ensures last { self.new.last ≡ tick_at now rows.now }
         ensures cpus { self.new.cpus ≡ self.old.cpus }
         ensures slots { length self.new.groups ≡ length self.old.groups }
@@ -121,7 +123,8 @@ impl Engine {
         step_all(&mut self.watches, &self.groups, now, &mut self.fired);
     }
 
-    /// Returns the totals of a group (ns), ordered by state, and then the total of interrupt time.
+    /// Returns the totals of a group (ns): one for each state except nonidle, ordered by state, and
+    /// then the total of interrupt time.
     pub fn totals(&self, slot: Slot) -> Amounts
         requires { slot.0 < length self.now.groups }
         ensures { result ≡ totals_in self.now slot.0 }
@@ -129,7 +132,7 @@ impl Engine {
         self.groups[slot.0 as usize].totals.get()
     }
 
-    /// Returns the averages of a group.
+    /// Returns the pressure averages of a group.
     pub fn averages(&self, slot: Slot) -> &Averages
         requires { slot.0 < length self.now.groups }
         ensures { result.now ≡ averages_in self.now slot.0 }
@@ -137,7 +140,7 @@ impl Engine {
         &self.groups[slot.0 as usize].averages
     }
 
-    /// Returns the numbers of the triggers that fired at the last tick, in ascending order. Empty
+    /// Returns the indexes of the triggers that fired at the last tick, in ascending order. Empty
     /// before the first tick.
     pub fn fired(&self) -> &[u32]
         ensures { result.now ≡ self.now.fired }
@@ -146,7 +149,8 @@ impl Engine {
     }
 }
 
-/// Laws of the engine: it returns what the definitions give for the ticks that led to its state.
+/// Laws of the engine: the results that it returns are the specified results for the ticks that it
+/// has taken.
 pub fn law_engine()
     ensures totals { ShowsTotals }
     ensures averages { ShowsAverages }

@@ -1,6 +1,6 @@
-//! The state of one group at a tick, and the step of all groups.
+//! The state of one group, and the update of all groups at a tick.
 //!
-//! The shares of an interval are computed in the crate `aggregate`.
+//! The crate `aggregate` computes the share of an interval that is added to a group's totals.
 
 ghost use Rattle.std.specs.Prelude.{◌≡◌, ℕ, ◌≤◌, ◌<◌, ◌&&◌, length, nat_le, not};
 ghost use Rattle.aggregate.specs.Table.{HaveSameSizes};
@@ -21,8 +21,8 @@ use pressure_spec::Amounts;
 use psi_base::{Ns, Slot};
 use psi_spec::GroupLife;
 
-/// Returns whether something that is created at `made` and removed at `gone` (ns) exists at time
-/// `at` (ns).
+/// Returns whether a group that is created at time `made` and removed at time `gone` exists at time
+/// `at` (all in ns). `gone` is `None` if the group is never removed.
 fn is_live(made: Ns, gone: Option<Ns>, at: Ns) -> bool
     ensures { result ≡ nat_le made at && not (is_gone_by gone at) }
 {
@@ -33,15 +33,15 @@ fn is_live(made: Ns, gone: Option<Ns>, at: Ns) -> bool
     made <= at && !is_gone
 }
 
-/// Returns whether a group is live at time `at` (ns): it was created by then, and not removed by
-/// then.
+/// Returns whether the group is live at time `at` (ns): it was created at or before `at`, and not
+/// removed at or before `at`.
 pub fn is_live_at(life: &GroupLife, at: Ns) -> bool
     ensures { result ≡ is_live_at life.now at }
 {
     is_live(life.made, life.gone, at)
 }
 
-/// A group: the times of its creation and removal (ns), its totals, and its averages.
+/// A group: the times (ns) of its creation and removal, its totals, and its averages.
 #[derive(Drop)]
 pub(crate) struct Group {
     pub(crate) made: Ns,
@@ -51,7 +51,7 @@ pub(crate) struct Group {
 }
 
 impl Group {
-    /// Returns a new group, which wasn't sampled yet.
+    /// Returns the state of a group before its first sample.
     pub(crate) fn of(life: &GroupLife) -> Group
         requires { life.now.made ≤ last_moment }
         ensures { result ≡ unsampled_group life.now }
@@ -64,15 +64,15 @@ impl Group {
         }
     }
 
-    /// Returns whether the group was created by time `at` (ns), and not removed by then.
+    /// Returns whether the group is live at time `at` (ns).
     pub(crate) fn is_live(&self, at: Ns) -> bool
         ensures { result ≡ is_live_group self.now at }
     {
         is_live(self.made, self.gone, at)
     }
 
-    /// Adds the shares of an interval (ns) to the totals, and updates the averages at the end `now`
-    /// of the interval (ns).
+    /// Adds the shares (ns) of an interval to the totals, and updates the averages at time `now`
+    /// (ns), the end of the interval.
     fn sample(&mut self, now: Ns, shares: Amounts)
         requires early { now ≤ last_moment }
         requires fits { AreAmountsWithin last_moment most_irq_total (plus self.old.totals shares) }
@@ -82,8 +82,9 @@ impl Group {
         self.averages.update(now, self.totals.get());
     }
 
-    /// Samples the group at a tick, if it is live, by the growth of its times since the last tick.
-    /// If it isn't live, nothing changes and no share is computed.
+    /// Samples the group at the tick at time `now` (ns) if the group is live. The sample is
+    /// computed from the growth of the group's times since the last tick. If the group isn't live,
+    /// its state doesn't change.
     fn tick(&mut self, slot: Slot, last: &LastTick, now: Ns, rows: &Rows)
         requires few { length (row_at (tick_at now rows.now) slot.0) ≤ 64 }
         requires each { length (row_at last.now slot.0)
@@ -103,8 +104,8 @@ impl Group {
     }
 }
 
-/// Samples all live groups at a tick, and stores the times of this tick as the last ones. The times
-/// of a group are copied after the group is sampled by their growth.
+/// Samples all live groups at the tick at time `now` (ns). Afterwards `last` has the times of this
+/// tick. Each group is sampled before its times in `last` are overwritten.
 pub(crate) fn tick_all(groups: &mut [Group], last: &mut LastTick, now: Ns, rows: &Rows)
     requires few { (slot : ℕ) → length (row_at (tick_at now rows.now) slot) ≤ 64 }
     requires slots { length groups.old ≤ most_groups }

@@ -1,13 +1,13 @@
-//! The last tick, from which the growth of times is computed.
+//! The last tick. The growth of times is computed as the difference to this tick.
 //!
-//! It isn't needed for triggers: they store their own totals.
+//! Triggers don't use it: they store their own totals.
 
 use aggregate::Rows;
 use psi_base::Ns;
 use std::marker::Model;
 
 /// The last tick: its time (ns), and the times (ns) of all groups on all processors up to it.
-/// Before the first tick all are 0.
+/// Before the first tick, all of them are 0.
 #[derive(Drop)]
 pub(crate) struct LastTick {
     pub(crate) at: Ns,

@@ -1,7 +1,7 @@
-//! All groups and triggers at a tick: totals, averages and signals.
+//! Updates all groups and triggers at each tick: totals, averages and signals of triggers.
 //!
-//! The caller (replay_ticks) passes the times of each tick, which replay_workers collects. The
-//! crate doesn't compute these times; its results are used by the rules and the reports.
+//! The caller (replay_ticks) passes the times of each tick, which replay_workers collects. This
+//! crate doesn't compute these times. Rules and reports use its results.
 #![tactic(auto)]
 
 mod engine;

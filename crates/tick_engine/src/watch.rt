@@ -1,6 +1,6 @@
-//! The state of one trigger in a trace, and the step of all triggers.
+//! The state of one trigger of a trace, and the update of all triggers at a tick.
 //!
-//! A trigger's window and threshold are in the crate `window_trigger`.
+//! The crate `window_trigger` implements the window and the threshold of a trigger.
 
 ghost use Rattle.std.specs.Prelude.{◌≡◌, ◌≤◌, ◌<◌, ◌+◌, ◌++◌, ◌∷◌, [], All, if◌then◌else◌, length, map, true, vec_capacity, vec_len};
 ghost use Rattle.pressure_spec.specs.Signal.{new_trigger};
@@ -14,15 +14,15 @@ use crate::group::Group;
 use psi_base::{Ns, State, TriggerSpec};
 use window_trigger::Trigger;
 
-/// A trigger as the trace sets it, and its state. The state is `None` before the first tick at or
-/// after the time of the trigger's line.
+/// A trigger of the trace, and its state. The state is `None` until the first tick at or after the
+/// time of the trigger's line in the trace.
 #[derive(Drop)]
 pub(crate) struct TriggerWatch {
     pub(crate) spec: TriggerSpec,
     pub(crate) trigger: Option<Trigger>,
 }
 
-/// Returns the total that a trigger watches (ns).
+/// Returns the total (ns) that the trigger watches.
 fn watched_total(groups: &[Group], spec: &TriggerSpec) -> u64
     requires slot { spec.now.slot.0 < length groups.now }
     ensures { result ≡ watched_total groups.now spec.now }
@@ -31,7 +31,8 @@ fn watched_total(groups: &[Group], spec: &TriggerSpec) -> u64
     totals[State::of(spec.res, spec.level) as usize]
 }
 
-/// Returns a trigger that is set at the time of its line, when its total is `total` (ns).
+/// Returns the state of a trigger at the time of its line in the trace, at which its total is
+/// `total` (ns).
 fn trigger_with(spec: &TriggerSpec, total: u64) -> Trigger
     requires at { spec.now.at ≤ last_moment }
     requires window { is_window spec.now.threshold_us spec.now.window_us ≡ true }
@@ -55,8 +56,8 @@ impl TriggerWatch {
         }
     }
 
-    /// Activates the trigger with its total at the previous tick, if it isn't active and the tick
-    /// is at or after the time of its line.
+    /// Activates the trigger with its total at the previous tick. Does nothing if the trigger is
+    /// active already, or if its line is later than the tick.
     fn begin(&mut self, groups: &[Group], now: Ns)
         requires spec { IsTriggerWithin last_moment (length groups.now) self.old.spec }
         requires totals { All (λ group. AreStatesWithin last_moment group) groups.now }
@@ -68,8 +69,8 @@ impl TriggerWatch {
         }
     }
 
-    /// Steps the trigger at a tick at time `now` (ns), if it is active and its group is live.
-    /// Returns whether it fires.
+    /// Steps the trigger at the tick at time `now` (ns) if the trigger is active and its group is
+    /// live. Returns whether the trigger fires.
     fn step(&mut self, groups: &[Group], now: Ns) -> bool
         requires spec { IsTriggerWithin last_moment (length groups.now) self.old.spec }
         requires totals { All (λ group. AreStatesWithin last_moment group) groups.now }
@@ -88,8 +89,8 @@ impl TriggerWatch {
     }
 }
 
-/// Activates each trigger that isn't active and whose line is at or before the tick, with its total
-/// at the previous tick.
+/// Activates each trigger whose line in the trace is at or before the tick, with its total at the
+/// previous tick. Active triggers don't change.
 pub(crate) fn begin_all(watches: &mut [TriggerWatch], groups: &[Group], now: Ns)
     requires watches { AreWatchesWithin (length groups.now) watches.old }
     requires totals { All (λ group. AreStatesWithin last_moment group) groups.now }
@@ -100,8 +101,7 @@ pub(crate) fn begin_all(watches: &mut [TriggerWatch], groups: &[Group], now: Ns)
     }
 }
 
-/// Appends `number` to the triggers that fired, if `has_signalled`. Precondition: there is capacity
-/// for one more.
+/// Appends the index `number` to `fired` if `has_signalled`. Precondition: the list isn't full.
 fn add_where(fired: &mut Vec<u32>, number: u32, has_signalled: bool)
     requires { vec_len fired.old < vec_capacity fired.old }
     ensures items { fired.new.items
@@ -114,8 +114,8 @@ fn add_where(fired: &mut Vec<u32>, number: u32, has_signalled: bool)
     }
 }
 
-/// Steps each active trigger whose group is live at time `now` (ns), and collects the numbers of
-/// the triggers that fire.
+/// Steps each active trigger of a live group at the tick at time `now` (ns). Afterwards `fired` has
+/// the indexes of the triggers that fire.
 pub(crate) fn step_all(
     watches: &mut [TriggerWatch],
     groups: &[Group],
