@@ -1,4 +1,4 @@
--- The state of a trace's replay between two ticks, and what replaying one more tick does to it.
+-- Defines the state of a replay between two ticks, and the effect of replaying one more tick.
 use Rattle.std.specs.Prelude.{◌≡◌, ℕ, ◌+◌, ◌<◌, ◌≤◌, List, [], drop, length, map, Bool, true, false, if◌then◌else◌, Option, None, Some, Result, Ok, Err}
 use Rattle.std.specs.List.{All, flat_map, range_with_len}
 use Rattle.std.specs.Io.KnownBytes.{Appends, Keeps}
@@ -26,10 +26,11 @@ use Rattle.replay_workers.specs.Crew.{AreNotPast, AreSampled, CrewView, WatchVie
 use Rattle.replay_ticks.specs.declared.run_timing.RunTiming.{RunTiming}
 use Rattle.replay_ticks.specs.declared.replay.TickFault.{TickFault}
 
--- A replay: the plans of its trace, the clocks of all processors (the crew of worker threads), the
--- table of the last tick, the engine of averages and triggers, the judge of rules, all slots by
--- path, the ticks and reports, the watched path, if any, and the numbers of ticks replayed, signals
--- and kills.
+-- A replay. `plans` has the plans of the trace, `crew` the worker pool with the clocks of all
+-- processors, `rows` the table of the last tick, `engine` the averages and triggers, and `judge`
+-- the state of the rules. `order` has all slots sorted by path. `run_timing` says which ticks have
+-- reports, and `live` is the watched path. `made`, `signals` and `kills` are the numbers of ticks
+-- replayed, of trigger signals and of kills.
 pub record ReplayView : Type 0 where
   pub plans : PlansView
   pub crew : CrewView
@@ -43,32 +44,33 @@ pub record ReplayView : Type 0 where
   pub signals : ℕ
   pub kills : ℕ
 
--- `run_timing` has the ticks and reports of the trace's replay
+-- `run_timing` has the version, the ticks and the report period of the replay of `trace` with
+-- `timing`.
 pub record IsPaced (run_timing : RunTiming) (trace : Trace) (timing : Timing) : Type 0 where
   pub version : version_of run_timing.version ≡ trace.version
   pub length : run_timing.length ≡ timing.length
   pub report : run_timing.report ≡ timing.report
   pub last : run_timing.last ≡ tick_count trace timing
 
--- a table has an entry for each processor and group
+-- The table `rows` has an entry for each group and each processor of the trace.
 abbrev pub HasPlaces : PlansView → List (List (List ℕ)) → Type 0
 HasPlaces plans rows = HasSizes (length plans.plans) (length plans.lives) rows
 
 -- ---- looking ahead
 
--- the times (ns) of the `count` ticks after the first `i` ticks
+-- The times (ns) of the `count` ticks that follow the first `i` ticks.
 abbrev pub moments_after : ℕ → ℕ → ℕ → List ℕ
 moments_after length i count = map (tick_moment length) (range_with_len (i + 1) count)
 
--- The crew may be ahead of the first `i` ticks: tables of zero or more next ticks are ready, and no
--- processor has made a change later than the last of these ticks.
+-- The worker pool may be ahead of tick `i`: the tables of zero or more ticks after tick `i` are
+-- ready. No processor has made a change that is later than the last of these ticks.
 pub record IsAhead (plans : PlansView) (crew : CrewView) (trace : Trace) (timing : Timing) (i : ℕ) : Type 0 where
   pub same : crew.plans ≡ plans
   pub ready : crew.ready ≡ moments_after timing.length i (length crew.ready)
   pub within : i + length crew.ready ≤ tick_count trace timing
   pub not_past : AreNotPast plans crew.clocks (tick_moment timing.length (i + length crew.ready))
 
--- Preconditions for advancing the crew by further ticks after the first `i` ticks.
+-- The preconditions for advancing the worker pool by further ticks after tick `i`.
 pub record IsToGo (plans : PlansView) (crew : CrewView) (run_timing : RunTiming) (trace : Trace) (timing : Timing) (i : ℕ) : Type 0 where
   pub planned : IsPlanned plans trace timing
   pub paced : IsPaced run_timing trace timing
@@ -82,60 +84,61 @@ pub record IsReady (plans : PlansView) (crew : CrewView) (trace : Trace) (timing
 
 -- ---- live samples
 
--- the watched path, if any
+-- The watched path, or `None` if no path is watched.
 abbrev pub watched_path : Option LiveWatch → Option (List ℕ)
 watched_path None = None
 watched_path (Some watch) = Some watch.path
 
--- the number of samples per processor and interval; 0 if nothing is watched
+-- The number of samples per processor and interval, or 0 if no path is watched.
 abbrev pub requested_by : Option LiveWatch → ℕ
 requested_by None = 0
 requested_by (Some watch) = watch.count
 
--- the watched slot at `at` (ns): the slot of the live group with the watched path, if any
+-- The slot of the live group with the watched path at time `at` (ns). `None` if no path is watched,
+-- or if no live group has the path.
 abbrev pub watched_at : Trace → Option (List ℕ) → ℕ → Option ℕ
 watched_at trace None at = None
 watched_at trace (Some path) at = live_slot_at trace.events path at
 
--- `slot` is the slot that is watched at tick `i`, if any
+-- `slot` is the slot of the watched path at tick `i`, or `None` if there is no such slot.
 abbrev pub IsSlotAt : Option Slot → Trace → Timing → ℕ → Type 0
 IsSlotAt slot trace timing i = number_of_slot slot ≡ watched_at trace (watched_path timing.watch) (tick_moment timing.length i)
 
--- there are no samples
+-- No processor has samples.
 abbrev pub AreIdle : List WatchView → Type 0
 AreIdle watches = (cpu : ℕ) → (watch_at watches cpu).samples ≡ []
 
--- If a group is watched, the crew advances tick by tick: `count` tables are ready, and each
--- processor has made exactly its changes up to tick `i`, for ticks of `tick` ns. Otherwise there
--- are no samples.
+-- With a watched path, the worker pool advances by one tick at a time: `count` tables are ready,
+-- and each processor has made exactly its changes up to tick `i`, for ticks of `tick` ns. Without a
+-- watched path, there are no samples.
 abbrev pub GoesByTick : Option LiveWatch → ℕ → CrewView → Trace → ℕ → ℕ → Type 0
 GoesByTick None count crew trace tick i = AreIdle crew.watches
 GoesByTick (Some watch) count crew trace tick i =
     (length crew.ready ≡ count)
     × ((cpu : ℕ) → cpu < trace.cpus → (clocks_at crew.clocks cpu).made ≡ changes_until trace tick cpu i)
 
--- after the first `i` ticks, the crew has the watched path and the number of samples of `timing`,
--- and if a path is watched it has advanced exactly to tick `i`
+-- After tick `i`, the worker pool is set up for the watched path and the number of samples in
+-- `timing`. With a watched path, it has advanced exactly to tick `i`.
 pub record IsWatching (crew : CrewView) (live : Option (List ℕ)) (trace : Trace) (timing : Timing) (i : ℕ) : Type 0 where
   pub path : live ≡ watched_path timing.watch
   pub requested : crew.requested ≡ requested_by timing.watch
   pub by_tick : GoesByTick timing.watch 0 crew trace timing.length i
 
--- the lines of a processor's samples at the tick at `at` (ns)
+-- The lines of the samples of processor `cpu`, at the tick at time `at` (ns).
 abbrev pub samples_text : ℕ → ℕ → List Sample → List ℕ
 samples_text at cpu samples = flat_map (λ (sample : Sample). live_line at cpu sample.count (opened sample.clock at)) samples
 
--- the lines of the samples of the first `cpus` processors
+-- The lines of the samples of the first `cpus` processors, at the tick at time `at` (ns).
 abbrev pub watches_text : ℕ → ℕ → List WatchView → List ℕ
 watches_text at cpus watches = flat_map (λ cpu. samples_text at cpu (watch_at watches cpu).samples) (range_with_len 0 cpus)
 
--- the clocks of all samples of the first `cpus` processors can be opened at `at` (ns)
+-- The clock of every sample of the first `cpus` processors can be advanced to time `at` (ns).
 abbrev pub AreInTime : ℕ → List WatchView → ℕ → Type 0
 AreInTime cpus watches at =
     (cpu : ℕ) → cpu < cpus → All (λ (sample : Sample). IsInTime sample.clock at) (watch_at watches cpu).samples
 
--- During the changes up to tick `i` the crew sampled the slot that is watched at that tick, and the
--- lines of the samples are valid live lines of the tick.
+-- While it made the changes up to tick `i`, the worker pool sampled the slot that is watched at
+-- that tick. The lines of these samples are valid `live` lines of the tick.
 pub record IsLiveTick (old new : CrewView) (trace : Trace) (timing : Timing) (i : ℕ) : Type 0 where
   pub watched : Option Slot
   pub slot : IsSlotAt watched trace timing i
@@ -143,13 +146,13 @@ pub record IsLiveTick (old new : CrewView) (trace : Trace) (timing : Timing) (i 
   pub text : IsLiveText trace timing.length timing.watch i (watches_text (tick_moment timing.length i) trace.cpus new.watches)
   pub in_time : AreInTime trace.cpus new.watches (tick_moment timing.length i)
 
--- the crew after it has returned one more table
+-- The worker pool after it has returned the table of its first ready tick.
 abbrev pub handed : CrewView → CrewView
 handed crew = record crew { ready = drop 1 crew.ready }
 
 -- ---- one tick
 
--- Preconditions for sampling tick i + 1, whose time is `at` (ns).
+-- The preconditions for sampling tick i + 1, whose time is `at` (ns).
 pub record IsToSample (plans : PlansView) (crew : CrewView) (rows : List (List (List ℕ))) (engine : EngineView) (trace : Trace)
     (timing : Timing) (i at : ℕ) : Type 0 where
   pub planned : IsPlanned plans trace timing
@@ -159,15 +162,15 @@ pub record IsToSample (plans : PlansView) (crew : CrewView) (rows : List (List (
   pub sizes : HasPlaces plans rows
   pub ticked : HasTicked engine trace timing i
 
--- Tick `number`, counted from 1, was sampled.
+-- The engine has taken tick `number`, counted from 1.
 pub record IsTickSampled (plans : PlansView) (crew : CrewView) (rows : List (List (List ℕ))) (engine : EngineView) (trace : Trace)
     (timing : Timing) (number : ℕ) : Type 0 where
   pub ahead : IsAhead plans crew trace timing number
   pub sizes : HasPlaces plans rows
   pub ticked : HasTicked engine trace timing number
 
--- Preconditions for writing the lines of tick `number`, counted from 1: the engine has just taken
--- that tick, and its time is `at` (ns).
+-- The preconditions for writing the lines of tick `number`, counted from 1. This tick is the last
+-- tick that the engine has taken, and its time is `at` (ns).
 pub record IsToPut (plans : PlansView) (engine : EngineView) (order : List Slot) (run_timing : RunTiming) (trace : Trace)
     (timing : Timing)
     (number at : ℕ) : Type 0 where
@@ -178,8 +181,8 @@ pub record IsToPut (plans : PlansView) (engine : EngineView) (order : List Slot)
   pub ticked : HasTicked engine trace timing number
   pub by_path : IsPathOrder plans.lives (numbers_of order)
 
--- Preconditions for writing the root's pressure files at tick `number`, counted from 1: the engine
--- has just taken that tick.
+-- The preconditions for writing the pressure files of the root at tick `number`, counted from 1.
+-- This tick is the last tick that the engine has taken.
 pub record IsToPutRoot (plans : PlansView) (engine : EngineView) (run_timing : RunTiming) (trace : Trace) (timing : Timing)
     (number : ℕ) : Type 0 where
   pub planned : IsPlanned plans trace timing
@@ -187,25 +190,25 @@ pub record IsToPutRoot (plans : PlansView) (engine : EngineView) (run_timing : R
   pub within : number ≤ tick_count trace timing
   pub ticked : HasTicked engine trace timing number
 
--- the lines of a tick's reports, if they are due
+-- The lines of the reports of tick `number`. Empty if no reports are due at that tick.
 abbrev pub due_text : Trace → Timing → ℕ → List ℕ
 due_text trace timing number =
     if is_report timing.report timing.length (tick_count trace timing) number then reports trace timing number else []
 
 -- ---- the whole replay
 
--- The crew advanced to tick i + 1. If it sampled the slot that is watched at that tick, its samples
--- belong to that tick. If a group is watched, only the table of that tick is ready.
+-- The worker pool advanced to tick i + 1. If it sampled the slot that is watched at that tick, its
+-- samples are the samples of that tick. With a watched path, only the table of that tick is ready.
 pub record IsReached (slot : Option Slot) (old new : CrewView) (trace : Trace) (timing : Timing) (i : ℕ) : Type 0 where
   pub live : IsSlotAt slot trace timing (i + 1) → IsLiveTick old new trace timing (i + 1)
   pub requested : new.requested ≡ old.requested
   pub by_tick : GoesByTick timing.watch 1 new trace timing.length (i + 1)
 
--- the lines of tick `i`, with `live` as its live lines
+-- The lines of tick `i`, if its `live` lines are `live`.
 abbrev pub tick_lines : Trace → Timing → List Rule → ℕ → List ℕ → List ℕ
 tick_lines trace timing rules i live = tick_text trace timing (record { live = λ _. live; rules = rules }) i
 
--- A replay of a trace with these rules after the first `i` ticks.
+-- `replay` is the replay of `trace` with these rules after its first `i` ticks.
 pub record IsReplay (replay : ReplayView) (trace : Trace) (timing : Timing) (rules : List Rule) (i : ℕ) : Type 0 where
   pub planned : IsPlanned replay.plans trace timing
   pub paced : IsPaced replay.run_timing trace timing
@@ -221,30 +224,32 @@ pub record IsReplay (replay : ReplayView) (trace : Trace) (timing : Timing) (rul
   pub signals : replay.signals ≡ signals_until trace timing i
   pub kills : replay.kills ≡ kills_until trace timing rules i
 
--- the replay belongs to some trace, after some number of its ticks
+-- `replay` is the replay of some trace after some number of its ticks.
 abbrev pub IsSomeReplay : ReplayView → Type 0
 IsSomeReplay replay = (trace : Trace) × (timing : Timing) × (rules : List Rule) × (i : ℕ) × IsReplay replay trace timing rules i
 
--- precondition for replaying one more tick: the trace has a next tick
+-- The precondition for replaying one more tick: the trace has a next tick.
 abbrev pub IsTickLeft : ReplayView → Type 0
 IsTickLeft replay =
     (trace : Trace) × (timing : Timing) × (rules : List Rule) × (i : ℕ) × IsReplay replay trace timing rules i
     × (i < tick_count trace timing)
 
--- Replaying the next tick, as a relation of the states and the returned flag. `true`: there was a
--- next tick, and samples were taken up to it. `false`: there was none, and nothing changed.
+-- The effect of replaying the next tick without output. The returned Boolean is `true` if there was
+-- a next tick, up to which samples were taken. The Boolean is `false` if there was no next tick,
+-- and then nothing changed.
 abbrev pub Passes : Trace → Timing → List Rule → ℕ → ReplayView → ReplayView → Bool → Type 0
 Passes trace timing rules i old new true =
     (i < tick_count trace timing) × IsReplay new trace timing rules (i + 1) × IsLiveTick old.crew new.crew trace timing (i + 1)
 Passes trace timing rules i old new false = (i ≡ tick_count trace timing) × (new ≡ old)
 
--- the pressure files of the root at a tick
+-- The pressure files of the root at tick `i`.
 abbrev pub root_report : Trace → Timing → ℕ → List ℕ
 root_report trace timing i = group_report trace timing i root_group
 
--- The output of replaying the next tick: its lines, or a prefix of them after a fault; nothing if
--- there is no next tick. The live lines are the lines of the samples that the crew took up to the
--- tick.
+-- The effect of replaying the next tick with output. `Ok true`: the lines of the tick were appended
+-- to the output, and its `live` lines are the lines of the samples that the worker pool took up to
+-- the tick. `Ok false`: there was no next tick, and nothing was written. `Err`: only a prefix of
+-- the lines was written.
 abbrev pub TickGives : Trace → Timing → List Rule → ℕ → ReplayView → ReplayView → Option (List ℕ) → Option (List ℕ)
     → Result Bool TickFault → Type 0
 TickGives trace timing rules i old new had has (Ok true) =

@@ -1,5 +1,5 @@
-//! Access for callers that take samples with their own readers between the ticks of a replay: its
-//! progress, its readers and its clocks.
+//! Access for callers that sample clocks with their own readers between the ticks of a replay.
+//!
 //! This module starts no threads and takes no samples.
 ghost use Rattle.std.specs.Prelude.{◌≡◌, ◌+◌, ◌<◌, ◌≤◌, ℕ, List, length, IfOk, Some, is_some, true};
 ghost use Rattle.psi_spec.specs.Trace.{Trace};
@@ -18,7 +18,7 @@ use replay_workers::{ClockReader, Sample};
 use std::thread::Threads;
 
 impl<'a> Replay<'a> {
-    /// The number of ticks of the trace.
+    /// Returns the number of ticks of the trace.
     pub fn ticks(&self) -> u64
         ensures { (trace : Trace) (timing : Timing) (rules : List Rule) (i : ℕ) →
             IsReplay self.now trace timing rules i → result ≡ tick_count trace timing }
@@ -26,15 +26,15 @@ impl<'a> Replay<'a> {
         self.run_timing.last
     }
 
-    /// The number of signals in the ticks replayed up to now.
+    /// Returns the number of trigger signals in the ticks replayed so far.
     pub fn signals(&self) -> u64
         ensures { result ≡ self.now.signals }
     {
         self.signals
     }
 
-    /// Replays the next tick without taking samples, even if a path is watched. Requires that there
-    /// is a next tick. Does not allocate.
+    /// Replays the next tick without taking samples, even if a path is watched. Precondition: there
+    /// is a next tick. Doesn't allocate.
     pub fn pass_unwatched<R: Threads + Sync, G: Gate>(&mut self, rt: &R, gate: &G)
         requires { IsTickLeft self.old }
         ensures passed { (trace : Trace) (timing : Timing) (rules : List Rule) (i : ℕ) →
@@ -46,8 +46,9 @@ impl<'a> Replay<'a> {
         self.advance(rt, None, gate);
     }
 
-    /// Returns a new reader of the row of processor `cpu`, which has seen all changes made up to
-    /// now. Requires that the processor's clocks are in a row.
+    /// Returns a new reader of the clocks of processor `cpu`. The reader has seen all changes made
+    /// so far. Precondition: the clocks of the processor are stored in a row, which other threads
+    /// can read.
     pub fn reader(&mut self, cpu: Cpu) -> Result<ClockReader, NoMemory>
         requires replay { IsSomeReplay self.old }
         requires cpu { cpu.0 < length self.old.plans.plans }
@@ -60,8 +61,8 @@ impl<'a> Replay<'a> {
         self.crew.reader(cpu)
     }
 
-    /// Shows `reader`, a reader of the row of processor `cpu`, the number of changes made:
-    /// afterwards the reader has seen at least that many. Does not allocate.
+    /// Passes the number of changes made so far to `reader`, a reader of the clocks of processor
+    /// `cpu`. Afterwards the reader has seen at least this number of changes. Doesn't allocate.
     pub fn meet(&mut self, cpu: Cpu, reader: &mut ClockReader)
         requires replay { IsSomeReplay self.old }
         requires cpu { cpu.0 < length self.old.plans.plans }
@@ -71,12 +72,12 @@ impl<'a> Replay<'a> {
         ensures met { reader.new.knows
             ≡ count_shown (clocks_at self.old.crew.clocks cpu.0).made reader.old.knows }
     {
-        // The result is always `Ok`.
+        // `meet` always returns `Ok`.
         let _met = self.crew.meet(cpu, reader);
     }
 
-    /// Establishes that `reader`, a reader of the row of processor `cpu`, has seen at most the
-    /// changes that were made. Does not allocate.
+    /// Establishes that `reader`, a reader of the clocks of processor `cpu`, has seen no more
+    /// changes than were made. Doesn't allocate.
     pub fn settle(&mut self, cpu: Cpu, reader: &mut ClockReader)
         requires replay { IsSomeReplay self.old }
         requires cpu { cpu.0 < length self.old.plans.plans }
@@ -85,12 +86,12 @@ impl<'a> Replay<'a> {
         ensures same { reader.new ≡ reader.old }
         ensures seen { reader.old.knows.seen ≤ (clocks_at self.old.crew.clocks cpu.0).made }
     {
-        // The result is always `Ok`.
+        // `settle` always returns `Ok`.
         let _settled = self.crew.settle(cpu, reader);
     }
 
-    /// The writer's own clock of `slot` on processor `cpu`, with the number of changes that the
-    /// processor has made.
+    /// Returns the clock of the group in slot `slot` on processor `cpu`, as the writer has it, and
+    /// the number of changes that the processor has made.
     pub fn last(&mut self, cpu: Cpu, slot: Slot) -> Sample
         requires replay { IsSomeReplay self.old }
         requires cpu { cpu.0 < length self.old.plans.plans }

@@ -1,9 +1,9 @@
-//! Replays a trace tick by tick: at each tick it samples the trace's groups, evaluates the rules,
-//! and writes the tick's lines.
+//! Replays a trace tick by tick. At each tick the replay samples the groups of the trace, evaluates
+//! the rules, and writes the output lines of the tick.
 //!
-//! The parts do the work: replay_workers advances the clocks, tick_engine computes averages and
-//! triggers, and kill_engine decides kills. It reads no files and parses no command line:
-//! replay_core does.
+//! Other crates do the single steps: replay_workers advances the clocks, tick_engine computes
+//! averages and triggers, and kill_engine decides kills. This crate reads no files and parses no
+//! command line; replay_core does.
 #![tactic(auto)]
 
 mod beside;

@@ -1,5 +1,6 @@
-//! A replay of a trace, tick by tick: sampling, rules and output lines.
-//! The types that it combines come from the crates that do the work.
+//! The replay of a trace, tick by tick: sampling, rules and output lines.
+//!
+//! This module combines the types of the crates that do the single steps.
 ghost use Rattle.std.specs.Prelude.{◌≡◌, ◌+◌, ◌<◌, ℕ, List, length, IfSome};
 ghost use Rattle.psi_base.specs.declared.event.Slot.{Slot};
 ghost use Rattle.outside.specs.Outside.{HasCause, SameInner};
@@ -24,13 +25,13 @@ use std::marker::Model;
 use std::thread::Threads;
 use tick_engine::Engine;
 
-/// The slot of the root.
+/// The slot of the root group.
 const ROOT: Slot = Slot(0);
 
-/// Why the lines of a tick are incomplete.
+/// The reason why the lines of a tick are incomplete.
 #[derive(Clone, Copy, Debug, PartialEq, Eq)]
 pub enum TickFault {
-    /// A write failed, after a prefix of the tick's lines.
+    /// A write failed. Only a prefix of the lines of the tick was written.
     WriteFault,
 }
 
@@ -45,7 +46,7 @@ impl From<WriteFailed> for TickFault {
     }
 }
 
-/// A replay of a trace after some ticks. Contracts see all fields.
+/// The state of a replay after some ticks. Contracts refer to all fields.
 #[derive(Drop)]
 pub struct Replay<'a> {
     pub(crate) plans: &'a Plans,
@@ -53,16 +54,16 @@ pub struct Replay<'a> {
     pub(crate) rows: Rows,
     pub(crate) engine: Engine,
     pub(crate) judge: Judge,
-    /// All slots, sorted by path (bytes).
+    /// All slots, sorted by the paths of their groups in byte order.
     pub(crate) order: Vec<Slot>,
     pub(crate) run_timing: RunTiming,
-    /// The watched path, if any.
+    /// The path whose group is sampled live, or `None` if no path is watched.
     pub(crate) live: Option<Path>,
-    /// The number of ticks replayed.
+    /// The number of ticks replayed so far.
     pub(crate) made: u64,
-    /// The number of signals in these ticks.
+    /// The number of trigger signals in the ticks replayed so far.
     pub(crate) signals: u64,
-    /// The number of kills in these ticks.
+    /// The number of kills in the ticks replayed so far.
     pub(crate) kills: u64,
 }
 
@@ -86,9 +87,10 @@ impl<'a> Model for Replay<'a> {
     } };
 }
 
-// If no table is ready, advances the clocks past tick `made`: by all ticks that remain and fit, or
-// by one tick if a path is watched, because its slot may change at every tick. In the second case
-// also samples the slot `watched`, if any.
+// Advances the clocks after tick `made`, unless the table of the next tick is ready. Without a
+// watched path, advances by all remaining ticks for which the worker pool has room. With a watched
+// path, advances by one tick, because the slot of the path may change at every tick, and samples
+// the slot `watched` meanwhile.
 fn look_ahead<R: Threads + Sync, G: Gate>(
     rt: &R,
     crew: &mut Crew<'_>,
@@ -128,7 +130,7 @@ fn look_ahead<R: Threads + Sync, G: Gate>(
 }
 
 // Copies the times of all groups at the next tick, whose time is `at` (ns), to `rows`, and passes
-// them to the engine. Requires that the tick's table is ready.
+// them to the engine. Precondition: the table of that tick is ready.
 fn sample(crew: &mut Crew<'_>, rows: &mut Rows, engine: &mut Engine, at: Ns)
     requires { (trace : Trace) × (timing : Timing) × (i : ℕ)
         × IsToSample crew.old.plans crew.old rows.old engine.old trace timing i at }
@@ -141,8 +143,8 @@ fn sample(crew: &mut Crew<'_>, rows: &mut Rows, engine: &mut Engine, at: Ns)
     engine.tick(at, rows);
 }
 
-// Writes the reports of tick `tick` (counted from 1, at time `at` in ns), if they are due. Requires
-// that `engine` has just taken that tick.
+// Writes the reports of tick `tick`, if reports are due at that tick. Ticks are counted from 1, and
+// `at` is the time of the tick (ns). Precondition: `tick` is the last tick that `engine` has taken.
 fn put_due<K: Sink>(
     out: &mut K,
     plans: &Plans,
@@ -166,8 +168,8 @@ fn put_due<K: Sink>(
     Ok(())
 }
 
-// Writes the root's pressure files at tick `tick` (counted from 1). Requires that `engine` has just
-// taken that tick.
+// Writes the pressure files of the root at tick `tick`, counted from 1. Precondition: `tick` is the
+// last tick that `engine` has taken.
 fn put_root<K: Sink>(
     out: &mut K,
     plans: &Plans,
@@ -191,8 +193,8 @@ fn put_root<K: Sink>(
 }
 
 impl<'a> Replay<'a> {
-    /// The slot of the watched path at the next tick. `None` if there is no next tick, if no path
-    /// is watched, or if no group with the path is live at that tick.
+    /// Returns the slot of the watched path at the next tick. `None` if there is no next tick, if
+    /// no path is watched, or if no group with the path is live at that tick.
     pub fn next_slot(&self) -> Option<Slot>
         requires { IsSomeReplay self.now }
         ensures slot { (trace : Trace) (timing : Timing) (rules : List Rule) (i : ℕ) →
@@ -212,7 +214,7 @@ impl<'a> Replay<'a> {
         }
     }
 
-    // Replays the next tick, and samples the slot `watched`, if any, up to that tick. Requires that
+    // Replays the next tick, and samples the slot `watched`, if any, up to that tick. Precondition:
     // there is a next tick.
     pub(crate) fn advance<R: Threads + Sync, G: Gate>(
         &mut self,
@@ -253,8 +255,8 @@ impl<'a> Replay<'a> {
         self.kills += self.judge.kills().len() as u64;
     }
 
-    /// Replays the next tick, and writes nothing. Returns false if there is no next tick; then
-    /// nothing changes. Does not allocate.
+    /// Replays the next tick without writing anything. Returns whether there was a next tick; if
+    /// not, nothing changes. Doesn't allocate.
     pub fn pass<R: Threads + Sync, G: Gate>(&mut self, rt: &R, gate: &G) -> bool
         requires { IsSomeReplay self.old }
         ensures { (trace : Trace) (timing : Timing) (rules : List Rule) (i : ℕ) →
@@ -269,7 +271,8 @@ impl<'a> Replay<'a> {
         true
     }
 
-    // Writes the lines of the last replayed tick, whose time is `at` (ns), except its live lines.
+    // Writes the lines of the last replayed tick, whose time is `at` (ns), except for its `live`
+    // lines.
     #[tactic(auto, using(outside::proofs::Grows::growth))]
     fn put_tick<K: Sink>(&self, out: &mut K, at: Ns) -> Result<(), WriteFailed>
         requires { (trace : Trace) × (timing : Timing) × (rules : List Rule) × (i : ℕ)
@@ -296,8 +299,8 @@ impl<'a> Replay<'a> {
         )
     }
 
-    /// Replays the next tick and writes its lines. Returns false if there is no next tick; then
-    /// nothing is written. After an error the replay can't be used again. Does not allocate.
+    /// Replays the next tick and writes its lines. Returns whether there was a next tick; if not,
+    /// nothing is written. After an error the replay can't be used any longer. Doesn't allocate.
     pub fn tick<R: Threads + Sync, K: Sink, G: Gate>(
         &mut self,
         rt: &R,
@@ -320,8 +323,8 @@ impl<'a> Replay<'a> {
         Ok(true)
     }
 
-    /// The kills at the last replayed tick, ordered by ruleset and action; empty before the first
-    /// tick.
+    /// Returns the kills at the last replayed tick, ordered by ruleset and then by action. Empty
+    /// before the first tick.
     pub fn kills(&self) -> &[Kill]
         ensures { (trace : Trace) (timing : Timing) (rules : List Rule) (i : ℕ) →
             IsReplay self.now trace timing rules i → result.now ≡ kills_in trace timing rules i }
@@ -329,8 +332,8 @@ impl<'a> Replay<'a> {
         self.judge.kills()
     }
 
-    /// Writes the root's pressure files at the last replayed tick. Requires that a tick has been
-    /// replayed.
+    /// Writes the pressure files of the root at the last replayed tick. Precondition: at least one
+    /// tick has been replayed.
     pub fn put_root<K: Sink>(&self, out: &mut K) -> Result<(), WriteFailed>
         requires { (trace : Trace) × (timing : Timing) × (rules : List Rule) × (i : ℕ)
             × (0 < i) × IsReplay self.now trace timing rules i }
@@ -343,8 +346,8 @@ impl<'a> Replay<'a> {
         put_root(out, self.plans, &self.engine, self.run_timing, self.made)
     }
 
-    /// Writes the last line of the output: the end time (ns), and the numbers of ticks, signals and
-    /// kills. Requires that all ticks have been replayed.
+    /// Writes the last line of the output: the end time (ns), and the numbers of ticks, of trigger
+    /// signals and of kills. Precondition: all ticks have been replayed.
     pub fn finish<K: Sink>(&mut self, out: &mut K) -> Result<(), WriteFailed>
         requires { (trace : Trace) × (timing : Timing) × (rules : List Rule)
             × IsReplay self.old trace timing rules (tick_count trace timing) }

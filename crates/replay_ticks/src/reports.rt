@@ -1,5 +1,6 @@
-//! Writes the lines of a tick: signals, kills and reports.
-//! It decides only which groups are live, not when reports are due.
+//! Writes the lines of a tick: fired triggers, kills and reports.
+//!
+//! This module skips groups that aren't live. It doesn't decide when reports are due.
 ghost use Rattle.std.specs.Prelude.{◌≡◌, ◌<◌, length, ◌==◌};
 ghost use Rattle.std.specs.List.{All};
 ghost use Rattle.outside.specs.Outside.{HasCause, SameInner};
@@ -22,13 +23,14 @@ use psi_spec::GroupLife;
 use replay_rules::Kill;
 use tick_engine::{Engine, is_live_at};
 
-/// The version of traces with interrupts.
+/// The version of traces that have interrupts.
 const WITH_IRQ: u32 = 2;
 
-/// The index of interrupts among the quantities of pressure.
+/// The index of interrupt time among the pressure quantities.
 const IRQ: usize = QUANTITIES - 1;
 
-/// Writes the lines of the triggers that fired at the tick at `at` (ns). `fired` has their numbers.
+/// Writes one line for each trigger that fired at the tick at time `at` (ns). `fired` has the
+/// indexes of these triggers.
 #[tactic(auto, using(outside::proofs::Grows::growth))]
 pub(crate) fn put_signals<K: Sink>(
     out: &mut K,
@@ -73,7 +75,7 @@ pub(crate) fn put_kills<K: Sink>(
     Ok(())
 }
 
-// Writes a group's reports on IO, memory and CPU at the tick at `at` (ns).
+// Writes the reports on IO, memory and CPU of one group, at the tick at time `at` (ns).
 #[tactic(auto, using(outside::proofs::Grows::growth))]
 fn put_resources<K: Sink>(
     out: &mut K,
@@ -94,8 +96,8 @@ fn put_resources<K: Sink>(
     write_report(out, at, path, Res::Cpu, is_root, totals, averages)
 }
 
-// Writes a group's report on interrupts at the tick at `at` (ns), if the trace's version has
-// interrupts.
+// Writes the report on interrupts of one group, at the tick at time `at` (ns), if traces of this
+// version have interrupts.
 fn put_irq<K: Sink>(
     out: &mut K,
     version: u32,
@@ -115,7 +117,8 @@ fn put_irq<K: Sink>(
     Ok(())
 }
 
-/// Writes all reports of a group at the tick at `at` (ns). `version` is the trace's version.
+/// Writes all reports of one group, at the tick at time `at` (ns). `version` is the version of the
+/// trace.
 #[tactic(auto, using(outside::proofs::Grows::growth))]
 pub(crate) fn put_files<K: Sink>(
     out: &mut K,
@@ -135,8 +138,8 @@ pub(crate) fn put_files<K: Sink>(
     put_irq(out, version, at, path, totals, averages)
 }
 
-// Writes the reports of the group in `slot` at the tick at `at` (ns), if the group is live at that
-// time.
+// Writes the reports of the group in slot `slot`, at the tick at time `at` (ns). Writes nothing if
+// the group isn't live at that time.
 fn put_report<K: Sink>(
     out: &mut K,
     version: u32,
@@ -168,8 +171,8 @@ fn put_report<K: Sink>(
     )
 }
 
-/// Writes the reports of all groups that are live at the tick at `at` (ns), in the order of
-/// `order`. `version` is the trace's version.
+/// Writes the reports of all groups that are live at the tick at time `at` (ns), in the order of
+/// `order`. `version` is the version of the trace.
 #[tactic(auto, using(outside::proofs::Grows::growth))]
 pub(crate) fn put_reports<K: Sink>(
     out: &mut K,

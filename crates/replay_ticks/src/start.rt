@@ -1,4 +1,5 @@
-//! Creates a replay of a trace before its first tick.
+//! Creates the replay of a trace, before its first tick.
+//!
 //! All memory of a replay is allocated here.
 ghost use Rattle.std.specs.Prelude.{◌≡◌, ◌<◌, ◌≤◌, IfOk};
 ghost use Rattle.psi_spec.specs.Header.{IsVersion, version_of};
@@ -26,8 +27,8 @@ use tick_engine::Engine;
 /// One second (ns).
 const SECOND: Ns = 1_000_000_000;
 
-// Returns the watched path, if any, and the number of samples per processor and interval (0 if no
-// path is watched).
+// Returns a copy of the watched path and the number of samples per processor and interval, or
+// `None` and 0 if no path is watched.
 fn watched(alloc: Global, options: &Options) -> Result<(Option<Path>, u32), NoMemory>
     ensures path { IfOk result (λ watched. watched.0 ≡ watched_path (watch_of options.now)) }
     ensures requested { IfOk result (λ watched. watched.1 ≡ requested_by (watch_of options.now)) }
@@ -38,9 +39,9 @@ fn watched(alloc: Global, options: &Options) -> Result<(Option<Path>, u32), NoMe
     }
 }
 
-/// Creates a replay, before its first tick, of the trace that `plans` represent, with rules if
-/// there are any. Requires that the trace is accepted with the tick length of `options`, and that
-/// `version` is its version. Allocates everything that the replay needs.
+/// Returns the replay of the trace that `plans` represents, before its first tick. Precondition:
+/// the trace is accepted with the tick length of `options`, and `version` is its version. Allocates
+/// all memory that the replay ever needs.
 pub fn prepare<'a>(
     alloc: Global,
     version: u32,
@@ -66,11 +67,11 @@ pub fn prepare<'a>(
     let interval = Ns::from(options.interval_s) * SECOND;
     let last = plans.finish() / length;
     let (live, requested) = watched(alloc, options)?;
-    // If a path is watched, the crew advances tick by tick.
+    // With a watched path, the worker pool advances by one tick at a time.
     let ahead = if live.is_some() { 1 } else { last };
     Ok(Replay {
         plans,
-        // The largest allocations come last, so they needn't be freed if memory runs out.
+        // The largest allocations come last. If memory runs out there, little needs to be freed.
         order: plans.groups().path_order(alloc)?,
         rows: Rows::make(alloc, plans.cpus(), slots)?,
         engine: Engine::make(alloc, plans.lives(), plans.triggers(), plans.cpus())?,
