@@ -1,4 +1,5 @@
--- The state of a group and of the host after each side of a trace, in order.
+-- Defines the effect of side events on the state of a group and of the host. A side event is a
+-- memory sample, a preference, or a task that joins or leaves a group.
 use Rattle.std.specs.Prelude.{◌≡◌, ℕ, ◌+◌, ◌-◌, ◌^◌, ◌<◌, List, [], ◌∷◌, drop, length, min}
 use Rattle.std.specs.Prelude.{nat_le, slice_index_or, ◌==◌, Bool, true, false, if◌then◌else◌}
 use Rattle.std.specs.Prelude.{Option, Some, ℤ, pos, negsuc}
@@ -15,12 +16,12 @@ use Rattle.side_watch.specs.declared.cell.GroupMemory.{GroupMemory}
 
 -- ---- a group
 
--- a group's memory as the record that kill_spec uses
+-- The memory of a group, converted to the record type of kill_spec.
 abbrev pub side_sample : GroupMemory → MemorySample
 side_sample memory = record { current = memory.current; swap = memory.swap; scan = memory.scan }
 
--- the state of a group before its first side: no memory, neither preferred nor avoided, and no task
--- in it
+-- The state of a group before its first side event: a memory sample of zeros, the plain preference,
+-- and no tasks.
 abbrev pub zero_side_cell : SideCell
 zero_side_cell = record {
   memory = record { current = 0; swap = 0; scan = 0 };
@@ -28,40 +29,41 @@ zero_side_cell = record {
   tasks = 0;
 }
 
--- the state of the group in `slot`; for a slot after the list's end, the state before the first
--- side
+-- The state of the group in slot `slot`. For a slot past the end of the list, the state before the
+-- first side event.
 abbrev pub side_cell_in : List SideCell → ℕ → SideCell
 side_cell_in cells slot = slice_index_or cells slot zero_side_cell
 
--- whether the number of tasks in a side means that a task joined; otherwise a task left
+-- Whether a side event about tasks means that a task joined a group (a nonnegative number) or that
+-- a task left it (a negative number).
 abbrev pub is_coming : ℤ → Bool
 is_coming (pos n) = true
 is_coming (negsuc n) = false
 
--- the number of tasks after a task joined (at most the largest 32-bit number) or left
+-- The number of tasks after a task joined (if `came`) or left. The number is at most 2^32 - 1.
 abbrev pub moved : Bool → ℕ → ℕ
 moved came tasks = if came then min (tasks + 1) (2 ^ 32 - 1) else tasks - 1
 
--- the state of a group after a task joined it or a group below it (if `came` is true), or left
+-- The state of a group after a task joined it or one of its descendants (if `came`), or left it.
 abbrev pub counted : Bool → SideCell → SideCell
 counted came cell = record cell { tasks = moved came cell.tasks }
 
--- the state of the group in `slot` after a task joined or left the group `start`: only `start` and
--- its ancestors count the task
+-- The state of the group in slot `slot` after a task joined or left the group `start`. Only `start`
+-- and its ancestors count the task.
 abbrev pub cell_counted : List (Option ℕ) → Option ℕ → Bool → ℕ → SideCell → SideCell
 cell_counted parents start came slot cell =
     if leads_to parents start slot then counted came cell else cell
 
--- the state of the group in `slot` after a memory sample of the group `of`
+-- The state of the group in slot `slot` after a memory sample of the group `of`.
 abbrev pub with_memory : ℕ → GroupMemory → ℕ → SideCell → SideCell
 with_memory of memory slot cell = if of == slot then record cell { memory = memory } else cell
 
--- the state of the group in `slot` after the preference of the group `of` was set
+-- The state of the group in slot `slot` after the preference of the group `of` was set.
 abbrev pub with_preference : ℕ → Preference → ℕ → SideCell → SideCell
 with_preference of preference slot cell =
     if of == slot then record cell { preference = preference } else cell
 
--- the state of the group in `slot` after one more side
+-- The state of the group in slot `slot` after one more side event.
 abbrev pub cell_after : List (Option ℕ) → ℕ → SideCell → SideAct → SideCell
 cell_after parents slot cell (side.Mem of current swap scan) =
     with_memory of.0 (record { current = current; swap = swap; scan = scan }) slot cell
@@ -70,7 +72,7 @@ cell_after parents slot cell (side.Host mem_total swap_total swap_free) = cell
 cell_after parents slot cell (side.Tasks of added) =
     cell_counted parents (Some of.0) (is_coming added) slot cell
 
--- the state of the group in `slot` after more sides, in order
+-- The state of the group in slot `slot` after further side events, in order.
 abbrev pub cell_by : List (Option ℕ) → ℕ → SideCell → List Side → SideCell
 cell_by parents slot cell [] = cell
 cell_by parents slot cell (side ∷ sides) =
@@ -78,7 +80,7 @@ cell_by parents slot cell (side ∷ sides) =
 
 -- ---- the host
 
--- the host's memory after one more side
+-- The host's memory after one more side event.
 abbrev pub host_after : HostReading → SideAct → HostReading
 host_after host (side.Mem of current swap scan) = host
 host_after host (side.Prefer of preference) = host
@@ -86,38 +88,38 @@ host_after host (side.Host mem_total swap_total swap_free) =
     record { mem_total = mem_total; swap_total = swap_total; swap_free = swap_free }
 host_after host (side.Tasks of added) = host
 
--- the host's memory after more sides
+-- The host's memory after further side events, in order.
 abbrev pub host_by : HostReading → List Side → HostReading
 host_by host [] = host
 host_by host (side ∷ sides) = host_by (host_after host side.what) sides
 
 -- ---- sides up to a time
 
--- the longest prefix of the sides whose times are at most `at` (ns)
+-- The longest prefix of the side events whose times are at most `at` (ns).
 abbrev pub due_by : ℕ → List Side → List Side
 due_by at [] = []
 due_by at (side ∷ sides) = if nat_le side.at at then side ∷ due_by at sides else []
 
--- the sides that are due at `at` (ns), without the first `taken` sides
+-- The side events due at time `at` (ns), without the first `taken` side events.
 abbrev pub due_from : ℕ → ℕ → List Side → List Side
 due_from taken at sides = due_by at (drop taken sides)
 
 -- ---- all groups
 
--- The new state of each group is `step` of its slot and its old state.
+-- The new state of each group is the result of `step` for its slot and its old state.
 abbrev pub EachIs : List SideCell → List SideCell → (ℕ → SideCell → SideCell) → Type 0
 EachIs old new step =
     (slot : ℕ) → slot < length old → side_cell_in new slot ≡ step slot (side_cell_in old slot)
 
--- The group `of` and its ancestors count a task that joined or left `of`; all other groups are
--- unchanged.
+-- The group `of` and its ancestors have counted a task that joined or left `of`. All other groups
+-- are unchanged.
 abbrev pub EachCounts : List (Option ℕ) → ℕ → Bool → List SideCell → List SideCell → Type 0
 EachCounts parents of came old new = EachIs old new (cell_counted parents (Some of) came)
 
--- One side was applied to the state of each group.
+-- The side event `what` has been applied to the state of each group.
 abbrev pub EachTook : List (Option ℕ) → SideAct → List SideCell → List SideCell → Type 0
 EachTook parents what old new = EachIs old new (λ slot cell. cell_after parents slot cell what)
 
--- The sides were applied to the state of each group, in order.
+-- The side events `sides` have been applied to the state of each group, in order.
 abbrev pub Took : List (Option ℕ) → List Side → List SideCell → List SideCell → Type 0
 Took parents sides old new = EachIs old new (λ slot cell. cell_by parents slot cell sides)

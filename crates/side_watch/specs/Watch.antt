@@ -1,4 +1,6 @@
--- The content of a watch, its invariant, and the events whose sides it has taken.
+-- Defines the content of a watch and its invariant, and relates a watch to the events whose side
+-- events it has taken. A side event is a memory sample, a preference, or a task that joins or
+-- leaves a group.
 use Rattle.std.specs.Prelude.{◌≡◌, ℕ, ◌^◌, ◌<◌, ◌≤◌, List, [], length, replicate, take}
 use Rattle.std.specs.Prelude.{nat_lt, Bool, Option, None, Some}
 use Rattle.std.specs.List.{All}
@@ -24,45 +26,46 @@ use Rattle.side_watch.specs.declared.cell.GroupMemory.{GroupMemory}
 use Rattle.side_watch.specs.Sides.{side_sample, zero_side_cell, side_cell_in}
 
 -- A watch: the state and the parent of the group in each slot, the latest sample of the host's
--- memory, and the number of sides taken.
+-- memory, and the number of side events taken so far.
 pub record SideView : Type 0 where
   pub cells : List SideCell
   pub parents : List (Option ℕ)
   pub host : HostReading
   pub taken : ℕ
 
--- the watch with these parts
+-- The watch with these components.
 abbrev pub watch_view : List SideCell → List (Option Slot) → HostReading → ℕ → SideView
 watch_view cells parents host taken =
     record { cells = cells; parents = parent_numbers parents; host = host; taken = taken }
 
--- the state of the group in `slot`
+-- The state of the group in slot `slot`.
 abbrev pub side_cell_at : SideView → ℕ → SideCell
 side_cell_at watch slot = side_cell_in watch.cells slot
 
--- whether a live task is in the group in `slot` or below it, by the watch's number of tasks
+-- Whether the watch counts at least one live task in the group in slot `slot` or in its
+-- descendants.
 abbrev pub has_tasks : SideView → ℕ → Bool
 has_tasks watch slot = nat_lt 0 (side_cell_at watch slot).tasks
 
--- Bytes and counts of a memory sample are at most 2^60.
+-- The numbers of bytes and pages in a memory sample are at most 2^60.
 pub record IsSmallMemory (memory : GroupMemory) : Type 0 where
   pub current : memory.current ≤ 2 ^ 60
   pub swap : memory.swap ≤ 2 ^ 60
   pub scan : memory.scan ≤ 2 ^ 60
 
--- The memory samples of all groups are small.
+-- The numbers in the memory samples of all groups are at most 2^60.
 abbrev pub AreSmallCells : List SideCell → Type 0
 AreSmallCells cells = All (λ (cell : SideCell). IsSmallMemory cell.memory) cells
 
--- The invariant of watches: each parent is an older slot, there is a parent entry for each group,
--- and all samples are small.
+-- The invariant of a watch: each parent has a lower slot than its children, there is a parent entry
+-- for each group, and the numbers in all memory samples are at most 2^60.
 pub record IsWatch (watch : SideView) : Type 0 where
   pub older : AreOlder watch.parents
   pub each : length watch.cells ≡ length watch.parents
   pub small : AreSmallCells watch.cells
   pub host : IsHostReading watch.host
 
--- the watch of the groups `lives` before any side was taken
+-- The watch of the groups `lives` before any side event.
 abbrev pub first_watch : List GroupLife → SideView
 first_watch lives = record {
   cells = replicate (length lives) zero_side_cell;
@@ -73,30 +76,32 @@ first_watch lives = record {
 
 -- ---- events
 
--- the events up to a time (ns); none for `None`, which is the time before any event
+-- The events up to a time (ns). `None` is a time before all events, so there are no events up to
+-- it.
 abbrev pub seen_events : List Event → Option ℕ → List Event
 seen_events events None = []
 seen_events events (Some at) = up_to events at
 
--- The time `before` (ns) isn't after `at`; `None` is before any time.
+-- The time `before` is at or before `at` (both ns). `None` is before every time.
 abbrev pub IsNotAfter : Option ℕ → ℕ → Type 0
 IsNotAfter None at = Unit {0}
 IsNotAfter (Some before) at = before ≤ at
 
--- the number of live tasks in the group in `slot` or below it
+-- The number of live tasks in the group in slot `slot` and in its descendants.
 abbrev pub tasks_under : World → ℕ → ℕ
 tasks_under w slot =
     how_many (λ (task : Task). is_under (parents_of w.groups) task.slot.0 slot)
     (tasks_by.values w.tasks)
 
--- The property `Holds` is true of each group that the events create, and of the root.
+-- The property `Holds` is true for the slot of each group that the events create, and for the slot
+-- of the root.
 abbrev pub OfEachGroup : List Event → (ℕ → Type 0) → Type 0
 OfEachGroup events Holds = (slot : ℕ) → slot < length (after events).groups → Holds slot
 
--- A watch of all groups of a trace has the state after the events up to `moment` (ns). For each
--- group these are the latest memory sample, the preference, and the number of live tasks in it or
--- below it, which says whether the group is populated; for the host it is the latest sample of its
--- memory. The watch has taken exactly the sides of these events.
+-- The watch has the state after the events up to time `moment` (ns). For each group, the state has
+-- the latest memory sample, the latest preference, and the number of live tasks in the group and
+-- its descendants. For the host, the state has the latest sample of its memory. The watch has taken
+-- exactly the side events among these events.
 pub record HasFollowed (events : List Event) (moment : Option ℕ) (watch : SideView) : Type 0 where
   pub parents : watch.parents ≡ parents_of (after events).groups
   pub each : length watch.cells ≡ length (after events).groups
@@ -111,13 +116,14 @@ pub record HasFollowed (events : List Event) (moment : Option ℕ) (watch : Side
       (λ slot. has_tasks watch slot ≡ is_populated (after (seen_events events moment)) slot)
   pub host : watch.host ≡ host_of (seen_events events moment)
 
--- If `lives` are the groups of legal events, the watch has the state before any event.
+-- If `lives` has the groups of a legal list of events, the watch has the state before all events.
 abbrev pub Begins : List GroupLife → SideView → Type 0
 Begins lives watch = (limits : Limits) (events : List Event) → AreLegal limits first_world events →
     lives ≡ (after events).groups → HasFollowed events None watch
 
--- If `sides` are the sides of legal events, and `old` has the state after the events up to an
--- earlier time or before any event, then `new` has the state after the events up to `at` (ns).
+-- Advancing a watch to time `at` (ns). If `sides` has the side events of a legal list of events,
+-- and `old` has the state after the events up to an earlier time, then `new` has the state after
+-- the events up to `at`.
 abbrev pub Advances : SideView → SideView → List Side → ℕ → Type 0
 Advances old new sides at = (limits : Limits) (events : List Event) (moment : Option ℕ) →
     AreLegal limits first_world events → sides ≡ sides_of events →

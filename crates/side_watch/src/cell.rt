@@ -1,4 +1,6 @@
-//! The state of one group in a watch: memory, preference and tasks.
+//! The state of one group in a watch: its memory sample, its preference and its number of tasks.
+//!
+//! The module `steps` updates this state.
 
 ghost use Rattle.std.specs.Prelude.{◌≡◌};
 ghost use Rattle.side_watch.specs.Sides.{counted, zero_side_cell};
@@ -8,27 +10,30 @@ use psi_base::Preference;
 /// A memory sample of a group.
 #[derive(Clone, Copy, Debug, PartialEq, Eq)]
 pub struct GroupMemory {
-    /// Memory in use (bytes).
+    /// The memory in use (bytes).
     pub current: u64,
-    /// Swap in use (bytes).
+    /// The swap in use (bytes).
     pub swap: u64,
-    /// The number of pages scanned for the group up to the sample.
+    /// The number of pages that memory reclaim had scanned for the group, up to the time of the
+    /// sample.
     pub scan: u64,
 }
 
-/// The state of a group after the sides that the watch has taken.
+/// The state of a group after the side events that the watch has taken: memory samples,
+/// preferences, and tasks that joined or left.
 #[derive(Clone, Copy, Debug)]
 pub(crate) struct SideCell {
-    /// The group's latest memory sample.
+    /// The latest memory sample of the group.
     pub(crate) memory: GroupMemory,
-    /// The group's latest preference.
+    /// The latest preference of the group.
     pub(crate) preference: Preference,
-    /// The number of live tasks in the group or below it.
+    /// The number of live tasks in the group or in its descendants.
     pub(crate) tasks: u32,
 }
 
 impl SideCell {
-    /// Returns the state of a group before its first side: no memory, no preference, no task.
+    /// Returns the state of a group before its first side event: a memory sample of zeros, the
+    /// plain preference, and no tasks.
     pub(crate) fn zero() -> SideCell
         ensures { result ≡ zero_side_cell }
     {
@@ -43,7 +48,7 @@ impl SideCell {
         }
     }
 
-    /// Updates the number of tasks: if `came` is true, a task joined the group or a group below it,
+    /// Updates the number of tasks. If `came`, a task joined the group or one of its descendants;
     /// otherwise a task left.
     pub(crate) fn count(&mut self, came: bool)
         ensures { self.new ≡ counted came self.old }

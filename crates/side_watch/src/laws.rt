@@ -1,11 +1,14 @@
-//! Laws of sides (memory samples, preferences, and tasks that join or leave groups). Each function
-//! has an empty body: its contract is the law.
+//! Laws about side events: memory samples, preferences, and tasks that join or leave groups.
+//!
+//! Each function has an empty body: its contract is the law, and the proof shows that the law
+//! holds.
 
 ghost use Rattle.side_watch.specs.Laws.{HostIsLastSide, MemoryIsLastSide};
 ghost use Rattle.side_watch.specs.Laws.{PopulatedIsCounted, PreferenceIsLastSide};
 
-/// The last sample and the last preference in the sides of a trace are those in its events. A group
-/// is populated exactly if the number of live tasks in it or below it isn't 0.
+/// The last memory sample of a group in the side events of a trace is the last one in all its
+/// events. This also holds for the last preference of a group and the last sample of the host's
+/// memory. A group is populated if and only if there are live tasks in it or in its descendants.
 pub fn law_sides_show()
     ensures memory { MemoryIsLastSide }
     ensures preference { PreferenceIsLastSide }

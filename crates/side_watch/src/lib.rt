@@ -1,12 +1,12 @@
-//! The state of a trace's groups besides their stall times, followed tick by tick: memory,
-//! preferences, and whether live tasks are in a group, and also the memory of the host.
+//! Follows the state of a trace's groups other than their stall times: the memory of each group,
+//! its preference, and whether it has live tasks. Also follows the memory of the host.
 //!
-//! [`SideWatch`] takes the *sides* of a trace in order: memory samples, preferences, and tasks that
-//! join or leave groups. By its contracts, its content at a time is what `kill_spec` defines for
-//! the events up to that time.
+//! [`SideWatch`] takes the *side events* of a trace in order: memory samples, preferences, and
+//! tasks that join or leave groups. Its contracts state that its content at each time is the state
+//! that `kill_spec` defines for the events up to that time.
 //!
-//! The crate neither extracts sides from events (proc_plan does) nor makes decisions by them: rules
-//! do.
+//! This crate doesn't extract side events from events (proc_plan does), and it makes no decisions
+//! (the rules do).
 #![tactic(auto)]
 
 mod cell;

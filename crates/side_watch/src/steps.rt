@@ -1,4 +1,6 @@
-//! Applies sides in order to the state of all groups and of the host.
+//! Applies side events to the state of all groups and of the host, in order.
+//!
+//! A side event is a memory sample, a preference, or a task that joins or leaves a group.
 
 ghost use Rattle.std.specs.Prelude.{◌≡◌, ◌+◌, length};
 ghost use Rattle.psi_spec.specs.LegalGroups.{AreOlder};
@@ -15,8 +17,8 @@ use kill_spec::HostReading;
 use proc_plan::{Side, SideAct};
 use psi_base::{Ns, Preference, Slot};
 
-// Counts a task that joined the group in `slot` (if `came` is true) or left it, for this group and
-// all its ancestors.
+// Counts a task that joined the group in slot `slot` (if `came`) or left it. Updates the number of
+// tasks of this group and of all its ancestors.
 fn count_task(cells: &mut [SideCell], parents: &[Option<Slot>], slot: Slot, came: bool)
     requires older { AreOlder (parent_numbers parents.now) }
     requires each { length cells.old ≡ length parents.now }
@@ -61,7 +63,7 @@ fn set_preference(cells: &mut [SideCell], slot: Slot, preference: Preference)
     }
 }
 
-// Applies a side to the state of all groups.
+// Applies a side event to the state of all groups.
 fn take_cells(cells: &mut [SideCell], parents: &[Option<Slot>], what: SideAct)
     requires older { AreOlder (parent_numbers parents.now) }
     requires each { length cells.old ≡ length parents.now }
@@ -92,7 +94,7 @@ fn take_cells(cells: &mut [SideCell], parents: &[Option<Slot>], what: SideAct)
     }
 }
 
-// Returns the host's memory after a side; `host` is the host's memory before it.
+// Returns the host's memory after a side event. `host` is the host's memory before the event.
 fn host_after(host: HostReading, what: SideAct) -> HostReading
     requires fits { IsSmall what }
     requires small { IsHostReading host }
@@ -113,8 +115,9 @@ fn host_after(host: HostReading, what: SideAct) -> HostReading
     }
 }
 
-/// Applies the sides after the first `from` that are due at `at` (ns) to all groups and the host.
-/// Returns the number of sides taken, including the first `from`.
+/// Applies side events to the state of all groups and of the host: all events at or before time
+/// `at` (ns), except the first `from` events, which have been applied already. Returns the number
+/// of events applied so far, including the first `from`.
 pub(crate) fn take_due(
     cells: &mut [SideCell],
     parents: &[Option<Slot>],

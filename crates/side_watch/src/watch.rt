@@ -1,4 +1,7 @@
-//! The watch: the state of all groups and of the host after a trace's sides up to a time.
+//! The watch: the state of all groups and of the host after the side events of a trace up to a
+//! time.
+//!
+//! A side event is a memory sample, a preference, or a task that joins or leaves a group.
 
 ghost use Rattle.std.specs.Prelude.{◌≡◌, IfOk};
 ghost use Rattle.psi_spec.specs.LegalGroups.{AreGroups};
@@ -18,16 +21,16 @@ use psi_spec::GroupLife;
 use std::alloc::Global;
 use std::marker::Model;
 
-/// The state of all groups and of the host after a trace's sides up to a time. Contracts see all of
-/// it.
+/// The state of all groups and of the host after the side events of a trace up to a time. Contracts
+/// refer to all fields.
 #[derive(Drop)]
 pub struct SideWatch {
-    /// The state of each group, by slot.
+    /// The state of each group, indexed by slot.
     cells: Vec<SideCell>,
-    /// The parent of each group, by slot; `None` for the root.
+    /// The parent of each group, indexed by slot. `None` for the root.
     parents: Vec<Option<Slot>>,
     host: HostReading,
-    /// The number of sides taken.
+    /// The number of side events taken so far.
     taken: usize,
 }
 
@@ -41,7 +44,7 @@ impl Model for SideWatch {
     ghost invariant = { λ w. IsWatch (watch_view w.cells.items w.parents.items w.host w.taken) };
 }
 
-// Returns the parent of each group, by slot.
+// Returns the parent of each group, indexed by slot.
 fn parents_of(alloc: Global, lives: &[GroupLife]) -> Result<Vec<Option<Slot>>, NoMemory>
     ensures { IfOk result (λ parents. parent_numbers parents.items ≡ parents_of lives.now) }
 {
@@ -53,10 +56,10 @@ fn parents_of(alloc: Global, lives: &[GroupLife]) -> Result<Vec<Option<Slot>>, N
 }
 
 impl SideWatch {
-    /// Creates the watch of the groups before any side: no memory, no preference, no task.
-    /// Allocates all of its memory at once.
+    /// Returns the watch of the groups `lives` before any side event: memory samples of zeros,
+    /// plain preferences, and no tasks. Allocates all memory that the watch ever needs.
     ///
-    /// `lives` has all groups that the trace ever creates, by slot.
+    /// `lives` has all groups that the trace ever creates, indexed by slot.
     pub fn make(alloc: Global, lives: &[GroupLife]) -> Result<SideWatch, NoMemory>
         requires groups { AreGroups lives.now }
         ensures first { IfOk result (λ watch. watch ≡ first_watch lives.now) }
@@ -74,11 +77,12 @@ impl SideWatch {
         })
     }
 
-    /// Takes the sides at or before `at` (ns) that the watch hasn't taken yet. `sides` has all
-    /// sides of the trace in order, and must be the same at each call. Does not allocate.
+    /// Takes the side events at or before time `at` (ns) that the watch hasn't taken yet. `sides`
+    /// has all side events of the trace in order, and must be the same list at each call. Doesn't
+    /// allocate.
     ///
-    /// The running time is proportional to the number of these sides; a task that joined or left a
-    /// group takes time proportional to the length of the group's chain of ancestors.
+    /// The running time is proportional to the number of events taken. A task that joins or leaves
+    /// a group takes time proportional to the number of the group's ancestors.
     pub fn advance(&mut self, sides: &[Side], at: Ns)
         requires small { AreSmall sides.now }
         ensures advances { Advances self.old self.new sides.now at }
@@ -94,8 +98,8 @@ impl SideWatch {
         self.taken = taken;
     }
 
-    /// Returns a group's latest memory sample. Zeros if there is none, or if the slot doesn't
-    /// exist.
+    /// Returns the latest memory sample of the group. All values are 0 if the group has no sample,
+    /// or if the slot doesn't exist.
     pub fn memory(&self, slot: Slot) -> GroupMemory
         ensures memory { result ≡ (side_cell_at self.now slot.0).memory }
         ensures small { IsSmallMemory result }
@@ -103,21 +107,24 @@ impl SideWatch {
         self.cell(slot).memory
     }
 
-    /// Returns a group's latest preference: plain if there is none, or if the slot doesn't exist.
+    /// Returns the latest preference of the group. Returns the plain preference if the group has
+    /// none, or if the slot doesn't exist.
     pub fn preference(&self, slot: Slot) -> Preference
         ensures { result ≡ (side_cell_at self.now slot.0).preference }
     {
         self.cell(slot).preference
     }
 
-    /// Whether a live task is in a group or below it. False if the slot doesn't exist.
+    /// Returns whether there is a live task in the group or in one of its descendants. False if the
+    /// slot doesn't exist.
     pub fn is_populated(&self, slot: Slot) -> bool
         ensures { result ≡ has_tasks self.now slot.0 }
     {
         self.cell(slot).tasks > 0
     }
 
-    /// Returns the latest sample of the host's memory (bytes). Zeros if there is none.
+    /// Returns the latest sample of the host's memory (bytes). All values are 0 if there is no
+    /// sample.
     pub fn host(&self) -> HostReading
         ensures host { result ≡ self.now.host }
         ensures small { IsHostReading result }
