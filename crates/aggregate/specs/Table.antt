@@ -1,54 +1,55 @@
--- A table of times: for each group, by its slot, a row with the times (ns) of each processor. The
--- times are how long the group was in each of the seven states, followed by how long interrupts
--- took from it.
+-- Defines a table of times with one row for each group, indexed by slot. A row has, for each
+-- processor, the group's times (ns) in the seven states and then the time (ns) that interrupts took
+-- from the group.
 use Rattle.std.specs.Prelude.{◌≡◌, ◌≢◌, ◌⊎◌, All, ℕ, ◌*◌, ◌<◌, List, [], length, map, take, drop, replicate, slice_index_or, slice_set}
 use Rattle.std.specs.List.{range_with_len}
 
--- the eight times of a processor, all zero
+-- The eight times of a group on a processor, all of them 0.
 abbrev pub no_times : List ℕ
 no_times = replicate 8 0
 
--- a table of zeros for `slots` groups on `cpus` processors
+-- A table of zeros for `slots` groups on `cpus` processors.
 abbrev pub new_table : ℕ → ℕ → List (List (List ℕ))
 new_table cpus slots = replicate slots (replicate cpus no_times)
 
--- The table has times of this group on this processor.
+-- The table has an entry for this group and this processor.
 pub record IsPlace (table : List (List (List ℕ))) (group processor : ℕ) : Type 0 where
   pub slot : group < length table
   pub cpu : processor < length (slice_index_or table group [])
 
--- the table after the times of the group `slot` on the processor `cpu` are set
+-- The table after the times of the group in slot `slot` on processor `cpu` are set to `times`.
 abbrev pub put_times : List (List (List ℕ)) → ℕ → ℕ → List ℕ → List (List (List ℕ))
 put_times table slot cpu times = slice_set table slot (slice_set (slice_index_or table slot []) cpu times)
 
--- the row of the group `slot` in a list of all rows, one after another, with `cpus` entries in each
+-- The row of the group in slot `slot`. `flat` has all rows, one after another, and each row has
+-- `cpus` entries.
 abbrev pub row_in : ℕ → List (List ℕ) → ℕ → List (List ℕ)
 row_in cpus flat slot = take cpus (drop (slot * cpus) flat)
 
--- the table with the rows in `flat`, which has `slots` rows of `cpus` entries, one row after
--- another
+-- The table made from `flat`, which has `slots` rows of `cpus` entries, one row after another.
 abbrev pub rows_of : ℕ → ℕ → List (List ℕ) → List (List (List ℕ))
 rows_of cpus slots flat = map (row_in cpus flat) (range_with_len 0 slots)
 
--- the times of the group `slot` on the processor `cpu`; empty if the table doesn't have it
+-- The times of the group in slot `slot` on processor `cpu`. Empty if the table has no such entry.
 abbrev pub times_at : List (List (List ℕ)) → ℕ → ℕ → List ℕ
 times_at table slot cpu = slice_index_or (slice_index_or table slot []) cpu []
 
--- The table has `slots` groups and `cpus` processors.
+-- The table has `slots` rows, and each row has `cpus` entries.
 pub record HasSizes (cpus slots : ℕ) (table : List (List (List ℕ))) : Type 0 where
   pub slots_are : length table ≡ slots
   pub cpus_are : All (λ row. length row ≡ cpus) table
 
--- Both tables have the same number of groups, and each group has the same number of processors.
+-- Both tables have the same number of rows, and rows of the same slot have the same number of
+-- entries.
 pub record HaveSameSizes (table other : List (List (List ℕ))) : Type 0 where
   pub slots : length table ≡ length other
   pub cpus : (slot : ℕ) → length (slice_index_or table slot []) ≡ length (slice_index_or other slot [])
 
 -- ---- laws
 
--- A new table has the requested numbers of groups and processors, and setting times preserves these
--- numbers. Tables with the same numbers have the same sizes, and have every group and processor
--- below these numbers.
+-- The laws about the size of a table. A new table has the requested size, and setting times doesn't
+-- change the size. Two tables with the same numbers of groups and processors have the same size. A
+-- table has an entry for each group and processor below these numbers.
 pub record KeepsSizes : Type 0 where
   pub new : (cpus slots : ℕ) → HasSizes cpus slots (new_table cpus slots)
   pub set : (cpus slots : ℕ) (table : List (List (List ℕ))) (slot cpu : ℕ) (times : List ℕ) → HasSizes cpus slots table
@@ -58,8 +59,8 @@ pub record KeepsSizes : Type 0 where
   pub place : (cpus slots : ℕ) (table : List (List (List ℕ))) (slot cpu : ℕ) → HasSizes cpus slots table → slot < slots → cpu < cpus
       → IsPlace table slot cpu
 
--- After times are set at a place, they are found at this place, and the times at all other places
--- are unchanged.
+-- After the times of a group on a processor are set, the table has these times for this group and
+-- processor, and unchanged times for all others.
 pub record SetsOnePlace : Type 0 where
   pub here : (table : List (List (List ℕ))) (slot cpu : ℕ) (times : List ℕ) → IsPlace table slot cpu
       → times_at (put_times table slot cpu times) slot cpu ≡ times

@@ -1,7 +1,8 @@
-//! From a group's times on each processor, computes the group's shares of an interval and its
-//! totals over all processors: the kernel's `collect_percpu_times`.
+//! Combines a group's times on all processors into the group's shares of an interval and its
+//! totals. This crate corresponds to the kernel's `collect_percpu_times`.
 //!
-//! The crate knows nothing of ticks or averages: tick_engine calls it at each tick.
+//! It doesn't know when ticks occur and computes no averages. The crate tick_engine calls it at
+//! each tick.
 #![tactic(auto)]
 
 mod rows;

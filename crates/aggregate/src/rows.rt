@@ -1,4 +1,6 @@
-//! The times of all groups on all processors at a tick, in one allocation.
+//! The times of all groups on all processors at a tick, as one table.
+//!
+//! The whole table is a single allocation.
 ghost use Rattle.std.specs.Prelude.{◌≡◌, ◌<◌, ◌*◌, [], IfOk, length, slice_index_or, slice_set, replicate};
 ghost use Rattle.aggregate.specs.Table as table;
 ghost use Rattle.aggregate.specs.Table.{new_table, put_times, IsPlace, KeepsSizes, SetsOnePlace};
@@ -8,13 +10,13 @@ use psi_base::{Cpu, NoMemory, Slot};
 use std::alloc::Global;
 use std::marker::Model;
 
-/// For each group, by its slot, a row with the times (ns) of each processor: the time in each of
-/// the seven states, ordered by state, followed by the interrupt time.
+/// A table with one row for each group, indexed by slot. A row has, for each processor, the group's
+/// times (ns) in the seven states, ordered by state, and then the interrupt time (ns).
 #[derive(Drop)]
 pub struct Rows {
     cpus: u32,
     slots: u32,
-    /// The rows of all groups, one after another. A row has `cpus` entries.
+    /// The rows of all groups, one after another. Each row has `cpus` entries.
     times: Vec<Times>,
 }
 
@@ -30,7 +32,8 @@ impl Model for Rows {
 }
 
 impl Rows {
-    /// Creates rows of zeros for `cpus` processors and `slots` groups, in one allocation.
+    /// Returns a table of zeros for `cpus` processors and `slots` groups. Makes a single
+    /// allocation.
     pub fn make(alloc: Global, cpus: u32, slots: u32) -> Result<Rows, NoMemory>
         ensures { IfOk result (λ rows. rows ≡ new_table cpus slots) }
     {
@@ -38,7 +41,7 @@ impl Rows {
         Ok(rows_with(cpus, slots, times))
     }
 
-    /// Sets the times of a group on a processor.
+    /// Sets the times (ns) of a group on a processor.
     pub fn set(&mut self, cpu: Cpu, slot: Slot, times: Times)
         requires { IsPlace self.old slot.0 cpu.0 }
         ensures { self.new ≡ put_times self.old slot.0 cpu.0 times }
@@ -47,8 +50,8 @@ impl Rows {
         self.times[place] = times;
     }
 
-    /// Sets the times of a group on all processors. Precondition: `row` has an entry for each
-    /// processor. Does not allocate.
+    /// Sets the times (ns) of a group on all processors. Precondition: `row` has one entry for each
+    /// processor. Doesn't allocate.
     pub fn set_row(&mut self, slot: Slot, row: &[Times])
         requires slot { slot.0 < length self.old }
         requires row { length row.now ≡ length (slice_index_or self.old slot.0 []) }
@@ -60,7 +63,7 @@ impl Rows {
         into.copy_from_slice(row);
     }
 
-    /// Returns the times of a group on each processor.
+    /// Returns the times (ns) of a group on each processor.
     pub fn row(&self, slot: Slot) -> &[Times]
         requires { slot.0 < length self.now }
         ensures { result.now ≡ slice_index_or self.now slot.0 [] }
@@ -71,7 +74,7 @@ impl Rows {
     }
 }
 
-/// Returns the rows with these times, which are stored one row after another.
+/// Returns the table with the rows in `times`, which are stored one after another.
 fn rows_with(cpus: u32, slots: u32, times: Vec<Times>) -> Rows
     requires { length times.items ≡ slots * cpus }
     ensures { result ≡ table.rows_of cpus slots times.items }
@@ -86,8 +89,9 @@ fn no_times(alloc: Global, count: usize) -> Result<Vec<Times>, NoMemory>
     Ok(vec![in alloc; [0u64; TIMES]; count]?)
 }
 
-/// Laws of rows: setting times changes no sizes, the times that were set are found at their place,
-/// and the times at all other places are unchanged.
+/// Laws of the table: setting the times of a group on a processor doesn't change the size of the
+/// table. Afterwards the table has these times for this group and processor, and unchanged times
+/// for all others.
 pub fn law_rows()
     ensures sizes { KeepsSizes }
     ensures places { SetsOnePlace }

@@ -1,4 +1,6 @@
-//! The totals of a group: the sums of its shares over all intervals since it was created.
+//! The totals of a group: the sums of its shares over all intervals since its creation.
+//!
+//! The module `weighted` computes the shares.
 ghost use Rattle.std.specs.Prelude.{◌≡◌};
 ghost use Rattle.psi_spec.specs.Within.{last_moment};
 ghost use Rattle.pressure_spec.specs.Share as model;
@@ -7,8 +9,9 @@ ghost use Rattle.pressure_spec.specs.Within.{AreAmountsWithin, most_irq_total};
 use pressure_spec::{Amounts, QUANTITIES};
 use std::marker::Model;
 
-/// How long (ns) a group was in each state except nonidle since it was created, and how long
-/// interrupts took from it: the sums of its shares of all intervals.
+/// The time (ns) that a group has spent in each state except nonidle since its creation, and the
+/// time that interrupts took from it. Each total is the sum of the group's shares over all
+/// intervals.
 #[derive(Drop)]
 pub struct Totals {
     sums: Amounts,
@@ -23,7 +26,7 @@ impl Model for Totals {
 }
 
 impl Totals {
-    /// Returns the totals of a new group: zeros.
+    /// Returns the totals of a new group, which are zeros.
     pub fn zero() -> Totals
         ensures { result ≡ model.no_totals }
     {
@@ -32,7 +35,7 @@ impl Totals {
         }
     }
 
-    /// Adds a group's shares (ns) of one more interval.
+    /// Adds the group's shares (ns) of one more interval.
     pub fn add(&mut self, shares: Amounts)
         requires { AreAmountsWithin last_moment most_irq_total (model.plus self.old shares) }
         ensures { self.new ≡ model.plus self.old shares }
@@ -40,8 +43,8 @@ impl Totals {
         add_each(&mut self.sums, &shares);
     }
 
-    /// Returns the totals (ns): those of the states except nonidle, ordered by state, followed by
-    /// the total of interrupt time.
+    /// Returns the totals (ns): one for each state except nonidle, ordered by state, and then the
+    /// total of interrupt time.
     pub fn get(&self) -> Amounts
         ensures { result ≡ self.now }
     {
@@ -49,7 +52,7 @@ impl Totals {
     }
 }
 
-/// Adds each share to its sum.
+/// Adds each share to the total with the same index.
 fn add_each(sums: &mut Amounts, shares: &Amounts)
     requires { AreAmountsWithin last_moment most_irq_total (model.plus sums.old shares.now) }
     ensures { sums.new ≡ model.plus sums.old shares.now }

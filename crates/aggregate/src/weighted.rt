@@ -1,4 +1,6 @@
-//! The shares of an interval: means over processors, weighted by how long the group wasn't idle.
+//! Computes the shares of an interval: weighted means over processors.
+//!
+//! The weight of a processor is the time that the group wasn't idle on it.
 ghost use Rattle.std.specs.Prelude.{◌≡◌, ◌≤◌, ◌<◌, ◌+◌, ◌*◌, ◌/◌, ℕ, All, length, map, slice_index};
 ghost use Rattle.psi_spec.specs.Within.{longest_tick};
 ghost use Rattle.aggregate.specs.Since.{NoneFell, growth};
@@ -10,19 +12,19 @@ ghost use Rattle.psi_spec.specs.World.{longest_irq};
 
 use pressure_spec::{Amounts, QUANTITIES, TIMES, Times};
 
-/// The unit of a weight: a millisecond (ns). The kernel uses a tick of its timer instead.
+/// The unit of a weight (ns): one millisecond. The kernel uses jiffies instead.
 const TICK: u64 = 1_000_000;
 
-/// The index of the nonidle state among the times of a processor.
+/// The index of the nonidle state in the times of a processor.
 const NONIDLE: usize = 6;
 
-/// The indexes of the pressure quantities among the times of a processor: all except nonidle.
+/// The indexes of the pressure quantities in the times of a processor: all times except nonidle.
 const PLACES: [usize; QUANTITIES] = [0, 1, 2, 3, 4, 5, 7];
 
-/// Returns a group's shares (ns) of an interval over all processors: for each state except nonidle,
-/// and for interrupt time, the weighted mean of `deltas`, which has the group's times (ns) in the
-/// interval on each processor. A processor's weight is the group's nonidle time on it in whole
-/// milliseconds.
+/// Returns a group's shares (ns) of an interval. There is one share for each state except nonidle,
+/// and one for interrupt time. A share is the weighted mean, over all processors, of the group's
+/// time in the interval. `deltas` has these times (ns) for each processor. The weight of a
+/// processor is the group's nonidle time on it in whole milliseconds.
 pub fn share(deltas: &[Times]) -> Amounts
     requires few { length deltas.now ≤ 64 }
     requires short { All (AreTimesWithin longest_tick (longest_tick + longest_irq)) deltas.now }
@@ -40,10 +42,10 @@ pub fn share(deltas: &[Times]) -> Amounts
     sums
 }
 
-/// Returns a group's shares of an interval like `share`, from each processor's times (ns) at the
-/// start (`before`) and at the end (`now`) of the interval. A processor on which the group was
-/// nonidle for less than a millisecond has the weight 0: it adds nothing, and its other times
-/// aren't read.
+/// Returns a group's shares (ns) of an interval, as `share` does. `before` and `now` have the
+/// group's times (ns) on each processor at the start and at the end of the interval. If the group
+/// was nonidle on a processor for less than a millisecond, the weight of the processor is 0, and
+/// its other times aren't read.
 pub fn share_since(now: &[Times], before: &[Times]) -> Amounts
     requires few { length now.now ≤ 64 }
     requires each { length before.now ≡ length now.now }
@@ -67,7 +69,8 @@ pub fn share_since(now: &[Times], before: &[Times]) -> Amounts
     sums
 }
 
-/// Returns the weight of a processor, from the increase of its nonidle time.
+/// Returns the weight of a processor: the increase of the group's nonidle time in whole
+/// milliseconds.
 #[inline(always)]
 fn weight_since(now: &Times, before: &Times) -> u64
     requires { (place : ℕ) → slice_index before.now place ≤ slice_index now.now place }
@@ -76,7 +79,7 @@ fn weight_since(now: &Times, before: &Times) -> u64
     (now[NONIDLE] - before[NONIDLE]) / TICK
 }
 
-/// Returns the increase of each time of a processor.
+/// Returns the increase of each time (ns) on a processor.
 #[inline(always)]
 fn growth(now: &Times, before: &Times) -> Times
     requires { (place : ℕ) → slice_index before.now place ≤ slice_index now.now place }
@@ -89,7 +92,7 @@ fn growth(now: &Times, before: &Times) -> Times
     growth
 }
 
-/// Adds each time of a processor, multiplied by the processor's weight, to its sum.
+/// Adds to each sum the corresponding time of a processor, multiplied by the processor's weight.
 fn add_weighted(sums: &mut Amounts, times: &Times, weight: u64)
     requires weight { weight ≤ 60000 }
     requires times { AreTimesWithin longest_tick (longest_tick + longest_irq) times.now }
