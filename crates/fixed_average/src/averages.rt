@@ -1,6 +1,6 @@
-//! The averages of one group, and their update at a tick.
+//! The pressure averages of one group, and their update at a tick.
 //!
-//! The arithmetic is in `fixed_point`.
+//! The module `fixed_point` implements the arithmetic.
 ghost use Rattle.std.specs.Prelude.{◌≡◌, ◌≢◌, ◌≤◌, ◌<◌, ◌+◌, ◌^◌, ℕ, All, [], map, slice_index, slice_index_or};
 ghost use Rattle.psi_spec.specs.Within.{last_moment};
 ghost use Rattle.pressure_spec.specs.Share.{irq_quantity, zip_with};
@@ -14,28 +14,28 @@ use pressure_spec::{Amounts, AverageRows, QUANTITIES};
 use psi_base::{Ns, State};
 use std::marker::Model;
 
-/// The time from one update of the averages to the next (ns).
+/// The time between two updates of the averages (ns).
 const PERIOD: Ns = 2_000_000_000;
 
 /// The index of interrupt time among the quantities that have averages.
 const IRQ: usize = QUANTITIES - 1;
 
-/// The part of each average that remains after a period without pressure, for the averages over 10,
-/// 60 and 300 seconds (in units of 1/2048).
+/// The decay factors of the averages over 10, 60 and 300 seconds: the part of an average, in units
+/// of 1/2048, that remains after a period without pressure.
 const FACTORS: [u64; 3] = [1677, 1981, 2034];
 
-/// The averages of a group's pressure over 10, 60 and 300 seconds, for each state except nonidle
-/// and for interrupt time: the kernel's `avg` of a `psi_group`. Each is a fixed-point number of at
-/// most 204,800, which is 100 percent.
+/// The averages of a group's pressure over 10, 60 and 300 seconds. There are three averages for
+/// each state except nonidle, and three for interrupt time. They correspond to the kernel's `avg`
+/// of a `psi_group`. Each average is a fixed-point number of at most 204,800, which is 100 percent.
 #[derive(Drop)]
 pub struct Averages {
     /// The time of the last update (ns).
     last: Ns,
-    /// The earliest time of the next update (ns).
+    /// The time at or after which the next update happens (ns).
     next: Ns,
-    /// The part of each total that the averages have taken in (ns).
+    /// The part of each total (ns) that has already entered the averages.
     sampled: Amounts,
-    /// The three averages of each quantity.
+    /// The three averages of each quantity, in fixed point.
     averages: AverageRows,
 }
 
@@ -52,8 +52,8 @@ impl Model for Averages {
         (record { last = a.last; next = a.next; sampled = a.sampled; averages = a.averages }) };
 }
 
-/// Returns the sample of each total over `time` (ns): the part that the averages haven't taken in,
-/// but at most `time`.
+/// Returns, for each total, the sample (ns) for an update over `time` (ns): the part of the total
+/// that hasn't entered the averages yet, but at most `time`.
 fn samples_of(time: Ns, sampled: &Amounts, totals: &Amounts) -> Amounts
     ensures value { result ≡ model.samples_of time sampled.now totals.now }
     ensures fits { (k : ℕ) → k < 7 →
@@ -66,7 +66,7 @@ fn samples_of(time: Ns, sampled: &Amounts, totals: &Amounts) -> Amounts
     samples
 }
 
-/// Adds the samples to the parts that the averages have taken in.
+/// Adds each sample (ns) to the part of its total that has entered the averages.
 fn add_samples(sampled: &mut Amounts, samples: &Amounts)
     requires { (k : ℕ) → k < 7 →
         slice_index sampled.old k + slice_index samples.now k < 2 ^ 64 }
@@ -78,7 +78,7 @@ fn add_samples(sampled: &mut Amounts, samples: &Amounts)
     }
 }
 
-/// Returns each factor to the power of the number of missed periods.
+/// Returns each decay factor to the power of the number of missed periods.
 fn decays_of(missed: u64) -> [u64; 3]
     ensures { result ≡ map (λ factor. model.power factor missed) model.factors }
 {
@@ -89,8 +89,8 @@ fn decays_of(missed: u64) -> [u64; 3]
     ]
 }
 
-/// Returns an average after an update: it decays over the missed periods, if any, and then takes in
-/// the sample `percent`. `decay` is `factor` to the power `missed`.
+/// Returns an average after an update. The average first decays over the missed periods, if any,
+/// and then takes the sample `percent`. `decay` is `factor` to the power `missed`.
 #[tactic(auto, using(pressure_spec::proofs::AverageLaws::power_most))]
 fn average_after(missed: u64, decay: u64, average: u64, factor: u64, percent: u64) -> u64
     requires decay { decay ≡ model.power factor missed }
@@ -123,7 +123,8 @@ fn row_after(missed: u64, decays: &[u64; 3], row: &[u64; 3], percent: u64) -> [u
     after
 }
 
-/// Updates the averages of all quantities with their samples over `time` (ns).
+/// Updates the averages of all quantities. `samples` has one sample (ns) for each quantity, out of
+/// an interval of `time` (ns).
 fn update_rows(rows: &mut AverageRows, missed: u64, time: Ns, samples: &Amounts)
     requires time { 0 < time }
     requires short { time ≤ 4000000000 }
@@ -139,8 +140,8 @@ fn update_rows(rows: &mut AverageRows, missed: u64, time: Ns, samples: &Amounts)
 }
 
 impl Averages {
-    /// Returns the averages of a group that is created at time `at` (ns): all are 0, and the first
-    /// update is two seconds later.
+    /// Returns the averages of a group that is created at time `at` (ns). All averages are 0, and
+    /// the first update is due two seconds later.
     pub fn new(at: Ns) -> Averages
         requires { at ≤ last_moment }
         ensures { result ≡ model.new_averages at }
@@ -153,13 +154,13 @@ impl Averages {
         }
     }
 
-    /// Updates the averages at a tick at time `now` (ns), if an update is due: the kernel's
-    /// `update_averages`. `totals` are the group's totals (ns): one for each state except nonidle,
-    /// ordered by state, and one for interrupt time.
+    /// Updates the averages at the tick at time `now` (ns), if an update is due. This function
+    /// corresponds to the kernel's `update_averages`. `totals` has the totals of the group (ns):
+    /// one for each state except nonidle, ordered by state, and one for interrupt time.
     ///
-    /// Each average first decays over the missed periods. Then it takes in the part of its total
-    /// that it hasn't taken in yet, but at most the time since the last update less the missed
-    /// periods; the rest is carried over to the next update.
+    /// Each average first decays over the missed periods. Then it takes a sample: the part of its
+    /// total that hasn't entered it yet, but at most the time since the last update minus the
+    /// missed periods. The remaining part is left for the next update.
     pub fn update(&mut self, now: Ns, totals: Amounts)
         requires { now ≤ last_moment }
         ensures { self.new ≡ model.average_step self.old now totals }
@@ -176,7 +177,7 @@ impl Averages {
         self.last = now;
     }
 
-    /// Returns the averages over 10, 60 and 300 seconds of a state, in fixed point. Precondition:
+    /// Returns the averages of a state over 10, 60 and 300 seconds, in fixed point. Precondition:
     /// the state isn't nonidle.
     pub fn get(&self, state: State) -> [u64; 3]
         requires { state ≢ state_of.Nonidle }
@@ -186,7 +187,7 @@ impl Averages {
         self.averages[state as usize]
     }
 
-    /// Returns the averages over 10, 60 and 300 seconds of interrupt time, in fixed point.
+    /// Returns the averages of interrupt time over 10, 60 and 300 seconds, in fixed point.
     pub fn irq(&self) -> [u64; 3]
         ensures value { result ≡ slice_index_or self.now.averages irq_quantity [] }
         ensures most { All (λ average. average ≤ 204800) result }

@@ -1,15 +1,14 @@
-//! Fixed-point arithmetic: the kernel's `calc_load` and `fixed_power_int`.
+//! Fixed-point arithmetic, as in the kernel's `calc_load` and `fixed_power_int`.
 //!
-//! A fixed-point number has 11 fraction bits: 2048 is 1.
+//! A fixed-point number has 11 fractional bits: 2048 represents 1.
 ghost use Rattle.std.specs.Prelude.{◌≡◌, ◌≤◌};
 ghost use Rattle.pressure_spec.specs.Average as model;
 
-/// The number 1, in fixed point.
+/// The fixed-point number that represents 1.
 const ONE: u64 = 2048;
 
-/// Returns an average `a` after a period in which `x` was active; `e` is the factor by which the
-/// average decays. The result is rounded up if `x` is at least `a`, and down otherwise: the
-/// kernel's `calc_load`.
+/// Returns the average `a` after a period with the sample `x`. `e` is the decay factor. The result
+/// is rounded up if `x` is at least `a`, and down otherwise, as in the kernel's `calc_load`.
 pub fn load(a: u64, e: u64, x: u64) -> u64
     requires average { a ≤ 204800 }
     requires factor { e ≤ 2048 }
@@ -25,7 +24,7 @@ pub fn load(a: u64, e: u64, x: u64) -> u64
     }
 }
 
-/// Returns the product of two fixed-point numbers of at most 1, rounded to nearest.
+/// Returns the product of two fixed-point numbers of at most 1, rounded to the nearest number.
 fn product(x: u64, y: u64) -> u64
     requires left { x ≤ 2048 }
     requires right { y ≤ 2048 }
@@ -35,8 +34,8 @@ fn product(x: u64, y: u64) -> u64
     (x * y + ONE / 2) / ONE
 }
 
-/// Returns the fixed-point number `x` to the power `n`, rounded at each multiplication: the
-/// kernel's `fixed_power_int`.
+/// Returns the fixed-point number `x` to the power `n`. Each multiplication rounds its result, as
+/// in the kernel's `fixed_power_int`.
 pub fn power(x: u64, n: u64) -> u64
     requires { x ≤ 2048 }
     ensures value { result ≡ model.power x n }
