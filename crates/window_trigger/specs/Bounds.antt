@@ -1,9 +1,9 @@
--- The invariant of a trigger: the bounds of its numbers.
+-- The invariant of a trigger: bounds on the numbers in its state.
 use Rattle.std.specs.Prelude.{ℕ, ◌≤◌, Option, IfSome}
 use Rattle.psi_spec.specs.Within.{last_moment}
 
--- The window `size` (ns) is between half a second and ten seconds. Neither the growth in the
--- previous window (ns) nor the time of the last signal (ns) is above the latest time of a trace.
+-- The length `size` (ns) of the window is between 0.5 s and 10 s. The growth (ns) in the previous
+-- window and the time (ns) of the last signal are at most the latest time that a trace can have.
 pub record IsTrigger (size growth : ℕ) (last_event : Option ℕ) : Type 0 where
   pub long : 500000000 ≤ size
   pub short : size ≤ 10000000000

@@ -1,6 +1,8 @@
-//! Triggers: a signal if a group's stall time grew by a threshold within a window.
+//! Pressure triggers: a trigger fires if the stall time of a group grows by a threshold within a
+//! time window.
 //!
-//! The crate has the state of one trigger only; tick_engine steps all triggers at each tick.
+//! This crate has the state of a single trigger. The crate tick_engine steps all triggers at each
+//! tick.
 #![tactic(auto)]
 
 mod trigger;

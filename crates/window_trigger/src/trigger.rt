@@ -1,6 +1,6 @@
 //! The state of one trigger.
 //!
-//! The total that it watches is passed by the caller.
+//! The caller passes the total stall time that the trigger watches.
 ghost use Rattle.std.specs.Prelude.{◌≡◌, ◌≤◌, ◌<◌, ◌*◌, ◌/◌, ◌+◌, ◌-◌, MatchResult, true, false};
 ghost use Rattle.psi_base.specs.declared.event.Cause.TheVariants as cause;
 ghost use Rattle.psi_spec.specs.Refusal.{is_window};
@@ -10,28 +10,29 @@ ghost use Rattle.pressure_spec.specs.Signal as model;
 use psi_base::{Cause, Ns};
 use std::marker::Model;
 
-/// A microsecond (ns).
+/// The number of ns in a microsecond.
 const MICROSECOND: Ns = 1000;
 
-/// A trigger on the growth of a group's stall time in a sliding window, as a user sets it by
-/// writing to a pressure file: the kernel's `psi_trigger`. Its signals are at least a window apart.
+/// A trigger on the growth of a group's stall time in a sliding time window. A user sets it by
+/// writing to a pressure file. It corresponds to the kernel's `psi_trigger`. Two signals of a
+/// trigger are at least a window apart.
 #[derive(Drop)]
 pub struct Trigger {
-    /// The growth in a window that makes an event pending (ns).
+    /// The growth (ns) within a window that makes a signal pending.
     threshold: Ns,
     /// The length of the window (ns).
     size: Ns,
-    /// The time at which the current window began (ns).
+    /// The start of the current window (ns).
     start: Ns,
-    /// The total at the start of the current window (ns).
+    /// The total (ns) at the start of the current window.
     start_value: u64,
-    /// The total at the last tick (ns).
+    /// The total (ns) at the last tick.
     last_value: u64,
-    /// The growth in the previous window (ns).
+    /// The growth (ns) of the total in the previous window.
     previous: u64,
-    /// Whether an event is pending.
+    /// Whether a signal is pending.
     pending: bool,
-    /// The time of the last signal (ns).
+    /// The time of the last signal (ns), or `None` if there was no signal.
     last_event: Option<Ns>,
 }
 
@@ -55,9 +56,10 @@ impl Model for Trigger {
     ghost invariant = { λ t. IsTrigger t.size t.previous t.last_event };
 }
 
-/// Returns the growth of a total in a window that hasn't expired: the growth since the window
-/// began, plus a part of the growth in the previous window that is proportional to the remaining
-/// time. An intermediate product has up to 89 bits.
+/// Returns the estimated growth (ns) of a total in the sliding window, while the current window
+/// hasn't expired. The estimate is the growth since the start of the current window, plus the part
+/// of the previous window's growth that corresponds to the remaining time. The intermediate product
+/// needs up to 89 bits.
 fn slid(growth: u64, previous: u64, size: Ns, elapsed: Ns) -> u64
     requires growth { growth ≤ last_moment }
     requires previous { previous ≤ last_moment }
@@ -70,9 +72,9 @@ fn slid(growth: u64, previous: u64, size: Ns, elapsed: Ns) -> u64
 }
 
 impl Trigger {
-    /// Returns a trigger that is set at time `at` (ns), when the total is `value` (ns), with its
-    /// threshold and its window (us). Fails with `BadWindow` if the window isn't between 500 ms and
-    /// 10 s, or the threshold isn't between 1 us and the window.
+    /// Returns a trigger that is set at time `at` (ns), when the total is `value` (ns). Fails with
+    /// `BadWindow` if the window isn't between 500 ms and 10 s, or if the threshold isn't between 1
+    /// us and the window.
     pub fn new(at: Ns, value: u64, threshold_us: u64, window_us: u64) -> Result<Trigger, Cause>
         requires at { at ≤ last_moment }
         requires value { value ≤ last_moment }
@@ -99,8 +101,8 @@ impl Trigger {
         })
     }
 
-    /// Takes a tick at time `now` (ns) with the total `value` (ns). Returns whether the trigger
-    /// fires.
+    /// Takes a tick at time `now` (ns), at which the total is `value` (ns). Returns whether the
+    /// trigger fires.
     #[tactic(auto, unfolding(pressure_spec::specs::Signal::trigger_step, pressure_spec::specs::Signal::fires))]
     pub fn step(&mut self, now: Ns, value: u64) -> bool
         requires now { now ≤ last_moment }
@@ -114,8 +116,8 @@ impl Trigger {
         self.signal(now)
     }
 
-    /// Takes a changed total. Restarts an expired window, and makes an event pending if the growth
-    /// reaches the threshold.
+    /// Processes a changed total at time `now` (ns). Starts a new window if the current window has
+    /// expired, and makes a signal pending if the growth reaches the threshold.
     fn grow(&mut self, now: Ns, value: u64)
         requires now { now ≤ last_moment }
         requires value { value ≤ last_moment }
@@ -137,8 +139,8 @@ impl Trigger {
         self.last_value = value;
     }
 
-    /// Signals a pending event, unless the last signal was less than a window ago. Returns whether
-    /// it does.
+    /// Fires the pending signal, if any, unless the last signal was less than a window ago. Returns
+    /// whether the trigger fires.
     fn signal(&mut self, now: Ns) -> bool
         requires { now ≤ last_moment }
         ensures state { self.new ≡ model.settled self.old now }
