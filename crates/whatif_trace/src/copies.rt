@@ -1,5 +1,6 @@
-//! Copies events, and appends them to the list of events that remain.
-//! Which events remain is decided by the callers.
+//! Copies events, and appends copies to the list of remaining events.
+//!
+//! The callers decide which events remain.
 ghost use Rattle.std.specs.Prelude.{◌≡◌, ◌∷◌, [], IfOk, true};
 ghost use Rattle.whatif_spec.specs.Without.{acts_if};
 ghost use Rattle.psi_spec.specs.World.{events_at};
@@ -8,7 +9,7 @@ ghost use Rattle.whatif_trace.specs.Left.{Adds, shows_of_group};
 use psi_base::{Act, Event, NoMemory, Ns};
 use std::alloc::Global;
 
-// Copies an act that samples a group's memory or sets a trigger.
+// Copies an act (the action of an event) that samples a group's memory or sets a trigger.
 fn copy_known(alloc: Global, act: &Act) -> Result<Act, NoMemory>
     requires { shows_of_group act.now ≡ true }
     ensures { IfOk result (λ copy. copy ≡ act.now) }
@@ -92,7 +93,7 @@ fn copy_act(alloc: Global, act: &Act) -> Result<Act, NoMemory>
     })
 }
 
-/// Copies an event; the copy owns its memory.
+/// Returns a copy of an event. The copy owns its memory.
 pub fn copy_event(alloc: Global, event: &Event) -> Result<Event, NoMemory>
     ensures { IfOk result (λ copy. copy ≡ event.now) }
 {
@@ -102,7 +103,7 @@ pub fn copy_event(alloc: Global, event: &Event) -> Result<Event, NoMemory>
     })
 }
 
-/// Appends the event with this time (ns) and act.
+/// Appends an event with the time `at` (ns) and this act.
 pub(crate) fn keep(kept: &mut Vec<Event>, at: Ns, act: Act) -> Result<(), NoMemory>
     ensures { Adds kept.old.items kept.new.items result (events_at at (act ∷ [])) }
 {
@@ -110,7 +111,7 @@ pub(crate) fn keep(kept: &mut Vec<Event>, at: Ns, act: Act) -> Result<(), NoMemo
     Ok(())
 }
 
-/// Appends the event with this time (ns) and act if `test` is true.
+/// Appends an event with the time `at` (ns) and this act, if `test` is true.
 #[tactic(auto, using(crate::proofs::Kept::none_kept))]
 pub(crate) fn keep_if(kept: &mut Vec<Event>, test: bool, at: Ns, act: Act) -> Result<(), NoMemory>
     ensures { Adds kept.old.items kept.new.items result
@@ -127,7 +128,7 @@ pub(crate) fn keep_copy(alloc: Global, kept: &mut Vec<Event>, event: &Event) -> 
     Ok(())
 }
 
-/// Appends copies of events.
+/// Appends copies of the events, in order.
 #[tactic(auto, using(crate::proofs::Kept::none_kept, crate::proofs::Kept::part_kept))]
 pub(crate) fn keep_copies(
     alloc: Global,

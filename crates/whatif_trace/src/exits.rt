@@ -1,5 +1,7 @@
-//! Appends the exits of killed tasks.
-//! An exit may take up to four events: wake, switch in, end of a memory stall, switch out.
+//! Appends the events by which killed tasks exit.
+//!
+//! An exit takes up to four events: the task wakes up, is switched in, ends its memory stall, and
+//! is switched out.
 ghost use Rattle.std.specs.Prelude.{◌≡◌};
 ghost use Rattle.psi_spec.specs.World.{is_active, events_at};
 ghost use Rattle.whatif_spec.specs.Without.{exit_acts, making_room};
@@ -11,7 +13,7 @@ use psi_base::{Act, Event, How, NoMemory, Ns, Pid};
 use psi_spec::{Mode, Task};
 use task_table::Table;
 
-/// Whether a task is ready or running.
+/// Returns whether the task is ready or running.
 fn is_active(mode: Mode) -> bool
     ensures { result ≡ is_active mode }
 {
@@ -21,7 +23,8 @@ fn is_active(mode: Mode) -> bool
     }
 }
 
-/// How `running`, the running task (if any), is switched out so that another task can run.
+/// Returns how a processor leaves its running task, or its idle state, so that another task can
+/// run.
 fn making_room(running: Option<Pid>) -> How
     ensures { result ≡ making_room running }
 {
@@ -31,8 +34,8 @@ fn making_room(running: Option<Pid>) -> How
     }
 }
 
-/// Appends the events by which `task` exits at `at` (ns). `running` is the task that runs on its
-/// processor, if any.
+/// Appends the events by which `task` exits at time `at` (ns). `running` is the task that runs on
+/// the same processor, or `None` if the processor is idle.
 #[tactic(auto, using(crate::proofs::Kept::four_kept))]
 fn keep_exit(
     kept: &mut Vec<Event>,
@@ -63,7 +66,8 @@ fn keep_exit(
     keep(kept, at, leaves)
 }
 
-/// Appends the exit of one task at `at` (ns) if it is live, and updates the running tasks.
+/// Appends the events by which one task exits at time `at` (ns), if the task is live. Updates the
+/// list of running tasks.
 #[tactic(auto, using(crate::proofs::Kept::none_kept))]
 fn keep_one(
     kept: &mut Vec<Event>,
@@ -86,8 +90,8 @@ fn keep_one(
     keep_exit(kept, at, pid, task, running)
 }
 
-/// Appends the exits of the tasks with these pids at `at` (ns), in order. `runners` are the running
-/// tasks before the exits.
+/// Appends the events by which the tasks with these pids exit at time `at` (ns), in order.
+/// `runners` has the running task of each processor before the exits.
 #[tactic(auto, using(crate::proofs::Kept::none_kept, crate::proofs::Kept::part_kept))]
 pub(crate) fn keep_exits(
     kept: &mut Vec<Event>,

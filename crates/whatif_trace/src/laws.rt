@@ -1,15 +1,17 @@
-//! Laws of a trace without the tasks of a group.
-//! Each function has an empty body: its contract is the law.
+//! Laws about a trace from which the tasks of a group are removed.
+//!
+//! Each function has an empty body: its contract is the law, and the proof shows that the law
+//! holds.
 ghost use Rattle.whatif_trace.specs.Laws.{ExitsLeaveNone, WithoutIsAccepted, WorldsWithout};
 
-/// If a trace is accepted, the trace without the tasks of a group is accepted too, unless it is too
-/// long.
+/// If a trace is accepted, the trace without the tasks of a group is also accepted, unless it has
+/// too many events.
 pub fn law_without()
     ensures { WithoutIsAccepted }
 {}
 
-/// After the exit events none of the group's tasks is live, and each later world is the original
-/// trace's world without these tasks.
+/// After the exit events, none of the group's tasks is live. After each later event, the state of
+/// the new trace is the state of the original trace without these tasks.
 pub fn law_worlds_without()
     ensures exits { ExitsLeaveNone }
     ensures worlds { WorldsWithout }

@@ -1,10 +1,11 @@
-//! Removes the tasks of a killed group from a trace, with laws of the result.
+//! Removes the tasks of a killed group from a trace, and states laws about the resulting trace.
 //!
-//! It removes one group at one time; whatif_rounds finds the kills and repeats this for each of
-//! them.
+//! This crate removes one group at one time. The crate whatif_rounds finds the kills and repeats
+//! the removal for each kill.
 //!
-//! In `specs/`: `Rest` (how the worlds of both traces relate), `Left` (the events that remain,
-//! given who runs on each processor), `Bounded` and `Laws`.
+//! In `specs/`, `Left` defines the remaining events from the list of running tasks, `Rest` relates
+//! the states (worlds) of the two traces, `Bounded` limits the number of events, and `Laws` states
+//! the laws.
 #![tactic(auto)]
 
 mod copies;

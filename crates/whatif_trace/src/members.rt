@@ -1,5 +1,6 @@
-//! Finds the tasks of a killed group and of its descendants.
-//! Each live task was created by a `fork`, so only forks are searched.
+//! Finds the live tasks of a killed group and of its descendants.
+//!
+//! Each live task was created by a `fork` event, so only these events are searched.
 ghost use Rattle.std.specs.Prelude.{◌≡◌, ◌&&◌, ◌||◌, ◌==◌, ℕ, IfOk, OnOk};
 ghost use Rattle.std.specs.List.Sorted.{IsStrictlySortedBy};
 ghost use Rattle.std.specs.Ordering.{nat_cmp};
@@ -11,7 +12,8 @@ use std::alloc::Global;
 use std::collections::BTreeSet;
 use task_table::Table;
 
-/// Whether the task with this pid is live and in the group `victim` or one of its descendants.
+/// Returns whether the task with this pid is live and in the group `victim` or in one of its
+/// descendants.
 fn is_member(table: &Table, pid: Pid, victim: Slot) -> bool
     ensures { result ≡ is_member table.now.world victim.0 pid.0 }
 {
@@ -21,7 +23,7 @@ fn is_member(table: &Table, pid: Pid, victim: Slot) -> bool
     }
 }
 
-/// Adds a pid if `test` is true.
+/// Adds a pid to the set if `test` is true.
 #[tactic(auto, using(crate::proofs::Adding::none_in))]
 fn add_if(members: &mut BTreeSet<u32>, test: bool, pid: Pid) -> Result<(), NoMemory>
     requires sorted { IsStrictlySortedBy nat_cmp members.old.keys }
@@ -35,8 +37,8 @@ fn add_if(members: &mut BTreeSet<u32>, test: bool, pid: Pid) -> Result<(), NoMem
     Ok(())
 }
 
-/// Adds the task that an act created, if it is live and in the group `victim` or one of its
-/// descendants.
+/// If the act creates a task, adds its pid to the set, provided that the task is live and in the
+/// group `victim` or in one of its descendants.
 #[tactic(auto, using(crate::proofs::Adding::same_member))]
 fn add_forked(
     members: &mut BTreeSet<u32>,
@@ -56,8 +58,8 @@ fn add_forked(
     }
 }
 
-/// The pids of the live tasks in the group `victim` and its descendants. Requires that `events`
-/// include the creation of each live task.
+/// Returns the pids of the live tasks in the group `victim` and in its descendants. Precondition:
+/// `events` has the creation of each live task.
 pub(crate) fn members(
     alloc: Global,
     table: &Table,

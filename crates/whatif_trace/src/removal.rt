@@ -1,5 +1,7 @@
 //! Removes the tasks of a killed group from a trace.
-//! This module cuts the trace at the kill; `exits` and `rest` write the second part.
+//!
+//! This module splits the trace at the time of the kill. The modules `exits` and `rest` write the
+//! events after the split.
 ghost use Rattle.std.specs.Prelude.{◌≡◌, ◌++◌, ◌<◌, ◌≤◌, IfOk, MatchResult, None, OnOk, Ok, drop, length, nat_lt, take};
 ghost use Rattle.psi_base.specs.Gives.{FaultOf};
 ghost use Rattle.psi_spec.specs.Refusal.{AreLegal, cause_of};
@@ -19,14 +21,14 @@ use std::alloc::Global;
 use std::collections::BTreeSet;
 use task_table::Table;
 
-/// The error if the remaining trace has more events than a trace may have.
+/// The error for a resulting trace with more events than a trace may have.
 #[derive(Clone, Copy, Debug, PartialEq, Eq)]
 pub struct TooLarge {
-    /// The number of remaining events, above 4,000,000.
+    /// The number of events of the resulting trace. It is above 4,000,000.
     pub events: u64,
 }
 
-/// The number of leading events at or before `at` (ns).
+/// Returns the number of events at or before time `at` (ns) at the start of the trace.
 fn prefix_length(events: &[Event], at: Ns) -> usize
     ensures length { result ≡ prefix_length at events.now }
     ensures inside { result ≤ length events.now }
@@ -38,7 +40,6 @@ fn prefix_length(events: &[Event], at: Ns) -> usize
     count
 }
 
-/// The first `count` events.
 fn prefix_of(events: &[Event], count: usize) -> &[Event]
     requires { count ≤ length events.now }
     ensures { result.now ≡ take count events.now }
@@ -46,7 +47,6 @@ fn prefix_of(events: &[Event], count: usize) -> &[Event]
     &events[..count]
 }
 
-/// The events after the first `count` events.
 fn rest_of(events: &[Event], count: usize) -> &[Event]
     requires { count ≤ length events.now }
     ensures { result.now ≡ drop count events.now }
@@ -54,14 +54,14 @@ fn rest_of(events: &[Event], count: usize) -> &[Event]
     &events[count..]
 }
 
-/// The numbers of a set, in ascending order.
+/// Returns the pids in the set, in ascending order.
 fn numbers_of(alloc: Global, pids: &BTreeSet<u32>) -> Result<Vec<u32>, NoMemory>
     ensures { IfOk result (λ numbers. numbers.items ≡ pids.now.keys) }
 {
     Ok(pids.iter().copied().collect(alloc)?)
 }
 
-/// Whether `at` (ns) is before the end of the trace.
+/// Returns whether time `at` (ns) is before the end of the trace.
 #[tactic(auto, using(crate::proofs::Cutting::before_known))]
 fn is_before_end(events: &[Event], at: Ns) -> bool
     ensures { result ≡ nat_lt at (after events.now).last }
@@ -72,7 +72,7 @@ fn is_before_end(events: &[Event], at: Ns) -> bool
     }
 }
 
-/// Plays one event. Requires that the event is legal.
+/// Applies one event to the task table. Precondition: the event is legal.
 fn play_one(table: &mut Table, event: &Event) -> Result<(), NoMemory>
     requires { cause_of table.old.limits table.old.world event.now ≡ None }
     ensures limits { OnOk result (table.new.limits ≡ table.old.limits) }
@@ -85,8 +85,8 @@ fn play_one(table: &mut Table, event: &Event) -> Result<(), NoMemory>
     }
 }
 
-/// Plays events, and updates the running tasks. Requires that each event is legal after the
-/// previous ones.
+/// Applies events to the task table, and updates the list of running tasks. Precondition: each
+/// event is legal after the events before it.
 fn play_all(
     table: &mut Table,
     runners: &mut Vec<Option<Pid>>,
@@ -107,8 +107,8 @@ fn play_all(
     Ok(())
 }
 
-/// Appends the exits of the tasks in `dead` at `at` (ns). `runners` are the running tasks before
-/// the exits.
+/// Appends the events by which the tasks in `dead` exit at time `at` (ns). `runners` has the
+/// running task of each processor before the exits.
 fn keep_all_exits(
     alloc: Global,
     kept: &mut Vec<Event>,
@@ -125,8 +125,9 @@ fn keep_all_exits(
     keep_exits(kept, at, table, runners_then, &pids)
 }
 
-/// The events of `prefix` and `rest`, without the tasks that are in the group `victim` or one of
-/// its descendants after `prefix`. These tasks exit at `at` (ns).
+/// Returns the events of `prefix` and `rest`, without the tasks that are in the group `victim` or
+/// in one of its descendants after `prefix`. These tasks exit at time `at` (ns), between the two
+/// lists.
 fn left_of(
     alloc: Global,
     table: &Table,
@@ -150,8 +151,8 @@ fn left_of(
     Ok(kept)
 }
 
-/// The events without the tasks that are in the group `victim` or one of its descendants at `at`
-/// (ns). Requires that `at` is before the end of the trace.
+/// Returns the events of the trace without the tasks that are in the group `victim` or in one of
+/// its descendants at time `at` (ns). Precondition: `at` is before the end of the trace.
 fn cut_down(
     alloc: Global,
     cpus: u32,
@@ -175,8 +176,8 @@ fn cut_down(
     left_of(alloc, &table, runners, prefix, rest, at + 1, victim)
 }
 
-/// The events without the tasks that are in the group `victim` or one of its descendants at `at`
-/// (ns). If `at` isn't before the end, all events.
+/// Returns the events of the trace without the tasks that are in the group `victim` or in one of
+/// its descendants at time `at` (ns). Returns all events if `at` isn't before the end of the trace.
 fn all_left(
     alloc: Global,
     cpus: u32,
@@ -198,12 +199,12 @@ fn all_left(
     Ok(kept)
 }
 
-/// Removes from a trace the tasks that are in the group `victim` or one of its descendants at `at`
-/// (ns). The result has the events up to that time, the exits of these tasks a nanosecond later,
-/// and the later events without these tasks. If `at` isn't before the end, the result is all
-/// events. Requires an accepted trace of 1 to 64 processors without an event later than `latest`
-/// (ns). The error is `TooLarge` exactly if more than 4,000,000 events remain; otherwise it is
-/// `NoMemory`.
+/// Removes from a trace the tasks that are in the group `victim` or in one of its descendants at
+/// time `at` (ns). The result has the events up to that time, the exits of these tasks 1 ns later,
+/// and the later events without these tasks. If `at` isn't before the end of the trace, the result
+/// has all events. Precondition: the trace is accepted, has 1 to 64 processors, and has no event
+/// later than `latest` (ns). Fails with `TooLarge` if and only if more than 4,000,000 events
+/// remain, and with `NoMemory` if memory runs out.
 pub fn without(
     alloc: Global,
     cpus: u32,

@@ -1,5 +1,6 @@
-//! The events after the exits, without the dead tasks.
-//! The dead tasks are the killed tasks that haven't exited in the original trace yet.
+//! Copies the events after the exits, without the dead tasks.
+//!
+//! A killed task is called dead until it exits in the original trace.
 ghost use Rattle.std.specs.Prelude.{◌≡◌};
 ghost use Rattle.whatif_spec.specs.Without.{if_alive, is_alive, is_pid_among, switch_without, without_pid};
 ghost use Rattle.psi_spec.specs.World.{events_at};
@@ -11,7 +12,7 @@ use psi_base::{Act, Cpu, Event, How, NoMemory, Ns, Pid};
 use std::alloc::Global;
 use std::collections::BTreeSet;
 
-/// Whether `pid` belongs to a dead task.
+/// Returns whether the task with this pid is dead.
 #[tactic(auto, using(crate::proofs::Killed::among_keys))]
 fn is_dead(dead: &BTreeSet<u32>, pid: Pid) -> bool
     ensures { result ≡ is_pid_among dead.now.keys pid.0 }
@@ -19,7 +20,7 @@ fn is_dead(dead: &BTreeSet<u32>, pid: Pid) -> bool
     dead.contains(&pid.0)
 }
 
-/// Whether there is a task, and it isn't dead.
+/// Returns whether there is a task and it isn't dead.
 fn is_alive(dead: &BTreeSet<u32>, pid: Option<Pid>) -> bool
     ensures { result ≡ is_alive dead.now.keys pid }
 {
@@ -29,14 +30,15 @@ fn is_alive(dead: &BTreeSet<u32>, pid: Option<Pid>) -> bool
     }
 }
 
-/// Returns `next`, or `None` if that task is dead.
+/// Returns `next` unless that task is dead, and `None` otherwise.
 fn if_alive(dead: &BTreeSet<u32>, next: Option<Pid>) -> Option<Pid>
     ensures { result ≡ if_alive dead.now.keys next }
 {
     if is_alive(dead, next) { next } else { None }
 }
 
-/// The task that performs an act. `None` for a switch and for an act without a task.
+/// Returns the task that performs the act. `None` for a switch, and for an act that no task
+/// performs.
 fn doer(act: &Act) -> Option<Pid>
     ensures { result ≡ doer act.now }
 {
@@ -50,8 +52,8 @@ fn doer(act: &Act) -> Option<Pid>
     }
 }
 
-/// Appends what remains of a switch on processor `cpu`. `leaving` is the task that is switched out,
-/// if any.
+/// Appends the switch on processor `cpu` as it is without the dead tasks, or nothing if no such
+/// switch remains. `leaving` is the task that is switched out, or `None` if the processor was idle.
 #[tactic(auto, using(crate::proofs::Kept::none_kept))]
 fn keep_switch(
     kept: &mut Vec<Event>,
@@ -76,7 +78,8 @@ fn keep_switch(
     }
 }
 
-/// Appends a copy of an event, unless a dead task performs it. The event isn't a switch.
+/// Appends a copy of an event, unless a dead task performs it. Switch events are handled by
+/// `keep_switch`.
 #[tactic(auto, using(crate::proofs::Kept::none_kept))]
 fn keep_act(
     alloc: Global,
@@ -93,7 +96,7 @@ fn keep_act(
     }
 }
 
-/// Appends what remains of an event without the dead tasks.
+/// Appends an event as it is without the dead tasks, or nothing if no event remains.
 fn keep_left(
     alloc: Global,
     kept: &mut Vec<Event>,
@@ -113,8 +116,8 @@ fn keep_left(
     }
 }
 
-/// Removes the pid of the task `leaving` from `dead`: it exits in the original trace too, so its
-/// pid may be reused.
+/// Removes the task `leaving` from `dead`. The task exits in the original trace too, so its pid may
+/// be reused.
 #[tactic(auto, using(crate::proofs::Killed::taken_out))]
 fn revive(dead: &mut BTreeSet<u32>, leaving: Option<Pid>)
     ensures { dead.new.keys ≡ without_pid dead.old.keys leaving }
@@ -125,7 +128,7 @@ fn revive(dead: &mut BTreeSet<u32>, leaving: Option<Pid>)
     }
 }
 
-/// Updates `dead` after an act: a task that exits is no longer in the set.
+/// Updates `dead` after an act. A task that exits is removed from the set.
 fn note_exit(dead: &mut BTreeSet<u32>, runners: &[Option<Pid>], act: &Act)
     ensures { dead.new.keys ≡ dead_left dead.old.keys runners.now act.now }
 {
@@ -139,8 +142,8 @@ fn note_exit(dead: &mut BTreeSet<u32>, runners: &[Option<Pid>], act: &Act)
     }
 }
 
-/// Appends what remains of the events without the dead tasks. `runners` are the running tasks
-/// before the events.
+/// Appends the events as they are without the dead tasks. `runners` has the running task of each
+/// processor before the events.
 #[tactic(auto, using(crate::proofs::Kept::none_kept, crate::proofs::Kept::part_kept))]
 pub(crate) fn keep_rest(
     alloc: Global,

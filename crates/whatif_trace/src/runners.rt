@@ -1,19 +1,21 @@
-//! The pids of the tasks that run, by processor.
-//! In contrast to the task table, this list follows the original trace while the rest is cut.
+//! The list of the running tasks, indexed by processor.
+//!
+//! The list follows the original trace, in which the dead tasks still run. The task table doesn't
+//! follow the events after the kill.
 ghost use Rattle.std.specs.Prelude.{◌≡◌, ◌<◌, IfOk, None, replicate, slice_set};
 ghost use Rattle.whatif_trace.specs.Left.{runner_at, turned};
 
 use psi_base::{Act, Cpu, NoMemory, Pid};
 use std::alloc::Global;
 
-/// A list for `cpus` processors on which no task runs.
+/// Returns a list for `cpus` idle processors.
 pub(crate) fn no_runners(alloc: Global, cpus: u32) -> Result<Vec<Option<Pid>>, NoMemory>
     ensures { IfOk result (λ runners. runners.items ≡ replicate cpus None) }
 {
     Ok(vec![in alloc; None; cpus as usize]?)
 }
 
-/// The pid of the task that runs on processor `cpu`, if any.
+/// Returns the pid of the task that runs on processor `cpu`, or `None` if the processor is idle.
 pub(crate) fn runner_at(runners: &[Option<Pid>], cpu: Cpu) -> Option<Pid>
     ensures { result ≡ runner_at runners.now cpu.0 }
 {
@@ -23,7 +25,7 @@ pub(crate) fn runner_at(runners: &[Option<Pid>], cpu: Cpu) -> Option<Pid>
     }
 }
 
-/// Sets the task that runs on processor `cpu`; `None` if the processor is idle.
+/// Sets the task that runs on processor `cpu`, or `None` for an idle processor.
 pub(crate) fn set_runner(runners: &mut Vec<Option<Pid>>, cpu: Cpu, runner: Option<Pid>)
     ensures { runners.new.items ≡ slice_set runners.old.items cpu.0 runner }
 {
