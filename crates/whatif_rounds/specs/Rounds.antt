@@ -1,4 +1,5 @@
--- The trace that remains after some rounds, and the result of the next round.
+-- Defines the result of a round, and relates the code to the trace that remains after some rounds.
+-- Each round removes one kill from the trace.
 use Rattle.std.specs.Prelude.{◌≡◌, ℕ, List, ◌≤◌, None, Some, Ok, Err, ⊤, slice_get}
 use Rattle.psi_base.specs.declared.event.Event.{Event}
 use Rattle.psi_base.specs.declared.event.Fault.{Fault}
@@ -16,7 +17,7 @@ use Rattle.whatif_trace.specs.declared.removal.TooLarge.{TooLarge}
 use Rattle.whatif_rounds.specs.declared.rounds.Round.{Round}
 use Rattle.whatif_rounds.specs.declared.rounds.Round.TheVariants as found
 
--- the options that a replay uses are in range
+-- The options that a replay uses are in range.
 pub record MayReplay (options : Options) : Type 0 where
   pub some : 1 ≤ options.tick_ms
   pub short : options.tick_ms ≤ 60000
@@ -24,34 +25,34 @@ pub record MayReplay (options : Options) : Type 0 where
   pub often : options.interval_s ≤ 3600
   pub workers : IsWithin 1 64 options.workers
 
--- the trace is accepted with the tick length of the options
+-- The trace is accepted with the tick length of the options.
 pub record IsTraceAt (options : Options) (trace : Trace) : Type 0 where
   pub counted : IsCpuCount trace.cpus
   pub accepted : IsAccepted (limits_of (of_ms options.tick_ms) trace.cpus) trace.events
 
--- the trace with this version, number of processors and events
+-- The trace with this version, this number of processors and these events.
 abbrev pub trace_from : ℕ → ℕ → List Event → Trace
 trace_from number cpus events = record { version = version_of number; cpus = cpus; events = events }
 
--- the plans are those of `trace`, which may be replayed with the options
+-- `plans` has the plans of `trace`, and the trace may be replayed with the options.
 abbrev pub ArePlansOf : PlansView → Options → Trace → Type 0
 ArePlansOf plans options trace = IsPlanned plans trace (timing_of options)
 
--- The result of the round with this number: the kill with that number, or `Last` with the trace's
--- plans if there is no such kill.
+-- The result of the search in the round `number`: the kill with the index `number`, or `Last` with
+-- the plans of the trace if there is no such kill.
 abbrev pub Finds : Options → List Rule → ℕ → Trace → Round → Type 0
 Finds options rules number trace (found.Kill kill) = slice_get (all_kills trace (timing_of options) rules) number ≡ Some kill
 Finds options rules number trace (found.Last plans) =
     (slice_get (all_kills trace (timing_of options) rules) number ≡ None) × ArePlansOf plans options trace
 
--- The plans are those of the last trace, from which all kills were removed.
+-- `plans` has the plans of the trace that remains after the last round.
 abbrev pub AreLastPlans : Options → List Rule → Trace → PlansView → Type 0
 AreLastPlans options rules trace plans =
     (last : Trace) × (last_trace trace (timing_of options) rules ≡ Ok last) × (last.version ≡ trace.version)
     × ArePlansOf plans options last
 
--- a `TooLarge` fault has the number of events that a round left, which is above the limit; nothing
--- is stated about an out-of-memory fault
+-- A `TooLarge` fault has the number of events that remain after a round, and this number is above
+-- the limit. Nothing is required of an out-of-memory fault.
 abbrev pub IsOutgrown : Options → List Rule → Trace → Fault TooLarge → Type 0
 IsOutgrown options rules trace (fault.Refused large) = last_trace trace (timing_of options) rules ≡ Err large.events
 IsOutgrown options rules trace (fault.NoMemory _) = ⊤

@@ -1,11 +1,12 @@
-//! The trace that remains if the victims of its kills are removed from it, one kill a round, and
-//! laws of the text printed for it.
+//! Removes the victims of all kills from a trace, one kill per round, and states laws about the
+//! text that is printed for the remaining trace.
 //!
-//! It replays without output to find each kill, and leaves the removal to whatif_trace and the
-//! printing of the result to `commands`. The laws relate definitions only: no code calls them.
+//! Each round replays the remaining trace without output to find the next kill. The crate
+//! whatif_trace removes the tasks, and `commands` prints the result. The laws relate
+//! specifications; no code calls them.
 //!
-//! In `specs/`: `Rounds` (the trace after some rounds, and the result of a round) and `Until` (what
-//! is printed up to a kill).
+//! In `specs/`, `Rounds` defines the result of a round and the trace after some rounds, and `Until`
+//! states which printed text doesn't change.
 #![tactic(auto)]
 
 mod laws;

@@ -1,5 +1,6 @@
 //! Removes kills from a trace, round by round.
-//! Each round replays the remaining trace from its beginning.
+//!
+//! Each round replays the remaining trace from its start.
 ghost use Rattle.std.specs.Prelude.{◌≡◌, IfOk, MatchResult, Ok};
 ghost use Rattle.psi_base.specs.Gives.{FaultOf};
 ghost use Rattle.psi_spec.specs.Header.{IsVersion};
@@ -21,19 +22,20 @@ use std::alloc::Global;
 use std::thread::Threads;
 use whatif_trace::{TooLarge, without};
 
-/// The most kills that are removed.
+/// The greatest number of kills that are removed.
 const MOST_ROUNDS: usize = 64;
 
-/// The result of a round.
+/// The result of the search for a kill in one round.
 #[derive(Drop)]
 pub(crate) enum Round {
-    /// The kill with the round's number.
+    /// The kill whose index is the number of the round.
     Kill(Kill),
-    /// There is no kill with the round's number. The plans are those of the trace.
+    /// The trace has no kill with that index. The value has the plans of the trace.
     Last(Plans),
 }
 
-// The latest time (ns) in a trace that is replayed with the options' tick length.
+// Returns the latest time (ns) that a trace may have when it is replayed with the tick length of
+// the options.
 fn latest_of(options: &Options) -> Ns
     requires { MayReplay options.now }
     ensures { result ≡ (limits_of (of_ms options.now.tick_ms) 1).latest }
@@ -59,8 +61,8 @@ fn plans_of(
     }
 }
 
-// Looks for kill `number`, counted from 0, in a replay of the trace with this version, number of
-// processors and events. Requires that the trace is accepted.
+// Replays a trace to find the kill with the index `number`, counted from 0. The trace has this
+// version, this number of processors and these events. Precondition: the trace is accepted.
 fn find_in<R: Threads + Sync>(
     rt: &R,
     alloc: Global,
@@ -86,8 +88,7 @@ fn find_in<R: Threads + Sync>(
     }
 }
 
-// Returns the events without the tasks of the victim of `kill`. Requires that the trace is
-// accepted.
+// Returns the events without the tasks of the killed group. Precondition: the trace is accepted.
 fn take_out(
     alloc: Global,
     cpus: u32,
@@ -113,10 +114,11 @@ fn take_out(
     )
 }
 
-/// Removes the victims of the kills from a trace, in order, for at most 64 kills, and returns the
-/// plans of the remaining trace. Each round replays the trace with these rules and options.
-/// Requires that the trace with this version, number of processors and events is accepted. The
-/// error is `TooLarge` exactly if more than 4,000,000 events remain after a kill.
+/// Removes the victims of at most 64 kills from a trace, in order, and returns the plans of the
+/// remaining trace. Each round replays the trace with these rules and options. Precondition: the
+/// trace with this version, number of processors and events is accepted. Fails with `TooLarge` if
+/// and only if more than 4,000,000 events remain after a round, and with `NoMemory` if memory runs
+/// out.
 pub fn last_plans<R: Threads + Sync>(
     rt: &R,
     alloc: Global,

@@ -1,5 +1,6 @@
-//! Searches for a kill with a replay that prints nothing.
-//! The replay stops at the kill.
+//! Finds a kill by a replay without output.
+//!
+//! The replay stops at the tick of the kill.
 ghost use Rattle.std.specs.Prelude.{◌≡◌, List, IfOk, slice_get};
 ghost use Rattle.kill_spec.specs.declared.kill.Kill.{Kill};
 ghost use Rattle.psi_spec.specs.Header.{IsVersion, version_of};
@@ -24,8 +25,8 @@ use run_spec::Options;
 use std::alloc::Global;
 use std::thread::Threads;
 
-// Finds kill `number`, counted from 0 in order of tick, ruleset and action. Requires that the
-// replay is before its first tick.
+// Returns the kill with the index `number`, counted from 0 and ordered by tick, ruleset and action.
+// `None` if there are fewer kills. Precondition: the replay is before its first tick.
 fn kill_of<R: Threads + Sync>(rt: &R, replay: &mut Replay<'_>, number: usize) -> Option<Kill>
     requires { (trace : Trace) × (timing : Timing) × (rules : List Rule)
         × IsReplay replay.old trace timing rules 0 }
@@ -44,8 +45,9 @@ fn kill_of<R: Threads + Sync>(rt: &R, replay: &mut Replay<'_>, number: usize) ->
     None
 }
 
-/// Finds kill `number`, counted from 0 in order of tick, ruleset and action, in a replay of the
-/// trace of `plans` with these rules and options. `None` if there are fewer kills.
+/// Returns the kill with the index `number`, counted from 0 and ordered by tick, ruleset and
+/// action, in a replay of the trace of `plans` with these rules and options. `None` if there are
+/// fewer kills.
 pub(crate) fn find_kill<R: Threads + Sync>(
     rt: &R,
     alloc: Global,
