@@ -1,5 +1,5 @@
 //! Decides kills: at each evaluation, every ruleset that fires runs its actions in order. A ruleset
-//! *rests* during the delay after a kill: then it runs no actions.
+//! *rests* during the delay after a kill that ended its chain of actions: then it runs no actions.
 //!
 //! [`Killer`] has the state of all detectors and the stored past of all groups. It takes readings
 //! in order, and returns the kills at the last reading. A reading is the input of one evaluation:

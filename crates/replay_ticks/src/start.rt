@@ -71,7 +71,8 @@ pub fn prepare<'a>(
     let ahead = if live.is_some() { 1 } else { last };
     Ok(Replay {
         plans,
-        // The largest allocations come last. If memory runs out there, little needs to be freed.
+        // The largest allocations come last. If one of them fails, only smaller allocations need to
+        // be freed.
         order: plans.groups().path_order(alloc)?,
         rows: Rows::make(alloc, plans.cpus(), slots)?,
         engine: Engine::make(alloc, plans.lives(), plans.triggers(), plans.cpus())?,
