@@ -24,7 +24,7 @@ use Rattle.detectors.proofs.Order.{either, slots_differ, slots_in}
 
 -- ---- places
 
--- groups that are appended don't change the groups at earlier places
+-- Appending groups to a list doesn't change the groups at the earlier indexes.
 same_at : (groups more : List GroupReading) (places : List ℕ) → AreAmong groups places →
     groups_at (groups ++ more) places ≡ groups_at groups places
 same_at groups more [] among = refl
@@ -49,7 +49,8 @@ pub one_more : (groups : List GroupReading) (group : GroupReading) →
     length (groups ++ group ∷ []) ≡ length groups + 1
 one_more groups group = omega (arith, length-append groups (group ∷ []))
 
--- a list of places is right after one more group, whose place was appended if it passes the test
+-- The list of places is still correct after a group is appended to the reading and its place is
+-- appended to the list if the group passes the test.
 pub held_more : (test : GroupReading → Bool) (groups : List GroupReading) (group : GroupReading) (room : ℕ) (old new : PlacesView) →
     AreHeld test groups room old → HasPlaced (test group) (length groups) old new →
     AreHeld test (groups ++ group ∷ []) room new
@@ -82,7 +83,7 @@ held_more test groups group room old new held placed =
 
 -- ---- the number of children
 
--- the numbers, from `at`, of the parents that pass a test
+-- The indexes of the parents that pass the test. The first parent has the index `at`.
 abbrev numbers_from : (Option ℕ → Bool) → ℕ → List (Option ℕ) → List ℕ
 numbers_from test at [] = []
 numbers_from test at (parent ∷ parents) =
@@ -95,7 +96,7 @@ length_numbers test at (parent ∷ parents) = by_test _ (test parent)
     (λ holds. rw holds (ap suc (length_numbers test (suc at) parents)))
     (λ fails. rw fails (length_numbers test (suc at) parents))
 
--- the number of every parent that passes the test is among them
+-- `numbers_from` has the index of every parent that passes the test.
 has_number : (test : Option ℕ → Bool) (at k : ℕ) (parents : List (Option ℕ)) → k < length parents →
     test (get_or parents k None) ≡ true → list_any (eqb (at + k)) (numbers_from test at parents) ≡ true
 has_number test at k [] below passes = absurd (omega (arith, below))
@@ -108,7 +109,7 @@ has_number test at (suc k) (parent ∷ parents) below passes =
     (λ holds. rw (holds, suffix) (or-true (eqb (suc at + k) at)))
     (λ fails. rw fails suffix))
 
--- the parent of a group among the children of slot `slot` is that slot
+-- If the slot `s` is the slot of a child of the group in slot `slot`, its parent is `slot`.
 child_in : (lives : List GroupLife) (slot s : ℕ) (groups : List GroupReading) →
     All (IsGroupReading (length lives)) groups →
     list_any (eqb s) (slots_in (filter (is_child lives slot) groups)) ≡ true →
@@ -124,7 +125,7 @@ child_in lives slot s (group ∷ groups) each is =
     (either (eqb s group.slot.0) (list_any (eqb s) (slots_in (filter (is_child lives slot) groups))) (rw holds at is)))
     (λ fails. child_in lives slot s groups rest (rw fails at is))
 
--- distinct slots are still distinct if some groups are left out
+-- Distinct slots remain distinct if some groups are left out.
 others_left : (slot : ℕ) (test : GroupReading → Bool) (groups : List GroupReading) →
     AllByRecursion (λ other. eqb slot other ≡ false) (slots_in groups) →
     AllByRecursion (λ other. eqb slot other ≡ false) (slots_in (filter test groups))
@@ -141,8 +142,8 @@ differ_left test (group ∷ groups) differ = by_test _ (test group)
     (λ holds. rw holds (others_left group.slot.0 test groups differ.0, differ_left test groups differ.1))
     (λ fails. rw fails (differ_left test groups differ.1))
 
--- the number of a group's children in a reading is at most the number of children that the group
--- ever has
+-- The number of a group's children in a reading is at most the number of children that the trace
+-- ever creates in the group.
 pub at_most_children : (lives : List GroupLife) (slot : ℕ) (groups : List GroupReading) →
     All (IsGroupReading (length lives)) groups → Ascend (map (path_of lives) groups) →
     length (filter (is_child lives slot) groups) ≤ child_count lives slot

@@ -1,4 +1,4 @@
--- Proofs that the groups which a table of matches finds in a reading are the matches.
+-- Proves that the groups that a table of matches finds in a reading are the matches.
 use Rattle.std.proofs.Common.{◌≡◌, ℕ, suc, ◌<◌, List, [], ◌∷◌, length, refl, sym, ap, ◌∙◌, arith}
 use Rattle.std.specs.Prelude.{All, Bool, false, filter, nat_lt, slice_index_or, Option, None, Some}
 use Rattle.std.specs.List.{list_any}
@@ -17,7 +17,7 @@ use Rattle.detectors.specs.Stands.{condition_of, greatest_kept, last_scan}
 
 -- ---- tables
 
--- a group is a match according to its table exactly if at least one pattern matches its path
+-- A group is a match according to its table if and only if at least one pattern matches its path.
 pub has_match_of : (lives : List GroupLife) (patterns : List Pattern) (group : GroupReading) →
     group.slot.0 < length lives →
     has (match_table lives patterns) group ≡ is_match patterns (path_of lives group)
@@ -25,7 +25,7 @@ has_match_of lives patterns group inside =
     get_or-map (λ (life : GroupLife). is_match patterns life.path) lives group.slot.0 root false inside
     ∙ sym (ap (is_match patterns) (get_or-map (λ (life : GroupLife). life.path) lives group.slot.0 root [] inside))
 
--- the slot of every group is below `slots`
+-- The slot of every group is below `slots`.
 abbrev pub AreWithin : ℕ → List GroupReading → Type 0
 AreWithin slots groups = All (λ (group : GroupReading). group.slot.0 < slots) groups
 
@@ -102,7 +102,8 @@ rise_same : (past : List Reading) (group : GroupReading) →
 rise_same [] group = refl
 rise_same (before ∷ past) group = risen_same group.scan (group_in before group.slot.0)
 
--- the comparison with the stored counts agrees with the definition of an increase
+-- Comparing with the stored scan counts gives the same result as the specified increase of a scan
+-- count.
 pub risen_met : (scans : List (Option ℕ)) (past : List Reading) (groups : List GroupReading) →
     ((slot : ℕ) → scan_in scans slot ≡ last_scan past slot) →
     have_risen scans groups ≡ list_any (λ (group : GroupReading). nat_lt 0 (rise past group)) groups

@@ -1,4 +1,4 @@
--- Proofs that the greatest of several averages is at most 100 percent, because each is.
+-- Proves that the greatest of several averages is at most 100 percent, because each average is.
 use Rattle.std.proofs.Common.{ℕ, suc, ◌≤◌, ◌<◌, List, [], ◌∷◌, get_or, arith}
 use Rattle.std.specs.Prelude.{All, Bool, max, map, fold}
 use Rattle.std.proofs.Math.Nat.{max-le}
@@ -49,7 +49,7 @@ greatest_within (detector.MemoryReclaim cgroup duration_s) slots groups each = o
 greatest_within (detector.SwapFree threshold_pct) slots groups each = omega arith
 greatest_within (detector.Exists cgroup negate) slots groups each = omega arith
 
--- each group that a table finds is within its ranges
+-- Each group that the table finds is within its ranges.
 pub found_within : (slots : ℕ) (matched : List Bool) (groups : List GroupReading) →
     All (IsGroupReading slots) groups →
     All (IsGroupReading slots) (found matched groups)

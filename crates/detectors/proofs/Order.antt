@@ -1,5 +1,5 @@
--- Proofs that groups in the byte order of their paths have distinct slots, so there are at most as
--- many groups as slots.
+-- Proves that groups in the byte order of their paths have distinct slots. Therefore there are at
+-- most as many groups as slots.
 use Rattle.std.proofs.Common.{◌≡◌, ℕ, suc, ◌<◌, ◌≤◌, List, [], ◌∷◌, ◌++◌, length, ⊎_elim, inl, inr}
 use Rattle.std.proofs.Common.{◌⊎◌, refl, ap, subst, arith, eqb}
 use Rattle.std.specs.Prelude.{All, Bool, true, false, ◌||◌, map}
@@ -20,7 +20,7 @@ use Rattle.kill_spec.specs.declared.reading.GroupReading.{GroupReading}
 use Rattle.kill_spec.specs.Readings.{path_of}
 use Rattle.kill_spec.specs.LegalReadings.{Ascend, ComesBefore, IsGroupReading}
 
--- no value is less than itself
+-- An ordering that equals its reverse isn't `Less`.
 turned : (order : Ordering) → order ≡ ordering_reverse order → order ≡ Less → ⊥
 turned Less same is = cc
 turned Equal same is = cc
@@ -29,7 +29,7 @@ turned Greater same is = cc
 not_itself : (path : List ℕ) → ComesBefore path path → ⊥
 not_itself path before = turned (slice_cmp nat_cmp path path) (nat_list_cmp_total.antisymm path path) before
 
--- the slots of the groups
+-- The slots of the groups.
 abbrev pub slots_in : List GroupReading → List ℕ
 slots_in groups = map (λ (group : GroupReading). group.slot.0) groups
 
@@ -41,7 +41,7 @@ differ lives group other before = ne_eqb group.slot.0 other.slot.0 (λ same.
     let P : List ℕ → Type 0 = λ path. ComesBefore path (path_of lives other) in
     not_itself (path_of lives other) (subst P paths before))
 
--- if paths ascend, they still do without the second one
+-- Removing the second path from ascending paths leaves ascending paths.
 skipped : (first second : List ℕ) (paths : List (List ℕ)) → Ascend (first ∷ second ∷ paths) →
     Ascend (first ∷ paths)
 skipped first second [] order = tt
@@ -71,7 +71,7 @@ slots_differ lives (group ∷ groups) order = (
   slots_differ lives groups (rest_ascends (path_of lives group) (map (path_of lives) groups) order),
 )
 
--- a disjunction that holds has a true side
+-- If a disjunction is true, one of its sides is true.
 pub either : (a b : Bool) → (a || b) ≡ true → (a ≡ true) ⊎ (b ≡ true)
 either true b is = inl refl
 either false b is = inr is
@@ -85,7 +85,7 @@ slot_below slots slot (group ∷ groups) each is =
     (λ there. slot_below slots slot groups (λ k d below. each (suc k) d (omega (arith, below))) there)
     (either (eqb slot group.slot.0) (list_any (eqb slot) (slots_in groups)) is)
 
--- there are at most as many groups as slots
+-- There are at most as many groups as slots.
 pub at_most_slots : (lives : List GroupLife) (groups : List GroupReading) →
     All (IsGroupReading (length lives)) groups →
     Ascend (map (path_of lives) groups) → length groups ≤ length lives
@@ -94,7 +94,7 @@ at_most_slots lives groups each order =
     (λ slot among. slot_below (length lives) slot groups each among) in
     omega (arith, most, length-map groups (λ (group : GroupReading). group.slot.0))
 
--- one more group that is in its ranges
+-- Appending a group that is in range to groups in range gives groups in range.
 pub each_more : (slots : ℕ) (groups : List GroupReading) (group : GroupReading) →
     All (IsGroupReading slots) groups →
     IsGroupReading slots group → All (IsGroupReading slots) (groups ++ group ∷ [])

@@ -1,5 +1,5 @@
--- Proofs that the places in a reading stay right after a group is appended, and that there is room
--- for its place.
+-- Proves that the lists of places stay correct after a group is appended to a reading, and that
+-- their capacity suffices for its place.
 use Rattle.std.proofs.Common.{◌≡◌, ℕ, ◌+◌, ◌<◌, ◌≤◌, List, [], ◌∷◌, ◌++◌, length, get_or, refl, sym, ap, subst, ◌∙◌, arith}
 use Rattle.std.specs.Prelude.{All, Bool, true, filter, map, Option, None}
 use Rattle.std.proofs.lemmas.List.{get_or-map, length-map}
@@ -18,7 +18,7 @@ use Rattle.detectors.proofs.Children.{at_most_children, held_more, one_more}
 
 -- ---- one more group
 
--- the groups, with one more, are in their ranges and in order
+-- The groups with `group` appended are in range and in the order of their paths.
 pub record AreMore (lives : List GroupLife) (groups : List GroupReading) (group : GroupReading) : Type 0 where
   pub fit : All (IsGroupReading (length lives)) (groups ++ group ∷ [])
   pub order : Ascend (map (path_of lives) (groups ++ group ∷ []))
@@ -71,7 +71,7 @@ room_for_child lives groups group slot held is more child =
       is.spare,
     )
 
--- the parent of a group, as its life has it
+-- The parent in the life of a group is the parent in the list of all parents.
 pub parent_is : (lives : List GroupLife) (slot : ℕ) (life : GroupLife) → life ≡ get_or lives slot life →
     slot < length lives → number_of_slot life.parent ≡ get_or (parents_of lives) slot None
 parent_is lives slot life is below =

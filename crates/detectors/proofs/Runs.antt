@@ -1,4 +1,4 @@
--- Proofs that the times which a detector stores give the right answers about its readings, for
+-- Proves that the times that a detector stores give the correct answers about its readings, for
 -- every duration.
 use Rattle.std.proofs.Common.{◌≡◌, ℕ, ◌-◌, refl, sym, arith}
 use Rattle.std.specs.Prelude.{Bool, true, false, ◌&&◌, ◌||◌, nat_le, if◌then◌else◌, Option, None}
@@ -33,12 +33,12 @@ and_false : (a b : Bool) → ((a && false) || b) ≡ b
 and_false true b = refl
 and_false false b = refl
 
--- a disjunction is its second test if the first implies the second
+-- If the first test implies the second, their disjunction is the second test.
 weaker : (a b : Bool) → (a ≡ true → b ≡ true) → (a || b) ≡ b
 weaker true b implies = sym (implies refl)
 weaker false b implies = refl
 
--- a disjunction is its first test if the second implies the first
+-- If the second test implies the first, their disjunction is the first test.
 stronger : (a b : Bool) → (b ≡ true → a ≡ true) → ((a && true) || b) ≡ a
 stronger true b implies = refl
 stronger false true implies = sym (implies refl)
@@ -46,7 +46,8 @@ stronger false false implies = refl
 
 -- ---- runs
 
--- the start of the run after one more reading
+-- After one more reading, the start of the run determines correctly how long the condition has
+-- held.
 pub long_next : (run last : Option ℕ) (holds : Bool) (now duration at : ℕ) → IsBy run last →
     IsAfter last now →
     (holds && (nat_le duration (at - now) || is_long run duration at)) ≡ is_long (run_after run holds now) duration at
@@ -59,7 +60,8 @@ long_next (Some start) (Some last) true now duration at by later =
 
 -- ---- increases
 
--- the time of the last increase after one more reading
+-- After one more reading, the time of the last increase determines correctly whether there was an
+-- increase within a duration.
 pub recent_next : (increased last : Option ℕ) (risen : Bool) (now duration at : ℕ) → IsBy increased last →
     IsAfter last now →
     ((nat_le (at - now) duration && risen) || is_recent increased duration at)

@@ -1,4 +1,4 @@
--- Proofs about the tables of scan counts.
+-- Proves that the table of scan counts is correct after the groups of a reading are stored.
 use Rattle.std.proofs.Common.{◌≡◌, ℕ, ◌<◌, List, [], ◌∷◌, ◌++◌, length, ⊎_elim, refl, sym, ap, ◌∙◌}
 use Rattle.std.proofs.Common.{◌+◌, eq-eqb, get_or, set, take, get_or-set_same, get_or-set_other}
 use Rattle.std.specs.Prelude.{◌==◌, true, false, find, Option, None, Some}
@@ -10,7 +10,7 @@ use Rattle.psi_base.specs.declared.event.Preference.TheVariants.{Prefer}
 use Rattle.kill_spec.specs.declared.reading.GroupReading.{GroupReading}
 use Rattle.detectors.specs.Tables.{scan_in, scan_of}
 
--- a default for a missing group
+-- A dummy group, used as the default for an index past the end of a list.
 abbrev pub no_group : GroupReading
 no_group = record {
   slot = record { 0 = 0 };
@@ -22,11 +22,12 @@ no_group = record {
   populated = false;
 }
 
--- the first group in slot `slot`
+-- The first group in slot `slot`.
 abbrev pub in_slot : ℕ → List GroupReading → Option GroupReading
 in_slot slot groups = find (λ (group : GroupReading). group.slot.0 == slot) groups
 
--- the stored count after one more group, if a group of the slot was stored before and if none was
+-- Storing the count of one more group gives the count of the first group, whether or not an earlier
+-- group has the same slot.
 same_put : (held : Option ℕ) (first : Option GroupReading) (group : GroupReading) →
     held ≡ scan_of first →
     option_or held (Some group.scan) ≡ scan_of (option_or first (Some group))
@@ -38,7 +39,7 @@ same_kept : (held : Option ℕ) (first : Option GroupReading) → held ≡ scan_
 same_kept held None is = is
 same_kept held (Some first) is = is
 
--- the first group in a slot is still found after a group is appended
+-- The first group in a slot is still found after a group is appended.
 found_here : (slot : ℕ) (group : GroupReading) → (group.slot.0 == slot) ≡ true →
     in_slot slot (group ∷ []) ≡ Some group
 found_here slot group is = rw is refl
@@ -51,8 +52,8 @@ put_at : (scans : List (Option ℕ)) (slot at : ℕ) (put : Option ℕ) → at �
     scan_in (set scans at put) slot ≡ put
 put_at scans slot at put same inside = rw (← same) (get_or-set_same scans at put None inside)
 
--- the table after the count of one more group is stored, unless a group of its slot was stored
--- before
+-- The table stays correct after the count of one more group is stored, which happens only if no
+-- earlier group has its slot.
 pub scan_more : (scans : List (Option ℕ)) (groups : List GroupReading) (group : GroupReading) →
     group.slot.0 < length scans →
     ((slot : ℕ) → scan_in scans slot ≡ scan_of (in_slot slot groups)) →
@@ -72,7 +73,7 @@ scan_more scans groups group inside each slot =
     ∙ sym (ap scan_of (joined ∙ ap (option_or (in_slot slot groups)) (not_found slot group (ne_eqb group.slot.0 slot other)))))
     (cases_eq group.slot.0 slot)
 
--- the table after one step of the loop over the groups
+-- The table stays correct after one step of the loop over the groups.
 pub scan_next : (scans : List (Option ℕ)) (groups : List GroupReading) (i : ℕ) (d : GroupReading) (put : Option ℕ) →
     i < length groups → (get_or groups i d).slot.0 < length scans →
     put ≡ option_or (scan_in scans (get_or groups i d).slot.0) (Some (get_or groups i d).scan) →

@@ -1,5 +1,5 @@
--- Proofs that a detector's state is right after it takes a reading, and that its answer is right. A
--- detector represents readings if its state is the one after it has taken them.
+-- Proves that a detector's state and its answer are correct after it takes a reading. A detector
+-- represents a list of readings if taking these readings leads to its state.
 use Rattle.std.proofs.Common.{◌≡◌, ℕ, ◌-◌, List, [], ◌∷◌, length, refl, sym, ap, ◌∙◌}
 use Rattle.std.specs.Prelude.{Bool, true, false, ◌&&◌, ◌||◌, nat_le, if◌then◌else◌, Option, None}
 use Rattle.std.specs.Prelude.{Some}
@@ -24,7 +24,7 @@ use Rattle.detectors.proofs.Finding.{greatest_met, risen_met}
 
 -- ---- matches
 
--- after the first reading, the table says which groups are matches
+-- After the first reading, the table says which groups are matches.
 table_known : (lives : List GroupLife) (spec : DetectorSpec) (history : List Reading) (matched : List Bool) →
     IsMatchTable lives (detector_patterns spec) history matched →
     matched_after (newest_moment history) matched (match_table lives (detector_patterns spec)) ≡ match_table lives (detector_patterns spec)
@@ -43,7 +43,7 @@ scans_next : (keeps : Bool) (was now last : Option ℕ) → was ≡ (if keeps th
 scans_next true was now last is = refl
 scans_next false was now last is = is
 
--- the stored counts are the last ones, if the detector stores counts
+-- If the detector stores scan counts, the stored counts are the counts at the last reading.
 counts_kept : (keeps : Bool) (scans : List (Option ℕ)) (history : List Reading) → keeps ≡ true →
     ((slot : ℕ) → scan_in scans slot ≡ (if keeps then last_scan history slot else None)) →
     (slot : ℕ) → scan_in scans slot ≡ last_scan history slot

@@ -1,4 +1,4 @@
--- Proofs about when a ruleset takes its actions, and until when it rests after them.
+-- Proves when a ruleset runs its actions, and when the delay after them ends.
 use Rattle.std.proofs.Common.{◌≡◌, ℕ, List, [], ◌∷◌, refl, sym, true, false, arith, Option, None, Some}
 use Rattle.std.specs.Prelude.{find, nat_lt, not, ◌&&◌, option_map, if◌then◌else◌}
 use Rattle.psi_spec.specs.declared.machine.GroupLife.{GroupLife}
@@ -11,16 +11,16 @@ use Rattle.kill_spec.specs.Victims.{◌or_else◌}
 use Rattle.kill_spec.specs.Kills.{chain, ends_chain, is_resting, kills_at, last_ending}
 use Rattle.kill_engine.specs.Rulesets.{rest_after, rest_of}
 
--- a ruleset rests exactly if the end of its rest is later than the time
+-- A ruleset rests if and only if the end of its delay is later than the current time.
 pub paused : (actions : List Action) (at : ℕ) (last : Option Kill) → nat_lt at (rest_after actions last) ≡ is_resting actions at last
 paused actions at None = grind arith
 paused actions at (Some kill) = refl
 
--- a ruleset that doesn't fire has no kills
+-- A ruleset that doesn't fire has no kills.
 pub not_fired : (lives : List GroupLife) (number : ℕ) (rule : Rule) (now : Reading) (past : List Reading) (earlier : List (List Kill)) → ruleset_fires lives rule now past ≡ false → kills_at lives number rule now past earlier ≡ []
 not_fired lives number rule now past earlier off = rw off refl
 
--- a resting ruleset has no kills
+-- A resting ruleset has no kills.
 pub rested : (lives : List GroupLife) (number : ℕ) (rule : Rule) (now : Reading) (past : List Reading) (earlier : List (List Kill)) → nat_lt now.at (rest_after rule.actions (last_ending rule.actions earlier)) ≡ true → kills_at lives number rule now past earlier ≡ []
 rested lives number rule now past earlier resting =
     let is : is_resting rule.actions now.at (last_ending rule.actions earlier) ≡ true = rw (sym (paused rule.actions now.at (last_ending rule.actions earlier))) resting in
@@ -29,17 +29,17 @@ rested lives number rule now past earlier resting =
       | false ↦ refl
     ]
 
--- a ruleset that fires and isn't resting has the kills of its chain
+-- A ruleset that fires and isn't resting has the kills of its chain.
 pub taken : (lives : List GroupLife) (number : ℕ) (rule : Rule) (now : Reading) (past : List Reading) (earlier : List (List Kill)) → ruleset_fires lives rule now past ≡ true → nat_lt now.at (rest_after rule.actions (last_ending rule.actions earlier)) ≡ false → kills_at lives number rule now past earlier ≡ chain lives number 0 rule.actions now past
 taken lives number rule now past earlier fired over =
     let is : is_resting rule.actions now.at (last_ending rule.actions earlier) ≡ false = rw (sym (paused rule.actions now.at (last_ending rule.actions earlier))) over in
     rw (fired, is) refl
 
--- without kills, the end of the rest doesn't change
+-- Without kills, the end of the delay doesn't change.
 pub kept : (actions : List Action) (kills : List Kill) (earlier : List (List Kill)) → kills ≡ [] → rest_after actions (last_ending actions (kills ∷ earlier)) ≡ rest_after actions (last_ending actions earlier)
 kept actions kills earlier none = rw none refl
 
--- if no kill ended the chain, the end of the rest doesn't change
+-- If no kill ended the chain, the end of the delay doesn't change.
 pub kept_on : (actions : List Action) (kills : List Kill) (earlier : List (List Kill)) → None ≡ option_map (rest_of actions) (find (ends_chain actions) kills) → rest_after actions (last_ending actions (kills ∷ earlier)) ≡ rest_after actions (last_ending actions earlier)
 kept_on actions kills earlier none =
     elim (find (ends_chain actions) kills) as (λ f. None ≡ option_map (rest_of actions) f → rest_after actions (f or_else last_ending actions earlier) ≡ rest_after actions (last_ending actions earlier)) [
@@ -47,7 +47,7 @@ kept_on actions kills earlier none =
       | Some kill ↦ λ is. absurd (cc is)
     ] none
 
--- if a kill ended the chain, the ruleset rests until the end of that kill's delay
+-- If a kill ended the chain, the ruleset rests until the end of that kill's delay.
 pub renewed : (actions : List Action) (kills : List Kill) (earlier : List (List Kill)) (until : ℕ) → Some until ≡ option_map (rest_of actions) (find (ends_chain actions) kills) → until ≡ rest_after actions (last_ending actions (kills ∷ earlier))
 renewed actions kills earlier until some =
     elim (find (ends_chain actions) kills) as (λ f. Some until ≡ option_map (rest_of actions) f → until ≡ rest_after actions (f or_else last_ending actions earlier)) [

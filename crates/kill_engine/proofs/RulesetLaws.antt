@@ -1,5 +1,5 @@
--- Proofs about lists of rulesets. A ruleset represents readings if its state is the one after it
--- has taken them.
+-- Proves properties of lists of rulesets. A ruleset represents a list of readings if taking these
+-- readings leads to its state.
 use Rattle.std.proofs.Common.{◌≡◌, ℕ, zero, suc, ◌+◌, ◌<◌, List, [], ◌∷◌, ◌++◌, length, drop, get_or, refl, sym, ap, subst, arith, None}
 use Rattle.std.specs.Prelude.{All}
 use Rattle.psi_spec.specs.declared.machine.GroupLife.{GroupLife}
@@ -13,7 +13,7 @@ use Rattle.kill_engine.specs.Rulesets.{DetectorsRepresent, IsAt, IsRulesetAt, Ru
 use Rattle.kill_engine.specs.Killers.{RulesetsRepresent}
 use Rattle.kill_engine.proofs.ZipLaws.{zipped_all}
 
--- one more ruleset is appended
+-- Appending a ruleset and its rule preserves the relation between rulesets and rules.
 pub rulesets_push : (lives : List GroupLife) (history : List Reading) (number : ℕ) (states : List RulesetView) (rules : List Rule) (state : RulesetView) (rule : Rule) →
     RulesetsRepresent lives history number states rules → ((n : ℕ) → RulesetRepresents lives history n state rule) →
     RulesetsRepresent lives history number (states ++ state ∷ []) (rules ++ rule ∷ [])
@@ -22,7 +22,7 @@ rulesets_push lives history number [] (first ∷ rules) state rule represents ea
 rulesets_push lives history number (first ∷ states) [] state rule represents each = absurd represents
 rulesets_push lives history number (first ∷ states) (one ∷ rules) state rule represents each = (represents.0, rulesets_push lives history (number + 1) states rules state rule represents.1 each)
 
--- the rule of ruleset `i`, and the rules after it
+-- The ruleset at index `i` has a rule, which is followed by the rules of the later rulesets.
 pub record IsRuled (lives : List GroupLife) (history : List Reading) (number : ℕ) (states : List RulesetView) (rules : List Rule) (i : ℕ) : Type 0 where
   pub rule : Rule
   pub rest : drop i rules ≡ rule ∷ drop (i + 1) rules
@@ -41,7 +41,7 @@ ruled_at lives history number (first ∷ states) (one ∷ rules) (suc i) represe
     let n : number + suc i ≡ number + 1 + i = omega arith in
     record { rule = later.rule; rest = rw e later.rest; stands = λ d. rw n (later.stands d) }
 
--- after the last ruleset there is no rule
+-- There is no rule after the rule of the last ruleset.
 pub ruled_end : (lives : List GroupLife) (history : List Reading) (number : ℕ) (states : List RulesetView) (rules : List Rule) →
     RulesetsRepresent lives history number states rules → drop (length states) rules ≡ []
 ruled_end lives history number [] [] represents = refl
@@ -49,8 +49,8 @@ ruled_end lives history number [] (one ∷ rules) represents = absurd represents
 ruled_end lives history number (first ∷ states) [] represents = absurd represents
 ruled_end lives history number (first ∷ states) (one ∷ rules) represents = ruled_end lives history (number + 1) states rules represents.1
 
--- if the step is right for each ruleset, it is right for the list: each new state is the one after
--- the later readings
+-- If each ruleset's new state is the state after the later readings, the new states of the whole
+-- list are.
 pub ruled_map : (lives : List GroupLife) (before after : List Reading) (number : ℕ) (old new : List RulesetView) (rules : List Rule) →
     length new ≡ length old →
     ((k : ℕ) (d : RulesetView) (rule : Rule) → k < length old → RulesetRepresents lives before (number + k) (get_or old k d) rule → RulesetRepresents lives after (number + k) (get_or new k d) rule) →
@@ -71,7 +71,7 @@ ruled_map lives before after number (o ∷ old) (n ∷ new) (one ∷ rules) long
           represents.1,
     )
 
--- there are as many rulesets as rules
+-- There are as many rulesets as rules.
 pub ruled_count : (lives : List GroupLife) (history : List Reading) (number : ℕ) (states : List RulesetView) (rules : List Rule) →
     RulesetsRepresent lives history number states rules → length states ≡ length rules
 ruled_count lives history number [] [] represents = refl
@@ -79,13 +79,13 @@ ruled_count lives history number [] (one ∷ rules) represents = absurd represen
 ruled_count lives history number (first ∷ states) [] represents = absurd represents
 ruled_count lives history number (first ∷ states) (one ∷ rules) represents = ap suc (ruled_count lives history (number + 1) states rules represents.1)
 
--- before the first reading, detectors have taken no reading
+-- Before the first reading, the detectors of a group have taken no reading.
 detectors_begun : (lives : List GroupLife) (detectors : List DetectorView) (specs : List DetectorSpec) → DetectorsRepresent lives [] detectors specs → All (IsAt None (length lives)) detectors
 detectors_begun lives detectors specs represents =
     zipped_all (λ (detector : DetectorView) (spec : DetectorSpec). Represents detector lives spec []) (IsAt None (length lives)) detectors specs represents
     (λ detector spec stands. record { last = stands.last; places = stands.slots })
 
--- before the first reading, the detectors of all rulesets have taken no reading
+-- Before the first reading, the detectors of all rulesets have taken no reading.
 pub begun : (lives : List GroupLife) (number : ℕ) (states : List RulesetView) (rules : List Rule) → RulesetsRepresent lives [] number states rules → All (λ state. IsRulesetAt None (length lives) state) states
 begun lives number states rules represents k d below =
     let r = ruled_at lives [] number states rules k represents below in

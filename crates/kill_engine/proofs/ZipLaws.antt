@@ -1,9 +1,10 @@
--- Laws of two lists whose elements are related one by one.
+-- Laws about two lists whose elements are related pairwise.
 use Rattle.std.proofs.Common.{◌≡◌, ℕ, zero, suc, ◌+◌, ◌<◌, List, [], ◌∷◌, length, drop, get_or, refl, sym, ◌∙◌, subst, Bool, true, false, arith}
 use Rattle.std.specs.Prelude.{◌&&◌, ◌||◌, All}
 use Rattle.std.specs.List.{AllZip, list_all, list_any}
 
--- the element at index `i` of the second list, and the elements after it
+-- The first list's element at index `i` is related to an element of the second list, which is
+-- followed by the later elements.
 pub record IsZipped {A B : Type 0} (R : A → B → Type 0) (xs : List A) (ys : List B) (i : ℕ) : Type 0 where
   pub here : B
   pub rest : drop i ys ≡ here ∷ drop (i + 1) ys
@@ -18,14 +19,14 @@ zipped_at R (x ∷ xs) (y ∷ ys) (suc i) zips below =
     let e : suc i + 1 ≡ suc (i + 1) = omega arith in
     record { here = later.here; rest = rw e later.rest; related = later.related }
 
--- after the last element of the first list, the second list has no element
+-- The second list has no element after the end of the first list.
 pub zipped_end : {A B : Type 0} (R : A → B → Type 0) (xs : List A) (ys : List B) → AllZip R xs ys → drop (length xs) ys ≡ []
 zipped_end R [] [] zips = refl
 zipped_end R [] (y ∷ ys) zips = absurd zips
 zipped_end R (x ∷ xs) [] zips = absurd zips
 zipped_end R (x ∷ xs) (y ∷ ys) zips = zipped_end R xs ys zips.1
 
--- if a relation carries over from each element to its replacement, it carries over to the lists
+-- If replacing each element of the first list preserves its relation, the lists remain related.
 pub zipped_map : {A B : Type 0} (Q R : A → B → Type 0) (xs zs : List A) (ys : List B) →
     length zs ≡ length xs →
     ((k : ℕ) (d : A) (y : B) → k < length xs → Q (get_or xs k d) y → R (get_or zs k d) y) →
@@ -48,7 +49,7 @@ or_false : (b : Bool) → (b || false) ≡ b
 or_false true = refl
 or_false false = refl
 
--- one more test in a conjunction of tests
+-- Extends a conjunction of tests by one more test.
 pub all_more : {A B : Type 0} (R : A → B → Type 0) (test : B → Bool) (xs : List A) (ys : List B) (i : ℕ) (d : A) (hold answer whole : Bool) →
     AllZip R xs ys → i < length xs → ((y : B) → R (get_or xs i d) y → answer ≡ test y) →
     (hold && list_all test (drop i ys)) ≡ whole → ((hold && answer) && list_all test (drop (i + 1) ys)) ≡ whole
@@ -64,7 +65,7 @@ all_end R test xs ys i hold whole zips ends is =
     let bare : (hold && true) ≡ whole = subst (λ rest. (hold && list_all test rest) ≡ whole) none is in
     sym (and_true hold) ∙ bare
 
--- one more test in a disjunction of tests
+-- Extends a disjunction of tests by one more test.
 pub any_more : {A B : Type 0} (R : A → B → Type 0) (test : B → Bool) (xs : List A) (ys : List B) (i : ℕ) (d : A) (found answer whole : Bool) →
     AllZip R xs ys → i < length xs → ((y : B) → R (get_or xs i d) y → answer ≡ test y) →
     (found || list_any test (drop i ys)) ≡ whole → ((found || answer) || list_any test (drop (i + 1) ys)) ≡ whole
@@ -80,7 +81,7 @@ any_end R test xs ys i found whole zips ends is =
     let bare : (found || false) ≡ whole = subst (λ rest. (found || list_any test rest) ≡ whole) none is in
     sym (or_false found) ∙ bare
 
--- a property that follows from the relation holds for every element of the first list
+-- If the relation implies a property, the property holds for every element of the first list.
 pub zipped_all : {A B : Type 0} (R : A → B → Type 0) (P : A → Type 0) (xs : List A) (ys : List B) → AllZip R xs ys → ((x : A) (y : B) → R x y → P x) → All P xs
 zipped_all R P xs ys zips each k d below =
     let z = zipped_at R xs ys k zips below in

@@ -1,4 +1,4 @@
-//! Writes the lines that the commands print. Pressure files can also be parsed.
+//! Writes the lines that the commands print, and parses pressure files.
 //!
 //! The callers compute the values; this crate only formats them. psi_observe writes other lines
 //! from the same [`Piece`]s.

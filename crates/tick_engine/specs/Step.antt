@@ -114,8 +114,8 @@ watch_stepped groups now watch =
           then stepped watch.trigger now (watched_total groups watch.spec) else watch.trigger;
     }
 
--- Whether the trigger fires at the tick at time `now` (ns): its group is live, and the trigger is
--- active and fires.
+-- Whether the trigger fires at the tick at time `now` (ns): its group is live, the trigger is
+-- active, and `fires` is true for its state and its total.
 abbrev pub watch_signals : List Group → ℕ → TriggerWatch → Bool
 watch_signals groups now watch = is_watching groups now watch && begun_signals watch.trigger now (watched_total groups watch.spec)
 

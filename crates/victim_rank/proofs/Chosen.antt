@@ -1,5 +1,5 @@
--- Proofs that a choice from the stored past is the defined choice after the readings that the past
--- represents.
+-- Proves that a choice made with the stored past is the specified choice after the readings that
+-- the past represents.
 use Rattle.std.proofs.Common.{◌≡◌, ℕ, zero, suc, ◌+◌, ◌-◌, ◌<◌, List, [], ◌∷◌, length, refl, sym}
 use Rattle.std.proofs.Common.{ap, ◌∙◌, arith, true, false}
 use Rattle.std.proofs.Math.Path.{fun_ext}
@@ -47,7 +47,7 @@ pub rises_are : (kept : Kept) (history : List Reading) → IsPastOf kept history
 rises_are kept history past = fun_ext (λ group. ap (above_count group.scan)
     (past.scans group.slot.0) ∙ rise_is history group)
 
--- the groups of a scope are in the order of their paths
+-- The groups of a scope are in the order of their paths.
 pub among_order : (lives : List GroupLife) (act : Action) (above : Option Slot) (now : Reading) →
     Ascend (map (path_of lives) now.groups) → Pairs (IsBefore lives) (among lives act above now)
 among_order lives act above now ascend = rw (among_is lives act above now)
@@ -56,7 +56,7 @@ among_order lives act above now ascend = rw (among_is lives act above now)
 
 -- ---- the choice by size or growth
 
--- the groups of a scope with a preference rank are the groups of the scope that have this rank
+-- Filtering for scope and rank at once gives the groups of the scope that have the rank.
 pub ranked : (lives : List GroupLife) (act : Action) (above : Option Slot) (now : Reading)
     (best : GroupReading) (r : ℕ) → r ≡ rank_of best →
     filter (λ group. is_in_scope lives act above group && rank_of group == r) now.groups ≡ filter

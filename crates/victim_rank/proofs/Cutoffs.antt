@@ -1,4 +1,4 @@
--- Proofs about cutoffs: a key that exactly the `few` largest groups reach.
+-- Proves properties of cutoffs. A cutoff is a key that exactly the `few` largest groups reach.
 use Rattle.std.proofs.Common.{◌≡◌, ℕ, zero, suc, ◌+◌, ◌-◌, ◌<◌, ◌≤◌, List, [], ◌∷◌, length, get_or}
 use Rattle.std.proofs.Common.{take, length-append, refl, sym, ap, ◌∙◌, arith, true, false, ◌⊎◌, ⊎_elim, subst}
 use Rattle.std.specs.Prelude.{Bool, Contains, filter, map, nat_le, nat_lt}
@@ -60,7 +60,7 @@ false_le a b is = grind (arith, nat_tests)
 le_false : (a b : ℕ) → nat_le a b ≡ false → b < a
 le_false a b is = grind (arith, nat_tests)
 
--- of two groups, the larger one has the greater key
+-- Of two groups, the larger group has the greater key.
 module _ (lives : List GroupLife) (groups : List GroupReading)
     (ascend : Ascend (map (path_of lives) groups)) (few : length groups ≤ 1024) where
   earlier : (p q : ℕ) → p < q → q < length groups →
@@ -112,7 +112,7 @@ module _ (lives : List GroupLife) (groups : List GroupReading)
       ≡ nat_lt (size_key groups k) (size_key groups p) in
       subst P (sym same) (itself p)))
 
-  -- the number of groups larger than a group is the number of places with a greater key
+  -- The number of groups larger than a group is the number of places with a greater key.
   counted : (test : GroupReading → Bool) (q : ℕ) (places : List ℕ) → q < length groups →
       AreAmong groups places →
       length (filter (λ other. is_larger lives other (group_at groups q))
@@ -139,7 +139,7 @@ module _ (lives : List GroupLife) (groups : List GroupReading)
 -- ---- counts of keys
 
 module _ (test : GroupReading → Bool) (groups : List GroupReading) where
-  -- at most as many places reach a greater key
+  -- At most as many places reach a greater key as reach a smaller key.
   pub fewer : (places : List ℕ) (low high : ℕ) → low ≤ high →
       count_reaching test groups places high ≤ count_reaching test groups places low
   fewer [] low high order = omega arith
@@ -161,7 +161,7 @@ module _ (test : GroupReading → Bool) (groups : List GroupReading) where
       (λ too. rw (fails, under, too) rest)
       (λ nor. rw (under, nor) rest)))
 
-  -- fewer places have a greater key than the group at place `q` than have at least its key
+  -- Fewer places have a greater key than the group at place `q` than have at least its key.
   strictly : (places : List ℕ) (q : ℕ) → Contains places q → test (group_at groups q) ≡ true →
       count_reaching test groups places (size_key groups q + 1)
       < count_reaching test groups places (size_key groups q)
@@ -191,7 +191,7 @@ module _ (test : GroupReading → Bool) (groups : List GroupReading) where
       (λ too. rw (fails, under, too) rest)
       (λ nor. rw (under, nor) rest)))
 
-  -- one more place keeps the greatest key right, if the key of its group isn't above the greatest
+  -- The greatest key stays correct after one more place whose group's key isn't above it.
   pub none_above : (places : List ℕ) (i p greatest next : ℕ) → i < length places →
       get_or places i 0 ≡ p → count_reaching test groups (take i places) (greatest + 1) ≡ 0 →
       greatest ≤ next → (test (group_at groups p) ≡ true → size_key groups p ≤ next) →
@@ -229,7 +229,8 @@ module _ (scope : ScopeView) (best_rank : ℕ) (reading : ReadingView) (places :
       (counted scope.lives groups (rw ranking.lives at ranking.read.order) ranking.few
       (is_in_rank scope best_rank) q places within ranking.within)
 
-  -- fewer than `few` groups are above a key that at least `few` reach, or the key is 0
+  -- A key is a cutoff if at most `few` groups reach any greater key, and at least `few` groups
+  -- reach the key or the key is 0.
   pub cut_between : (low : ℕ) →
       (low ≡ 0) ⊎ (few ≤ count_reaching (is_in_rank scope best_rank) reading.seen.groups places low) →
       count_reaching (is_in_rank scope best_rank) reading.seen.groups places (low + 1) < few →
@@ -247,7 +248,7 @@ module _ (scope : ScopeView) (best_rank : ℕ) (reading : ReadingView) (places :
       under ∙ sym (false_lt (count_reaching test groups places (key + 1)) few (omega (arith, least, many))))
       reached))
 
-  -- a key that exactly `few` groups reach is a cutoff
+  -- A key that exactly `few` groups reach is a cutoff.
   pub cut_exact : (key : ℕ) →
       count_reaching (is_in_rank scope best_rank) reading.seen.groups places key ≡ few →
       IsCutoff scope best_rank reading places few key

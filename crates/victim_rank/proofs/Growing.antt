@@ -1,4 +1,5 @@
--- Proofs that growth orders groups, and that the walk finds the group that has grown most.
+-- Proves that growth orders groups, and that the loop over the groups finds the group that has
+-- grown most.
 use Rattle.std.proofs.Common.{◌≡◌, ℕ, ◌*◌, ◌<◌, ◌≤◌, List, [], ◌∷◌, length, sum, refl, sym, ap, ◌∙◌}
 use Rattle.std.proofs.Common.{arith, true, false, mul-lt-mul_of_pos_right, mul-le-mul_right}
 use Rattle.std.proofs.Common.{lt_of_mul-lt-mul_right, ⊎_elim, inl, inr}
@@ -20,7 +21,8 @@ use Rattle.victim_rank.specs.Grown.{IsGrown, IsGrownAt, leads_grown}
 use Rattle.detectors.specs.Inner.{group_at}
 use Rattle.victim_rank.proofs.Scoped.{filter_filter, foremost_none, kept_by, leads_plainly}
 
--- a group beats an earlier one: it has grown more, or as much and it uses more memory
+-- Whether the group `next` beats the earlier group `best`: it has grown more, or it has grown
+-- equally and uses more memory.
 abbrev pub leads_over : (GroupReading → List ℕ) → GroupReading → GroupReading → Bool
 leads_over sizes next best =
     nat_lt (growth_over sizes best next) (growth_over sizes next best)
@@ -29,21 +31,21 @@ leads_over sizes next best =
 
 -- ---- quotients, compared by products
 
--- a/s is at least b/t, and b/t is above c/u
+-- If a/s is at least b/t, and b/t is above c/u, then a/s is above c/u.
 then_above : (a b c s t u : ℕ) → 0 < s → b * s ≤ a * t → c * t < b * u → c * s < a * u
 then_above a b c s t u some first second =
     let low : c * t * s < b * u * s = mul-lt-mul_of_pos_right second some in
     let high : b * s * u ≤ a * t * u = mul-le-mul_right u first in
     lt_of_mul-lt-mul_right t (omega (arith, low, high))
 
--- a/s is above b/t, and b/t is at least c/u
+-- If a/s is above b/t, and b/t is at least c/u, then a/s is above c/u.
 above_then : (a b c s t u : ℕ) → 0 < u → b * s < a * t → c * t ≤ b * u → c * s < a * u
 above_then a b c s t u some first second =
     let low : c * t * s ≤ b * u * s = mul-le-mul_right s second in
     let high : b * s * u < a * t * u = mul-lt-mul_of_pos_right first some in
     lt_of_mul-lt-mul_right t (omega (arith, low, high))
 
--- a/s, b/t and c/u are equal
+-- If a/s equals b/t and b/t equals c/u, then a/s equals c/u.
 all_same : (a b c s t u : ℕ) → 0 < t → a * t ≡ b * s → b * u ≡ c * t → a * u ≡ c * s
 all_same a b c s t u some first second =
     let low : b * u * s ≡ c * t * s = ap (λ n. n * s) second in
@@ -67,7 +69,7 @@ by_products a b c s t u f g h some_s some_t some_u onward first second =
     (then_shows (b * u) (c * t) g (g ≡ true) (λ is. is) second))
     (then_shows (a * t) (b * s) f (f ≡ true) (λ is. is) first))
 
--- the group's past sizes aren't all 0
+-- The past sizes of the group aren't all 0.
 abbrev pub HasPast : (GroupReading → List ℕ) → GroupReading → Type 0
 HasPast sizes group = 0 < sum (sizes group)
 
@@ -93,7 +95,8 @@ growth_order lives sizes =
 
 -- ---- the walk
 
--- the test for groups from which the most grown group is chosen
+-- Whether a group may be chosen for its growth: it is growing, and is among the `few` largest
+-- groups that pass `p`.
 abbrev pub is_choosable : (GroupReading → List ℕ) → List GroupLife → ℕ → ℕ → (GroupReading → Bool) →
     List GroupReading → GroupReading → Bool
 is_choosable sizes lives ratio few p groups group =
@@ -111,7 +114,7 @@ choosable_is sizes lives ratio few p groups =
     (filter (λ other. is_larger lives other group) (filter p groups))) few && is_growing_over
     sizes ratio group) groups
 
--- two lists with the same groups of the scope and rank have the same choosable groups
+-- Two lists with the same groups of the scope and rank have the same groups that may be chosen.
 pub same_choosable : (sizes : GroupReading → List ℕ) (lives : List GroupLife) (ratio few : ℕ)
     (p : GroupReading → Bool) (found groups : List GroupReading) →
     filter p found ≡ filter p groups →
@@ -129,7 +132,7 @@ has_past sizes ratio group growing =
     growing).0 in
     grind (arith, nat_tests)
 
--- after the walk over all groups, the best group is the one that has grown most
+-- After the loop over all groups, the best group is the group that has grown most.
 pub walked_growth : (lives : List GroupLife) (sizes : GroupReading → List ℕ) (ratio few : ℕ)
     (p : GroupReading → Bool) (groups : List GroupReading) → Ascend (map (path_of lives) groups) →
     (best : Option GroupReading) → foremost (leads_over sizes) best [] ≡ foremost (leads_over sizes)
@@ -151,7 +154,7 @@ walked_growth lives sizes ratio few p groups ascend best rest =
 
 -- ---- one more group
 
--- the comparison of stored growths agrees with the comparison of the groups
+-- Comparing two stored growths gives the same result as comparing the groups.
 pub leads_as : (sizes : GroupReading → List ℕ) (next best : Grown) (group before : GroupReading) →
     IsGrown sizes next group → IsGrown sizes best before →
     leads_grown next best ≡ leads_over sizes group before
@@ -164,16 +167,16 @@ pub growing_as : (sizes : GroupReading → List ℕ) (ratio : ℕ) (next : Grown
     ≡ is_growing_over sizes ratio group
 growing_as sizes ratio next group is = rw (is.sizes_is, is.sum_is) refl
 
--- the group with the best growth, if there is one
+-- The group with the best growth, or `None` if there is no growth.
 abbrev pub best_group : List GroupReading → Option Grown → Option GroupReading
 best_group groups best = option_map (λ (grown : Grown). group_at groups grown.place) best
 
--- the growth beats the best growth found; true if there is none
+-- Whether the growth beats the best growth found. True if no growth was found yet.
 abbrev pub LeadsAny : Option Grown → Grown → Bool → Type 0
 LeadsAny best next leads = MatchOption best (leads ≡ true) (λ before. leads ≡ leads_grown next before)
 
--- the better of two groups is the next group if it beats the earlier one, and the earlier one
--- otherwise
+-- The better of two groups is the next group if it beats the earlier group, and the earlier group
+-- otherwise.
 next_better : (leads : GroupReading → GroupReading → Bool) (best next : GroupReading) →
     leads next best ≡ true → next ≡ better leads best next
 next_better leads best next is = rw is refl
@@ -186,7 +189,7 @@ passes_first : (p : GroupReading → Bool) (group : GroupReading) (groups : List
     p group ≡ true → filter p (group ∷ groups) ≡ group ∷ filter p groups
 passes_first p group groups passes = rw passes refl
 
--- the walk continues with the next group if it can be chosen and beats the best group
+-- The loop continues with the next group if it may be chosen and beats the best group.
 pub next_taken : (sizes : GroupReading → List ℕ) (p : GroupReading → Bool)
     (groups : List GroupReading) (best : Option Grown) (next : Grown) (group : GroupReading)
     (leads : Bool) (rest : List GroupReading) →
@@ -204,7 +207,7 @@ next_taken sizes p groups (Some best) next group leads rest was is known holds p
     (next_better (leads_over sizes) before group over)
     ∙ ap (foremost (leads_over sizes) (Some before)) (sym (passes_first p group rest passes))
 
--- the walk continues with the best group if the next group doesn't beat it
+-- The loop continues with the best group if the next group doesn't beat it.
 pub next_trails : (sizes : GroupReading → List ℕ) (p : GroupReading → Bool)
     (groups : List GroupReading) (best : Option Grown) (next : Grown) (group : GroupReading)
     (leads : Bool) (rest : List GroupReading) →
@@ -224,14 +227,14 @@ next_trails sizes p groups (Some best) next group leads rest was is known fails 
     ∙ ap (foremost (leads_over sizes) (Some before)) (sym (passes_first p group rest passes)))
     (λ left. rw left refl)
 
--- the walk continues with the best group if the next group can't be chosen
+-- The loop continues with the best group if the next group may not be chosen.
 pub next_left : (sizes : GroupReading → List ℕ) (p : GroupReading → Bool) (best : Option GroupReading)
     (group : GroupReading) (groups : List GroupReading) → p group ≡ false →
     foremost (leads_over sizes) best (filter p groups)
     ≡ foremost (leads_over sizes) best (filter p (group ∷ groups))
 next_left sizes p best group groups fails = rw fails refl
 
--- a conjunction of three tests that hold
+-- The conjunction of three tests is true if all of them are true.
 pub choosable_all : (a b c : Bool) → a ≡ true → b ≡ true → c ≡ true → (a && (b && c)) ≡ true
 choosable_all a b c first second third = rw (first, second, third) refl
 

@@ -1,4 +1,4 @@
--- Proofs about the stored sizes of groups, by slot.
+-- Proves properties of the stored sizes of groups, which are indexed by slot.
 use Rattle.std.proofs.Common.{◌≡◌, ℕ, zero, suc, ◌+◌, ◌<◌, ◌≤◌, List, [], ◌∷◌, length, get_or, set}
 use Rattle.std.proofs.Common.{take, drop, refl, sym, ap, ◌∙◌, arith, add-one}
 use Rattle.std.specs.Prelude.{Option, None, map, option_map, replicate}

@@ -1,4 +1,4 @@
--- Proofs about filters of filtered lists, and about the groups of a scope.
+-- Proves properties of repeated filters, and of the groups of a scope.
 use Rattle.std.proofs.Common.{◌≡◌, ℕ, List, [], ◌∷◌, refl, sym, ap, subst, ◌∙◌, true, false}
 use Rattle.std.specs.Prelude.{Bool, Option, None, Some, ◌&&◌, ◌||◌, ◌==◌, filter, nat_lt, map}
 use Rattle.std.proofs.lemmas.Bool.{true≢false}
@@ -41,8 +41,8 @@ pub each_every : (P : GroupReading → Type 0) (groups : List GroupReading) →
 each_every P [] every = tt
 each_every P (first ∷ groups) every = (every first, each_every P groups every)
 
--- if two lists agree on the groups that pass a weaker test, they agree on the groups that pass a
--- stronger one
+-- If two lists have the same groups that pass a weaker test, they have the same groups that pass a
+-- stronger test.
 pub kept_by : (p q : GroupReading → Bool) (found groups : List GroupReading) →
     filter p found ≡ filter p groups →
     filter (λ group. p group && q group) found ≡ filter (λ group. p group && q group) groups
@@ -62,7 +62,7 @@ children_view lives act above groups =
     ∙ filter_same _ _ groups (each_every _ groups
     (λ group. twice (is_child lives above.0 group) group.populated))
 
--- the children of a group include all groups of the scope below that group
+-- The children of a group include all groups of the scope of that group's children.
 pub below_view : (scope : ScopeView) (above : Slot) (found groups : List GroupReading) →
     scope.above ≡ Some above → found ≡ filter (is_child scope.lives above.0) groups →
     filter (is_in_view scope) found ≡ filter (is_in_view scope) groups
@@ -72,14 +72,14 @@ below_view scope above found groups is children =
     subst P (sym is) (ap (filter (is_in_scope scope.lives scope.act (Some above))) children
     ∙ children_view scope.lives scope.act above groups)
 
--- two lists with the same groups of a scope have the same groups of a rank
+-- Two lists with the same groups of a scope have the same groups of a rank.
 pub same_in_rank : (scope : ScopeView) (best_rank : ℕ) (found groups : List GroupReading) →
     filter (is_in_view scope) found ≡ filter (is_in_view scope) groups →
     filter (is_in_rank scope best_rank) found ≡ filter (is_in_rank scope best_rank) groups
 same_in_rank scope best_rank found groups same =
     kept_by (is_in_view scope) (λ group. rank_of group == best_rank) found groups same
 
--- the groups of a scope are the groups that pass its test
+-- The groups of a scope are the groups that pass its test.
 pub among_is : (lives : List GroupLife) (act : Action) (above : Option Slot) (now : Reading) →
     among lives act above now ≡ filter (is_in_scope lives act above) now.groups
 among_is lives act None now =
@@ -97,7 +97,7 @@ or_false false true false is = refl
 or_false false false false is = refl
 or_false a b true is = absurd (true≢false is)
 
--- for groups compared by size, a group beats another if it is larger
+-- For groups ordered by size, a group beats another group if it is larger.
 pub leads_plainly : (next best : GroupReading) →
     leads_larger memory_in_use next best ≡ nat_lt (memory_in_use best) (memory_in_use next)
 leads_plainly next best = or_false (nat_lt (memory_in_use best) (memory_in_use next))
@@ -124,7 +124,7 @@ pub foremost_none : (leads : GroupReading → GroupReading → Bool) (best : Opt
 foremost_none leads None = refl
 foremost_none leads (Some best) = refl
 
--- after the walk over all groups, the best group is one that no other group beats
+-- After the loop over all groups, no other group beats the best group.
 pub walked : (lives : List GroupLife) (act : Action) (above : Option Slot) (now : Reading)
     (measure : GroupReading → ℕ) (q : GroupReading → Bool) →
     Ascend (map (path_of lives) now.groups) →

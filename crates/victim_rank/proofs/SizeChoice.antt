@@ -1,4 +1,5 @@
--- Proofs about the largest group of the best preference, and about the choice by size or growth.
+-- Proves properties of the largest group of the best preference, and of the choice by size or
+-- growth.
 use Rattle.std.proofs.Common.{◌≡◌, ℕ, ◌*◌, ◌≤◌, List, [], ◌∷◌, length, refl, sym, ap, ◌∙◌, arith}
 use Rattle.std.proofs.Common.{true, false, ⊎_elim, inl, inr, subst}
 use Rattle.std.specs.Prelude.{Bool, Option, None, Some, ◌==◌, filter, nat_le, nat_lt, not}
@@ -56,7 +57,7 @@ each_both P Q R (group ∷ groups) both first second =
 
 -- ---- the largest group of the best preference
 
--- an action by size or growth compares sizes, and may choose every group
+-- An action by size or growth orders groups by size, and may choose every group.
 pub by_size : (act : Action) (host : HostReading) (kept : Kept) (lives : List GroupLife)
     (groups : List GroupReading) → IsSizes act →
     unbeaten (beats_by lives (measure_of act kept)) (filter (is_eligible act host kept) groups) ≡
@@ -98,7 +99,7 @@ rank_below lives best group below = ⊎_elim
     (is_larger lives best group ≡ true) (λ is. is) over))
     below
 
--- the group has the preference rank of another group
+-- Whether `group` has the same preference rank as `best`.
 abbrev pub has_rank : GroupReading → GroupReading → Bool
 has_rank best group = rank_of group == rank_of best
 
@@ -117,7 +118,7 @@ best_of_is lives groups best is = filter_same (λ
     (let low = rank_below lives best group below in grind (arith, nat_tests))) ∙ sym fails))
     is.1)
 
--- a group with the rank of the best group is the best group or a smaller one
+-- A group with the rank of the best group is either the best group or a smaller group.
 below_size : (lives : List GroupLife) (best group : GroupReading) →
     IsBelow (beats_by lives memory_in_use) best group → has_rank best group ≡ true →
     IsBelow (is_larger lives) best group
@@ -159,7 +160,7 @@ largest_is lives groups best is = best_unbeaten (is_larger lives)
     (greater_order lives memory_in_use).one_way (filter (has_rank best) groups) best
     (best_in groups best is.0, all_below lives groups best is)
 
--- the group uses at least a percentage of a total
+-- Whether the group uses at least `size_threshold` percent of `total`.
 abbrev pub is_share : ℕ → ℕ → GroupReading → Bool
 is_share size_threshold total group = nat_le (size_threshold * total) (memory_in_use group * 100)
 
@@ -189,7 +190,7 @@ none_large lives size_threshold groups best is share = rw (best_of_is lives grou
 
 -- ---- the choice
 
--- the first of two options if it has a value, otherwise the second
+-- `or_else` returns the first option if it has a value, and the second option otherwise.
 pub or_is : (one other : Option GroupReading) → option_or one other ≡ (one or_else other)
 or_is None other = refl
 or_is (Some group) other = refl

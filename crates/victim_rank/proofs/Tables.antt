@@ -1,4 +1,5 @@
--- Proofs about a table by slot that is updated by groups of distinct slots, in order.
+-- Proves properties of a table indexed by slot that is updated by groups of distinct slots, in
+-- order.
 use Rattle.std.proofs.Common.{◌≡◌, ◌≢◌, ℕ, ◌<◌, List, [], ◌∷◌, ◌++◌, length, get_or, set, take}
 use Rattle.std.proofs.Common.{refl, sym, ap, ◌∙◌, arith, false}
 use Rattle.std.specs.Prelude.{Option, None, Some, ◌==◌, find, map, option_map}
@@ -18,13 +19,13 @@ use Rattle.kill_spec.proofs.Foremost.{Each, Pairs, by_test, each_all, each_map}
 use Rattle.kill_spec.proofs.ChoiceLaws.{IsBefore, in_order}
 use Rattle.victim_rank.specs.Tables.{newer_sizes}
 
--- the table after each group, in order, has updated the entry of its slot
+-- The table after each group, in order, has updated the entry of its slot.
 abbrev pub taken : {A : Type 0} → (GroupReading → A → A) → A → List A → List GroupReading → List A
 taken f d xs [] = xs
 taken f d xs (group ∷ groups) = taken f d (set xs group.slot.0 (f group (get_or xs group.slot.0 d)))
     groups
 
--- an entry after the update by a group, if there is one
+-- An entry after the update by a group. The entry doesn't change if there is no group.
 abbrev pub applied : {A : Type 0} → (GroupReading → A → A) → Option GroupReading → A → A
 applied f None x = x
 applied f (Some group) x = f group x
@@ -81,7 +82,7 @@ not_before_itself : (path : List ℕ) → slice_cmp nat_cmp path path ≡ Less �
 not_before_itself path before = true≢false (ap is_less
     (sym before ∙ tied_itself nat_list_cmp_total path))
 
--- groups with different paths have different slots
+-- Groups with different paths have different slots.
 pub slots_apart : (lives : List GroupLife) (groups : List GroupReading) →
     Ascend (map (path_of lives) groups) → AreApart groups
 slots_apart lives groups ascend = pairs_weaker (IsBefore lives)
@@ -91,11 +92,11 @@ slots_apart lives groups ascend = pairs_weaker (IsBefore lives)
 
 -- ---- sizes and scan counts
 
--- the stored sizes of a group after the group's reading
+-- The stored sizes of a group after a reading of the group.
 abbrev pub with_size : GroupReading → List ℕ → List ℕ
 with_size group sizes = take 4 (group.current ∷ sizes)
 
--- the stored scan count of a group after the group's reading
+-- The stored scan count of a group after a reading of the group.
 abbrev pub with_scan : GroupReading → Option ℕ → Option ℕ
 with_scan group scan = Some group.scan
 

@@ -1,4 +1,4 @@
-//! Chooses victims. The victim of an action is the control group that the action kills.
+//! Chooses the victim of an action: the control group whose tasks the action kills.
 //!
 //! A reading is the input of one evaluation of the rules: the time, the host's memory and the live
 //! groups. [`Past`] stores the values of earlier readings that later choices need, and [`victim`]

@@ -112,7 +112,7 @@ abbrev pub left_if : List ℕ → Option Pid → Act → List Act
 left_if dead None what = what ∷ []
 left_if dead (Some pid) what = act_of dead pid what
 
--- The act as it is without the dead tasks: a list of one act, or an empty list if no act remains.
+-- What remains of an act when the dead tasks are removed: a list of one act, or an empty list.
 abbrev pub act_left : List ℕ → List (Option Pid) → Act → List Act
 act_left dead runners (act.Switch cpu next how) = switch_without dead cpu (runner_at runners cpu.0) next how
 act_left dead runners what = left_if dead (doer what) what
@@ -123,7 +123,7 @@ abbrev pub dead_left : List ℕ → List (Option Pid) → Act → List ℕ
 dead_left dead runners (act.Switch cpu next Exit) = without_pid dead (runner_at runners cpu.0)
 dead_left dead runners what = dead
 
--- The events as they are without the dead tasks.
+-- What remains of the events when the dead tasks are removed.
 abbrev pub rest_left : List ℕ → List (Option Pid) → List Event → List Event
 rest_left dead runners [] = []
 rest_left dead runners (event ∷ events) =

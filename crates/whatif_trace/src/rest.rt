@@ -20,7 +20,7 @@ fn is_dead(dead: &BTreeSet<u32>, pid: Pid) -> bool
     dead.contains(&pid.0)
 }
 
-/// Returns whether there is a task and it isn't dead.
+/// Returns whether `pid` is the pid of a task that isn't dead. False for `None`.
 fn is_alive(dead: &BTreeSet<u32>, pid: Option<Pid>) -> bool
     ensures { result ≡ is_alive dead.now.keys pid }
 {
@@ -52,8 +52,8 @@ fn doer(act: &Act) -> Option<Pid>
     }
 }
 
-/// Appends the switch on processor `cpu` as it is without the dead tasks, or nothing if no such
-/// switch remains. `leaving` is the task that is switched out, or `None` if the processor was idle.
+/// Appends what remains of a switch on processor `cpu` when the dead tasks are removed: one event
+/// or none. `leaving` is the task that is switched out, or `None` if the processor was idle.
 #[tactic(auto, using(crate::proofs::Kept::none_kept))]
 fn keep_switch(
     kept: &mut Vec<Event>,
@@ -96,7 +96,7 @@ fn keep_act(
     }
 }
 
-/// Appends an event as it is without the dead tasks, or nothing if no event remains.
+/// Appends what remains of an event when the dead tasks are removed: one event or none.
 fn keep_left(
     alloc: Global,
     kept: &mut Vec<Event>,
@@ -142,8 +142,8 @@ fn note_exit(dead: &mut BTreeSet<u32>, runners: &[Option<Pid>], act: &Act)
     }
 }
 
-/// Appends the events as they are without the dead tasks. `runners` has the running task of each
-/// processor before the events.
+/// Appends what remains of the events when the dead tasks are removed. `runners` has the running
+/// task of each processor before the events.
 #[tactic(auto, using(crate::proofs::Kept::none_kept, crate::proofs::Kept::part_kept))]
 pub(crate) fn keep_rest(
     alloc: Global,

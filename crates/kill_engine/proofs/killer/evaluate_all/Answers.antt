@@ -8,7 +8,7 @@ use Rattle.kill_engine.specs.Rulesets.{RulesetRepresents, RulesetView}
 use Rattle.kill_engine.proofs.RulesetLaws as laws
 use Rattle.kill_engine.proofs.killer.evaluate_all.Goals as goal
 
--- a ruleset that wasn't evaluated yet represents what it did before
+-- A ruleset that hasn't been evaluated yet represents the same readings as before the loop.
 pub evaluate-requires-clause-stands : goal.evaluate-requires-clause-stands
 evaluate-requires-clause-stands c =
     let i = c.rulesets.number in

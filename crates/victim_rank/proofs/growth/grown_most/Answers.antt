@@ -51,7 +51,7 @@ returns-in-None c =
     (same_choosable sizes scope.lives c.args.ratio c.args.few ranked (groups_at groups places.result.now) groups
     (same_in_rank scope c.args.best_rank (groups_at groups places.result.now) groups places.ensures.groups)))
 
--- the places of a scope list all groups of a rank
+-- The places of a scope include all groups of a preference rank.
 pub is_among_largest-requires-clause-ranking : goal.is_among_largest-requires-clause-ranking
 is_among_largest-requires-clause-ranking c =
     let scope = c.args.scope.now in

@@ -6,7 +6,7 @@ use Rattle.detectors.proofs.Finding.{AreWithin}
 use Rattle.detectors.proofs.Standing.{answered, is_next_in}
 use Rattle.detectors.proofs.detector.Detector.step.Goals as goal
 
--- what holds of the detector once it has found its matches
+-- The invariant holds for the detector after it has computed its table of matches.
 known : (c : goal.After-answer) → IsDetector (begun c.args.self.now c.args.reading.now.lives)
 known c = subst IsDetector (c.self.view_is ∙ c.begin.ensures) c.self.invariant
 

@@ -6,7 +6,7 @@ use Rattle.detectors.proofs.Runs.{increased_by, run_by}
 use Rattle.detectors.proofs.Greatest.{found_within, greatest_within}
 use Rattle.detectors.proofs.detector.Detector.take.Goals as goal
 
--- the table of counts was written back in whole
+-- The whole table of scan counts was written back.
 scans_whole : (c : goal.After-self-5-1) →
     take c.self.inside.scans.len (c.take_rise-self-inside.new.scans
     ++ drop (length c.take_rise-self-inside.new.scans) c.self.inside.scans.items) ≡ c.take_rise-self-inside.new.scans

@@ -5,7 +5,7 @@ use Rattle.detectors.proofs.Finding.{has_match_of}
 use Rattle.victim_rank.specs.Scopes.{ScopeView, is_in_view}
 use Rattle.victim_rank.proofs.scope.Scope.has.Goals as goal
 
--- the table shows whether the patterns match
+-- The table says whether the patterns match the group.
 pub returns-in-None : goal.returns-in-None
 returns-in-None c =
     let s = c.self.inside in
