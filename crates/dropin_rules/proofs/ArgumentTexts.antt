@@ -1,4 +1,4 @@
--- Proofs that parsing the text of an argument gives the argument.
+-- Proves that parsing the text of an argument returns the argument.
 use Rattle.std.proofs.Common.{◌≡◌, ℕ, ◌+◌, ◌*◌, ◌/◌, ◌%◌, ◌^◌, ◌<◌, ◌≤◌, List, [], ◌∷◌, ◌++◌, Bool, true, false, Some, None, Ok, length, refl, ap, ◌∙◌, arith, inl, inr}
 use Rattle.std.specs.Prelude.{◌==◌, codes, decimal, nat_le}
 use Rattle.std.specs.List.{list_all}

@@ -1,4 +1,4 @@
--- Proofs that the text of patterns is ASCII.
+-- Proves that the text of patterns is ASCII.
 use Rattle.std.proofs.Common.{◌≡◌, ℕ, ◌<◌, ◌≤◌, List, [], ◌∷◌, refl, arith, Bool, true, false, inl, inr}
 use Rattle.std.specs.Prelude.{All, map, ◌==◌, nat_le, nat_lt}
 use Rattle.std.specs.List.{list_all}

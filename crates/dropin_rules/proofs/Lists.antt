@@ -1,4 +1,5 @@
--- Proofs that the JSON data of rules contain no float, and nest only few levels deep.
+-- Proves that the JSON data of rules have no floating-point number, and are nested only a few
+-- levels deep.
 use Rattle.std.proofs.Common.{◌≡◌, ℕ, ◌≤◌, List, [], ◌∷◌, false, refl, arith}
 use Rattle.std.specs.Prelude.{map}
 use Rattle.serde_json.specs.Data.{Data, depth, items_depth}
@@ -12,7 +13,7 @@ use Rattle.ruleset_json.specs.declared.types.DetectorSpec.TheVariants as detecto
 use Rattle.ruleset_json.specs.declared.types.Rule.{Rule}
 use Rattle.dropin_rules.specs.RulesText.{action_data, detector_data, group_data, rule_data, rules_data}
 
--- the data contain no float, and nest at most this deep
+-- The data have no floating-point number, and are nested at most `most` levels deep.
 abbrev IsPlain : ℕ → Data → Type 0
 IsPlain most d = (has_float d ≡ false) × (depth d ≤ most)
 

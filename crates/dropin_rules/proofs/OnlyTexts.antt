@@ -1,5 +1,5 @@
--- Proofs about data that consist of strings in lists and objects: their text is UTF-8, and parsing
--- it gives the data.
+-- Proves that the text of JSON data made only of strings, lists and objects is UTF-8, and that
+-- parsing this text returns the data.
 use Rattle.std.proofs.Common.{◌≡◌, suc, ◌≤◌, List, [], ◌∷◌, ◌++◌, Bool, true, false, Option, Some, option_and_then, refl, sym, ap, ap₂, ◌∙◌, arith, append-nil}
 use Rattle.std.specs.Prelude.{⊤, max, IsUtf8}
 use Rattle.std.proofs.lemmas.Str.{IsUtf8-append, IsUtf8-nil}
@@ -95,12 +95,12 @@ mutual
   members_outline_depth no_members = refl
   members_outline_depth (member k d ms) = ap₂ max (outline_depth d) (members_outline_depth ms)
 
--- the data of the tree that the tokens form, if all tokens are consumed
+-- The data of the tree that the tokens form, or `None` if tokens remain.
 abbrev whole : Option (json.Json × List Token) → Option Data
 whole read = option_and_then of_json (option_and_then (λ p. json.if_last p.0 p.1) read)
 
--- parsing the text of such data gives the data, if they don't nest too deep and their tree
--- represents them
+-- Parsing the text of such data returns the data, if the data aren't nested too deep and their tree
+-- represents them.
 pub text_read : (d : Data) → OnlyTexts d → of_json (outline d) ≡ Some d → depth d ≤ max_depth → read (compact_text d) ≡ Some d
 text_read d t back shallow =
     let same : tokens (compact_text d) ≡ tree.json_tokens (outline d) ++ [] =

@@ -1,4 +1,4 @@
--- Proofs that parsing the object of a plugin gives the plugin.
+-- Proves that parsing the JSON object of a plugin returns the plugin.
 use Rattle.std.proofs.Common.{◌≡◌, ℕ, Ok, refl, arith}
 use Rattle.ruleset_json.specs.declared.fault.Place.{Place}
 use Rattle.ruleset_json.specs.declared.types.Action.{Action}

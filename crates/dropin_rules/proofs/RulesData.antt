@@ -1,4 +1,4 @@
--- Proofs that parsing the data of rules gives the rules.
+-- Proves that parsing the JSON data of rules returns the rules.
 use Rattle.std.proofs.Common.{◌≡◌, ℕ, suc, ◌+◌, ◌≤◌, List, [], ◌∷◌, Result, Ok, Some, length, refl, arith}
 use Rattle.std.specs.Prelude.{All, IsUtf8, map}
 use Rattle.std.proofs.lemmas.Bool.{le-ltb}
@@ -21,7 +21,8 @@ use Rattle.dropin_rules.specs.HasPatterns.{ActionHasPatterns, DetectorHasPattern
 use Rattle.dropin_rules.specs.RulesText.{action_data, detector_data, group_data, list_data, rule_data, rules_data, rules_text}
 use Rattle.dropin_rules.proofs.PluginData.{action_again, detector_again}
 
--- parsing the data of a list gives the list, if this holds for each element
+-- If parsing the data of each element returns the element, parsing the data of a list returns the
+-- list.
 each_again : {A : Type 0} (P : A → Type 0) (f : ℕ → Data → Result A RulesFault) (data_of : A → Data) → ((i : ℕ) (x : A) → P x → f i (data_of x) ≡ Ok x)
     → (i : ℕ) (xs : List A) → All P xs → each f i (map data_of xs) ≡ Ok xs
 each_again P f data_of again i [] all = refl
@@ -67,7 +68,8 @@ rulesets_again : (rules : List Rule) → FitsRules rules → rulesets_in (rules_
 unfolding rulesets_in
 rulesets_again rules fits = mapped_again place.Whole 64 rule_data rules fits.few
 
--- parsing the text of rules gives the rules, if parsing it as JSON gives the data of the rules
+-- If parsing the text of rules as JSON returns the data of the rules, parsing the text as rules
+-- returns the rules.
 pub rules_again : (rules : List Rule) → FitsRules rules → RulesHavePatterns rules → IsUtf8 (rules_text rules) → json.read (rules_text rules) ≡ Some (rules_data rules)
     → length (rules_text rules) ≤ 1048576 → rules_of (rules_text rules) ≡ Ok (record { rules = rules })
 unfolding rules_of

@@ -1,5 +1,5 @@
--- Proofs that the data of rules consist of strings in lists and objects, and that their tree
--- represents them.
+-- Proves that the JSON data of rules are made only of strings, lists and objects, and that their
+-- tree represents them.
 use Rattle.std.proofs.Common.{◌≡◌, ℕ, suc, ◌/◌, ◌%◌, ◌^◌, ◌<◌, ◌≤◌, List, [], ◌∷◌, ◌++◌, Bool, true, false, Some, refl, arith}
 use Rattle.std.specs.Prelude.{All, IsUtf8, codes, decimal, map}
 use Rattle.std.proofs.lemmas.Fmt.{IsAscii-decimal}

@@ -1,4 +1,4 @@
--- Proofs that members that were added one by one are in the order of their keys.
+-- Proves that members added one by one are in the order of their keys.
 use Rattle.std.proofs.Common.{◌≡◌, ℕ, List, [], ◌∷◌, refl}
 use Rattle.std.specs.Prelude.{codes}
 use Rattle.serde_json.specs.Data.{Data, Members, no_members, member, put, string}
@@ -7,7 +7,7 @@ use Rattle.ruleset_json.specs.declared.name.Key.TheVariants as key
 use Rattle.ruleset_json.specs.Names.{key_word}
 use Rattle.dropin_rules.specs.RulesText.{texts}
 
--- the members after a string is added under its key
+-- The members after a string is added under its key.
 abbrev pub with : Key → List ℕ → Members → Members
 with k text members = put (key_word k) (string text) members
 

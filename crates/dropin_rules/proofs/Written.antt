@@ -1,4 +1,4 @@
--- Proofs about the text that is written for rules.
+-- Proves properties of the text that is written for rules.
 use Rattle.std.proofs.Common.{◌≡◌, ℕ, List, false, Some, Ok, sym, ap, ◌∙◌}
 use Rattle.std.specs.Prelude.{IsUtf8}
 use Rattle.serde_json.specs.Data.{Data}

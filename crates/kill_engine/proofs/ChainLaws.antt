@@ -47,7 +47,7 @@ pub all_found : (lives : List GroupLife) (number : ℕ) (actions : List Action) 
 all_found lives number actions now past act found all over is =
     sym (append-nil found) ∙ ap (λ kills. found ++ kills) (sym (none_following lives number actions now past act over)) ∙ is
 
--- After the last action without a chain-ending kill, no kill has ended the chain.
+-- After the last action, no further kill ends the chain.
 pub none_rests : (lives : List GroupLife) (number : ℕ) (actions : List Action) (now : Reading) (past : List Reading) (act : ℕ) → length actions ≤ act →
     None ≡ option_map (rest_of actions) (find (ends_chain actions) (suffix lives number actions now past act))
 none_rests lives number actions now past act over = rw (none_following lives number actions now past act over) refl

@@ -22,7 +22,7 @@ rulesets_push lives history number [] (first ∷ rules) state rule represents ea
 rulesets_push lives history number (first ∷ states) [] state rule represents each = absurd represents
 rulesets_push lives history number (first ∷ states) (one ∷ rules) state rule represents each = (represents.0, rulesets_push lives history (number + 1) states rules state rule represents.1 each)
 
--- The ruleset at index `i` has a rule, which is followed by the rules of the later rulesets.
+-- `rule` is the rule of the ruleset at index `i`. The rules after it belong to the later rulesets.
 pub record IsRuled (lives : List GroupLife) (history : List Reading) (number : ℕ) (states : List RulesetView) (rules : List Rule) (i : ℕ) : Type 0 where
   pub rule : Rule
   pub rest : drop i rules ≡ rule ∷ drop (i + 1) rules

@@ -3,8 +3,8 @@ use Rattle.std.proofs.Common.{◌≡◌, ℕ, zero, suc, ◌+◌, ◌<◌, List,
 use Rattle.std.specs.Prelude.{◌&&◌, ◌||◌, All}
 use Rattle.std.specs.List.{AllZip, list_all, list_any}
 
--- The first list's element at index `i` is related to an element of the second list, which is
--- followed by the later elements.
+-- `here` is the element of the second list that is related to the first list's element at index
+-- `i`. The elements after `here` belong to the later elements.
 pub record IsZipped {A B : Type 0} (R : A → B → Type 0) (xs : List A) (ys : List B) (i : ℕ) : Type 0 where
   pub here : B
   pub rest : drop i ys ≡ here ∷ drop (i + 1) ys

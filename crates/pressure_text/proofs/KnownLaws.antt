@@ -1,4 +1,4 @@
--- Proofs that a pressure file parses exactly as its contents.
+-- Proves that parsing a pressure file returns exactly the numbers that the file has.
 use Rattle.std.proofs.Common.{◌≡◌, ℕ, zero, suc, ◌/◌, ◌%◌, ◌^◌, ◌<◌, ◌≤◌, List, [], ◌∷◌, ◌++◌}
 use Rattle.std.proofs.Common.{refl, sym, ap, ◌∙◌, arith, append_assoc, Bool, true, false, length}
 use Rattle.std.proofs.Common.{get_or, ◌↔◌}
@@ -26,13 +26,13 @@ use Rattle.pressure_text.specs.PrintedLines.{numbers_known, spelled_line}
 use Rattle.pressure_text.proofs.Taken.{average_again, average_is, after_again, after_is, bind_some}
 use Rattle.pressure_text.proofs.Taken.{found_same, number_again, number_is, past_is}
 
--- a line with these numbers
+-- A line with these averages (hundredths of a percent) and this total (us).
 abbrev pub line : ℕ → ℕ → ℕ → ℕ → PressureLine
 line short middle long total = record { hundredths = short ∷ middle ∷ long ∷ []; total_us = total }
 
 -- ---- a line
 
--- a line as its pieces, followed by the remaining bytes
+-- The bytes of a line, as a concatenation of its pieces and the remaining bytes.
 line_parts : (level : Level) (short middle long total : ℕ) (rest : List ℕ) →
     known_line level (short ∷ middle ∷ long ∷ []) total ++ rest ≡
     level_word level ++ (codes " avg10=" ++ (hundredths_text short ++ (codes " avg60=" ++ (hundredths_text middle ++ (codes " avg300=" ++ (hundredths_text long ++ (codes " total=" ++ (decimal total ++ (codes "\n" ++ rest)))))))))
@@ -62,7 +62,8 @@ line_again level short middle long total rest first second third fits =
       after_again (codes "\n") rest,
     ) refl
 
--- the bytes begin with the line of `level` that was parsed, and `rest` remains
+-- The bytes begin with the line of the level `level` with the numbers `found`, and `rest` has the
+-- remaining bytes.
 pub record LineRead (level : Level) (bytes : List ℕ) (found : PressureLine) (rest : List ℕ) : Type 0 where
   pub can : CanShow found.hundredths found.total_us
   pub spelled : bytes ≡ known_line level found.hundredths found.total_us ++ rest
@@ -132,13 +133,13 @@ three_of (a ∷ b ∷ []) three = absurd (omega arith)
 three_of (a ∷ b ∷ c ∷ []) three = refl
 three_of (a ∷ b ∷ c ∷ d ∷ xs) three = absurd (omega arith)
 
--- the result of parsing a line with these averages and this total
+-- The result of parsing a line with these averages and this total.
 made : List ℕ → ℕ → List ℕ → Option (PressureLine × List ℕ)
 made averages total rest =
     let numbers : PressureLine = record { hundredths = averages; total_us = total } in
     Some (numbers, rest)
 
--- a line with numbers in range parses as these numbers
+-- Parsing a line with numbers in range returns these numbers.
 known_again : (level : Level) (found : PressureLine) (rest : List ℕ) → IsTellable found →
     line_at level (spelled_line level found ++ rest) ≡ Some (found, rest)
 unfolding made
@@ -192,7 +193,7 @@ file_is bytes file is =
       spelled = some_read.spelled ∙ ap (λ xs. spelled_line SomeStalled file.some_line ++ xs) after_the_first;
     }
 
--- a file is parsed if and only if the bytes spell it
+-- Parsing returns a pressure file if and only if the bytes are that file.
 pub reads_known : (bytes : List ℕ) (file : PressureFile) → (file_at bytes ≡ Some file) ↔ Shows bytes file
 reads_known bytes file = (file_is bytes file, file_again bytes file)
 
@@ -219,7 +220,7 @@ irq_is bytes line is =
       spelled = read.spelled ∙ ap (λ xs. only ++ xs) end.0 ∙ append-nil only;
     }
 
--- a pressure file of one line is parsed if and only if the bytes spell it
+-- Parsing returns a pressure file of one line if and only if the bytes are that file.
 pub irq_time_by : (bytes : List ℕ) (line : PressureLine) → (irq_at bytes ≡ Some line) ↔ ShowsIrq bytes line
 irq_time_by bytes line = (irq_is bytes line, irq_again bytes line)
 
@@ -232,7 +233,7 @@ percent_is average =
     let part : in_hundredths average % 100 ≡ hundredths average = omega arith in
     rw (whole, part) refl
 
--- a written line contains whole hundredths and microseconds
+-- A written line has whole hundredths of a percent and whole microseconds.
 line_known : (level : Level) (averages : List ℕ) (total : ℕ) →
     file_line level averages total ≡ spelled_line level (numbers_known averages total)
 line_known level averages total =
@@ -244,11 +245,11 @@ line_known level averages total =
 in_most : (average : ℕ) → average ≤ 204800 → in_hundredths average ≤ 10000
 in_most average most = omega arith
 
--- three averages are at most 100 percent, and a total has 64 bits
+-- The three averages are at most 100 percent, and the total is below 2^64.
 abbrev Fit : List ℕ → ℕ → Type 0
 Fit averages total = ((k : ℕ) → k < 3 → get_or averages k 0 ≤ 204800) × (total < 2 ^ 64)
 
--- the numbers of such a line are in the range that can be printed
+-- The numbers of such a line are in the range that a pressure file can have.
 can_show : (averages : List ℕ) (total : ℕ) → Fit averages total → IsTellable (numbers_known averages total)
 can_show averages total fit =
     let most : (k : ℕ) → k < 3 → in_hundredths (get_or averages k 0) ≤ 10000 =
@@ -279,7 +280,7 @@ fit_of : (totals : List ℕ) (averages : List (List ℕ)) (i : ℕ) → All (λ 
     All (λ row. IsRow row) averages → Fit (get_or averages i []) (get_or totals i 0)
 fit_of totals averages i fit rows = (λ k below. row_most averages i k rows below, total_fits totals i fit)
 
--- the `full` line: zeros for CPU at the root, otherwise the given numbers
+-- The `full` line: zeros if `zeros`, and the given numbers otherwise.
 abbrev full_of : Bool → List ℕ → ℕ → PressureLine
 full_of zeros averages total = if zeros then numbers_known [] 0 else numbers_known averages total
 
@@ -324,7 +325,7 @@ irq_reads_again averages total fits row = record {
 
 -- ---- the results of a call that parses as defined
 
--- the result is the value that the bytes spell, and only that
+-- The result is the value that the bytes spell, and no other value.
 abbrev pub IsExact : {A : Type 0} → Option A → (A → Type 0) → Type 0
 IsExact {A} result IsText = (read : A) → (result ≡ Some read) ↔ IsText read
 
@@ -338,7 +339,7 @@ none_known : {A : Type 0} (IsText : A → Type 0) (result : Option A) → IsExac
 none_known IsText None exact none read known = let found = (exact read).1 known in absurd cc
 none_known IsText (Some other) exact none read known = absurd cc
 
--- the result is `None` if and only if the bytes spell no value
+-- The result is `None` if and only if the bytes spell no value.
 read_none : {A : Type 0} (IsText : A → Type 0) (result : Option A) → IsExact result IsText →
     IsNone result ↔ ((read : A) → ¬ IsText read)
 read_none IsText result exact = (none_known IsText result exact, none_of IsText result exact)

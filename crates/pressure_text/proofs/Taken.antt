@@ -1,4 +1,4 @@
--- Proofs that parsing a piece consumes that piece and nothing else.
+-- Proves that parsing a piece consumes exactly that piece.
 use Rattle.std.proofs.Common.{◌≡◌, ◌≢◌, ℕ, ◌+◌, ◌*◌, ◌-◌, ◌/◌, ◌%◌, ◌^◌, ◌<◌, ◌≤◌, List, []}
 use Rattle.std.proofs.Common.{◌∷◌, ◌++◌, refl, sym, ap, ◌∙◌, arith, append_assoc, Bool, true, false}
 use Rattle.std.proofs.Common.{length, take, drop, get_or}
@@ -24,7 +24,7 @@ use Rattle.pressure_text.specs.FileRead.{average_at, suffix, number_at, past, tw
 
 -- ---- steps
 
--- if `r >>= f` has a value, then `r` has one, and `f` maps it to that value
+-- If `r >>= f` has a value, then `r` has a value, and `f` maps it to the value of `r >>= f`.
 pub bind_some : {A B : Type 0} (r : Option A) (f : A → Option B) (y : B) → r >>= f ≡ Some y →
     (x : A) × (r ≡ Some x) × (f x ≡ Some y)
 bind_some None f y is = absurd cc
@@ -35,7 +35,7 @@ pub if_some : {A : Type 0} (test : Bool) (x y : A) → (if test then Some x else
 if_some true x y is = (refl, cc)
 if_some false x y is = absurd cc
 
--- equal results have equal values and equal remaining bytes
+-- Equal pairs have equal first components and equal second components.
 pub parts_same : {A : Type 0} (x a : A) (y b : List ℕ) →
     (let one : A × List ℕ = (x, y) in let other : A × List ℕ = (a, b) in one ≡ other) →
     (x ≡ a) × (y ≡ b)
@@ -67,7 +67,7 @@ after_is (byte ∷ text) (first ∷ bytes) rest is =
     let same = eqb-true first byte both.0 in
     let more = after_is text bytes rest both.1 in cc
 
--- there is no suffix if the bytes don't begin with the text
+-- There is no suffix if the bytes don't begin with the text.
 after_none : (text bytes : List ℕ) → ((rest : List ℕ) → bytes ≢ text ++ rest) →
     suffix text bytes ≡ None
 after_none text bytes other =
@@ -82,7 +82,7 @@ found_in_suffix : (text bytes : List ℕ) (r : Option (Bor (List ℕ))) →
 found_in_suffix text bytes None other = after_none text bytes other
 found_in_suffix text bytes (Some x) is = rw is (after_again text x.now)
 
--- what std promises about a call that strips a prefix
+-- The contract of the standard library for stripping a prefix implies the specification `suffix`.
 pub stripped : (text bytes : List ℕ) (r : Option (Bor (List ℕ))) →
     MatchOption r (pointwise ◌==◌ (take (length text) bytes) text ≡ false) (λ x. (pointwise ◌==◌ (take (length text) bytes) text ≡ true) × (x.now ≡ drop (length text) bytes) × (length x.now + length text ≡ length bytes)) →
     MatchOption r (suffix text bytes ≡ None) (λ x. suffix text bytes ≡ Some x.now)
@@ -90,7 +90,7 @@ stripped text bytes r cases = found_in_suffix text bytes r (strip_prefix_is Deci
 
 -- ---- a leading number
 
--- the bytes don't begin with a digit
+-- The bytes don't begin with a digit.
 abbrev pub NoDigit : List ℕ → Type 0
 NoDigit bytes = is_ascii_digit (get_or bytes 0 0) ≡ false
 

@@ -1,4 +1,4 @@
--- Proofs about a judge from tick to tick.
+-- Proves how the state of a judge changes from tick to tick.
 use Rattle.std.proofs.Common.{◌≡◌, ℕ, zero, suc, ◌+◌, ◌-◌, ◌*◌, ◌<◌, List, [], ◌∷◌, map}
 use Rattle.std.proofs.Common.{refl, sym, ap, subst, ◌∙◌, arith, Bool, true, false}
 use Rattle.std.specs.Prelude.{◌/◌, nat_lt, None, Some, if◌then◌else◌}
@@ -20,7 +20,7 @@ use Rattle.replay_rules.specs.Laws.{OneReadingMore, ReadingsStay}
 
 -- ---- times
 
--- each tick is a length later than the one before it
+-- Each tick is one tick length later than the previous tick.
 pub tick_later : (length tick : ℕ) → 0 < tick →
     tick_moment length tick ≡ tick_moment length (tick - 1) + length
 tick_later length zero some = absurd (let no : ⊥ = omega (arith, some) in no)
@@ -31,11 +31,11 @@ tick_later length (suc tick) some =
 
 -- ---- readings
 
--- the readings at some evaluations
+-- The readings at the ticks with these numbers.
 abbrev all_at : Trace → Timing → List ℕ → List Reading
 all_at trace timing numbers = map (reading_at trace.cpus trace.events timing.length) numbers
 
--- the readings after the next tick, given whether that tick is an evaluation
+-- The readings after the next tick, depending on whether that tick is an evaluation.
 one_more : (trace : Trace) (timing : Timing) (i : ℕ) (b : Bool) →
     is_evaluation timing.interval timing.length (suc i) ≡ b →
     readings_of trace timing (suc i)
@@ -67,7 +67,7 @@ one_reading_more trace timing i due =
 
 -- ---- kills
 
--- the kills at a tick, given whether that tick is an evaluation
+-- The kills at a tick, depending on whether that tick is an evaluation.
 abbrev kills_where : Trace → Timing → List Rule → ℕ → Bool → List Kill
 kills_where trace timing rules i test =
     if test
@@ -95,7 +95,7 @@ kills_at_reading trace timing rules i due =
 
 -- ---- one tick
 
--- a judge computes correctly which ticks are evaluations
+-- A judge computes correctly which ticks are evaluations.
 pub same_schedule : (judge : JudgeView) (plans : PlansView) (engine : EngineView)
     (order : List Slot) (trace : Trace) (timing : Timing) (rules : List Rule) (i at length : ℕ) →
     IsToJudge judge plans engine order trace timing rules i at length →
@@ -104,7 +104,7 @@ same_schedule judge plans engine order trace timing rules i at length is =
     ap (λ interval. is_evaluation interval length (i + 1)) is.judged.interval
     ∙ ap (λ length. is_evaluation timing.interval length (i + 1)) is.length_is
 
--- the time that the judge gets is the time of the tick
+-- The time that is passed to the judge is the time of the tick.
 pub moment_is : (judge : JudgeView) (plans : PlansView) (engine : EngineView)
     (order : List Slot) (trace : Trace) (timing : Timing) (rules : List Rule) (i at length : ℕ) →
     IsToJudge judge plans engine order trace timing rules i at length →
@@ -112,7 +112,7 @@ pub moment_is : (judge : JudgeView) (plans : PlansView) (engine : EngineView)
 moment_is judge plans engine order trace timing rules i at length is =
     is.at_is ∙ ap (λ length. tick_moment length (i + 1)) (sym is.length_is)
 
--- the preconditions for an evaluation at the next tick
+-- The preconditions of a decision imply the preconditions of an evaluation at the next tick.
 pub to_evaluate : (judge : JudgeView) (evaluator : EvaluatorView) (plans : PlansView)
     (engine : EngineView) (order : List Slot) (trace : Trace) (timing : Timing) (rules : List Rule)
     (i at length : ℕ) →
@@ -128,16 +128,16 @@ to_evaluate judge evaluator plans engine order trace timing rules i at length is
       read = subst (λ e. HasReadAll e trace rules (readings_of trace timing i)) kept is.judged.read;
     }
 
--- a judge without an evaluator has no kills
+-- A judge without an evaluator has no kills.
 shows_none : (judge : JudgeView) → judge.evaluator ≡ None → judge_kills judge ≡ []
 shows_none judge none =
     ap (λ e. if judge.evaluated then known_last e else []) none ∙ none_either judge.evaluated
 
--- a judge that evaluated no rules at the last tick has no kills
+-- A judge that didn't evaluate the rules at the last tick has no kills.
 shows_no_old : (judge : JudgeView) → judge.evaluated ≡ false → judge_kills judge ≡ []
 shows_no_old judge none = ap (λ b. if b then known_last judge.evaluator else []) none
 
--- without an evaluator there are no rules, so the judge has decided at any number of ticks
+-- A judge without an evaluator has no rules, so it has decided at any number of ticks.
 pub judged_none : (judge : JudgeView) (trace : Trace) (timing : Timing) (rules : List Rule)
     (i number : ℕ) → judge.evaluator ≡ None →
     HasJudged judge trace timing rules i → HasJudged judge trace timing rules number
@@ -153,7 +153,7 @@ judged_none judge trace timing rules i number none is =
       kills = shows_none judge none ∙ sym unkilled;
     }
 
--- a tick without an evaluation leaves the judge unchanged, except that it has no kills
+-- A tick without an evaluation doesn't change the judge, except that there are no kills.
 pub judged_same : (old new : JudgeView) (trace : Trace) (timing : Timing) (rules : List Rule)
     (i : ℕ) →
     new.interval ≡ old.interval → new.evaluator ≡ old.evaluator → new.evaluated ≡ false →
@@ -169,7 +169,8 @@ judged_same old new trace timing rules i interval kept evaluated none is =
       kills = shows_no_old new evaluated ∙ sym (no_kills_between trace timing rules (i + 1) none);
     }
 
--- after an evaluation the evaluator has taken one more reading, and the judge has the kills at it
+-- After an evaluation, the evaluator has taken one more reading, and the judge has the kills at
+-- that reading.
 pub judged_next : (old new : JudgeView) (evaluator : EvaluatorView) (trace : Trace) (timing : Timing)
     (rules : List Rule) (i : ℕ) →
     new.interval ≡ old.interval → new.evaluator ≡ Some evaluator → new.evaluated ≡ true →
@@ -191,11 +192,11 @@ judged_next old new evaluator trace timing rules i interval kept on due read is 
 
 -- ---- between evaluations
 
--- a judge without an evaluator is unchanged at each tick, and has no kills
+-- A tick doesn't change a judge without an evaluator, and there are no kills.
 pub rests_none : (judge : JudgeView) → judge.evaluator ≡ None → Rests judge judge
 rests_none judge none = record { evaluator = refl; kills = shows_none judge none }
 
--- a tick without an evaluation leaves the evaluator unchanged, and there are no kills
+-- A tick without an evaluation doesn't change the evaluator, and there are no kills.
 pub rests : (old new : JudgeView) →
     new.evaluator ≡ old.evaluator → new.evaluated ≡ false → Rests old new
 rests old new same none = record { evaluator = same; kills = shows_no_old new none }
@@ -209,7 +210,7 @@ nothing_read : (trace : Trace) (timing : Timing) → readings_of trace timing 0 
 unfolding readings_until
 nothing_read trace timing = refl
 
--- a new judge has decided at no tick
+-- A new judge has decided at no tick.
 pub judged_first : (judge : JudgeView) (trace : Trace) (timing : Timing) (rules : List Rule) →
     judge.interval ≡ timing.interval → judge.evaluated ≡ false →
     HasReadAll judge.evaluator trace rules [] → HasJudged judge trace timing rules 0

@@ -1,4 +1,4 @@
--- Proofs about one evaluation: the reading that is taken is the reading of the trace at the tick.
+-- Proves that the reading taken at an evaluation is the reading of the trace at that tick.
 use Rattle.std.proofs.Common.{◌≡◌, ℕ, zero, suc, ◌+◌, ◌<◌, List, [], ◌∷◌, length, map, refl, sym}
 use Rattle.std.proofs.Common.{ap, subst, ◌∙◌, arith, Bool, true, false}
 use Rattle.std.specs.Prelude.{take, All, Option, None, Some, if◌then◌else◌}
@@ -42,13 +42,13 @@ use Rattle.replay_rules.specs.Judged.{EvaluatorView, HasRead, IsToEvaluate, read
 
 -- ---- slots of an order
 
--- each number of the range from 0 to n is below n
+-- Each number in the range from 0 to n is below n.
 range_below : (n : ℕ) → All (λ k. k < n) (range_with_len 0 n)
 range_below n = λ k d below.
     let inside : k < n = omega (arith, below, length-range_with_len 0 n) in
     omega (arith, inside, get_or-range_with_len 0 n k d inside)
 
--- an order of all slots by path has only existing slots
+-- A path order of all slots has only existing slots.
 pub order_below : (lives : List GroupLife) (order : List ℕ) → IsPathOrder lives order →
     All (λ slot. slot < length lives) order
 order_below lives order is =
@@ -62,7 +62,7 @@ slots_below n slots all = λ k d below.
     subst (λ s. s < n) (get_or-map number slots k d 0 below)
     (all k 0 (omega (arith, below, length-map slots number)))
 
--- an order of all slots by path has only existing slots, as values of type `Slot`
+-- A path order of all slots, given as values of type `Slot`, has only existing slots.
 pub order_made : (lives : List GroupLife) (slots : List Slot) →
     IsPathOrder lives (numbers_of slots) →
     All (λ (slot : Slot). slot.0 < length lives) slots
@@ -71,7 +71,7 @@ order_made lives slots is =
 
 -- ---- averages
 
--- an engine has the averages of each group after the ticks that it represents
+-- An engine has the averages of each group after the ticks that it represents.
 averages_are : (engine : EngineView) (trace : Trace) (timing : Timing) (i slot : ℕ) →
     HasTicked engine trace timing i → slot < length (lives_of trace) →
     averages_in engine slot
@@ -80,7 +80,7 @@ averages_are : (engine : EngineView) (trace : Trace) (timing : Timing) (i slot :
 averages_are engine trace timing i slot ticked room =
     ap (λ (g : Group). g.averages) (ticked.groups slot room)
 
--- the engine has averages for each pressure quantity
+-- The engine has averages for each pressure quantity.
 pub has_rows : (engine : EngineView) (trace : Trace) (timing : Timing) (i slot : ℕ) →
     HasTicked engine trace timing i → slot < length engine.groups → HasRows engine slot
 has_rows engine trace timing i slot ticked room =
@@ -91,7 +91,8 @@ has_rows engine trace timing i slot ticked room =
 
 -- ---- groups
 
--- a group with these averages, memory sample, preference and flag for tasks
+-- The reading of a group with these averages, this memory sample, this preference and this flag for
+-- tasks.
 abbrev group_with : ℕ → List (List ℕ) → MemorySample → Preference → Bool → GroupReading
 group_with slot averages memory preference populated = record {
   slot = record { 0 = slot };
@@ -103,13 +104,13 @@ group_with slot averages memory preference populated = record {
   populated = populated;
 }
 
--- the reading of a group at a tick, by the trace
+-- The reading of a group at tick `i`, as the trace defines it.
 abbrev group_known : Trace → Timing → ℕ → ℕ → GroupReading
 group_known trace timing i slot =
     group_seen (up_to trace.events (tick_moment timing.length i))
     (averages_at trace.cpus trace.events timing.length i slot) slot
 
--- an engine and a watch after a tick give the same reading of a group as the trace
+-- After a tick, the engine and the watch give the reading of a group that the trace defines.
 group_is : (engine : EngineView) (watch : SideView) (trace : Trace) (timing : Timing) (i slot : ℕ) →
     HasTicked engine trace timing i →
     HasFollowed trace.events (Some (tick_moment timing.length i)) watch →
@@ -128,7 +129,7 @@ group_is engine watch trace timing i slot ticked watching room =
     (preference_of slot (up_to trace.events (tick_moment timing.length i))) b)
     (watching.populated slot room)
 
--- two functions that agree on existing slots give the same list for them
+-- Two functions that agree on existing slots give the same list for existing slots.
 groups_are : (f g : ℕ → GroupReading) (n : ℕ) → ((slot : ℕ) → slot < n → f slot ≡ g slot) →
     (lives : List GroupLife) (slots : List ℕ) → All (λ slot. slot < n) slots →
     map f slots ≡ map (λ (group : List ℕ × ℕ). g group.1) (map (with_path lives) slots)
@@ -141,7 +142,7 @@ groups_are f g n same lives (slot ∷ slots) below =
 
 -- ---- the reading
 
--- the reading of an order of all slots by path is the reading of the trace
+-- The reading made from a path order of all slots is the reading of the trace.
 pub reading_is : (engine : EngineView) (watch : SideView) (plans : PlansView) (order : List ℕ)
     (trace : Trace) (timing : Timing) (i : ℕ) →
     IsPlanned plans trace timing → HasTicked engine trace timing i →
@@ -169,7 +170,7 @@ reading_is engine watch plans order trace timing i planned ticked watching by_pa
 
 -- ---- times
 
--- the last evaluation among the first `i` ticks is before each later time
+-- The last evaluation among the first `i` ticks is earlier than each time after tick `i`.
 pub last_before : (trace : Trace) (timing : Timing) (i at : ℕ) → tick_moment timing.length i < at →
     IsAfter (newest_moment (readings_of trace timing i)) at
 unfolding readings_until reading_at
@@ -189,7 +190,7 @@ not_after : (last : Option ℕ) (at : ℕ) → IsAfter last at → IsNotAfter la
 not_after None at is = tt
 not_after (Some before) at is = omega (arith, is)
 
--- a tick is later than the evaluations among the previous ticks
+-- A tick is later than all evaluations among the previous ticks.
 pub suffix : (plans : PlansView) (trace : Trace) (timing : Timing) (i : ℕ) →
     IsPlanned plans trace timing →
     IsAfter (newest_moment (readings_of trace timing i)) (tick_moment timing.length (i + 1))
@@ -203,8 +204,8 @@ last_is : (cpus : ℕ) (events : List Event) (length i : ℕ) (past : List Readi
 unfolding reading_at
 last_is cpus events length i past = refl
 
--- An evaluator has taken one more reading if its watch and its killer have, and its reading is the
--- one from the engine and the watch.
+-- An evaluator has taken one more reading if its watch and its killer have taken it, and if the
+-- reading is made from the engine and the watch.
 pub read_next : (old new : EvaluatorView) (plans : PlansView) (engine : EngineView)
     (order : List Slot) (trace : Trace) (timing : Timing) (rules : List Rule) (i at : ℕ) →
     IsToEvaluate old plans engine order trace timing rules i at →

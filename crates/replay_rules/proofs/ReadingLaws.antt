@@ -1,5 +1,5 @@
--- Proofs that the readings of a trace are well formed: the groups are in range and in the order of
--- their paths, and each reading is later than the previous ones.
+-- Proves that the readings of a trace are well formed: the groups are in range and in the order of
+-- their paths, and each reading is later than the previous readings.
 use Rattle.std.proofs.Common.{◌≡◌, ℕ, zero, suc, ◌+◌, ◌<◌, ◌≤◌, ◌^◌, List, [], ◌∷◌, ◌++◌}
 use Rattle.std.proofs.Common.{length, map, get_or, refl, sym, ap, subst, ◌∙◌, arith}
 use Rattle.std.proofs.Common.{Bool, true, false, cond}
@@ -51,7 +51,8 @@ both_all : {A : Type 0} → (P : A → Type 0) (xs ys : List A) → AllByRecursi
 both_all P [] ys all more = more
 both_all P (x ∷ xs) ys all more = (all.0, both_all P xs ys all.1 more)
 
--- if each event shows only values with the property `P`, so do all events together
+-- If each event reports only values with the property `P`, all events together report only such
+-- values.
 known_holds : {A : Type 0} → (P : A → Type 0) (shows : World → Event → List A) →
     ((w : World) (event : Event) → Fits event → AllByRecursion P (shows w event)) →
     (w : World) (events : List Event) → AllFit events →
@@ -71,7 +72,7 @@ alone_where : {A : Type 0} → (P : A → Type 0) (x : A) (b : Bool) → P x →
 alone_where P x true is = (is, tt)
 alone_where P x false is = tt
 
--- a selection of well-formed events is well-formed
+-- A selection of well-formed events has only well-formed events.
 fit_filter : (test : Event → Bool) (events : List Event) → AllFit events →
     AllFit (filter test events)
 fit_filter test [] fit = tt
@@ -118,7 +119,7 @@ host_small events fit =
 
 -- ---- live groups
 
--- a path and a slot belong to an existing group
+-- The path and the slot of the pair belong to the same existing group.
 abbrev IsPartIn : List GroupLife → List ℕ × ℕ → Type 0
 IsPartIn lives pair = (pair.1 < length lives) × (path_at lives pair.1 ≡ pair.0)
 
@@ -145,7 +146,8 @@ in_order_keeps lives [] all = tt
 in_order_keeps lives (pair ∷ pairs) all =
     put_keeps lives pair.0 pair.1 (in_order pairs) all.0 (in_order_keeps lives pairs all.1)
 
--- the listed groups are at their indexes in the list of all groups, starting at a slot
+-- The listed groups are in the list of all groups at consecutive slots, starting at the slot
+-- `from`.
 abbrev ArePlaced : List GroupLife → ℕ → List GroupLife → Type 0
 ArePlaced lives from groups = (k : ℕ) (d : GroupLife) → k < length groups →
     IsPartIn lives ((get_or groups k d).path, from + k)
@@ -168,7 +170,7 @@ live_placed lives from (group ∷ groups) placed =
       | false ↦ rest
     ]
 
--- the groups that are live at a time are existing groups
+-- The groups that are live at a time are existing groups.
 live_represent : (limits : Limits) (events : List Event) → AreLegal limits first_world events →
     (at : ℕ) → AllByRecursion (IsPartIn (after events).groups)
     (live_groups (after (up_to events at)).groups)

@@ -1,4 +1,4 @@
--- Proofs about the readings of groups in an order of slots.
+-- Proves properties of the readings of groups in an order of slots.
 use Rattle.std.proofs.Common.{◌≡◌, ℕ, ◌+◌, ◌<◌, List, [], ◌∷◌, ◌++◌, length, map, take, drop}
 use Rattle.std.proofs.Common.{get_or, refl, sym, ap, subst, ◌∙◌, arith, Bool, true, false, cond, T}
 use Rattle.std.specs.Prelude.{◌&&◌}
@@ -27,7 +27,7 @@ use Rattle.side_watch.specs.Watch.{SideView}
 use Rattle.group_tree.specs.Tree.{numbers_of}
 use Rattle.replay_rules.specs.Seen.{group_by, groups_by, slots_live_at}
 
--- the first six of seven rows, listed
+-- Listing the first six of seven rows gives the prefix of six rows.
 pub six_rows : (rows : List (List ℕ)) → length rows ≡ 7 →
     get_or rows 0 [] ∷ get_or rows 1 [] ∷ get_or rows 2 [] ∷ get_or rows 3 [] ∷ get_or rows 4
     [] ∷ get_or rows 5 [] ∷ [] ≡ take 6 rows
@@ -54,7 +54,7 @@ second_holds : (a b : Bool) → T (a && b) → T b
 second_holds true b is = is
 second_holds false b is = absurd is
 
--- the keys of a map ascend strictly
+-- The keys of a map are strictly ascending.
 pub keys_ascend : (pairs : List (List ℕ × ℕ)) → T (is_sorted (slice_cmp nat_cmp) pairs) →
     Ascend (map (λ (pair : List ℕ × ℕ). pair.0) pairs)
 keys_ascend [] is = tt
@@ -77,7 +77,7 @@ paths_alone : (lives : List GroupLife) (slots : List ℕ) →
 paths_alone lives [] = refl
 paths_alone lives (slot ∷ slots) = ap (λ rest. path_at lives slot ∷ rest) (paths_alone lives slots)
 
--- the paths of the live slots of an order by path ascend strictly
+-- The paths of the live slots in a path order are strictly ascending.
 pub live_ascend : (limits : Limits) (events : List Event) → AreLegal limits first_world events →
     (order : List ℕ) → IsPathOrder (after events).groups order → (at : ℕ) →
     Ascend (map (path_at (after events).groups) (slots_live_at (after events).groups at order))
@@ -91,7 +91,7 @@ live_ascend limits events legal order is at =
     subst Ascend same (keys_ascend pairs
     (in_order_sorted (live_from 0 (after (up_to events at)).groups)))
 
--- a prefix of ascending paths ascends
+-- A prefix of ascending paths is ascending.
 ascend_prefix : (paths suffix : List (List ℕ)) → Ascend (paths ++ suffix) → Ascend paths
 ascend_prefix [] suffix is = tt
 ascend_prefix (first ∷ []) suffix is = tt
@@ -123,13 +123,13 @@ alone_gone : (lives : List GroupLife) (at slot : ℕ) → is_live_slot lives at 
     slots_live_at lives at (slot ∷ []) ≡ []
 alone_gone lives at slot gone = ap (λ b. cond b (slot ∷ []) []) gone
 
--- the group in an existing slot determines whether the slot is live
+-- The group in an existing slot determines whether the slot is live.
 pub live_is : (lives : List GroupLife) (at slot : ℕ) (d : GroupLife) (b : Bool) →
     slot < length lives → is_live_at (get_or lives slot d) at ≡ b → is_live_slot lives at slot ≡ b
 live_is lives at slot d b room is =
     ap (λ (life : GroupLife). is_live_at life at) (get_or_default lives slot root d room) ∙ is
 
--- one more live slot adds one group to the reading
+-- One more live slot adds one group to the reading.
 pub groups_more : (engine : EngineView) (watch : SideView) (lives : List GroupLife) (at : ℕ)
     (order : List Slot) (i : ℕ) (d : Slot) → i < length order →
     is_live_slot lives at (get_or order i d).0 ≡ true
@@ -144,7 +144,7 @@ groups_more engine watch lives at order i d inside live =
     ∙ map-append (group_by engine watch) (slots_live_at lives at (numbers_of (take i order)))
     ((get_or order i d).0 ∷ [])
 
--- one more slot that isn't live adds no group
+-- One more slot that isn't live adds no group to the reading.
 pub groups_same : (engine : EngineView) (watch : SideView) (lives : List GroupLife) (at : ℕ)
     (order : List Slot) (i : ℕ) (d : Slot) → i < length order →
     is_live_slot lives at (get_or order i d).0 ≡ false
@@ -163,7 +163,8 @@ paths_by engine watch lives [] = refl
 paths_by engine watch lives (slot ∷ slots) =
     ap (λ rest. path_at lives slot ∷ rest) (paths_by engine watch lives slots)
 
--- the paths of the groups of the first slots ascend if the paths of all groups do
+-- If the paths of all groups are ascending, the paths of the groups in the first slots are
+-- ascending.
 pub groups_ascend : (engine : EngineView) (watch : SideView) (lives : List GroupLife) (at : ℕ)
     (order : List Slot) (i : ℕ) → Ascend
     (map (path_at lives) (slots_live_at lives at (numbers_of order)))

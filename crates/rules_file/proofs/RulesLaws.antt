@@ -1,4 +1,5 @@
--- Proofs that the prefix that is read from a file of rules gives the same result as the whole file.
+-- Proves that the prefix that is read of a rules file or a drop-in file gives the same result as
+-- the whole file.
 use Rattle.std.proofs.Common.{◌≡◌, ℕ, ◌<◌, ◌≤◌, List, length, take, sym, ap, ◌∙◌, arith, length-take, Result, Ok}
 use Rattle.std.specs.Prelude.{nat_lt}
 use Rattle.std.proofs.lemmas.List.{take_all}
@@ -14,11 +15,11 @@ use Rattle.ruleset_json.specs.Rules.{each, rule_at, rules_of, rulesets_of}
 use Rattle.ruleset_json.specs.Parts.{part_at, parts_of}
 use Rattle.dropin_rules.specs.Joined.{dropped_in, parts_joined, parts_read}
 
--- a file longer than the size limit is rejected
+-- A file longer than the size limit is rejected.
 long : (bytes : List ℕ) → 1048576 < length bytes → rulesets_of bytes ≡ refused_for place.Whole cause.TooLong
 long bytes more = grind (arith, more)
 
--- a prefix longer than the size limit gives the same result as the whole file
+-- A prefix that is longer than the size limit gives the same result as the whole file.
 of_cut : (most : ℕ) (bytes : List ℕ) → 1048576 < most → rulesets_of (take most bytes) ≡ rulesets_of bytes
 of_cut most bytes enough = by_test _ (nat_lt most (length bytes))
     (λ more.
@@ -29,21 +30,22 @@ of_cut most bytes enough = by_test _ (nat_lt most (length bytes))
     let within : length bytes ≤ most = grind (arith, few) in
     ap rulesets_of (take_all most bytes within))
 
--- the prefix of a file gives the same list of rulesets, or the same error, as the whole file
+-- The prefix of a file gives the same list of rulesets, or the same fault, as the whole file.
 lists_of_prefix : (bytes : List ℕ) → rulesets_of (take 1048577 bytes) ≡ rulesets_of bytes
 lists_of_prefix bytes = of_cut 1048577 bytes (omega arith)
 
--- the prefix gives the same rules or error as the whole file
+-- The prefix of a rules file gives the same rules, or the same fault, as the whole file.
 pub of_prefix : (bytes : List ℕ) → rules_of (take 1048577 bytes) ≡ rules_of bytes
 unfolding rules_of
 of_prefix bytes = ap (λ items. items >>= (λ ds. each rule_at 0 ds >>= (λ rules. let made : Result Rules RulesFault = Ok (record { rules = rules }) in made))) (lists_of_prefix bytes)
 
--- the prefix of a drop-in file gives the same parts or error as the whole file
+-- The prefix of a drop-in file gives the same rulesets, or the same fault, as the whole file.
 parts_of_prefix : (bytes : List ℕ) → parts_of (take 1048577 bytes) ≡ parts_of bytes
 unfolding parts_of
 parts_of_prefix bytes = ap (λ items. items >>= (λ ds. each part_at 0 ds)) (lists_of_prefix bytes)
 
--- applying the prefix of a drop-in file gives the same rules or error as applying the whole file
+-- Applying the prefix of a drop-in file gives the same rules, or the same fault, as applying the
+-- whole file.
 pub over_of_prefix : (base : Rules) (bytes : List ℕ) → dropped_in base (take 1048577 bytes) ≡ dropped_in base bytes
 unfolding dropped_in
 over_of_prefix base bytes = ap (λ (parts : Result (List Part) RulesFault). parts_read parts >>= parts_joined base) (parts_of_prefix bytes)

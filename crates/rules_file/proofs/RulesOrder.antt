@@ -1,4 +1,4 @@
--- The order in which files of rules are read.
+-- Proves in which order the rules file and the drop-in file are read.
 use Rattle.std.proofs.Common.{◌≡◌, ℕ, List, [], ◌++◌, refl, sym, ap, ◌∙◌, subst, Option, None, Some, Ok, Err}
 use Rattle.std.specs.Prelude.{MatchResult, Result}
 use Rattle.outside.specs.Outside.{Files, ShelfCounts}
@@ -18,28 +18,30 @@ use Rattle.rules_file.proofs.RulesRuns.{passed_base}
 
 -- ---- names
 
--- a command's files of rules in order, if they have these names
+-- The names of the command's rules file and drop-in file, in order, if they are `named` and
+-- `drop_in`.
 rules_are : (command : Command) (named drop_in : Option (List ℕ)) → rules_name command ≡ named → drop_in_name command ≡ drop_in → names_of_rules named drop_in ≡ names_of_rules (rules_name command) (drop_in_name command)
 rules_are command named drop_in is over = ap (λ n. names_of_rules n drop_in) (sym is) ∙ ap (λ d. names_of_rules (rules_name command) d) (sym over)
 
--- and all its files
+-- The names of all files of the command, if its rules file and drop-in file are `named` and
+-- `drop_in`.
 pub names_are : (command : Command) (named drop_in : Option (List ℕ)) → rules_name command ≡ named → drop_in_name command ≡ drop_in → names_of_rules named drop_in ++ listed (source_name command) ≡ names_in_order command
 names_are command named drop_in is over = ap (λ names. names ++ listed (source_name command)) (rules_are command named drop_in is over)
 
 -- ---- a file that wasn't read
 
--- it isn't there, which is reported
+-- The run ends in the specified order if a file that the command names doesn't exist.
 missing_order : (command : Command) (which kind : Which) (name : List ℕ) (before middle now : List ReadCall) → file_of command which ≡ Some name → kind ≡ which → ReadsEach (names_before command which) before middle → ReadsFile name 0 middle now (Some shelf.NoFile)
     → FailsAt command before now kind shelf.NoFile
 missing_order command which kind name before middle now named is first reads = subst (λ w. FailsAt command before now w shelf.NoFile) (sym is) (name, middle, named, first, reads)
 
 -- ---- the rules file alone
 
--- the rules file has an error
+-- The run ends in the specified order if the rules file is rejected.
 rejected_order : (command : Command) (name : List ℕ) (before now : List ReadCall) → rules_name command ≡ Some name → ReadsFile name 0 before now None → ReadsEach (listed (rules_name command)) before now
 rejected_order command name before now named reads = subst (λ n. ReadsEach (listed n) before now) (sym named) (file_stops name [] before now reads)
 
--- if the rules file gives no rules, a run ends there
+-- The run ends in the specified order if the rules file gives no rules.
 base_ends_order : (command : Command) (name : List ℕ) (drop_in : Option (List ℕ)) (files : Option Files) (counts counts_now : ShelfCounts) (before now : List ReadCall) (result : Status) → rules_name command ≡ Some name → drop_in_name command ≡ drop_in
     → BaseFails name files counts counts_now result → ReadsFile name 0 before now (status_fault result) → ReadsInOrder command files before now result
 base_ends_order command name drop_in files counts counts_now before now (status.Rules fault) named over fails reads = rejected_order command name before now named reads
@@ -53,13 +55,13 @@ pub base_order : (name : List ℕ) (drop_in : Option (List ℕ)) (files : Option
     → ReadsFile name 0 before now (status_fault result) → OrdersRun (Some name) drop_in files before now result
 base_order name drop_in files counts counts_now before now result fails reads = λ command named over. base_ends_order command name drop_in files counts counts_now before now result named over fails reads
 
--- only the rules file was read
+-- If there is no drop-in file, only the rules file has been read.
 pub base_alone_order : (name : List ℕ) (before now : List ReadCall) → ReadsFile name 0 before now None → ReadsEach (names_of_rules (Some name) None) before now
 base_alone_order name before now reads = file_stops name [] before now reads
 
 -- ---- both files
 
--- if the drop-in file can't be applied, a run ends there
+-- The run ends in the specified order if the drop-in file can't be applied.
 over_ends_order : (command : Command) (base : Rules) (name other : List ℕ) (files : Option Files) (first counts counts_now : ShelfCounts) (before middle now : List ReadCall) (result : Status) → rules_name command ≡ Some name → drop_in_name command ≡ Some other
     → BaseOption name files first counts base → OverFails base other files counts counts_now result
     → ReadsFile name 0 before middle None → ReadsFile other 0 middle now (status_fault result) → ReadsInOrder command files before now result
@@ -73,7 +75,7 @@ over_ends_order command base name other files first counts counts_now before mid
     subst (λ names. ReadsEach names before now) (names_are command (Some name) (Some other) named over) (middle, base_reads, file_stops other (listed (source_name command)) middle now reads)
 over_ends_order command base name other files first counts counts_now before middle now _ named over bytes_read fails base_reads reads = absurd fails
 
--- both files were read in order
+-- The rules file and the drop-in file have been read in order.
 pub over_order : (base : Rules) (name other : List ℕ) (files : Option Files) (first counts counts_now : ShelfCounts) (before middle now : List ReadCall) (result : Result Rules Status) → BaseOption name files first counts base
     → MatchResult result (λ rules. OverOption base other files counts counts_now rules) (λ found. OverFails base other files counts counts_now found)
     → ReadsFile name 0 before middle None → ReadsFile other 0 middle now (status_fault_in result)

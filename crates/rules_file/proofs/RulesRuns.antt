@@ -1,4 +1,4 @@
--- Reading files of rules, and writing rules, as a run.
+-- Proves that reading the rules and writing them satisfies the specification of a run.
 use Rattle.std.proofs.Common.{◌≡◌, ℕ, List, [], ◌++◌, refl, sym, ap, ◌∙◌, subst, Option, None, Some, Ok, Err, true≢false}
 use Rattle.std.specs.Prelude.{MatchResult, Result, codes, is_some, option_map}
 use Rattle.psi_base.specs.Memory.{no_memory}
@@ -28,7 +28,7 @@ use Rattle.run_outcomes.proofs.RunLaws.{counts_written, file_there, is_named, ke
 
 -- ---- one file
 
--- the rules of a rules file whose prefix was read
+-- If the prefix of a rules file is accepted, its rules are the rules of the file.
 pub base_read : (bytes name : List ℕ) (files : Option Files) (before now : ShelfCounts) (rules : Rules) → IsPrefixOf bytes name files before now → FitsRules rules.rules → rules_of bytes ≡ Ok rules → BaseOption name files before now rules
 base_read bytes name files before now rules prefix fit is = record {
   fit = fit;
@@ -37,12 +37,12 @@ base_read bytes name files before now rules prefix fit is = record {
   stays = prefix.stays;
 }
 
--- or its first fault
+-- If the prefix of a rules file is rejected, its fault is the fault of the file.
 pub base_refused : (bytes name : List ℕ) (files : Option Files) (before now : ShelfCounts) (fault : RulesFault) → IsPrefixOf bytes name files before now → rules_of bytes ≡ Err fault → BaseFails name files before now (status.Rules fault)
 base_refused bytes name files before now fault prefix is =
     (λ whole shows. sym (of_prefix whole) ∙ ap rules_of (sym (prefix.prefix whole shows)) ∙ is, prefix.held, prefix.stays)
 
--- rules with a drop-in file applied whose prefix was read
+-- If the prefix of a drop-in file can be applied, the result is the result of applying the file.
 pub over_read : (base : Rules) (bytes name : List ℕ) (files : Option Files) (before now : ShelfCounts) (rules : Rules) → IsPrefixOf bytes name files before now → FitsRules rules.rules → dropped_in base bytes ≡ Ok rules
     → OverOption base name files before now rules
 over_read base bytes name files before now rules prefix fit is = record {
@@ -52,7 +52,7 @@ over_read base bytes name files before now rules prefix fit is = record {
   stays = prefix.stays;
 }
 
--- or its first fault
+-- If the prefix of a drop-in file is rejected, its fault is the fault of the file.
 pub over_refused : (base : Rules) (bytes name : List ℕ) (files : Option Files) (before now : ShelfCounts) (fault : DropFault) → IsPrefixOf bytes name files before now → dropped_in base bytes ≡ Err fault
     → OverFails base name files before now (status.DropIn fault)
 over_refused base bytes name files before now fault prefix is =
@@ -60,17 +60,18 @@ over_refused base bytes name files before now fault prefix is =
 
 -- ---- files of rules that couldn't be read, or were refused
 
--- counts if nothing failed
+-- If no read and no write failed, the counts of failures are as specified.
 pub same_counts : (before now : ShelfCounts) (writes : ℕ) (result : Status) → Stays before now → (result ≡ status.ReadFault → ⊥) → (((which : _) × (result ≡ status.NoFile which)) → ⊥) → (result ≡ status.WriteFault → ⊥)
     → FailuresAreCounted (counts_with before writes) (counts_with now writes) result
 same_counts before now writes result same no_read no_file no_write =
     counts_written (counts_with before writes) (counts_with now writes) result same.faults same.absent no_read no_file (stays _ writes writes no_write refl)
 
--- unchanged counts are the same
+-- A shelf whose two counts didn't change has the same counts as before.
 same_shelf : (before now : ShelfCounts) → Stays before now → now ≡ before
 same_shelf before now same = ap (λ n. counts_of n now.absent) same.faults ∙ ap (counts_of before.faults) same.absent
 
--- nothing was read of a file of this kind, after what comes before it
+-- A run ends as specified if a file couldn't be read, after the files that precede it were
+-- accepted.
 pub unread_ends : (command : Command) (which : Which) (name : List ℕ) (files : Option Files) (before now : ShelfCounts) (writes : ℕ) (had : Option (List ℕ)) (result : Status)
     → file_of command which ≡ Some name → IsPassed command files which → Unread which name files before now result
     → Runs command files (counts_with before writes) (counts_with now writes) had had result
@@ -85,21 +86,21 @@ unread_ends command which name files before now writes had (status.NoMemory _) n
     out_of_memory_at command files (counts_with before writes) (counts_with now writes) had unread.faults unread.absent refl
 unread_ends command which name files before now writes had _ named passed unread = absurd unread
 
--- a rules file that wasn't read gives no rules
+-- A rules file that couldn't be read gives no rules.
 pub unread_base : (name : List ℕ) (files : Option Files) (before now : ShelfCounts) (result : Status) → Unread RulesFile name files before now result → BaseFails name files before now result
 unread_base name files before now (status.NoFile kind) unread = unread
 unread_base name files before now status.ReadFault unread = unread
 unread_base name files before now (status.NoMemory _) unread = unread
 unread_base name files before now _ unread = absurd unread
 
--- nor does a drop-in file
+-- A drop-in file that couldn't be read can't be applied.
 pub unread_over : (base : Rules) (name : List ℕ) (files : Option Files) (before now : ShelfCounts) (result : Status) → Unread DropInFile name files before now result → OverFails base name files before now result
 unread_over base name files before now (status.NoFile kind) unread = unread
 unread_over base name files before now status.ReadFault unread = unread
 unread_over base name files before now (status.NoMemory _) unread = unread
 unread_over base name files before now _ unread = absurd unread
 
--- a failure at the rules file ends a run
+-- A failure at the rules file ends the run as specified.
 pub base_ends : (name : List ℕ) (drop_in : Option (List ℕ)) (files : Option Files) (before now : ShelfCounts) (result : Status) → BaseFails name files before now result → EndsRun (Some name) drop_in files before now result
 base_ends name drop_in files before now (status.Rules fault) fails = λ command writes had named over. record {
   ends = (keeps_same had, file_there command RulesFile name files named fails.1, (name, named, fails.0));
@@ -110,7 +111,7 @@ base_ends name drop_in files before now status.ReadFault fails = λ command writ
 base_ends name drop_in files before now (status.NoMemory none) fails = λ command writes had named over. unread_ends command RulesFile name files before now writes had (status.NoMemory none) named tt fails
 base_ends name drop_in files before now _ fails = absurd fails
 
--- the rules of the rules file are accepted before a drop-in file is read
+-- The rules of the rules file are accepted before the drop-in file is read.
 pub passed_base : (command : Command) (name : List ℕ) (files : Option Files) (before now : ShelfCounts) (base : Rules) → rules_name command ≡ Some name → BaseOption name files before now base → IsPassed command files DropInFile
 passed_base command name files before now base named bytes_read = (
   base,
@@ -119,11 +120,12 @@ passed_base command name files before now base named bytes_read = (
   file_there command RulesFile name files named bytes_read.held,
 )
 
--- rules with a drop-in file applied are those of both files
+-- Applying the drop-in file to the rules of the rules file gives the rules of both files.
 pub joined_from : (bytes drop_in : List ℕ) (base : Rules) → rules_of bytes ≡ Ok base → rules_from bytes (Some drop_in) ≡ or_drop_fault (dropped_in base drop_in)
 joined_from bytes drop_in base is = ap (λ read. with_drop_in (Some drop_in) (or_rules_fault read)) is
 
--- a failure at a drop-in file, if the shelf's counts are as they were at first
+-- A failure at the drop-in file ends the run as specified, if reading the rules file didn't change
+-- the shelf's counts.
 fails_over : (name other : List ℕ) (files : Option Files) (first before now : ShelfCounts) (base : Rules) (result : Status) → BaseOption name files first before base → OverFails base other files before now result
     → EndsRun (Some name) (Some other) files before now result
 fails_over name other files first before now base (status.DropIn fault) bytes_read fails = λ command writes had named over. record {
@@ -143,7 +145,7 @@ fails_over name other files first before now base status.ReadFault bytes_read fa
 fails_over name other files first before now base (status.NoMemory none) bytes_read fails = λ command writes had named over. unread_ends command DropInFile other files before now writes had (status.NoMemory none) over (passed_base command name files first before base named bytes_read) fails
 fails_over name other files first before now base _ bytes_read fails = absurd fails
 
--- a failure at a drop-in file ends a run
+-- A failure at the drop-in file ends the run as specified.
 pub over_ends : (name other : List ℕ) (files : Option Files) (before mid now : ShelfCounts) (base : Rules) (result : Status) → BaseOption name files before mid base → OverFails base other files mid now result
     → EndsRun (Some name) (Some other) files before now result
 over_ends name other files before mid now base result bytes_read fails =
@@ -151,17 +153,17 @@ over_ends name other files before mid now base result bytes_read fails =
 
 -- ---- files of rules that were read
 
--- bytes of a file that is named
+-- If the content of a named file is known, its bytes are known.
 mapped : (bytes : Option (List ℕ)) (found : Option (List ℕ)) → option_map (λ b. Some b) bytes ≡ Some found → (here : List ℕ) × (bytes ≡ Some here) × (Some here ≡ found)
 mapped None found is = absurd (true≢false (sym (ap is_some is)))
 mapped (Some here) found is = (here, refl, let same : Some here ≡ found = cc is in same)
 
--- the bytes of a drop-in file with this name are known
+-- If the content of a named drop-in file is known, its bytes are known.
 pub named_bytes : (files : Option Files) (named : Option (List ℕ)) (name : List ℕ) (found : Option (List ℕ)) → named ≡ Some name → content_if_named files named ≡ Some found
     → (here : List ℕ) × (content_of files name ≡ Some here) × (Some here ≡ found)
 named_bytes files named name found is shows = mapped (content_of files name) found (subst (λ n. content_if_named files n ≡ Some found) is shows)
 
--- rules of the rules file only
+-- The rules of a rules file without a drop-in file.
 pub base_alone : (name : List ℕ) (files : Option Files) (before now : ShelfCounts) (base : Rules) → BaseOption name files before now base → RulesOption (Some name) None files base.rules
 base_alone name files before now base bytes_read = record {
   fit = bytes_read.fit;
@@ -177,7 +179,7 @@ base_alone name files before now base bytes_read = record {
   drop_in_held = λ other is. absurd (true≢false (sym (ap is_some is)));
 }
 
--- rules of both files
+-- The rules of a rules file with a drop-in file applied.
 pub both_options : (name over : List ℕ) (files : Option Files) (before mid now : ShelfCounts) (base rules : Rules) → BaseOption name files before mid base → OverOption base over files mid now rules
     → RulesOption (Some name) (Some over) files rules.rules
 both_options name over files before mid now base rules bytes_read put = record {
@@ -196,11 +198,12 @@ both_options name over files before mid now base rules bytes_read put = record {
       put.held (subst (IsAbsent files) (sym same) lacks);
 }
 
--- counts that are unchanged twice
+-- Counts that two steps leave unchanged are unchanged after both steps.
 pub stays_on : (before mid now : ShelfCounts) → Stays before mid → Stays mid now → Stays before now
 stays_on before mid now first then = record { faults = then.faults ∙ first.faults; absent = then.absent ∙ first.absent }
 
--- the result of applying a drop-in file to the rules of a rules file
+-- Applying a drop-in file to the rules of a rules file either succeeds or ends the run as
+-- specified.
 pub over_answers : (name over : List ℕ) (files : Option Files) (before mid now : ShelfCounts) (base : Rules) (result : Result Rules Status) → BaseOption name files before mid base
     → MatchResult result (λ rules. OverOption base over files mid now rules) (λ found. OverFails base over files mid now found)
     → MatchResult result (λ rules. RulesOption (Some name) (Some over) files rules.rules × Stays before now) (λ found. EndsRun (Some name) (Some over) files before now found)
@@ -209,11 +212,11 @@ over_answers name over files before mid now base (Err found) bytes_read fails = 
 
 -- ---- rules that were written
 
--- `rules` reads no trace
+-- The command `rules` reads no trace.
 no_source : (name : List ℕ) (drop_in : Option (List ℕ)) (files : Option Files) → IsThere (words.Rules name drop_in) files TraceFile
 no_source name drop_in files = λ other is lacks. true≢false (sym (ap is_some is))
 
--- a text of rules that was written
+-- Writing the text of the rules satisfies the specification of the command `rules`.
 pub rules_written : (name : List ℕ) (drop_in : Option (List ℕ)) (files : Option Files) (before now : RunCounts) (had has : Option (List ℕ)) (rules : List Rule) (result : Status)
     → RulesOption (Some name) drop_in files rules → now.shelf.faults ≡ before.shelf.faults → now.shelf.absent ≡ before.shelf.absent
     → WritesText (rules_text rules ++ codes "\n") before.writes now.writes had has result → Runs (words.Rules name drop_in) files before now had has result

@@ -1,4 +1,4 @@
--- Proofs about lists whose items are parsed in order: the steps of a loop over the items.
+-- Proves the steps of a loop that parses the items of a list in order.
 use Rattle.std.proofs.Common.{◌≡◌, ℕ, ◌<◌, ◌≤◌, ◌+◌, List, [], ◌∷◌, ◌++◌, Result, Ok, Err, length, map, drop, get_or, refl, sym, ap, arith, ◌∙◌}
 use Rattle.std.proofs.lemmas.Grind.{common_steps}
 use Rattle.std.proofs.lemmas.List.{length-map, get_or-map, drop_all, append-nil}
@@ -12,7 +12,8 @@ use Rattle.psi_base.specs.ResultSteps.{◌>>=◌}
 use Rattle.ruleset_json.specs.Rules.{each}
 use Rattle.ruleset_json.specs.declared.fault.RulesFault.{RulesFault}
 
--- the parsed items, followed by the result for the rest
+-- The result for the whole list: the items parsed so far, followed by the result for the remaining
+-- items.
 abbrev pub followed : {A : Type 0} → List A → Result (List A) RulesFault → Result (List A) RulesFault
 followed prefix read = read >>= (λ rest. Ok (prefix ++ rest))
 
@@ -29,7 +30,7 @@ each_step f vs i d inside =
     let bound : i < length (map view vs) = rw (length-map vs view) inside in
     rw (drop_step (map view vs) i (view d) bound, get_or-map view vs i d (view d) inside) refl
 
--- one more item was accepted
+-- The loop step for an accepted item: the parsed item is added to the items parsed so far.
 pub each_taken : {A : Type 0} (f : ℕ → Data → Result A RulesFault) (vs : List Value) (i : ℕ) (d : Value) (prefix : List A) (x : A) (whole : Result (List A) RulesFault) → i < length vs
     → followed prefix (each f i (drop i (map view vs))) ≡ whole
     → f i (view (get_or vs i d)) ≡ Ok x
@@ -38,7 +39,7 @@ each_taken f vs i d prefix x whole inside so_far is =
     let step : each f i (drop i (map view vs)) ≡ followed (x ∷ []) (each f (i + 1) (drop (i + 1) (map view vs))) = each_step f vs i d inside ∙ ap (λ r. r >>= (λ y. followed (y ∷ []) (each f (i + 1) (drop (i + 1) (map view vs))))) is in
     sym (followed_more prefix x _) ∙ ap (followed prefix) (sym step) ∙ so_far
 
--- an item was rejected
+-- The loop step for a rejected item: the whole list is rejected with the fault of that item.
 pub each_refused : {A : Type 0} (f : ℕ → Data → Result A RulesFault) (vs : List Value) (i : ℕ) (d : Value) (prefix : List A) (e : RulesFault) (whole : Result (List A) RulesFault) → i < length vs
     → followed prefix (each f i (drop i (map view vs))) ≡ whole
     → f i (view (get_or vs i d)) ≡ Err e
@@ -47,7 +48,7 @@ each_refused f vs i d prefix e whole inside so_far is =
     let step : each f i (drop i (map view vs)) ≡ Err e = each_step f vs i d inside ∙ ap (λ r. r >>= (λ y. followed (y ∷ []) (each f (i + 1) (drop (i + 1) (map view vs))))) is in
     sym so_far ∙ ap (followed prefix) step
 
--- the step for an item that is given as a value
+-- The loop step for an accepted item, if the item is given as a value.
 pub item_taken : {A : Type 0} (f : ℕ → Data → Result A RulesFault) (vs : List Value) (i : ℕ) (v : Value) (prefix : List A) (x : A) (whole : Result (List A) RulesFault) → i < length vs
     → v ≡ get_or vs i v
     → followed prefix (each f i (drop i (map view vs))) ≡ whole
@@ -63,7 +64,7 @@ pub item_faulted : {A : Type 0} (f : ℕ → Data → Result A RulesFault) (vs :
 item_faulted f vs i v prefix (Refused e) whole inside here so_far is = each_refused f vs i v prefix e whole inside so_far (ap (λ w. f i (view w)) (sym here) ∙ is)
 item_faulted f vs i v prefix (NoMemory _) whole inside here so_far is = tt
 
--- all items were accepted
+-- After the last item, the whole list is accepted.
 pub items_done : {A : Type 0} (f : ℕ → Data → Result A RulesFault) (vs : List Value) (i : ℕ) (prefix : List A) (whole : Result (List A) RulesFault) → length vs ≤ i
     → followed prefix (each f i (drop i (map view vs))) ≡ whole → whole ≡ Ok prefix
 items_done f vs i prefix whole past so_far =

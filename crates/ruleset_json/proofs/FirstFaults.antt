@@ -1,5 +1,5 @@
--- Proofs that a list is accepted exactly if each item is, and is rejected with the fault of its
--- first rejected item.
+-- Proves that a list is accepted if and only if each item is accepted, and is rejected with the
+-- fault of its first rejected item.
 use Rattle.std.proofs.Common.{◌≡◌, ℕ, zero, suc, ◌+◌, ◌<◌, List, [], ◌∷◌, length, refl, sym, ap, subst, ◌∙◌, arith}
 use Rattle.std.specs.Prelude.{Some, Result, Ok, Err}
 use Rattle.std.specs.List.{slice_get}
@@ -35,7 +35,8 @@ before_later f i d ds x at was before (suc k) e below is =
     let P : ℕ → Type 0 = λ n. IsOk (f n e) in
     subst P later (before k e (omega arith) is)
 
--- a list with a first item is rejected for this item, or for the rest
+-- A list with a first item is rejected either because of this item or because of the remaining
+-- items.
 refused_cons : {A : Type 0} (f : ℕ → Data → Result A RulesFault) (i : ℕ) (d : Data) (ds : List Data) (e : RulesFault) (first : Result A RulesFault) (rest : Result (List A) RulesFault) → f i d ≡ first
     → ((why : RulesFault) → rest ≡ Err why → IsFirstFault f (i + 1) ds why)
     → (first >>= (λ x. rest >>= (λ xs. Ok (x ∷ xs)))) ≡ Err e

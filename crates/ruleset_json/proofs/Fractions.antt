@@ -1,14 +1,14 @@
--- Proofs about the value of the digits after a decimal point.
+-- Proves bounds on the value of the digits after a decimal point.
 use Rattle.std.proofs.Common.{◌≡◌, ℕ, ◌<◌, ◌≤◌, List, [], ◌∷◌, ◌++◌, Bool, Some, None, true, false, length, refl, sym, ap, ◌∙◌, arith}
 use Rattle.std.specs.Prelude.{◌&&◌, nat_le, nat_lt, codes, take, if◌then◌else◌}
 use Rattle.psi_base.specs.Number.{digits_after, digits_of}
 
--- three digits have a value of at most 999
+-- Three digits have a value of at most 999.
 three_most : (a b c n : ℕ) → digits_of (a ∷ b ∷ c ∷ []) ≡ Some n → n ≤ 999
 unfolding digits_after
 three_most a b c n is = grind (arith, is)
 
--- one to three digits, padded with zeros, have a value of at most 999
+-- One to three digits, padded with zeros at the end, have a value of at most 999.
 few_most : (digits : List ℕ) (n : ℕ) → 0 < length digits → length digits ≤ 3 → digits_of (take 3 (digits ++ codes "00")) ≡ Some n → n ≤ 999
 few_most [] n some few reads = absurd (omega (arith, some))
 few_most (a ∷ []) n some few reads = three_most a 48 48 n reads
@@ -16,7 +16,8 @@ few_most (a ∷ b ∷ []) n some few reads = three_most a b 48 n reads
 few_most (a ∷ b ∷ c ∷ []) n some few reads = three_most a b c n reads
 few_most (a ∷ b ∷ c ∷ d ∷ digits) n some few reads = absurd (omega (arith, few))
 
--- an option that has a value only if a test holds: the test holds, and the value is as given
+-- If an option that has a value only if a test holds has a value, the test holds and the value is
+-- the given one.
 parts : (b : Bool) (xs three : List ℕ) → Some three ≡ (if b then Some xs else None) → (b ≡ true) × (three ≡ xs)
 parts true xs three is = (refl, cc is)
 parts false xs three is = let none : Some three ≡ None = is in absurd (cc none)

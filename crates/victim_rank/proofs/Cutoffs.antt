@@ -229,7 +229,7 @@ module _ (scope : ScopeView) (best_rank : ℕ) (reading : ReadingView) (places :
       (counted scope.lives groups (rw ranking.lives at ranking.read.order) ranking.few
       (is_in_rank scope best_rank) q places within ranking.within)
 
-  -- A key is a cutoff if at most `few` groups reach any greater key, and at least `few` groups
+  -- A key is a cutoff if fewer than `few` groups reach a greater key, and at least `few` groups
   -- reach the key or the key is 0.
   pub cut_between : (low : ℕ) →
       (low ≡ 0) ⊎ (few ≤ count_reaching (is_in_rank scope best_rank) reading.seen.groups places low) →

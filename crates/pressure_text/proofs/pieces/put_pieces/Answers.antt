@@ -4,7 +4,8 @@ use Rattle.pressure_text.specs.Pieces.{piece_bytes}
 use Rattle.pressure_text.specs.declared.pieces.Piece.TheVariants.{Number}
 use Rattle.pressure_text.proofs.pieces.put_pieces.Goals as goal
 
--- the pieces before the failed one, followed by a prefix of that one, are a prefix of all
+-- The pieces before the failed piece, followed by a prefix of the failed piece, are a prefix of all
+-- pieces.
 pub returns-in_err-put_piece-clause-bytes : goal.returns-in_err-put_piece-clause-bytes
 returns-in_err-put_piece-clause-bytes g c =
     let parts = flat_map-at piece_bytes c.args.pieces.now c.loop-piece.piece-index (Number 0) (omega arith) in
