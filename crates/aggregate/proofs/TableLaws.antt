@@ -1,4 +1,4 @@
--- Proofs about tables whose rows are stored one after another in one list.
+-- Proves properties of tables whose rows are stored one after another in one list.
 use Rattle.std.proofs.Common.{◌≡◌, ◌≢◌, ℕ, ◌+◌, ◌-◌, ◌*◌, ◌≤◌, ◌<◌, List, [], ◌++◌, length, take, drop, get_or, set, replicate, refl, sym, ap, ◌∙◌, arith, ◌⊎◌, ⊎_elim}
 use Rattle.std.proofs.Math.Nat.{mul-le-mul_right}
 use Rattle.std.proofs.Math.Seq.{take-set-lt}
@@ -6,7 +6,7 @@ use Rattle.std.proofs.lemmas.List.{append_assoc, drop-append-le, drop-drop, drop
 use Rattle.std.proofs.lemmas.List.FromFn.{fill_by_all, get_or-map-range_with_len, length-map-range_with_len}
 use Rattle.aggregate.specs.Table.{row_in, rows_of, new_table, no_times, put_times, times_at, HasSizes, HaveSameSizes, IsPlace, KeepsSizes, SetsOnePlace}
 
--- a row ends at or before the end of all rows
+-- A row ends at or before the end of all rows.
 pub row_end : (slot slots cpus : ℕ) → slot < slots → slot * cpus + cpus ≤ slots * cpus
 row_end slot slots cpus below =
     let next : slot + 1 ≤ slots = omega arith in
@@ -22,19 +22,19 @@ length-rows_of cpus slots flat = length-map-range_with_len (row_in cpus flat) 0 
 pub length-row_in : (cpus slots : ℕ) (flat : List (List ℕ)) (slot : ℕ) → length flat ≡ slots * cpus → slot < slots → length (row_in cpus flat slot) ≡ cpus
 length-row_in cpus slots flat slot long below = simp (length-take, length-drop) (omega (arith, row_end slot slots cpus below, long))
 
--- a new table is all zeros
+-- A new table has only zeros.
 pub rows_of-replicate : (cpus slots : ℕ) (times : List ℕ) → rows_of cpus slots (replicate (slots * cpus) times) ≡ replicate slots (replicate cpus times)
 rows_of-replicate cpus slots times =
     sym (fill_by_all (row_in cpus (replicate (slots * cpus) times)) (replicate slots (replicate cpus times)) slots [] (length-replicate slots (replicate cpus times)) (λ slot below.
     let room : cpus ≤ slots * cpus - slot * cpus = omega (arith, row_end slot slots cpus below) in
     rw (get_or-replicate slots slot (replicate cpus times) [] below, drop-replicate (slot * cpus) (slots * cpus) times, take-replicate cpus (slots * cpus - slot * cpus) times room) refl))
 
--- after the times of a processor are set, the row of its group has these times and is unchanged
--- otherwise
+-- After the times on a processor are set, the row of the group has these times and is otherwise
+-- unchanged.
 row_set : (cpus slots : ℕ) (flat : List (List ℕ)) (slot cpu : ℕ) (times : List ℕ) → cpu < cpus → row_in cpus (set flat (slot * cpus + cpu) times) slot ≡ set (row_in cpus flat slot) cpu times
 row_set cpus slots flat slot cpu times inside = rw (drop-set-add (slot * cpus) flat cpu times, take-set-lt cpus (drop (slot * cpus) flat) cpu times inside) refl
 
--- after the times of a processor are set in one row, the other rows are unchanged
+-- Setting the times on a processor in one row doesn't change the other rows.
 row_kept : (cpus slots : ℕ) (flat : List (List ℕ)) (slot cpu : ℕ) (times : List ℕ) (other : ℕ) → cpu < cpus → other ≢ slot → row_in cpus (set flat (slot * cpus + cpu) times) other ≡ row_in cpus flat other
 row_kept cpus slots flat slot cpu times other inside apart =
     let case : (other < slot) ⊎ (slot < other) = grind (arith, apart) in
@@ -49,7 +49,7 @@ row_kept cpus slots flat slot cpu times other inside apart =
     rw (drop-set-lt (other * cpus) flat (slot * cpus + cpu) times prefix) refl)
     case
 
--- setting the times of a group on a processor changes only the row of the group
+-- Setting the times of a group on a processor changes only the row of the group.
 pub rows_of-set : (cpus slots : ℕ) (flat : List (List ℕ)) (slot cpu : ℕ) (times : List ℕ) → slot < slots → cpu < cpus →
     rows_of cpus slots (set flat (slot * cpus + cpu) times) ≡ set (rows_of cpus slots flat) slot (set (get_or (rows_of cpus slots flat) slot []) cpu times)
 rows_of-set cpus slots flat slot cpu times below inside =
@@ -66,7 +66,7 @@ rows_of-set cpus slots flat slot cpu times below inside =
     (λ apart. get_or-set_other rows slot other row [] apart ∙ get_or-rows_of cpus slots flat other [] within ∙ sym (row_kept cpus slots flat slot cpu times other inside apart))
     case))
 
--- replacing a row doesn't change the other rows
+-- Replacing a row doesn't change the other rows.
 row_beside : (cpus slots : ℕ) (flat row : List (List ℕ)) (slot other : ℕ) → length flat ≡ slots * cpus → slot < slots → length row ≡ cpus → other < slots → other ≢ slot →
     row_in cpus (take (slot * cpus) flat ++ (row ++ drop (slot * cpus + cpus) flat)) other ≡ row_in cpus flat other
 row_beside cpus slots flat row slot other long below wide within apart =
@@ -95,7 +95,7 @@ row_beside cpus slots flat row slot other long below wide within apart =
     ap (take cpus) (split ∙ ap (drop (here - (start + cpus))) seam ∙ drop-drop (here - (start + cpus)) (start + cpus) flat ∙ ap (λ n. drop n flat) more))
     case
 
--- a list in which a whole row is replaced is the table with this row
+-- A list in which a whole row is replaced is the table with this row.
 pub rows_of-taken : (cpus slots : ℕ) (flat row : List (List ℕ)) (slot : ℕ) → length flat ≡ slots * cpus → slot < slots → length row ≡ cpus →
     rows_of cpus slots (take (slot * cpus) flat ++ (row ++ drop (slot * cpus + cpus) flat)) ≡ set (rows_of cpus slots flat) slot row
 rows_of-taken cpus slots flat row slot long below wide =

@@ -1,4 +1,5 @@
--- Proofs about a crew that advances by many ticks at once, and returns their tables in order.
+-- Proves properties of a worker pool that advances by several ticks at once and returns their
+-- tables in order.
 use Rattle.std.proofs.Common.{◌≡◌, ℕ, zero, suc, ◌+◌, ◌-◌, ◌*◌, ◌/◌, ◌<◌, ◌≤◌, ◌^◌, List, [], ◌∷◌, drop, length, map, refl, sym, ap, ◌∙◌, subst, arith}
 use Rattle.std.specs.Prelude.{Some, min, slice_get}
 use Rattle.std.specs.List.{range_with_len}
@@ -23,19 +24,19 @@ use Rattle.replay_ticks.specs.Replays.{IsAhead, IsReady, IsToGo, moments_after}
 
 -- ---- times of ticks
 
--- each tick of a trace is at or before the trace's end
+-- Each tick of a trace is at or before the end of the trace.
 within_end : (length end n : ℕ) → 0 < length → n ≤ end / length → n * length ≤ end
 within_end length end n some few = (le-div_iff_mul-le some).0 few
 
--- the time of each tick of a trace is at most the last possible time
+-- The time of each tick of a trace is at most the latest possible time.
 pub moment_early : (plans : PlansView) (trace : Trace) (timing : Timing) (n : ℕ) → IsPlanned plans trace timing → n ≤ tick_count trace timing → tick_moment timing.length n ≤ last_moment
 moment_early plans trace timing n planned few =
     let before = within_end timing.length (end_of trace.events) n planned.some few in
     let world = legal_after (limits_of timing.length trace.cpus) trace.events planned.accepted.legal in
     omega (arith, before, world.early, planned.short)
 
--- the times of a crew's ticks, starting with a tick of the trace, are the times of the trace's
--- ticks
+-- If the worker pool's ticks start with a tick of the trace, their times are times of the trace's
+-- ticks.
 pub moments_are : (ticks : Ticks) (length i n : ℕ) → ticks.first ≡ tick_moment length (i + 1) → ticks.length ≡ length → ticks.count ≡ n → moments_of ticks ≡ moments_after length i n
 moments_are ticks length i n first apart many =
     let all = moments_after length i n in
@@ -45,7 +46,7 @@ moments_are ticks length i n first apart many =
     let far : (i + 1 + k) * length ≡ (i + 1) * length + k * length = grind arith in
     get_or-map-range_with_len (tick_moment length) (i + 1) n k (i + 1 + k) 0 below refl ∙ far ∙ rw (← first, ← apart) refl))
 
--- the time of the last of these ticks
+-- Computes the time of the last of these ticks.
 pub last_is : (ticks : Ticks) (length i n : ℕ) → 0 < n → ticks.first ≡ tick_moment length (i + 1) → ticks.length ≡ length → ticks.count ≡ n → last_of ticks ≡ tick_moment length (i + n)
 last_is ticks length i n some first apart many =
     let here : (i + 1) * length + (n - 1) * length ≡ (i + n) * length =
@@ -54,7 +55,7 @@ last_is ticks length i n some first apart many =
     sum ∙ ap (λ k. k * length) same in
     rw (first, apart, many) here
 
--- the time of the first of these ticks
+-- Computes the time of the first of these ticks.
 first_of : (length i n : ℕ) → 0 < n → slice_get (moments_after length i n) 0 ≡ Some (tick_moment length (i + 1))
 first_of length i n some =
     let many = length-map-range_with_len (tick_moment length) (i + 1) n in
@@ -83,8 +84,8 @@ at_is_not_past plans clocks at there = record {
 
 -- ---- advancing by several ticks
 
--- the ticks by which a crew must advance after the first `i` ticks: all that remain, but at most as
--- many as it has room for
+-- The ticks by which the worker pool must advance after tick `i`: all remaining ticks, but at most
+-- the number for which it has room.
 pub record AreNext (ticks : Ticks) (crew : CrewView) (run_timing : RunTiming) (i : ℕ) : Type 0 where
   pub first : ticks.first ≡ tick_moment run_timing.length (i + 1)
   pub length : ticks.length ≡ run_timing.length
@@ -100,7 +101,7 @@ next_many ticks plans crew run_timing trace timing i is next =
 first_next : (ticks : Ticks) (plans : PlansView) (crew : CrewView) (run_timing : RunTiming) (trace : Trace) (timing : Timing) (i : ℕ) → IsToGo plans crew run_timing trace timing i → AreNext ticks crew run_timing i → ticks.first ≡ tick_moment timing.length (i + 1)
 first_next ticks plans crew run_timing trace timing i is next = next.first ∙ ap (λ l. tick_moment l (i + 1)) is.paced.length
 
--- the time of the first of these ticks fits into 64 bits
+-- The time of the first of these ticks fits in 64 bits.
 pub next_fits : (plans : PlansView) (crew : CrewView) (run_timing : RunTiming) (trace : Trace) (timing : Timing) (i : ℕ) → IsToGo plans crew run_timing trace timing i → tick_moment run_timing.length (i + 1) < 2 ^ 64
 next_fits plans crew run_timing trace timing i is =
     let left = is.left in
@@ -108,7 +109,7 @@ next_fits plans crew run_timing trace timing i is =
     let same = ap (λ l. tick_moment l (i + 1)) is.paced.length in
     omega (arith, early, same)
 
--- there is at least one such tick
+-- There is at least one such tick.
 pub next_some : (ticks : Ticks) (plans : PlansView) (crew : CrewView) (run_timing : RunTiming) (trace : Trace) (timing : Timing) (i : ℕ) → IsToGo plans crew run_timing trace timing i → 1 ≤ crew.room → AreNext ticks crew run_timing i → 0 < ticks.count
 next_some ticks plans crew run_timing trace timing i is roomy next =
     let last = is.paced.last in
@@ -116,7 +117,7 @@ next_some ticks plans crew run_timing trace timing i is roomy next =
     let count = next.count in
     grind (arith, last, left, count, roomy)
 
--- if no table is ready, no processor has made a change later than the first of these ticks
+-- If no table is ready, no processor has made a change later than the first of these ticks.
 pub next_following : (ticks : Ticks) (plans : PlansView) (crew : CrewView) (run_timing : RunTiming) (trace : Trace) (timing : Timing) (i : ℕ) → IsToGo plans crew run_timing trace timing i → length crew.ready ≡ 0 → AreNext ticks crew run_timing i → AreNotPast crew.plans crew.clocks ticks.first
 next_following ticks plans crew run_timing trace timing i is none next =
     let first = first_next ticks plans crew run_timing trace timing i is next in
@@ -126,7 +127,7 @@ next_following ticks plans crew run_timing trace timing i is none next =
     subst (λ p. AreNotPast p crew.clocks ticks.first) (sym is.ahead.same)
     (not_past_later plans crew.clocks (tick_moment timing.length i) ticks.first (omega (arith, first, apart)) not_past)
 
--- the last of these ticks is at most the last possible time
+-- The time of the last of these ticks is at most the latest possible time.
 pub next_early : (ticks : Ticks) (plans : PlansView) (crew : CrewView) (run_timing : RunTiming) (trace : Trace) (timing : Timing) (i : ℕ) → IsToGo plans crew run_timing trace timing i → 1 ≤ crew.room → AreNext ticks crew run_timing i → last_of ticks ≤ last_moment
 next_early ticks plans crew run_timing trace timing i is roomy next =
     let some = next_some ticks plans crew run_timing trace timing i is roomy next in
@@ -134,7 +135,7 @@ next_early ticks plans crew run_timing trace timing i is roomy next =
     let early = moment_early plans trace timing (i + ticks.count) is.planned (next_many ticks plans crew run_timing trace timing i is next) in
     omega (arith, last, early)
 
--- a crew that advanced by these ticks has the table of the next tick ready
+-- After the worker pool has advanced by these ticks, the table of the next tick is ready.
 pub next_ready : (ticks : Ticks) (plans : PlansView) (crew new : CrewView) (run_timing : RunTiming) (trace : Trace) (timing : Timing) (i : ℕ) → IsToGo plans crew run_timing trace timing i → 1 ≤ crew.room → AreNext ticks crew run_timing i → new.plans ≡ crew.plans → new.ready ≡ moments_of ticks → AreAt new.plans new.clocks (last_of ticks)
     → IsReady plans new trace timing i
 next_ready ticks plans crew new run_timing trace timing i is roomy next same ready there =
@@ -159,7 +160,7 @@ next_ready ticks plans crew new run_timing trace timing i is roomy next same rea
 
 -- ---- advancing to the next tick alone
 
--- the time of the next tick is at most the last possible time
+-- The time of the next tick is at most the latest possible time.
 pub tick_early : (plans : PlansView) (crew : CrewView) (run_timing : RunTiming) (trace : Trace) (timing : Timing) (i at : ℕ) → IsToGo plans crew run_timing trace timing i → at ≡ tick_moment run_timing.length (i + 1) → at ≤ last_moment
 tick_early plans crew run_timing trace timing i at is moment =
     let left = is.left in
@@ -167,7 +168,7 @@ tick_early plans crew run_timing trace timing i at is moment =
     let same = ap (λ l. tick_moment l (i + 1)) is.paced.length in
     omega (arith, early, same, moment)
 
--- if no table is ready, no processor has made a change later than the next tick
+-- If no table is ready, no processor has made a change later than the next tick.
 pub tick_after : (plans : PlansView) (crew : CrewView) (run_timing : RunTiming) (trace : Trace) (timing : Timing) (i at : ℕ) → IsToGo plans crew run_timing trace timing i → length crew.ready ≡ 0 → at ≡ tick_moment run_timing.length (i + 1) → AreNotPast crew.plans crew.clocks at
 tick_after plans crew run_timing trace timing i at is none moment =
     let here : i + length crew.ready ≡ i = omega (arith, none) in
@@ -177,7 +178,7 @@ tick_after plans crew run_timing trace timing i at is none moment =
     subst (λ p. AreNotPast p crew.clocks at) (sym is.ahead.same)
     (not_past_later plans crew.clocks (tick_moment timing.length i) at (omega (arith, same, apart)) not_past)
 
--- a crew that advanced to the next tick has the table of that tick ready
+-- After the worker pool has advanced to the next tick, the table of that tick is ready.
 pub tick_ready : (plans : PlansView) (crew new : CrewView) (run_timing : RunTiming) (trace : Trace) (timing : Timing) (i at : ℕ) → IsToGo plans crew run_timing trace timing i → at ≡ tick_moment run_timing.length (i + 1) → new.plans ≡ crew.plans → new.ready ≡ at ∷ [] → AreAt new.plans new.clocks at
     → IsReady plans new trace timing i
 tick_ready plans crew new run_timing trace timing i at is moment same ready there =
@@ -198,12 +199,13 @@ tick_ready plans crew new run_timing trace timing i at is moment same ready ther
 
 -- ---- one table
 
--- the first ready table belongs to the next tick
+-- The first ready table is the table of the next tick.
 pub first_is : (plans : PlansView) (crew : CrewView) (trace : Trace) (timing : Timing) (i at : ℕ) → IsReady plans crew trace timing i → at ≡ tick_moment timing.length (i + 1) → slice_get crew.ready 0 ≡ Some at
 first_is plans crew trace timing i at is moment =
     ap (λ moments. slice_get moments 0) is.ahead.ready ∙ first_of timing.length i (length crew.ready) is.some ∙ ap Some (sym moment)
 
--- a crew that returned the table of the next tick is ahead of the following ticks
+-- After the worker pool has returned the table of the next tick, it is ahead for the following
+-- ticks.
 pub handed_out : (plans : PlansView) (crew new : CrewView) (trace : Trace) (timing : Timing) (i : ℕ) → IsReady plans crew trace timing i → new ≡ record crew { ready = drop 1 crew.ready } → IsAhead plans new trace timing (i + 1)
 handed_out plans crew new trace timing i is same =
     let left : drop 1 crew.ready ≡ moments_after timing.length (i + 1) (length crew.ready - 1) = ap (drop 1) is.ahead.ready ∙ after_the_first timing.length i (length crew.ready) in

@@ -1,4 +1,4 @@
--- Proofs that the kills of a tick are few, and that each victim is an existing group.
+-- Proves a bound on the number of kills of a tick, and that each victim is an existing group.
 use Rattle.std.proofs.Common.{◌≡◌, ℕ, zero, suc, ◌+◌, ◌-◌, ◌*◌, ◌≤◌, ◌<◌, ◌^◌, List, [], ◌∷◌, length, sym, subst, arith, Bool, true, false, get_or}
 use Rattle.std.specs.Prelude.{All, Option, None, Some, if◌then◌else◌, map, nat_le}
 use Rattle.std.proofs.lemmas.List.Elements.{All-append, All-contains, All-contains_itself, All-filter, All-map, All-nil}
@@ -40,7 +40,7 @@ and_then_short goes_on None rest = omega arith
 and_then_short true (Some kill) rest = omega arith
 and_then_short false (Some kill) rest = omega arith
 
--- no chain has more kills than actions
+-- A chain has at most as many kills as actions.
 chain_short : (lives : List GroupLife) (rule act : ℕ) (actions : List Action) (now : Reading) (past : List Reading) → length (chain lives rule act actions now past) ≤ length actions
 chain_short lives rule act [] now past = omega arith
 chain_short lives rule act (first ∷ rest) now past =
@@ -52,7 +52,7 @@ if_short : (b : Bool) (xs : List Kill) (most : ℕ) → length xs ≤ most → l
 if_short true xs most short = short
 if_short false xs most short = omega arith
 
--- a ruleset kills at most 16 groups at a reading
+-- A ruleset kills at most 16 groups at a reading.
 rule_short : (lives : List GroupLife) (number : ℕ) (rule : Rule) (now : Reading) (past : List Reading) (earlier : List (List Kill)) → FitsRule rule → length (kills_at lives number rule now past earlier) ≤ 16
 rule_short lives number rule now past earlier fits =
     let short = chain_short lives number 0 rule.actions now past in
@@ -72,7 +72,7 @@ kills_short lives rules now past fits =
     let all = rules_short lives 0 rules now past fits.each in
     omega (arith, all, fits.few)
 
--- a tick has at most 1,024 kills
+-- A tick has at most 1,024 kills.
 pub tick_short : (trace : Trace) (timing : Timing) (rules : List Rule) (i : ℕ) → FitsRules rules → length (kills_in trace timing rules i) ≤ 1024
 tick_short trace timing rules i fits =
     if_short (is_evaluation timing.interval timing.length i) _ 1024
@@ -87,7 +87,7 @@ kills_few trace timing rules (suc n) fits =
     let one = tick_short trace timing rules (n + 1) fits in
     subst (λ k. kills_until trace timing rules k ≤ 1024 * k) (sym next) (let all : kills_until trace timing rules (n + 1) ≤ 1024 * (n + 1) = omega (arith, before, more, one) in all)
 
--- a trace has at most a million ticks
+-- A trace has at most a million ticks.
 ticks_million : (plans : PlansView) (trace : Trace) (timing : Timing) (n : ℕ) → IsPlanned plans trace timing → n ≤ tick_count trace timing → n ≤ 1000000
 ticks_million plans trace timing n planned within =
     let early = (legal_after (limits_of timing.length trace.cpus) trace.events planned.accepted.legal).early in
@@ -98,7 +98,7 @@ ticks_million plans trace timing n planned within =
     absurd (let no : ⊥ = omega (arith, here, early, planned.some) in no))
     (λ few. grind (arith, few))
 
--- the number of kills fits into 64 bits
+-- The number of kills fits in 64 bits.
 pub kills_fit : (plans : PlansView) (trace : Trace) (timing : Timing) (rules : List Rule) (i so_far : ℕ) → IsPlanned plans trace timing → FitsRules rules → i < tick_count trace timing → so_far ≡ kills_until trace timing rules i
     → so_far + length (kills_in trace timing rules (i + 1)) < 2 ^ 64
 kills_fit plans trace timing rules i so_far planned fits left is =
@@ -109,15 +109,15 @@ kills_fit plans trace timing rules i so_far planned fits left is =
 
 -- ---- the victims
 
--- the slot of a kill's victim is below `n`
+-- The slot of the victim is below `n`.
 abbrev IsOf : ℕ → Kill → Type 0
 IsOf n kill = kill.victim.0 < n
 
--- the slot of a group of a reading is below `n`
+-- The slot of the group of a reading is below `n`.
 abbrev IsBelow : ℕ → GroupReading → Type 0
 IsBelow n group = group.slot.0 < n
 
--- each victim of a ruleset is a group of the reading
+-- Each victim of a ruleset is a group of the reading.
 rule_below : (lives : List GroupLife) (n number : ℕ) (rule : Rule) (now : Reading) (past : List Reading) → All (IsBelow n) now.groups → All (IsOf n) (kills_at lives number rule now past (kills_of lives number rule past))
 rule_below lives n number rule now past read = λ k d below.
     let found = kills_at lives number rule now past (kills_of lives number rule past) in
@@ -132,13 +132,13 @@ rules_below lives n number (rule ∷ rules) now past read =
     All-append (IsOf n) (kills_at lives number rule now past (kills_of lives number rule past)) (kills_from lives (number + 1) rules now past)
     (rule_below lives n number rule now past read) (rules_below lives n (number + 1) rules now past read)
 
--- the slots of pairs are below `n` if the list of their slots is
+-- The slots of pairs are below `n` if all slots in the list of their slots are.
 pairs_below : (n : ℕ) (pairs : List (List ℕ × ℕ)) → All (λ slot. slot < n) (map (λ (pair : List ℕ × ℕ). pair.1) pairs) → All (λ (pair : List ℕ × ℕ). pair.1 < n) pairs
 pairs_below n pairs all = λ k d below.
     let slot : List ℕ × ℕ → ℕ = λ (pair : List ℕ × ℕ). pair.1 in
     subst (λ s. s < n) (get_or-map slot pairs k d 0 below) (all k 0 (omega (arith, below, length-map pairs slot)))
 
--- each group that is read at a tick is an existing group of the trace
+-- Each group that is read at a tick is an existing group of the trace.
 read_below : (plans : PlansView) (trace : Trace) (timing : Timing) (order : List ℕ) (i : ℕ) → IsPlanned plans trace timing → IsPathOrder (lives_of trace) order
     → All (IsBelow (length (lives_of trace))) (reading_at trace.cpus trace.events timing.length i).groups
 unfolding reading_at
@@ -155,7 +155,7 @@ if_below : (b : Bool) (n : ℕ) (xs : List Kill) → All (IsOf n) xs → All (Is
 if_below true n xs all = all
 if_below false n xs all = All-nil (IsOf n)
 
--- each victim of a tick is an existing group
+-- Each victim at a tick is an existing group.
 pub kills_below : (plans : PlansView) (trace : Trace) (timing : Timing) (rules : List Rule) (order : List Slot) (i : ℕ) → IsPlanned plans trace timing → IsPathOrder plans.lives (numbers_of order)
     → All (λ (kill : Kill). kill.victim.0 < length plans.lives) (kills_in trace timing rules i)
 unfolding kills

@@ -1,4 +1,4 @@
--- Proofs that the lines of a crew's samples are valid live lines of the tick.
+-- Proves that the lines of the worker pool's samples are valid `live` lines of the tick.
 use Rattle.std.proofs.Common.{◌≡◌, ℕ, zero, suc, ◌+◌, ◌-◌, ◌<◌, ◌≤◌, List, [], ◌∷◌, ◌++◌, length, get_or, refl, sym, ap, ◌∙◌, subst, arith, Option, None, Some}
 use Rattle.std.specs.Prelude.{nat_le}
 use Rattle.std.specs.List.{All, flat_map, range_with_len}
@@ -33,7 +33,7 @@ use Rattle.replay_ticks.specs.Replays.{AreIdle, AreInTime, GoesByTick, IsLiveTic
 
 -- ---- numbers that never decrease
 
--- the lower bound of rising numbers is at most their upper bound
+-- The lower bound of rising numbers is at most their upper bound.
 rise_ends : (low high : ℕ) (numbers : List ℕ) → RiseWithin low numbers high → low ≤ high
 rise_ends low high [] rise = rise
 rise_ends low high (number ∷ numbers) rise =
@@ -41,13 +41,13 @@ rise_ends low high (number ∷ numbers) rise =
     let rest = rise_ends number high numbers rise.1 in
     omega (arith, first, rest)
 
--- equal bounds can be exchanged
+-- Equal bounds can be exchanged.
 rise_between : (low high down up : ℕ) (numbers : List ℕ) → low ≡ down → high ≡ up → RiseWithin low numbers high → RiseWithin down numbers up
 rise_between low high down up numbers from to rise = subst (λ n. RiseWithin down numbers n) to (subst (λ n. RiseWithin n numbers high) from rise)
 
 -- ---- times of changes
 
--- the times of a plan's changes never decrease
+-- The times of a plan's changes never decrease.
 rises : (plan : PlanView) → AreInOrder plan → (k n : ℕ) → k + n ≤ length plan.changes → last_change plan k ≤ last_change plan (k + n)
 rises plan order k zero within =
     let same : k ≡ k + 0 = omega arith in
@@ -58,7 +58,7 @@ rises plan order k (suc n) within =
     let same : k + n + 1 ≡ k + suc n = omega arith in
     subst (λ m. last_change plan k ≤ last_change plan m) same (omega (arith, before, one))
 
--- a change that precedes a change up to `at` is itself up to `at`
+-- If a change is at or before time `at`, each earlier change is at or before `at`.
 early_enough : (plan : PlanView) (k last at : ℕ) → AreInOrder plan → k ≤ last → last ≤ length plan.changes → last_change plan last ≤ at → last_change plan k ≤ at
 early_enough plan k last at order low within past =
     let same : k + (last - k) ≡ last = omega (arith, low) in
@@ -68,7 +68,7 @@ early_enough plan k last at order low within past =
 
 -- ---- one sample
 
--- a clock after some changes of a trace opens to the times after these changes
+-- Advancing a clock after some changes of a trace gives the times after these changes.
 sample_times : (plans : PlansView) (trace : Trace) (timing : Timing) (clock : ClockView) (slot cpu k at : ℕ) → IsPlanned plans trace timing → cpu < trace.cpus → IsClock clock (plan_at plans cpu) slot k → last_change (plan_at plans cpu) k ≤ at
     → opened clock at ≡ times_after cpu slot trace.events k at
 sample_times plans trace timing clock slot cpu k at planned below is past =
@@ -80,7 +80,7 @@ sample_times plans trace timing clock slot cpu k at planned below is past =
     clock_shows_planned clock (plan_of cpu trace.events) slot k at own there
     ∙ planned_after (limits_of timing.length trace.cpus) trace.events planned.accepted.legal cpu slot k at within there
 
--- the samples of a processor were taken during the changes of its plan up to a time
+-- The samples of a processor were taken while it made the changes of its plan up to a time.
 pub record AreBeside (plans : PlansView) (slot cpu low high at : ℕ) (samples : List Sample) : Type 0 where
   pub clocks : All (λ (sample : Sample). IsClock sample.clock (plan_at plans cpu) slot sample.count) samples
   pub rise : RiseWithin low (counts_sampled samples) high
@@ -97,12 +97,12 @@ beside_rest plans slot cpu low high at sample samples are = record {
   past = are.past;
 }
 
--- the first of these samples includes only changes up to that time
+-- The first of these samples includes only changes up to that time.
 first_past : (plans : PlansView) (slot cpu low high at : ℕ) (sample : Sample) (samples : List Sample) → AreBeside plans slot cpu low high at (sample ∷ samples) → last_change (plan_at plans cpu) sample.count ≤ at
 first_past plans slot cpu low high at sample samples are =
     early_enough (plan_at plans cpu) sample.count high at are.whole.order (rise_ends sample.count high (counts_sampled samples) are.rise.1) are.within are.past
 
--- the lines of these samples are the lines for their numbers of changes
+-- The lines of these samples are the lines for their numbers of changes.
 sampled_text : (plans : PlansView) (trace : Trace) (timing : Timing) (slot cpu low high at : ℕ) (samples : List Sample) → IsPlanned plans trace timing → cpu < trace.cpus → AreBeside plans slot cpu low high at samples
     → samples_text at cpu samples ≡ sample_lines trace slot at cpu (counts_sampled samples)
 sampled_text plans trace timing slot cpu low high at [] planned below are = refl
@@ -113,8 +113,8 @@ sampled_text plans trace timing slot cpu low high at (sample ∷ samples) planne
     ap (λ seven. live_line at cpu sample.count seven ++ samples_text at cpu samples) times
     ∙ ap (λ text. live_line at cpu sample.count (times_after cpu slot trace.events sample.count at) ++ text) rest
 
--- if the first sample's clock and all other clocks can be opened at `at`, so can the clocks of the
--- whole list
+-- If the clock of the first sample and the clocks of the other samples can be advanced to `at`, all
+-- clocks in the list can.
 in_time_cons : (at : ℕ) (sample : Sample) (samples : List Sample) → IsInTime sample.clock at → All (λ (sample : Sample). IsInTime sample.clock at) samples → All (λ (sample : Sample). IsInTime sample.clock at) (sample ∷ samples)
 in_time_cons at sample samples first rest = λ k d below. by_place k d below
   where
@@ -122,7 +122,7 @@ in_time_cons at sample samples first rest = λ k d below. by_place k d below
     by_place zero d below = first
     by_place (suc k) d below = rest k d (omega (arith, below))
 
--- the clocks of these samples can be opened at that time
+-- The clocks of these samples can be advanced to that time.
 sampled_in_time : (plans : PlansView) (slot cpu low high at : ℕ) (samples : List Sample) → at ≤ last_moment → AreBeside plans slot cpu low high at samples → All (λ (sample : Sample). IsInTime sample.clock at) samples
 sampled_in_time plans slot cpu low high at [] early are = λ k d below. absurd (omega (arith, below))
 sampled_in_time plans slot cpu low high at (sample ∷ samples) early are =
@@ -132,14 +132,15 @@ sampled_in_time plans slot cpu low high at (sample ∷ samples) early are =
 
 -- ---- all processors
 
--- the number of changes up to a time is at most the number of all changes
+-- The number of changes up to a time is at most the number of all changes.
 up_to_within : (plan : PlanView) (at : ℕ) → changes_up_to plan at ≤ length plan.changes
 up_to_within plan at =
     let passed = length-filter (λ (change : Change). nat_le change.at at) plan.changes in
     let most = count_by-le-length (λ (change : Change). nat_le change.at at) plan.changes in
     omega (arith, passed, most)
 
--- the samples of a processor were taken during its changes up to the tick that a crew reached
+-- The samples of a processor were taken while it made its changes up to the tick that the worker
+-- pool reached.
 beside_cpu : (plans : PlansView) (old new : CrewView) (slot cpu requested low at : ℕ) → IsSampled (plan_at plans cpu) slot requested low (clocks_at new.clocks cpu).made (watch_at old.watches cpu) (watch_at new.watches cpu) → AreAt plans new.clocks at → cpu < length new.clocks
     → AreBeside plans slot cpu low (clocks_at new.clocks cpu).made at (watch_at new.watches cpu).samples
 beside_cpu plans old new slot cpu requested low at is there below =
@@ -153,21 +154,21 @@ beside_cpu plans old new slot cpu requested low at is there below =
       past = subst (λ k. last_change plan k ≤ at) (sym made) (there.past cpu below);
     }
 
--- two functions with equal values on a range give the same joined text
+-- Two functions that agree on a range give the same concatenated text.
 same_pieces : (f g : ℕ → List ℕ) (from count : ℕ) → ((i : ℕ) → from ≤ i → i < from + count → f i ≡ g i) → flat_map f (range_with_len from count) ≡ flat_map g (range_with_len from count)
 same_pieces f g from zero same = refl
 same_pieces f g from (suc count) same =
     ap (λ text. text ++ flat_map f (range_with_len (from + 1) count)) (same from (omega arith) (omega arith))
     ∙ ap (λ text. g from ++ text) (same_pieces f g (from + 1) count (λ i low high. same i (omega (arith, low)) (omega (arith, high))))
 
--- a function with empty values on a range gives an empty text
+-- A function that is empty on a range gives an empty text.
 no_pieces : (f : ℕ → List ℕ) (from count : ℕ) → ((i : ℕ) → f i ≡ []) → flat_map f (range_with_len from count) ≡ []
 no_pieces f from zero none = refl
 no_pieces f from (suc count) none = ap (λ text. text ++ flat_map f (range_with_len (from + 1) count)) (none from) ∙ no_pieces f (from + 1) count none
 
 -- ---- a slot is watched
 
--- The crew advanced to the tick after the first `i` ticks, at which a slot is watched.
+-- The worker pool has advanced to tick i + 1, at which a slot is watched.
 pub record HasReached (plans : PlansView) (old new : CrewView) (trace : Trace) (timing : Timing) (i at : ℕ) : Type 0 where
   pub planned : IsPlanned plans trace timing
   pub left : i < tick_count trace timing
@@ -177,7 +178,7 @@ pub record HasReached (plans : PlansView) (old new : CrewView) (trace : Trace) (
   pub ready : new.ready ≡ at ∷ []
   pub requested : new.requested ≡ old.requested
 
--- a processor has made exactly its changes up to the tick
+-- A processor has made exactly its changes up to the tick.
 made_now : (plans : PlansView) (old new : CrewView) (trace : Trace) (timing : Timing) (i at cpu : ℕ) → HasReached plans old new trace timing i at → cpu < trace.cpus → (clocks_at new.clocks cpu).made ≡ changes_until trace timing.length cpu (i + 1)
 made_now plans old new trace timing i at cpu is below =
     let inside : cpu < length new.clocks = omega (arith, below, is.planned.represents.each, is.there.on_plans.each) in
@@ -192,7 +193,7 @@ length-counts : (samples : List Sample) → length (counts_sampled samples) ≡ 
 length-counts [] = refl
 length-counts (sample ∷ samples) = ap (λ n. suc n) (length-counts samples)
 
--- the samples of a slot at a tick have valid numbers of changes
+-- The samples of a slot at a tick have valid numbers of changes.
 counts_allowed : (plans : PlansView) (old new : CrewView) (trace : Trace) (timing : Timing) (i at slot cpu requested : ℕ) → HasReached plans old new trace timing i at → cpu < trace.cpus →
     (clocks_at old.clocks cpu).made ≡ changes_until trace timing.length cpu i →
     IsSampled (plan_at plans cpu) slot requested (clocks_at old.clocks cpu).made (clocks_at new.clocks cpu).made (watch_at old.watches cpu) (watch_at new.watches cpu) →
@@ -204,7 +205,7 @@ counts_allowed plans old new trace timing i at slot cpu requested is below befor
       rise = rise_between (clocks_at old.clocks cpu).made (clocks_at new.clocks cpu).made (changes_until trace timing.length cpu (i + 1 - 1)) (changes_until trace timing.length cpu (i + 1)) (counts_sampled (watch_at new.watches cpu).samples) (before ∙ ap (changes_until trace timing.length cpu) back) (made_now plans old new trace timing i at cpu is below) sampled.rise;
     }
 
--- the lines of these samples are valid live lines of the slot
+-- The lines of these samples are valid `live` lines of the slot.
 slot_lines : (plans : PlansView) (old new : CrewView) (trace : Trace) (timing : Timing) (watch : LiveWatch) (i at : ℕ) (slot : Slot) → HasReached plans old new trace timing i at → GoesByTick (Some watch) 0 old trace timing.length i → old.requested ≡ watch.count → AreSampled (Some slot) old new →
     IsLiveOf trace timing.length (i + 1) watch.count (Some slot.0) (watches_text (tick_moment timing.length (i + 1)) trace.cpus new.watches)
 slot_lines plans old new trace timing watch i at slot is by_tick requested sampled =
@@ -223,7 +224,7 @@ slot_lines plans old new trace timing watch i at slot is by_tick requested sampl
       subst (λ m. watches_text m trace.cpus new.watches ≡ live_lines trace slot.0 m counts) is.at_is text,
     )
 
--- the clocks of these samples can be opened at the tick
+-- The clocks of these samples can be advanced to the tick.
 slot_in_time : (plans : PlansView) (old new : CrewView) (trace : Trace) (timing : Timing) (i at : ℕ) (slot : Slot) → HasReached plans old new trace timing i at → at ≤ last_moment → AreSampled (Some slot) old new → AreInTime trace.cpus new.watches at
 slot_in_time plans old new trace timing i at slot is early sampled = λ cpu below.
     let inside : cpu < length new.clocks = omega (arith, below, is.planned.represents.each, is.there.on_plans.each) in
@@ -233,7 +234,7 @@ slot_in_time plans old new trace timing i at slot is early sampled = λ cpu belo
 
 -- ---- nothing is watched
 
--- without samples there is no line
+-- Without samples there are no lines.
 pub idle_text : (watches : List WatchView) (at cpus : ℕ) → AreIdle watches → watches_text at cpus watches ≡ []
 idle_text watches at cpus idle = no_pieces (λ cpu. samples_text at cpu (watch_at watches cpu).samples) 0 cpus (λ cpu. ap (samples_text at cpu) (idle cpu))
 
@@ -245,7 +246,7 @@ idle_in_time watches at cpus idle = λ cpu below. no_samples (watch_at watches c
 
 -- ---- the tick
 
--- a crew that advanced while no group was watched has reached the tick
+-- A worker pool that advanced without a watched path satisfies `IsReached`.
 pub reached_unwatched : (slot : Option Slot) (old new : CrewView) (trace : Trace) (timing : Timing) (i : ℕ) → timing.watch ≡ None → AreIdle new.watches → new.requested ≡ old.requested → IsReached slot old new trace timing i
 reached_unwatched slot old new trace timing i none idle requested = record {
   live = λ _. record {
@@ -259,7 +260,8 @@ reached_unwatched slot old new trace timing i none idle requested = record {
   by_tick = subst (λ watch. GoesByTick watch 1 new trace timing.length (i + 1)) (sym none) idle;
 }
 
--- the lines of the samples are valid live lines, whether or not the watched path has a slot
+-- The lines of the samples are valid `live` lines, whether or not a live group has the watched
+-- path.
 lines_of : (plans : PlansView) (old new : CrewView) (trace : Trace) (timing : Timing) (watch : LiveWatch) (i at : ℕ) (slot : Option Slot) → HasReached plans old new trace timing i at → GoesByTick (Some watch) 0 old trace timing.length i → old.requested ≡ watch.count → AreSampled slot old new →
     IsLiveOf trace timing.length (i + 1) watch.count (number_of_slot slot) (watches_text (tick_moment timing.length (i + 1)) trace.cpus new.watches)
 lines_of plans old new trace timing watch i at None is by_tick requested sampled = idle_text new.watches (tick_moment timing.length (i + 1)) trace.cpus sampled
@@ -269,7 +271,7 @@ times_of : (plans : PlansView) (old new : CrewView) (trace : Trace) (timing : Ti
 times_of plans old new trace timing i at None is early sampled = idle_in_time new.watches at trace.cpus sampled
 times_of plans old new trace timing i at (Some slot) is early sampled = slot_in_time plans old new trace timing i at slot is early sampled
 
--- the samples of the watched slot are valid live samples of the tick
+-- The samples of the watched slot are valid `live` samples of the tick.
 live_tick : (plans : PlansView) (old new : CrewView) (trace : Trace) (timing : Timing) (watch : LiveWatch) (i at : ℕ) (slot : Option Slot) → timing.watch ≡ Some watch → HasReached plans old new trace timing i at → at ≤ last_moment →
     GoesByTick (Some watch) 0 old trace timing.length i → old.requested ≡ watch.count → AreSampled slot old new → IsSlotAt slot trace timing (i + 1) → IsLiveTick old new trace timing (i + 1)
 live_tick plans old new trace timing watch i at slot watches is early by_tick requested sampled found =
@@ -283,7 +285,7 @@ live_tick plans old new trace timing watch i at slot watches is early by_tick re
       in_time = subst (AreInTime trace.cpus new.watches) is.at_is (times_of plans old new trace timing i at slot is early sampled);
     }
 
--- a crew that advanced to the tick while a path was watched has reached the tick
+-- A worker pool that advanced to the tick with a watched path satisfies `IsReached`.
 pub reached_watched : (plans : PlansView) (old new : CrewView) (trace : Trace) (timing : Timing) (watch : LiveWatch) (i at : ℕ) (slot : Option Slot) → timing.watch ≡ Some watch → HasReached plans old new trace timing i at → at ≤ last_moment →
     GoesByTick (Some watch) 0 old trace timing.length i → old.requested ≡ watch.count → AreSampled slot old new → IsReached slot old new trace timing i
 reached_watched plans old new trace timing watch i at slot watches is early by_tick requested sampled = record {
@@ -312,11 +314,12 @@ by_tick_kept : (watch : Option LiveWatch) (crew : CrewView) (trace : Trace) (tic
 by_tick_kept None crew trace tick i is = is
 by_tick_kept (Some watch) crew trace tick i is = (length-drop 1 crew.ready ∙ ap (λ n. n - 1) is.0, is.1)
 
--- after a crew reached a tick and returned its table, its samples belong to the tick
+-- After the worker pool has reached a tick and returned its table, its samples are the samples of
+-- that tick.
 pub live_next : (slot : Option Slot) (old mid new : CrewView) (trace : Trace) (timing : Timing) (i : ℕ) → IsReached slot old mid trace timing i → new ≡ handed mid → IsSlotAt slot trace timing (i + 1) → IsLiveTick old new trace timing (i + 1)
 live_next slot old mid new trace timing i is same found = subst (λ (crew : CrewView). IsLiveTick old crew trace timing (i + 1)) (sym same) (live_kept old mid trace timing (i + 1) (is.live found))
 
--- after that, the crew still watches the same path
+-- After it has returned the table, the worker pool still watches the same path.
 pub watching_next : (slot : Option Slot) (old mid new : CrewView) (live : Option (List ℕ)) (trace : Trace) (timing : Timing) (i : ℕ) → IsWatching old live trace timing i → IsReached slot old mid trace timing i → new ≡ handed mid → IsWatching new live trace timing (i + 1)
 watching_next slot old mid new live trace timing i was is same =
     subst (λ (crew : CrewView). IsWatching crew live trace timing (i + 1)) (sym same)
@@ -332,7 +335,7 @@ by_tick_new : (watch : Option LiveWatch) (crew : CrewView) (trace : Trace) (tick
 by_tick_new None crew trace tick none idle fresh = idle
 by_tick_new (Some watch) crew trace tick none idle fresh = (ap length none, fresh)
 
--- a new crew watches the path of the options
+-- A new worker pool watches the path of the options.
 pub watching_new : (crew : CrewView) (live : Option (List ℕ)) (trace : Trace) (timing : Timing) → live ≡ watched_path timing.watch → crew.requested ≡ requested_by timing.watch → crew.ready ≡ [] → AreIdle crew.watches →
     ((cpu : ℕ) → cpu < trace.cpus → (clocks_at crew.clocks cpu).made ≡ 0) → IsWatching crew live trace timing 0
 watching_new crew live trace timing path requested none idle fresh = record {
@@ -343,7 +346,7 @@ watching_new crew live trace timing path requested none idle fresh = record {
 
 -- ---- what holds between two ticks
 
--- the watched path is that of the options
+-- The watched path is the path of the options.
 pub watch_is : (crew : CrewView) (live : Option (List ℕ)) (path : List ℕ) (trace : Trace) (timing : Timing) (i : ℕ) → live ≡ Some path → IsWatching crew live trace timing i → (watch : LiveWatch) × (timing.watch ≡ Some watch) × (watch.path ≡ path)
 watch_is crew live path trace timing i named is = by_watch timing.watch refl
   where
@@ -351,7 +354,7 @@ watch_is crew live path trace timing i named is = by_watch timing.watch refl
     by_watch None none = absurd (let is_none = sym named ∙ is.path ∙ ap watched_path none in let no : ⊥ = cc in no)
     by_watch (Some watch) some = (watch, some, let paths = sym (is.path ∙ ap watched_path some) ∙ named in cc)
 
--- without a watched path nothing is watched
+-- If the replay has no watched path, the options have none.
 pub watch_none : (crew : CrewView) (live : Option (List ℕ)) (trace : Trace) (timing : Timing) (i : ℕ) → live ≡ None → IsWatching crew live trace timing i → timing.watch ≡ None
 watch_none crew live trace timing i none is = by_watch timing.watch refl
   where
@@ -359,7 +362,7 @@ watch_none crew live trace timing i none is = by_watch timing.watch refl
     by_watch None is_none = is_none
     by_watch (Some watch) some = absurd (let is_some = sym none ∙ is.path ∙ ap watched_path some in let no : ⊥ = cc in no)
 
--- no table is ready if something is watched
+-- If a table is ready, no path is watched.
 pub unwatched_ready : (crew : CrewView) (live : Option (List ℕ)) (trace : Trace) (timing : Timing) (i : ℕ) → 0 < length crew.ready → IsWatching crew live trace timing i → timing.watch ≡ None
 unwatched_ready crew live trace timing i some is = by_watch timing.watch refl
   where
@@ -367,27 +370,27 @@ unwatched_ready crew live trace timing i some is = by_watch timing.watch refl
     by_watch None is_none = is_none
     by_watch (Some watch) is_some = absurd (let by_tick = subst (λ w. GoesByTick w 0 crew trace timing.length i) is_some is.by_tick in omega (arith, some, by_tick.0))
 
--- nothing was sampled if nothing is watched
+-- If no path is watched, there are no samples.
 pub idle_unwatched : (crew : CrewView) (live : Option (List ℕ)) (trace : Trace) (timing : Timing) (i : ℕ) → timing.watch ≡ None → IsWatching crew live trace timing i → AreIdle crew.watches
 idle_unwatched crew live trace timing i none is = subst (λ watch. GoesByTick watch 0 crew trace timing.length i) none is.by_tick
 
--- the number of samples of a crew is the number in the options
+-- The number of samples of the worker pool is the number in the options.
 pub requested_is : (crew : CrewView) (live : Option (List ℕ)) (trace : Trace) (timing : Timing) (i : ℕ) (watch : LiveWatch) → timing.watch ≡ Some watch → IsWatching crew live trace timing i → crew.requested ≡ watch.count
 requested_is crew live trace timing i watch some is = is.requested ∙ ap requested_by some
 
--- if a path is watched, the crew has advanced exactly to the last tick
+-- If a path is watched, the worker pool has advanced exactly to the last tick.
 pub by_tick_is : (crew : CrewView) (live : Option (List ℕ)) (trace : Trace) (timing : Timing) (i : ℕ) (watch : LiveWatch) → timing.watch ≡ Some watch → IsWatching crew live trace timing i → GoesByTick (Some watch) 0 crew trace timing.length i
 by_tick_is crew live trace timing i watch some is = subst (λ w. GoesByTick w 0 crew trace timing.length i) some is.by_tick
 
--- the time of the next tick by `run_timing` is its time by `timing`
+-- The time of the next tick by `run_timing` is its time by `timing`.
 pub moment_same : (run_timing : RunTiming) (trace : Trace) (timing : Timing) (i : ℕ) → IsPaced run_timing trace timing → tick_moment run_timing.length (i + 1) ≡ tick_moment timing.length (i + 1)
 moment_same run_timing trace timing i paced = ap (λ length. tick_moment length (i + 1)) paced.length
 
--- all clocks of a crew have made exactly their changes up to a time
+-- Each processor has made exactly its changes up to time `at` (ns).
 abbrev pub AreThere : PlansView → CrewView → ℕ → Type 0
 AreThere plans crew at = AreAt plans crew.clocks at
 
--- the slot that was found is watched at the next tick
+-- The slot found is the slot that is watched at the next tick.
 pub slot_is : (plans : PlansView) (lives : List GroupLife) (crew : CrewView) (live : Option (List ℕ)) (path : List ℕ) (trace : Trace) (timing : Timing) (i at : ℕ) (slot : Option Slot) → IsPlanned plans trace timing → IsWatching crew live trace timing i → live ≡ Some path → lives ≡ plans.lives
     → at ≡ tick_moment timing.length (i + 1) → number_of_slot slot ≡ live_slot 0 lives path at → IsSlotAt slot trace timing (i + 1)
 slot_is plans lives crew live path trace timing i at slot planned is named same at_is found =
@@ -395,6 +398,6 @@ slot_is plans lives crew live path trace timing i at slot planned is named same 
     found ∙ ap (λ groups. live_slot 0 groups path at) (same ∙ planned.represents.lives) ∙ sym by_lives ∙ ap (live_slot_at trace.events path) at_is
     ∙ ap (λ watched. watched_at trace watched (tick_moment timing.length (i + 1))) (sym named ∙ is.path)
 
--- if no path is watched, there is no watched slot
+-- If no path is watched, there is no watched slot.
 pub no_slot : (crew : CrewView) (live : Option (List ℕ)) (trace : Trace) (timing : Timing) (i : ℕ) → IsWatching crew live trace timing i → live ≡ None → IsSlotAt None trace timing (i + 1)
 no_slot crew live trace timing i is none = ap (λ watched. watched_at trace watched (tick_moment timing.length (i + 1))) (sym none ∙ is.path)

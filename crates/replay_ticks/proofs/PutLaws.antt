@@ -1,4 +1,4 @@
--- Proofs about the lines of a tick.
+-- Proves that the lines written at a tick are the specified lines.
 use Rattle.std.proofs.Common.{◌≡◌, ℕ, suc, ◌+◌, ◌-◌, ◌<◌, List, [], ◌∷◌, ◌++◌, length, refl, sym, ap, subst, ◌∙◌, append_assoc, arith, Bool, true, false}
 use Rattle.std.specs.Prelude.{All, Option, Result, if◌then◌else◌}
 use Rattle.std.specs.Io.KnownBytes.{Appends}
@@ -38,23 +38,23 @@ use Rattle.replay_ticks.proofs.StartLaws.{triggers_within}
 
 -- ---- bounds
 
--- each number of the range from 0 to n is below n
+-- Each number in the range from 0 to n is below n.
 pub range_below : (n : ℕ) → All (λ k. k < n) (range_with_len 0 n)
 range_below n = λ k d below.
     let inside : k < n = omega (arith, below, length-range_with_len 0 n) in
     omega (arith, inside, get_or-range_with_len 0 n k d inside)
 
--- the numbers of triggers that fire are those of existing triggers
+-- The indexes of the triggers that fire are indexes of existing triggers.
 fired_below : (cpus : ℕ) (lives : List GroupLife) (triggers : List TriggerSpec) (ticks : List Tick) (tick : Tick) → All (λ number. number < length triggers) (fired_at cpus lives triggers ticks tick)
 unfolding fired_at
 fired_below cpus lives triggers ticks tick =
     All-filter (fires_by_number cpus lives triggers ticks tick) (λ number. number < length triggers) (range_with_len 0 (length triggers)) (range_below (length triggers))
 
--- an order of all slots has only existing slots
+-- A path order of all slots has only existing slots.
 pub order_below : (lives : List GroupLife) (order : List ℕ) → IsPathOrder lives order → All (λ slot. slot < length lives) order
 order_below lives order is = All-permutation (λ slot. slot < length lives) (range_with_len 0 (length lives)) order is.each (range_below (length lives))
 
--- the same bound for slots as numbers and for slots
+-- A bound on slots as numbers is also a bound on values of type `Slot`.
 slots_below : (n : ℕ) (slots : List Slot) → All (λ slot. slot < n) (numbers_of slots) → All (λ (slot : Slot). slot.0 < n) slots
 slots_below n slots all = λ k d below.
     let number : Slot → ℕ = λ (slot : Slot). slot.0 in
@@ -63,13 +63,13 @@ slots_below n slots all = λ k d below.
 pub order_made : (lives : List GroupLife) (slots : List Slot) → IsPathOrder lives (numbers_of slots) → All (λ (slot : Slot). slot.0 < length lives) slots
 order_made lives slots is = slots_below (length lives) slots (order_below lives (numbers_of slots) is)
 
--- each trigger watches an existing group
+-- Each trigger watches an existing group.
 pub triggers_made : (plans : PlansView) (trace : Trace) (timing : Timing) → IsPlanned plans trace timing → All (λ (trigger : TriggerSpec). trigger.slot.0 < length plans.lives) plans.triggers
 triggers_made plans trace timing planned = λ k d below. ((triggers_within plans trace timing planned).each k d below).slot
 
 -- ---- signals
 
--- the engine has the signals of the last tick
+-- The engine has the triggers that fire at the last tick.
 pub fired_is : (engine : EngineView) (trace : Trace) (timing : Timing) (number : ℕ) → 0 < number → HasTicked engine trace timing number → engine.fired ≡ fired_in trace timing number
 fired_is engine trace timing number some stands =
     let back : number - 1 + 1 ≡ number = omega (arith, some) in
@@ -77,13 +77,13 @@ fired_is engine trace timing number some stands =
     stands.fired prefix (tick_of trace.cpus trace.events timing.length number)
     (subst (λ n. ticks_of trace.cpus trace.events timing.length n ≡ prefix ++ tick_of trace.cpus trace.events timing.length n ∷ []) back (ticks_more trace.cpus trace.events timing.length (number - 1)))
 
--- the numbers of the triggers that fired are numbers of existing triggers
+-- The indexes of the triggers that fired are indexes of existing triggers.
 pub fired_made : (plans : PlansView) (engine : EngineView) (trace : Trace) (timing : Timing) (number : ℕ) → IsPlanned plans trace timing → 0 < number → HasTicked engine trace timing number → All (λ number. number < length plans.triggers) engine.fired
 fired_made plans engine trace timing number planned some stands =
     rw (fired_is engine trace timing number some stands, planned.represents.triggers)
     (fired_below trace.cpus (lives_of trace) (triggers_of trace.events) (ticks_of trace.cpus trace.events timing.length (number - 1)) (tick_of trace.cpus trace.events timing.length number))
 
--- the lines of the signals of a tick
+-- The lines of the triggers that fire at a tick.
 abbrev pub signals_text : Trace → Timing → ℕ → List ℕ
 signals_text trace timing number = signal_lines (tick_moment timing.length number) (lives_of trace) (triggers_of trace.events) (fired_in trace timing number)
 
@@ -94,7 +94,8 @@ signals_are plans engine order run_timing trace timing number at is =
 
 -- ---- reports
 
--- two functions that agree below a bound give the same joined text for numbers below the bound
+-- Two functions that agree below a bound give the same concatenated text for numbers below the
+-- bound.
 same_pieces : (f g : ℕ → List ℕ) (n : ℕ) (xs : List ℕ) → ((x : ℕ) → x < n → f x ≡ g x) → All (λ x. x < n) xs → flat_map f xs ≡ flat_map g xs
 same_pieces f g n [] same below = refl
 same_pieces f g n (x ∷ xs) same below =
@@ -105,7 +106,7 @@ same_pieces f g n (x ∷ xs) same below =
 report_same : (version : Version) (at : ℕ) (lives : List GroupLife) (t u : ℕ → List ℕ) (a b : ℕ → AverageState) (slot : ℕ) → t slot ≡ u slot → a slot ≡ b slot → slot_report version at lives t a slot ≡ slot_report version at lives u b slot
 report_same version at lives t u a b slot totals averages = rw (totals, averages) refl
 
--- the reports by an engine after some ticks are the reports at the last of these ticks
+-- The reports made from an engine after some ticks are the reports at the last of these ticks.
 pub reports_are : (plans : PlansView) (engine : EngineView) (order : List Slot) (run_timing : RunTiming) (trace : Trace) (timing : Timing) (number at : ℕ) →
     IsToPut plans engine order run_timing trace timing number at →
     slot_reports (version_of run_timing.version) at plans.lives (totals_in engine) (averages_in engine) (numbers_of order) ≡ reports trace timing number
@@ -124,7 +125,7 @@ reports_are plans engine order run_timing trace timing number at is =
 
 -- ---- the whole text
 
--- the kills of a tick as lines
+-- The lines of the kills at a tick.
 abbrev pub kills_text : Trace → Timing → List Rule → ℕ → List ℕ
 kills_text trace timing rules number = kill_lines (lives_of trace) (kills_in trace timing rules number)
 
@@ -133,7 +134,7 @@ pub text_is : (trace : Trace) (timing : Timing) (rules : List Rule) (number : �
 unfolding tick_text
 text_is trace timing rules number = append_assoc (signals_text trace timing number) (kills_text trace timing rules number) (due_text trace timing number)
 
--- the lines of a tick are its live lines, followed by its other lines
+-- The lines of a tick are its `live` lines, followed by its other lines.
 pub lines_split : (trace : Trace) (timing : Timing) (rules : List Rule) (number : ℕ) (live : List ℕ) → live ++ tick_text trace timing (with_rules rules) number ≡ tick_lines trace timing rules number live
 unfolding tick_text
 lines_split trace timing rules number live =
@@ -151,43 +152,43 @@ due_false b text is = rw is refl
 paced_due : (run_timing : RunTiming) (trace : Trace) (timing : Timing) (number : ℕ) → IsPaced run_timing trace timing → is_report timing.report timing.length (tick_count trace timing) number ≡ is_report run_timing.report run_timing.length run_timing.last number
 paced_due run_timing trace timing number paced = rw (paced.report, paced.length, paced.last) refl
 
--- the text of the reports at a tick at which a report is due
+-- If a report is due at a tick, the text of the reports is the specified text.
 pub text_due : (run_timing : RunTiming) (trace : Trace) (timing : Timing) (number : ℕ) → IsPaced run_timing trace timing → is_report run_timing.report run_timing.length run_timing.last number ≡ true → due_text trace timing number ≡ reports trace timing number
 text_due run_timing trace timing number paced due = due_true _ (reports trace timing number) (paced_due run_timing trace timing number paced ∙ due)
 
--- at any other tick the text of the reports is empty
+-- If no report is due at a tick, the text of the reports is empty.
 pub text_plain : (run_timing : RunTiming) (trace : Trace) (timing : Timing) (number : ℕ) → IsPaced run_timing trace timing → is_report run_timing.report run_timing.length run_timing.last number ≡ false → due_text trace timing number ≡ []
 text_plain run_timing trace timing number paced due = due_false _ (reports trace timing number) (paced_due run_timing trace timing number paced ∙ due)
 
 -- ---- what is written
 
--- the lines of signals that were written are the lines of the tick's signals
+-- The written lines of triggers are the lines of the triggers that fire at the tick.
 pub signals_put : (plans : PlansView) (engine : EngineView) (order : List Slot) (run_timing : RunTiming) (trace : Trace) (timing : Timing) (number at : ℕ) →
     IsToPut plans engine order run_timing trace timing number at → (lives : List GroupLife) (triggers : List TriggerSpec) (fired : List ℕ) →
     lives ≡ plans.lives → triggers ≡ plans.triggers → fired ≡ engine.fired → signal_lines at lives triggers fired ≡ signals_text trace timing number
 signals_put plans engine order run_timing trace timing number at is lives triggers fired lives_are triggers_are fired_are =
     rw (lives_are, triggers_are, fired_are) (signals_are plans engine order run_timing trace timing number at is)
 
--- the reports that were written are the reports of the tick
+-- The written reports are the reports of the tick.
 pub reports_put : (plans : PlansView) (engine : EngineView) (order : List Slot) (run_timing : RunTiming) (trace : Trace) (timing : Timing) (number at : ℕ) →
     IsToPut plans engine order run_timing trace timing number at → (lives : List GroupLife) → lives ≡ plans.lives →
     slot_reports (version_of run_timing.version) at lives (totals_in engine) (averages_in engine) (numbers_of order) ≡ reports trace timing number
 reports_put plans engine order run_timing trace timing number at is lives lives_are =
     rw lives_are (reports_are plans engine order run_timing trace timing number at is)
 
--- the lines of kills that were written are the lines of the tick's kills
+-- The written lines of kills are the lines of the kills at the tick.
 pub kills_put : (plans : PlansView) (trace : Trace) (timing : Timing) (rules : List Rule) (number : ℕ) → IsPlanned plans trace timing → (lives : List GroupLife) (killed : List Kill) →
     lives ≡ plans.lives → killed ≡ kills_in trace timing rules number → kill_lines lives killed ≡ kills_text trace timing rules number
 kills_put plans trace timing rules number planned lives killed lives_are are = rw (lives_are ∙ planned.represents.lives, are) refl
 
--- a prefix of the signals is a prefix of the tick's text
+-- A prefix of the triggers' lines is a prefix of the tick's text.
 pub signals_prefix : (old new : Option (List ℕ)) (trace : Trace) (timing : Timing) (rules : List Rule) (number : ℕ) (signals : List ℕ) → signals ≡ signals_text trace timing number →
     AppendsPrefix old new signals → AppendsPrefix old new (tick_text trace timing (with_rules rules) number)
 signals_prefix old new trace timing rules number signals same prefix =
     subst (AppendsPrefix old new) (sym (text_is trace timing rules number))
     (prefix_of_both old new (signals_text trace timing number) _ (subst (AppendsPrefix old new) same prefix))
 
--- the signals, followed by a prefix of the kills, are a prefix of the tick's text
+-- The triggers' lines, followed by a prefix of the kills' lines, are a prefix of the tick's text.
 pub kills_prefix : (old mid new : Option (List ℕ)) (trace : Trace) (timing : Timing) (rules : List Rule) (number : ℕ) (signals killed : List ℕ) → signals ≡ signals_text trace timing number → killed ≡ kills_text trace timing rules number →
     Appends old mid signals → AppendsPrefix mid new killed → AppendsPrefix old new (tick_text trace timing (with_rules rules) number)
 kills_prefix old mid new trace timing rules number signals killed same also first prefix =
@@ -195,7 +196,7 @@ kills_prefix old mid new trace timing rules number signals killed same also firs
     (prefix_then old mid new (signals_text trace timing number) _ (subst (Appends old mid) same first)
     (prefix_of_both mid new (kills_text trace timing rules number) (due_text trace timing number) (subst (AppendsPrefix mid new) also prefix)))
 
--- the signals, the kills and the reports together are the tick's text
+-- The triggers' lines, the kills' lines and the reports together are the tick's text.
 pub all_put : {T E : Type 0} (old mid next new : Option (List ℕ)) (trace : Trace) (timing : Timing) (rules : List Rule) (number : ℕ) (signals killed : List ℕ) (result : Result T E) → signals ≡ signals_text trace timing number →
     killed ≡ kills_text trace timing rules number → Appends old mid signals → Appends mid next killed → PutsAll next new result (due_text trace timing number) → PutsAll old new result (tick_text trace timing (with_rules rules) number)
 all_put old mid next new trace timing rules number signals killed result same also first second third =

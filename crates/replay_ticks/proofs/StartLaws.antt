@@ -1,4 +1,4 @@
--- Proofs about a replay before its first tick.
+-- Proves that a newly made replay is a replay of its trace before its first tick.
 use Rattle.std.proofs.Common.{◌≡◌, ℕ, ◌*◌, ◌≤◌, ◌<◌, List, [], length, get_or, refl, sym, subst, arith}
 use Rattle.std.specs.Prelude.{All, IfSome, Option, None, Some}
 use Rattle.psi_base.specs.declared.event.TriggerSpec.{TriggerSpec}
@@ -39,11 +39,12 @@ life_within last latest life early is = record {
   gone = gone_within last latest life.made life.gone early is.gone;
 }
 
--- the latest time in a trace is at most the last possible time
+-- The latest time in a trace is at most the latest possible time.
 pub latest_within : (length : ℕ) → length ≤ longest_tick → 1000000 * length ≤ last_moment
 latest_within length short = omega (arith, short)
 
--- the groups of a planned trace are created and removed at most at the last possible time
+-- The creation and removal times of the groups of a planned trace are at most the latest possible
+-- time.
 pub lives_within : (plans : PlansView) (trace : Trace) (timing : Timing) → IsPlanned plans trace timing → All (λ life. IsLifeWithin last_moment life) plans.lives
 lives_within plans trace timing planned =
     let limits = limits_of timing.length trace.cpus in
@@ -66,7 +67,7 @@ triggers_later latest last slots triggers early are = record {
   each = λ k d below. trigger_within latest last slots (get_or triggers k d) early (are.each k d below);
 }
 
--- a planned trace has few triggers, and each is in range
+-- The number of triggers of a planned trace is within its limit, and each trigger is in range.
 pub triggers_within : (plans : PlansView) (trace : Trace) (timing : Timing) → IsPlanned plans trace timing → AreTriggersWithin last_moment (length plans.lives) plans.triggers
 triggers_within plans trace timing planned =
     let limits = limits_of timing.length trace.cpus in
@@ -79,14 +80,14 @@ no_ticks : (engine : EngineView) (trace : Trace) (timing : Timing) → Represent
 unfolding ticks_of
 no_ticks engine trace timing stands = stands
 
--- a new engine has had no tick of its trace
+-- A new engine has taken no tick of its trace.
 pub engine_new : (plans : PlansView) (engine : EngineView) (trace : Trace) (timing : Timing) → IsPlanned plans trace timing → Represents engine (length plans.plans) plans.lives plans.triggers [] → HasTicked engine trace timing 0
 engine_new plans engine trace timing planned stands =
     let cpus = subst (λ cpus. Represents engine cpus plans.lives plans.triggers []) planned.represents.each stands in
     let lives = subst (λ lives. Represents engine trace.cpus lives plans.triggers []) planned.represents.lives cpus in
     no_ticks engine trace timing (subst (λ triggers. Represents engine trace.cpus (lives_of trace) triggers []) planned.represents.triggers lives)
 
--- the newly made parts form a replay of their trace before its first tick
+-- The newly made components form a replay of their trace before its first tick.
 pub replay_new : (replay : ReplayView) (trace : Trace) (timing : Timing) (rules : List Rule) → IsPlanned replay.plans trace timing →
     replay.crew.plans ≡ replay.plans → AreOnPlans replay.crew.plans replay.crew.clocks → replay.crew.ready ≡ [] →
     ((cpu : ℕ) → cpu < length replay.crew.plans.plans → (clocks_at replay.crew.clocks cpu).made ≡ 0) →

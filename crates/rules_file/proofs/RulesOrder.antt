@@ -18,13 +18,12 @@ use Rattle.rules_file.proofs.RulesRuns.{passed_base}
 
 -- ---- names
 
--- The names of the command's rules file and drop-in file, in order, if they are `named` and
--- `drop_in`.
+-- If a command names the files `named` and `drop_in`, they are its rules file and its drop-in file,
+-- in order.
 rules_are : (command : Command) (named drop_in : Option (List ℕ)) → rules_name command ≡ named → drop_in_name command ≡ drop_in → names_of_rules named drop_in ≡ names_of_rules (rules_name command) (drop_in_name command)
 rules_are command named drop_in is over = ap (λ n. names_of_rules n drop_in) (sym is) ∙ ap (λ d. names_of_rules (rules_name command) d) (sym over)
 
--- The names of all files of the command, if its rules file and drop-in file are `named` and
--- `drop_in`.
+-- The files of a command that names `named` and `drop_in` are these two and its source file.
 pub names_are : (command : Command) (named drop_in : Option (List ℕ)) → rules_name command ≡ named → drop_in_name command ≡ drop_in → names_of_rules named drop_in ++ listed (source_name command) ≡ names_in_order command
 names_are command named drop_in is over = ap (λ names. names ++ listed (source_name command)) (rules_are command named drop_in is over)
 
@@ -37,7 +36,7 @@ missing_order command which kind name before middle now named is first reads = s
 
 -- ---- the rules file alone
 
--- The run ends in the specified order if the rules file is rejected.
+-- If the rules file is rejected, only the rules file has been read.
 rejected_order : (command : Command) (name : List ℕ) (before now : List ReadCall) → rules_name command ≡ Some name → ReadsFile name 0 before now None → ReadsEach (listed (rules_name command)) before now
 rejected_order command name before now named reads = subst (λ n. ReadsEach (listed n) before now) (sym named) (file_stops name [] before now reads)
 

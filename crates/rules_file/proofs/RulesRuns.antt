@@ -163,7 +163,7 @@ pub named_bytes : (files : Option Files) (named : Option (List ℕ)) (name : Lis
     → (here : List ℕ) × (content_of files name ≡ Some here) × (Some here ≡ found)
 named_bytes files named name found is shows = mapped (content_of files name) found (subst (λ n. content_if_named files n ≡ Some found) is shows)
 
--- The rules of a rules file without a drop-in file.
+-- Without a drop-in file, the rules of the rules file are the rules of the command.
 pub base_alone : (name : List ℕ) (files : Option Files) (before now : ShelfCounts) (base : Rules) → BaseOption name files before now base → RulesOption (Some name) None files base.rules
 base_alone name files before now base bytes_read = record {
   fit = bytes_read.fit;
@@ -179,7 +179,8 @@ base_alone name files before now base bytes_read = record {
   drop_in_held = λ other is. absurd (true≢false (sym (ap is_some is)));
 }
 
--- The rules of a rules file with a drop-in file applied.
+-- With a drop-in file, the rules of the rules file with the drop-in file applied are the rules of
+-- the command.
 pub both_options : (name over : List ℕ) (files : Option Files) (before mid now : ShelfCounts) (base rules : Rules) → BaseOption name files before mid base → OverOption base over files mid now rules
     → RulesOption (Some name) (Some over) files rules.rules
 both_options name over files before mid now base rules bytes_read put = record {

@@ -1,5 +1,5 @@
--- Proofs about the number of live tasks in a group or below it, as a watch counts the tasks that
--- joined and left.
+-- Proves that a watch, which counts the tasks that join and leave, has the number of live tasks in
+-- a group and its descendants.
 use Rattle.std.proofs.Common.{◌≡◌, ℕ, ◌+◌, ◌-◌, ◌≤◌, ◌<◌, List, [], ◌∷◌, ◌++◌, refl, sym, ap, ◌∙◌, subst, arith, Bool, true, false, Option, None, Some, length, ⊎_elim}
 use Rattle.std.specs.Prelude.{map, ◌==◌, IfSome, if◌then◌else◌}
 use Rattle.std.specs.List.{AllByRecursion}
@@ -43,7 +43,7 @@ pub by_both : (parents : List (Option ℕ)) (slot : ℕ) (cell : SideCell) (some
 by_both parents slot cell [] more = refl
 by_both parents slot cell (side ∷ some) more = by_both parents slot (cell_after parents slot cell side.what) some more
 
--- a sample changes no number of tasks
+-- An act without a task doesn't change any number of tasks.
 sample_counts : (parents : List (Option ℕ)) (slot at : ℕ) (cell : SideCell) (groups : List GroupLife) (a : Act) → (cell_by parents slot cell (sample_by at groups a)).tasks ≡ cell.tasks
 sample_counts parents slot at cell groups (act.Group path) = refl
 sample_counts parents slot at cell groups (act.Prefer path preference) =
@@ -54,11 +54,11 @@ sample_counts parents slot at cell groups _ = refl
 
 -- ---- tasks that join and leave
 
--- whether the task is in the group in `slot` or below it
+-- Whether the task is in the group in slot `slot` or in one of its descendants.
 abbrev pub is_below : List (Option ℕ) → ℕ → Task → Bool
 is_below parents slot task = is_under parents task.slot.0 slot
 
--- whether the chain of the group `o` contains `slot`; false if there is no group
+-- Whether the group `o` or one of its ancestors has the slot `slot`. False if there is no group.
 abbrev leads : List (Option ℕ) → ℕ → Option Slot → Bool
 leads parents slot o = leads_to parents (number_of_slot o) slot
 
@@ -66,8 +66,8 @@ leads_by_task : (parents : List (Option ℕ)) (slot : ℕ) (o : Option Task) →
 leads_by_task parents slot None = refl
 leads_by_task parents slot (Some task) = refl
 
--- the number of tasks after a task joined a group; `on` is whether the group's chain contains the
--- slot. `with_going` is the number after a task left.
+-- The number of tasks after a task joined a group. `on` says whether the group or one of its
+-- ancestors has the slot. `with_going` is the number after a task left.
 abbrev with_coming : Bool → ℕ → ℕ
 with_coming on tasks = if on then moved true tasks else tasks
 
@@ -91,7 +91,7 @@ going_fits false tasks new is = omega (arith, is)
 same_group : (parents : List (Option ℕ)) (slot old new : ℕ) → (old == new) ≡ true → one (is_under parents old slot) ≡ one (is_under parents new slot)
 same_group parents slot old new is = ⊎_elim (λ same. ap (λ n. one (is_under parents n slot)) same.1) (λ other. absurd (cc (is, other.0))) (eqb_tells old new)
 
--- a task that leaves the group `old`, in which it was counted, and joins the group `new`
+-- A task leaves the group `old`, in which it was counted, and joins the group `new`.
 passage_counts : (parents : List (Option ℕ)) (slot at : ℕ) (cell : SideCell) (new_count : ℕ) (old new : Option Slot) → new_count + one (leads parents slot old) ≡ cell.tasks + one (leads parents slot new) →
     one (leads parents slot old) ≤ cell.tasks → new_count ≤ 65536 → (cell_by parents slot cell (passage at old new)).tasks ≡ new_count
 passage_counts parents slot at cell new_count None None is there few = omega (arith, is)
@@ -117,7 +117,7 @@ running_there : (p : Task → Bool) (tasks : Tasks) (cpu : ℕ) (o : Option (ℕ
 running_there p tasks cpu None is = omega arith
 running_there p tasks cpu (Some e) is = subst (λ o. one (is_some_and o p) ≤ counted p tasks) (running_found tasks cpu e is).0 (counted_there p tasks e.0)
 
--- the task that an act changes is one of the tasks before the act
+-- The task that an act changes is one of the tasks before the act.
 before_there : (p : Task → Bool) (tasks : Tasks) (a : Act) → one (is_some_and (before tasks a) p) ≤ counted p tasks
 before_there p tasks (act.Wake pid cpu) = counted_there p tasks pid.0
 before_there p tasks (act.Switch cpu next how) = running_there p tasks cpu.0 (running_on tasks cpu.0) refl
@@ -129,7 +129,7 @@ before_there p tasks _ = omega arith
 
 -- ---- all events
 
--- no more tasks are counted than are live
+-- At most as many tasks are counted as are live.
 few_counted : (limits : Limits) (events : List Event) → AreLegal limits first_world events → (p : Task → Bool) → counted p (after events).tasks ≤ 65536
 few_counted limits events legal p =
     let tasks : Tasks = (after events).tasks in
@@ -169,21 +169,20 @@ tasks_known limits parents slot events legal = by_legal limits (Shows parents sl
 
 -- ---- groups created later
 
--- the slot of each entry's task is less than `slots`
+-- The slot of each entry's task is below `slots`.
 entries_within : (cpus slots : ℕ) (tasks : Tasks) → AreWithin cpus slots tasks → (es : List (ℕ × Task)) → AllByRecursion (λ e. task_of tasks e.0 ≡ Some e.1) es → AllByRecursion (λ e. e.1.slot.0 < slots) es
 entries_within cpus slots tasks within [] at = tt
 entries_within cpus slots tasks within (e ∷ es) at =
     let here : (e.1.cpu.0 < cpus) × (e.1.slot.0 < slots) = subst (λ o. IfSome o (λ task. (task.cpu.0 < cpus) × (task.slot.0 < slots))) at.0 (within e.0) in
     (here.1, entries_within cpus slots tasks within es at.1)
 
--- two tests that agree on all tasks whose slots are less than `slots` count the same number of
--- tasks
+-- Two tests that agree on all tasks with slots below `slots` count the same number of tasks.
 same_tally : (p q : Task → Bool) (slots : ℕ) → ((task : Task) → task.slot.0 < slots → p task ≡ q task) → (es : List (ℕ × Task)) → AllByRecursion (λ e. e.1.slot.0 < slots) es → tally p (map (λ e. e.1) es) ≡ tally q (map (λ e. e.1) es)
 same_tally p q slots same [] below = refl
 same_tally p q slots same (e ∷ es) below =
     ap (λ b. one b + tally p (map (λ e. e.1) es)) (same e.1 below.0) ∙ ap (λ n. one (q e.1) + n) (same_tally p q slots same es below.1)
 
--- the number of tasks below a group is the same with the parents of groups that are created later
+-- Groups that are created later don't change the number of tasks in a group and its descendants.
 pub tasks_later : (limits : Limits) (w : World) → IsLegalWorld limits w → (parents : List (Option ℕ)) → Prolongs (parents_of w.groups) parents → (slot : ℕ) → counted (is_below parents slot) w.tasks ≡ tasks_under w slot
 tasks_later limits w world parents more slot =
     let each : length (parents_of w.groups) ≡ length w.groups = length-map w.groups (λ (group : GroupLife). number_of_slot group.parent) in

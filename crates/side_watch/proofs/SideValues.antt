@@ -1,4 +1,5 @@
--- Proofs that the samples and preferences in sides are those in the events.
+-- Proves that the samples and preferences in side events are the samples and preferences in the
+-- events.
 use Rattle.std.proofs.Common.{◌≡◌, ℕ, ℤ, List, [], ◌∷◌, ◌++◌, refl, sym, ap, ◌∙◌, true, false, Option, None, Some}
 use Rattle.std.specs.Prelude.{◌==◌, if◌then◌else◌, pos, negsuc}
 use Rattle.std.specs.FinMap as tasks_by
@@ -31,7 +32,7 @@ use Rattle.side_watch.specs.Laws.{known_in, memory_in, preference_in, host_in, M
 
 -- ---- the values of all sides
 
--- a side about a task that joins or leaves has no value of this kind
+-- A side event for a task that joins or leaves has no value of this kind.
 abbrev IsOfSamples : {A : Type 0} → (SideAct → List A) → Type 0
 IsOfSamples shows = (of : Slot) (added : ℤ) → shows (side.Tasks of added) ≡ []
 
@@ -45,8 +46,8 @@ passage_shows shows none at (Some old) (Some new) =
       | false ↦ rw (none old (negsuc 0), none new (pos 1)) refl
     ]
 
--- if the sides of each act have the values of the act, the sides of all events have the values of
--- the events
+-- If the side events of each act have the values of the act, the side events of all events have the
+-- values of the events.
 all_show : {A : Type 0} (shows : SideAct → List A) (known : List GroupLife → Act → List A) → IsOfSamples shows → ((at : ℕ) (groups : List GroupLife) (a : Act) → known_in shows (sample_by at groups a) ≡ known groups a)
     → (w : World) (events : List Event) → values_from (λ (w : World) (event : Event). known w.groups event.act) w events ≡ known_in shows (values_from sides_by w events)
 all_show shows known none each w [] = refl
@@ -90,7 +91,7 @@ populated_is_counted events slot = any_counted (λ (task : Task). is_under (pare
 
 -- ---- the state after sides
 
--- one more side replaces the last value, if it has one
+-- A further side event replaces the last value if it has a value.
 memory_step : (parents : List (Option ℕ)) (slot : ℕ) (cell : SideCell) (what : SideAct) (rest : List MemorySample) → last_or (side_sample (cell_after parents slot cell what).memory) rest ≡ last_or (side_sample cell.memory) (memory_in slot what ++ rest)
 memory_step parents slot cell (side.Mem of current swap scan) rest =
     elim (of.0 == slot) as (λ b. last_or (side_sample (if b then record cell { memory = record { current = current; swap = swap; scan = scan } } else cell).memory) rest ≡ last_or (side_sample cell.memory) ((if b then record { current = current; swap = swap; scan = scan } ∷ [] else []) ++ rest)) [ true ↦ refl | false ↦ refl ]

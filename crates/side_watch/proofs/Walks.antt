@@ -1,4 +1,5 @@
--- Proofs about the walk from a task's group up to the root, which counts the task in each group.
+-- Proves properties of the loop from a task's group up to the root, which counts the task in each
+-- group.
 use Rattle.std.proofs.Common.{◌≡◌, ℕ, ◌<◌, ◌≤◌, List, length, refl, sym, ap, ◌∙◌, subst, arith, Bool, true, false, Option, None, Some, ⊎_elim}
 use Rattle.std.specs.Prelude.{slice_index_or, slice_set, ◌==◌, if◌then◌else◌}
 use Rattle.std.proofs.lemmas.Bool.Decides.{nat_tests, eqb_tells}
@@ -14,7 +15,7 @@ use Rattle.side_watch.specs.declared.cell.SideCell.{SideCell}
 use Rattle.side_watch.specs.Sides.{cell_counted, counted, side_cell_in, zero_side_cell}
 use Rattle.side_watch.specs.Watch.{AreSmallCells, IsSmallMemory}
 
--- a walk at a slot that doesn't exist counts the task in no group
+-- A loop that is at a slot that doesn't exist counts the task in no group.
 pub past_all : (parents : List (Option Slot)) (place at : ℕ) (came : Bool) (cell : SideCell) → AreOlder (parent_numbers parents) → length parents ≤ place → at < length parents → cell_counted (parent_numbers parents) (Some place) came at cell ≡ cell
 past_all parents place at came cell older past room =
     let other : (place == at) ≡ false = grind (arith, nat_tests) in
@@ -23,7 +24,7 @@ past_all parents place at came cell older past room =
     let off : is_under (parent_numbers parents) place at ≡ false = by_step (parent_numbers parents) place at older ∙ rw (other, none) refl in
     ap (λ b. if b then counted came cell else cell) off
 
--- the walk counts the task in the group that it is at, and continues at the parent
+-- The loop counts the task in the current group, and continues with the parent.
 pub step_up : (parents : List (Option Slot)) (cells : List SideCell) (cell : SideCell) (place at : ℕ) (came : Bool) → AreOlder (parent_numbers parents) → place < length cells → cell ≡ counted came (side_cell_in cells place) →
     cell_counted (parent_numbers parents) (number_of_slot (slice_index_or parents place None)) came at (side_cell_in (slice_set cells place cell) at)
     ≡ cell_counted (parent_numbers parents) (Some place) came at (side_cell_in cells at)
@@ -44,11 +45,11 @@ step_up parents cells cell place at came older room is =
     rw (under, get_or-set_other cells place at cell zero_side_cell (λ is. other.1 (sym is))) refl)
     (eqb_tells place at))
 
--- counting a task keeps all memory samples small
+-- Counting a task preserves the bounds of all memory samples.
 pub small_kept : (cells : List SideCell) (cell : SideCell) (place : ℕ) (came : Bool) → place < length cells → cell ≡ counted came (side_cell_in cells place) → AreSmallCells cells → AreSmallCells (slice_set cells place cell)
 small_kept cells cell place came room is small =
     All-set (λ (cell : SideCell). IsSmallMemory cell.memory) cells place cell (subst (λ (c : SideCell). IsSmallMemory c.memory) (sym is) (small place zero_side_cell room)) small
 
--- the state of an existing slot, whatever default is used for missing slots
+-- The state in an existing slot doesn't depend on the default for missing slots.
 pub cell_here : (cells : List SideCell) (slot : ℕ) (other : SideCell) → slot < length cells → slice_index_or cells slot other ≡ side_cell_in cells slot
 cell_here cells slot other room = get_or_default cells slot other zero_side_cell room

@@ -1,4 +1,4 @@
--- Proofs that a watch has the state after the events up to a time.
+-- Proves that a watch has the state after the events up to a time.
 use Rattle.std.proofs.Common.{◌≡◌, ℕ, ◌+◌, ◌<◌, List, [], ◌∷◌, ◌++◌, length, take, drop, refl, sym, ap, ◌∙◌, subst, arith, Option, None, Some}
 use Rattle.std.specs.Prelude.{nat_lt, replicate}
 use Rattle.std.proofs.lemmas.List.{get_or-replicate, length-replicate}
@@ -26,7 +26,7 @@ use Rattle.side_watch.proofs.Due.{taken_on, take_due_on}
 
 -- ---- events up to a time
 
--- the events up to a time are a prefix of all events
+-- The events up to a time are a prefix of all events.
 seen_prefix : (limits : Limits) (events : List Event) (moment : Option ℕ) → AreLegal limits first_world events → (rest : List Event) × (events ≡ seen_events events moment ++ rest)
 seen_prefix limits events None legal = (events, refl)
 seen_prefix limits events (Some at) legal = up_to_prefix limits first_world events at legal
@@ -36,7 +36,7 @@ seen_legal limits events moment legal =
     let prefix = seen_prefix limits events moment legal in
     legal_prefix limits first_world (seen_events events moment) prefix.0 (subst (AreLegal limits first_world) prefix.1 legal)
 
--- the parents after all events begin with the parents after the events up to a time
+-- The parents after the events up to a time are a prefix of the parents after all events.
 seen_prolongs : (limits : Limits) (events : List Event) (moment : Option ℕ) → AreLegal limits first_world events → Prolongs (parents_of (after (seen_events events moment)).groups) (parents_of (after events).groups)
 seen_prolongs limits events moment legal =
     let prefix = seen_prefix limits events moment legal in
@@ -46,14 +46,14 @@ seen_prolongs limits events moment legal =
 
 -- ---- a watch whose groups have the state after the sides
 
--- the state of the group in `slot` after all sides of the events up to a time
+-- The state of the group in slot `slot` after all side events up to a time.
 abbrev known_cell : List Event → Option ℕ → ℕ → SideCell
 known_cell events moment slot = cell_by (parents_of (after events).groups) slot zero_side_cell (sides_of (seen_events events moment))
 
 abbrev known_host : List Event → Option ℕ → HostReading
 known_host events moment = host_by no_host (sides_of (seen_events events moment))
 
--- the memory sample in `known_cell` is the group's last one in the events up to the time
+-- The memory sample in `known_cell` is the last sample of the group up to the time.
 known_memory : (events : List Event) (moment : Option ℕ) (slot : ℕ) → side_sample (known_cell events moment slot).memory ≡ memory_of slot (seen_events events moment)
 known_memory events moment slot = memory_by (parents_of (after events).groups) slot zero_side_cell (sides_of (seen_events events moment)) ∙ sym (memory_is_last (seen_events events moment) slot)
 
@@ -69,7 +69,7 @@ known_tasks limits events moment slot legal =
 known_hosts : (events : List Event) (moment : Option ℕ) → known_host events moment ≡ host_of (seen_events events moment)
 known_hosts events moment = hosts_by no_host (sides_of (seen_events events moment)) ∙ sym (host_is_last (seen_events events moment))
 
--- a watch whose groups have this state satisfies `HasFollowed`
+-- A watch whose groups have this state satisfies `HasFollowed`.
 pub watching : (limits : Limits) (events : List Event) (moment : Option ℕ) (watch : SideView) → AreLegal limits first_world events →
     watch.parents ≡ parents_of (after events).groups → length watch.cells ≡ length (after events).groups → take watch.taken (sides_of events) ≡ sides_of (seen_events events moment) →
     ((slot : ℕ) → slot < length (after events).groups → side_cell_at watch slot ≡ known_cell events moment slot) → watch.host ≡ known_host events moment → HasFollowed events moment watch
@@ -106,7 +106,7 @@ memory_from sample = record { current = sample.current; swap = sample.swap; scan
 cell_of : (cell : SideCell) (memory : GroupMemory) (preference : Preference) (tasks : ℕ) → cell.memory ≡ memory → cell.preference ≡ preference → cell.tasks ≡ tasks → cell ≡ record { memory = memory; preference = preference; tasks = tasks }
 cell_of cell memory preference tasks a b c = rw (← a, ← b, ← c) refl
 
--- two states with equal fields are equal
+-- Two states with equal fields are equal.
 same_cell : (one other : SideCell) → side_sample one.memory ≡ side_sample other.memory → one.preference ≡ other.preference → one.tasks ≡ other.tasks → one ≡ other
 same_cell one other memory preference tasks =
     let memories : one.memory ≡ other.memory = ap memory_from memory in
@@ -116,13 +116,13 @@ hosts_both : (host : HostReading) (some more : List Side) → host_by host (some
 hosts_both host [] more = refl
 hosts_both host (side ∷ some) more = hosts_both (host_after host side.what) some more
 
--- the state of a group in a watch is the state after the sides of the events
+-- The state of a group in a watch is the state after the side events up to the time.
 kept_cell : (limits : Limits) (events : List Event) (moment : Option ℕ) (watch : SideView) (slot : ℕ) → AreLegal limits first_world events → HasFollowed events moment watch → slot < length (after events).groups → side_cell_at watch slot ≡ known_cell events moment slot
 kept_cell limits events moment watch slot legal is room =
     same_cell (side_cell_at watch slot) (known_cell events moment slot)
     (is.memory slot room ∙ sym (known_memory events moment slot)) (is.preference slot room ∙ sym (known_preference events moment slot)) (is.tasks slot room ∙ sym (known_tasks limits events moment slot legal))
 
--- The watch `new` is the watch `old` after it took the sides due at `at` (ns).
+-- The watch `new` is the watch `old` after it took the side events due at time `at` (ns).
 pub record TookDue (old new : SideView) (sides : List Side) (at : ℕ) : Type 0 where
   pub parents : new.parents ≡ old.parents
   pub each : length new.cells ≡ length old.cells
@@ -147,7 +147,7 @@ advances old new sides at took limits events moment legal are turn is =
     ∙ ap (cell_by (parents_of (after events).groups) slot zero_side_cell) on)
     (hosts ∙ ap (λ host. host_by host due) (is.host ∙ sym (known_hosts events moment)) ∙ sym (hosts_both no_host (sides_of (seen_events events moment)) due) ∙ ap (host_by no_host) on)
 
--- `Advances`, from the fields of the old and the new watch
+-- Proves `Advances` from the fields of the old and the new watch.
 pub advances_by : (old : SideView) (cells new_cells : List SideCell) (parents : List (Option ℕ)) (host new_host : HostReading) (taken new_taken : ℕ) (sides : List Side) (at : ℕ) →
     old ≡ record { cells = cells; parents = parents; host = host; taken = taken } → length new_cells ≡ length cells →
     ((slot : ℕ) → slot < length cells → side_cell_in new_cells slot ≡ cell_by parents slot (side_cell_in cells slot) (due_by at (drop taken sides))) →

@@ -1,4 +1,4 @@
--- Proofs that a new engine represents no ticks: its state is the one before the first tick.
+-- Proves that a new engine represents the empty list of ticks.
 use Rattle.std.proofs.Common.{◌≡◌, ℕ, ◌≤◌, List, [], ◌∷◌, length, get_or, refl, ap, ◌∙◌, arith}
 use Rattle.std.specs.Prelude.{map}
 use Rattle.std.proofs.lemmas.List.{get_or-map, length-append, length-map}
@@ -19,7 +19,7 @@ use Rattle.tick_engine.specs.Tables.{tick_at}
 use Rattle.tick_engine.specs.Step.{AreGroupsWithin, engine_group, new_watch, no_group, unsampled_group}
 use Rattle.tick_engine.specs.Engine.{EngineView, IsEngine, Represents, group_after}
 
--- the engine before the first tick
+-- The engine before the first tick.
 abbrev pub first_engine : ℕ → List GroupLife → List TriggerSpec → EngineView
 first_engine cpus lives triggers = record { cpus = cpus; last = tick_at 0 (new_table cpus (length lives)); groups = map unsampled_group lives; watches = map new_watch triggers; fired = [] }
 
@@ -39,13 +39,13 @@ first_is_in cpus lives triggers = record {
   unfired = λ none. refl;
 }
 
--- the totals of new groups, which are 0, are within the bounds
+-- The totals of new groups, which are 0, are within the bounds.
 groups_within : (cpus : ℕ) (lives : List GroupLife) → AreGroupsWithin (tick_at 0 (new_table cpus (length lives))) (map unsampled_group lives)
 groups_within cpus lives slot below =
     let none : engine_group (map unsampled_group lives) slot ≡ unsampled_group (get_or lives slot root) = get_or-map unsampled_group lives slot root no_group (omega (arith, below, length-map lives unsampled_group)) in
     rw none (none_within 0 (time_sum (row_at (tick_at 0 (new_table cpus (length lives))) slot) irq_place))
 
--- a new engine for lives and triggers in range satisfies the invariant
+-- A new engine for groups and triggers in range satisfies the invariant.
 pub first_is : (cpus : ℕ) (lives : List GroupLife) (triggers : List TriggerSpec) → cpus ≤ 64 → length lives ≤ 1024 → AreTriggersWithin last_moment (length lives) triggers → IsEngine (first_engine cpus lives triggers)
 first_is cpus lives triggers few_cpus few_groups within =
     let slots : length (map unsampled_group lives) ≡ length lives = length-map lives unsampled_group in

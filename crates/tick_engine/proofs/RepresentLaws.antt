@@ -1,5 +1,5 @@
--- Proofs that an engine's state is right after one more tick. An engine represents ticks if its
--- state is the one after it has taken these ticks.
+-- Proves that an engine's state is correct after one more tick. An engine represents a list of
+-- ticks if taking these ticks leads to its state.
 use Rattle.std.proofs.Common.{◌≡◌, ℕ, zero, suc, ◌≤◌, ◌<◌, List, [], ◌∷◌, ◌++◌, length, get_or, refl, sym, ap, subst, ◌∙◌, arith, true, false}
 use Rattle.std.specs.Prelude.{All, Bool, Option, None, Some, map, nat_le, ◌&&◌, ◌||◌, if◌then◌else◌, slice_get}
 use Rattle.std.specs.List.{range_with_len}
@@ -27,7 +27,7 @@ use Rattle.tick_engine.specs.Engine.{AreWatchesWithin, EngineView, IsEngine, Rep
 
 -- ---- groups
 
--- the state of a group after one more tick
+-- Stepping the state of a group after `ticks` gives its state after one more tick.
 pub group_next : (cpus : ℕ) (lives : List GroupLife) (ticks : List Tick) (tick : Tick) (slot : ℕ) → slot < length lives →
     group_step (last_tick (no_tick cpus (length lives)) ticks) tick slot (group_after cpus lives ticks slot) ≡ group_after cpus lives (ticks ++ tick ∷ []) slot
 group_next cpus lives ticks tick slot below =
@@ -46,7 +46,7 @@ group_next cpus lives ticks tick slot below =
 
 -- ---- triggers
 
--- an active trigger is stepped at one more tick if its group is live
+-- An active trigger is stepped at one more tick if its group is live.
 pub trigger_next_live : (cpus : ℕ) (lives : List GroupLife) (ticks : List Tick) (tick : Tick) (spec : TriggerSpec) → spec.at ≤ tick.at → is_live_at (life_of lives spec.slot.0) tick.at ≡ true →
     trigger_step (trigger_over spec (history_of cpus lives ticks spec.slot.0)) tick.at (at_state (totals_after cpus lives (ticks ++ tick ∷ []) spec.slot.0) (watched_state spec)) ≡ trigger_over spec (history_of cpus lives (ticks ++ tick ∷ []) spec.slot.0)
 trigger_next_live cpus lives ticks tick spec there live =
@@ -54,7 +54,7 @@ trigger_next_live cpus lives ticks tick spec there live =
     let late : samples.NotBefore spec.at (entry ∷ []) = All-cons (λ (entry : ℕ × List ℕ). spec.at ≤ entry.0) entry [] there (All-nil _) in
     sym (ap (trigger_over spec) (samples.history_live cpus lives ticks tick spec.slot.0 live) ∙ samples.trigger_over-append spec (history_of cpus lives ticks spec.slot.0) (entry ∷ []) late)
 
--- the line of an active trigger isn't later than the last tick
+-- The line of an active trigger isn't later than the last tick.
 begun_by : (spec : TriggerSpec) (before : Tick) (ticks : List Tick) → AreNextTicks before ticks → has_begun ticks spec ≡ true → spec.at ≤ (last_tick before ticks).at
 begun_by spec before ticks ordered begun_trigger =
     let any = Any-from_list_any (λ (tick : Tick). nat_le spec.at tick.at) ticks begun_trigger in
@@ -62,7 +62,7 @@ begun_by spec before ticks ordered begun_trigger =
     let late = samples.none_is_later before ticks ordered any.0 any.1 any.2 in
     omega (arith, there, late, ap (λ (tick : Tick). tick.at) any.3)
 
--- if a trigger isn't active, all ticks are before its line
+-- If a trigger isn't active, all ticks are before its line in the trace.
 unbegun_before : (spec : TriggerSpec) (ticks : List Tick) → has_begun ticks spec ≡ false → All (λ (tick : Tick). tick.at < spec.at) ticks
 unbegun_before spec ticks none = λ k d below.
     let at = (get_or ticks k d).at in
@@ -70,12 +70,12 @@ unbegun_before spec ticks none = λ k d below.
     let early : nat_le spec.at at ≡ false → at < spec.at = λ ahead. grind (arith, ahead) in
     elim (nat_le spec.at at) as (λ test. nat_le spec.at at ≡ test → at < spec.at) [ true ↦ begun_trigger | false ↦ early ] refl
 
--- the trigger's state, if it is active
+-- The state of the trigger, or `None` if the trigger isn't active.
 abbrev pub trigger_if : Bool → TriggerState → Option TriggerState
 trigger_if there trigger = if there then Some trigger else None
 
--- when a trigger becomes or is active at a tick, its state is the defined state over the earlier
--- ticks
+-- If a trigger is active or becomes active at a tick, its state is the specified state after the
+-- earlier ticks.
 begun_is : (cpus : ℕ) (lives : List GroupLife) (ticks : List Tick) (tick : Tick) (spec : TriggerSpec) (groups : List Group) →
     AreNextTicks (no_tick cpus (length lives)) ticks → (last_tick (no_tick cpus (length lives)) ticks).at < tick.at →
     engine_group groups spec.slot.0 ≡ group_after cpus lives ticks spec.slot.0 →
@@ -95,7 +95,7 @@ begun_is cpus lives ticks tick spec groups ordered later group =
     ap (trigger_if (nat_le spec.at tick.at)) first in
     elim (has_begun ticks spec) as (λ test. has_begun ticks spec ≡ test → begun_trigger groups tick.at spec (if test then Some trigger else None) ≡ trigger_if (nat_le spec.at tick.at) trigger) [ true ↦ there | false ↦ new ] refl
 
--- after one more tick, a trigger is active exactly if its line isn't later than the tick
+-- After one more tick, a trigger is active if and only if its line isn't later than the tick.
 begun_next : (spec : TriggerSpec) (before : Tick) (ticks : List Tick) (tick : Tick) → AreNextTicks before ticks → (last_tick before ticks).at < tick.at → has_begun (ticks ++ tick ∷ []) spec ≡ nat_le spec.at tick.at
 begun_next spec before ticks tick ordered later =
     let test = λ (tick : Tick). nat_le spec.at tick.at in
@@ -106,14 +106,14 @@ begun_next spec before ticks tick ordered later =
     let not_yet : has_begun ticks spec ≡ false → (has_begun ticks spec || has_begun (tick ∷ []) spec) ≡ nat_le spec.at tick.at = λ none. rw none (grind arith) in
     split ∙ elim (has_begun ticks spec) as (λ is. has_begun ticks spec ≡ is → (has_begun ticks spec || has_begun (tick ∷ []) spec) ≡ nat_le spec.at tick.at) [ true ↦ there | false ↦ not_yet ] refl
 
--- the conditions under which a trigger's state can be stepped at the next tick
+-- The conditions under which the state of a trigger can be stepped at the next tick.
 pub record CanWatch (cpus : ℕ) (lives : List GroupLife) (ticks : List Tick) (tick : Tick) (old new : List Group) (spec : TriggerSpec) : Type 0 where
   pub ordered : AreNextTicks (no_tick cpus (length lives)) ticks
   pub later : (last_tick (no_tick cpus (length lives)) ticks).at < tick.at
   pub group_before : engine_group old spec.slot.0 ≡ group_after cpus lives ticks spec.slot.0
   pub group_now : engine_group new spec.slot.0 ≡ group_after cpus lives (ticks ++ tick ∷ []) spec.slot.0
 
--- the state of a trigger after one more tick
+-- Stepping the state of a trigger after `ticks` gives its state after one more tick.
 trigger_next : (cpus : ℕ) (lives : List GroupLife) (ticks : List Tick) (tick : Tick) (spec : TriggerSpec) → spec.at ≤ tick.at →
     (if is_live_at (life_of lives spec.slot.0) tick.at
     then trigger_step (trigger_over spec (history_of cpus lives ticks spec.slot.0)) tick.at (at_state (totals_after cpus lives (ticks ++ tick ∷ []) spec.slot.0) (watched_state spec))
@@ -134,13 +134,14 @@ if_same : {A : Type 0} (test : Bool) (a : A) → (if test then a else a) ≡ a
 if_same true a = refl
 if_same false a = refl
 
--- an active trigger is stepped if its group is live, and an inactive trigger stays inactive
+-- An active trigger is stepped if its group is live, and an inactive trigger stays inactive.
 stepped_if : (live there : Bool) (trigger after : TriggerState) (now total : ℕ) → (there ≡ true → (if live then trigger_step trigger now total else trigger) ≡ after) →
     (if live then stepped (trigger_if there trigger) now total else trigger_if there trigger) ≡ trigger_if there after
 stepped_if live true trigger after now total is = if_some live (trigger_step trigger now total) trigger after (is refl)
 stepped_if live false trigger after now total is = if_same live None
 
--- the watch (a trigger with its state) after one more tick
+-- Stepping a trigger watch (a trigger and its state) after `ticks` gives the watch after one more
+-- tick.
 pub watch_next : (cpus : ℕ) (lives : List GroupLife) (ticks : List Tick) (tick : Tick) (old new : List Group) (spec : TriggerSpec) → CanWatch cpus lives ticks tick old new spec →
     watch_stepped new tick.at (watch_begun old tick.at (watch_after cpus lives ticks spec)) ≡ watch_after cpus lives (ticks ++ tick ∷ []) spec
 watch_next cpus lives ticks tick old new spec can =
@@ -165,7 +166,7 @@ signals_if true false trigger now total = refl
 signals_if false true trigger now total = refl
 signals_if false false trigger now total = refl
 
--- a watch signals at one more tick exactly if its trigger fires
+-- A trigger watch signals at one more tick if and only if its trigger fires.
 pub signals_next : (cpus : ℕ) (lives : List GroupLife) (ticks : List Tick) (tick : Tick) (old new : List Group) (spec : TriggerSpec) → CanWatch cpus lives ticks tick old new spec →
     watch_signals new tick.at (watch_begun old tick.at (watch_after cpus lives ticks spec)) ≡ has_fired cpus lives ticks tick spec
 unfolding has_fired
@@ -181,7 +182,7 @@ signals_next cpus lives ticks tick old new spec can =
 
 -- ---- all triggers
 
--- two functions that agree on each element map the list to the same list
+-- Two functions that agree on each element of a list map the list to the same list.
 map_agree : {A B : Type 0} (f g : A → B) → (xs : List A) → All (λ x. f x ≡ g x) xs → map f xs ≡ map g xs
 map_agree f g [] all = refl
 map_agree f g (x ∷ xs) all =
@@ -193,18 +194,18 @@ map_map : {A B C : Type 0} (f : B → C) (g : A → B) → (xs : List A) → map
 map_map f g [] = refl
 map_map f g (x ∷ xs) = ap (λ rest. f (g x) ∷ rest) (map_map f g xs)
 
--- a watch that doesn't exist never signals
+-- A dummy trigger never signals.
 signals_not : (groups : List Group) (now : ℕ) → watch_signals groups now no_watch ≡ false
 signals_not groups now = grind arith
 
--- a test of watches by the numbers of their triggers
+-- Whether the trigger at index `i` signals is a test of that trigger.
 signals_by_number : (groups : List Group) (now : ℕ) (watch : TriggerSpec → TriggerWatch) (test : TriggerSpec → Bool) (triggers : List TriggerSpec) → All (λ spec. watch_signals groups now (watch spec) ≡ test spec) triggers →
     (i : ℕ) → watch_signals groups now (watch_in (map watch triggers) i) ≡ is_some_and (slice_get triggers i) test
 signals_by_number groups now watch test [] all i = signals_not groups now
 signals_by_number groups now watch test (spec ∷ triggers) all zero = all 0 spec (omega arith)
 signals_by_number groups now watch test (spec ∷ triggers) all (suc i) = signals_by_number groups now watch test triggers (λ k d below. all (suc k) d (omega arith)) i
 
--- the numbers of the watches that signal at one more tick
+-- The triggers that signal at one more tick are the triggers that fire by the specification.
 pub fired_next : (cpus : ℕ) (lives : List GroupLife) (triggers : List TriggerSpec) (ticks : List Tick) (tick : Tick) (old new : List Group) → All (λ spec. CanWatch cpus lives ticks tick old new spec) triggers →
     fired_among new tick.at (map (watch_begun old tick.at) (map (watch_after cpus lives ticks) triggers)) (length triggers) ≡ fired_at cpus lives triggers ticks tick
 unfolding fired_at
@@ -223,7 +224,7 @@ watches_next cpus lives triggers ticks tick old new can =
 
 -- ---- engines
 
--- the effect of a tick on an engine
+-- The effect of a tick on an engine.
 pub record IsTicked (tick : Tick) (old new : EngineView) : Type 0 where
   pub cpus : new.cpus ≡ old.cpus
   pub last : new.last ≡ tick
@@ -232,12 +233,12 @@ pub record IsTicked (tick : Tick) (old new : EngineView) : Type 0 where
   pub watches : new.watches ≡ map (watch_stepped new.groups tick.at) (map (watch_begun old.groups tick.at) old.watches)
   pub fired : new.fired ≡ fired_among new.groups tick.at (map (watch_begun old.groups tick.at) old.watches) (length old.watches)
 
--- a tick doesn't change the number of watches
+-- A tick doesn't change the number of triggers.
 pub ticked_many : {tick : Tick} {old new : EngineView} → IsTicked tick old new → length new.watches ≡ length old.watches
 ticked_many {tick} {old} {new} is =
     ap length is.watches ∙ length-map (map (watch_begun old.groups tick.at) old.watches) (watch_stepped new.groups tick.at) ∙ length-map old.watches (watch_begun old.groups tick.at)
 
--- the states of the groups are right after one more tick
+-- The states of the groups are correct after one more tick.
 groups_next : (old new : EngineView) (cpus : ℕ) (lives : List GroupLife) (triggers : List TriggerSpec) (ticks : List Tick) (tick : Tick) → IsTicked tick old new → Represents old cpus lives triggers ticks →
     (slot : ℕ) → slot < length lives → engine_group new.groups slot ≡ group_after cpus lives (ticks ++ tick ∷ []) slot
 groups_next old new cpus lives triggers ticks tick is stands slot below =
@@ -246,7 +247,7 @@ groups_next old new cpus lives triggers ticks tick is stands slot below =
     ∙ ap (group_step (last_tick (no_tick cpus (length lives)) ticks) tick slot) (stands.groups slot below)
     ∙ group_next cpus lives ticks tick slot below
 
--- a trigger of an engine whose state is right can be stepped at the next tick
+-- Each trigger of an engine whose state is correct can be stepped at the next tick.
 can_watch : (old new : EngineView) (cpus : ℕ) (lives : List GroupLife) (triggers : List TriggerSpec) (ticks : List Tick) (tick : Tick) →
     IsEngine old → IsNextTick old.last tick → IsTicked tick old new → Represents old cpus lives triggers ticks → All (λ spec. CanWatch cpus lives ticks tick old.groups new.groups spec) triggers
 can_watch old new cpus lives triggers ticks tick engine next is stands = λ k d below.
@@ -262,7 +263,7 @@ can_watch old new cpus lives triggers ticks tick engine next is stands = λ k d 
       group_now = groups_next old new cpus lives triggers ticks tick is stands spec.slot.0 slot;
     }
 
--- the state of an engine is right after one more tick
+-- The state of an engine is correct after one more tick.
 pub is_next_in : (old new : EngineView) (cpus : ℕ) (lives : List GroupLife) (triggers : List TriggerSpec) (ticks : List Tick) (tick : Tick) →
     IsEngine old → IsNextTick old.last tick → IsTicked tick old new → Represents old cpus lives triggers ticks → Represents new cpus lives triggers (ticks ++ tick ∷ [])
 is_next_in old new cpus lives triggers ticks tick engine next is stands =
@@ -288,11 +289,11 @@ is_next_in old new cpus lives triggers ticks tick engine next is stands =
       unfired = λ none. absurd (omega (arith, ap length none, length-append ticks (tick ∷ [])));
     }
 
--- watches are still in range after they become active
+-- Triggers stay in range when they become active.
 pub begun_within : (groups : List Group) (now slots : ℕ) (watches : List TriggerWatch) → AreWatchesWithin slots watches → AreWatchesWithin slots (map (watch_begun groups now) watches)
 begun_within groups now slots watches all = All-map (λ (watch : TriggerWatch). IsTriggerWithin last_moment slots watch.spec) (watch_begun groups now) watches all
 
--- a tick preserves the invariant of an engine
+-- A tick preserves the invariant of an engine.
 pub engine_kept : (old new : EngineView) (tick : Tick) → IsEngine old → IsNextTick old.last tick → HasSizes old.cpus (length old.groups) tick.table → IsTicked tick old new →
     AreGroupsWithin tick new.groups → IsEngine new
 engine_kept old new tick engine next sizes is totals =

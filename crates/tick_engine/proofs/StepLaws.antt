@@ -1,4 +1,4 @@
--- Proofs that a tick preserves the bounds: no total exceeds the time up to the tick, and the
+-- Proves that a tick preserves the bounds: no total exceeds the time up to the tick, and the
 -- triggers are in range.
 use Rattle.std.proofs.Common.{◌≡◌, ◌≢◌, ℕ, suc, ◌+◌, ◌≤◌, ◌<◌, List, [], ◌∷◌, ◌++◌, length, get_or, set, sym, ap, ◌∙◌, refl, arith, true, false, ◌⊎◌, ⊎_elim, inl, inr}
 use Rattle.std.specs.Prelude.{All, map, filter, if◌then◌else◌}
@@ -20,7 +20,7 @@ use Rattle.aggregate.specs.Table.{HaveSameSizes}
 use Rattle.tick_engine.specs.Tables.{tick_at}
 use Rattle.tick_engine.specs.Step.{AreGroupsWithin, AreStatesWithin, AreTotalsWithin, fired_among, group_step, is_live_group, no_group, sampled, watch_in, watch_signals}
 
--- a list whose elements are `f` of the elements of another list is the mapped list
+-- A list whose elements are `f` of the elements of another list is the mapped list.
 pub map_all : {A B : Type 0} (f : A → B) → (xs : List A) (zs : List B) (d : A) (e : B) → length zs ≡ length xs → ((k : ℕ) → k < length xs → get_or zs k e ≡ f (get_or xs k d)) → zs ≡ map f xs
 map_all f [] [] d e long each = refl
 map_all f [] (z ∷ zs) d e long each = absurd (omega arith)
@@ -32,8 +32,8 @@ map_all f (x ∷ xs) (z ∷ zs) d e long each =
 
 -- ---- totals
 
--- the growth of a group's times at the next tick is at most the longest tick, and the growth of
--- interrupt time at most a second more
+-- The growth of a group's times at the next tick is at most the longest tick. The growth of its
+-- interrupt time is at most one second more.
 pub growths_short : (last tick : Tick) (slot : ℕ) → IsNextTick last tick → All (AreTimesWithin longest_tick (longest_tick + longest_irq)) (growths (row_at last slot) (row_at tick slot))
 growths_short last tick slot next = λ cpu d below.
     let within = growths_next last tick slot next cpu d below in
@@ -42,7 +42,7 @@ growths_short last tick slot next = λ cpu d below.
       irq = omega (arith, within.irq, next.soon, next.later);
     }
 
--- the totals of a group that is sampled at the next tick fit in 64 bits
+-- The totals of a group that is sampled at the next tick fit in 64 bits.
 pub sampled_fits : (last tick : Tick) (slot : ℕ) (group : Group) → IsNextTick last tick → length (row_at tick slot) ≤ 64 → AreTotalsWithin last slot group →
     AreAmountsWithin last_moment most_irq_total (plus group.totals (shares (growths (row_at last slot) (row_at tick slot))))
 sampled_fits last tick slot group next few within =
@@ -53,13 +53,13 @@ sampled_fits last tick slot group next few within =
       irq = omega (arith, grown.irq, most);
     }
 
--- after the next tick, the totals of each group are within the bounds for it
+-- After the next tick, the totals of each group are within its bounds.
 pub step_within : (last tick : Tick) (slot : ℕ) (group : Group) → IsNextTick last tick → AreTotalsWithin last slot group → AreTotalsWithin tick slot (group_step last tick slot group)
 step_within last tick slot group next within =
     elim (is_live_group group tick.at) as (λ live. AreTotalsWithin tick slot (if live then sampled group tick.at (shares (growths (row_at last slot) (row_at tick slot))) else group))
     [ true ↦ totals_sampled last tick slot group.totals next within | false ↦ totals_kept last tick slot group.totals next within ]
 
--- after the next tick, no state total exceeds the latest time
+-- After the next tick, no state total exceeds the latest time of a trace.
 pub states_within : (tick : Tick) (groups : List Group) → tick.at ≤ last_moment → AreGroupsWithin tick groups → All (λ group. AreStatesWithin last_moment group) groups
 states_within tick groups early within = λ slot d below quantity inside.
     let same = get_or_default groups slot d no_group below in
@@ -68,20 +68,20 @@ states_within tick groups early within = λ slot d below quantity inside.
 
 -- ---- the last tick
 
--- A table during the step of all groups: the first `count` rows are those of the next tick, and the
--- other rows those of the last tick.
+-- A mixed table, which occurs while all groups are stepped: the first `count` rows are rows of the
+-- next tick, and the other rows are rows of the last tick.
 pub record TakesRows (last tick mixed : Tick) (count : ℕ) : Type 0 where
   pub at : mixed.at ≡ last.at
   pub taken : (slot : ℕ) → slot < count → row_at mixed slot ≡ row_at tick slot
   pub left : (slot : ℕ) → count ≤ slot → row_at mixed slot ≡ row_at last slot
 
--- a row of the mixed table is the row of the next tick or of the last one
+-- Each row of the mixed table is a row of the next tick or of the last tick.
 taken_or_left : (last tick mixed : Tick) (count slot : ℕ) → TakesRows last tick mixed count → (row_at mixed slot ≡ row_at tick slot) ⊎ (row_at mixed slot ≡ row_at last slot)
 taken_or_left last tick mixed count slot takes =
     let case : (slot < count) ⊎ (count ≤ slot) = grind arith in
     ⊎_elim (λ early. inl (takes.taken slot early)) (λ late. inr (takes.left slot late)) case
 
--- the next tick is also a legal successor of the mixed table
+-- The next tick is also a legal successor of the mixed table.
 pub next_stays : (last tick mixed : Tick) (count : ℕ) → TakesRows last tick mixed count → IsNextTick last tick → IsNextTick mixed tick
 next_stays last tick mixed count takes next = record {
   later = rw takes.at next.later;
@@ -105,12 +105,13 @@ next_stays last tick mixed count takes next = record {
   irq_early = next.irq_early;
 }
 
--- the group whose row is next is stepped as from the last tick
+-- Stepping the group with the index `slot` from the mixed table is the same as stepping it from the
+-- last tick.
 pub step_stays : (last tick mixed : Tick) (slot : ℕ) (group : Group) → TakesRows last tick mixed slot → group_step mixed tick slot group ≡ group_step last tick slot group
 step_stays last tick mixed slot group takes =
     ap (λ row. if is_live_group group tick.at then sampled group tick.at (shares (growths row (row_at tick slot))) else group) (takes.left slot (omega arith))
 
--- one more row is taken from the next tick
+-- Copying one more row of the next tick gives a mixed table with one more such row.
 pub row_taken : (last tick mixed : Tick) (rows : List (List (List ℕ))) (count : ℕ) → TakesRows last tick mixed count → count < length mixed.table → rows ≡ set mixed.table count (row_at tick count) → TakesRows last tick (tick_at mixed.at rows) (count + 1)
 row_taken last tick mixed rows count takes below is = record {
   at = takes.at;
@@ -124,7 +125,7 @@ row_taken last tick mixed rows count takes below is = record {
       ap (λ table. get_or table slot []) is ∙ get_or-set_other mixed.table count slot (row_at tick count) [] (λ same. omega (arith, same, late)) ∙ takes.left slot (omega (arith, late));
 }
 
--- a table has the same sizes after it takes a row of a table with the same sizes
+-- Copying a row from a table of the same size doesn't change the size of a table.
 pub sizes_stay : (table next rows : List (List (List ℕ))) (slot : ℕ) → slot < length table → HaveSameSizes table next → rows ≡ set table slot (get_or next slot []) → HaveSameSizes rows next
 sizes_stay table next rows slot below same is =
     let row = get_or next slot [] in
@@ -139,7 +140,7 @@ sizes_stay table next rows slot below same is =
           case;
     }
 
--- after all rows are taken, the mixed table is the next tick
+-- After all rows are copied, the mixed table is the table of the next tick.
 pub all_taken : (last tick mixed : Tick) (count : ℕ) → TakesRows last tick mixed count → length mixed.table ≡ count → length tick.table ≡ count → mixed.table ≡ tick.table
 all_taken last tick mixed count takes many also =
     ext_get_or [] mixed.table tick.table (many ∙ sym also) (λ slot below. takes.taken slot (omega (arith, below, many)))
@@ -149,7 +150,7 @@ all_taken last tick mixed count takes many also =
 range_more : (count : ℕ) → range_with_len 0 (count + 1) ≡ range_with_len 0 count ++ count ∷ []
 range_more count = sym (map-id (range_with_len 0 (count + 1))) ∙ map-range_with_len_more (λ (i : ℕ). i) 0 count count (omega arith) ∙ ap (λ (numbers : List ℕ). numbers ++ count ∷ []) (map-id (range_with_len 0 count))
 
--- the numbers that signal among one more watch
+-- Extends the list of triggers that signal by one more trigger.
 pub fired_more : (groups : List Group) (now : ℕ) (watches : List TriggerWatch) (count : ℕ) →
     fired_among groups now watches (count + 1) ≡ fired_among groups now watches count ++ (if watch_signals groups now (watch_in watches count) then count ∷ [] else [])
 fired_more groups now watches count =

@@ -7,11 +7,11 @@ use Rattle.aggregate.specs.Since.{growth}
 use Rattle.aggregate.proofs.Weights.{AreSummed, divided, light, summed_more, weightless}
 use Rattle.aggregate.proofs.weighted.share_since.Goals as goal
 
--- the increase of a processor's times is at the processor's index in the list of increases
+-- The increase of a processor's times is at the processor's index in the list of increases.
 grown : (before now : List (List ℕ)) (cpu : ℕ) → length before ≡ length now → cpu < length now → get_or (growths before now) cpu [] ≡ growth (get_or now cpu []) (get_or before cpu [])
 grown before now cpu same below = get_or-zip_with growth now before cpu [] [] [] below (omega (arith, same, below))
 
--- the list of increases has an entry for each processor
+-- The list of increases has an entry for each processor.
 many : (before now : List (List ℕ)) → length before ≡ length now → length (growths before now) ≡ length now
 many before now same = length-zip_with growth now before (sym same)
 

@@ -2,7 +2,7 @@ use Rattle.std.proofs.Common.{◌≡◌, ◌≤◌}
 use Rattle.pressure_spec.specs.Average.{power_from}
 use Rattle.fixed_average.proofs.fixed_point.power.Given as goal
 
--- the result so far times the power that is left is the power
+-- The loop invariant: the current result, multiplied by the remaining power, is the power of `x`.
 abbrev pub invariant-digits : goal.invariant-digits
 invariant-digits l = record {
   power : power_from l.result l.base l.rest ≡ power_from 2048 l.fn.x l.fn.n;

@@ -5,7 +5,7 @@ use Rattle.replay_ticks.proofs.AheadLaws.{AreNext, next_following, next_early, n
 use Rattle.replay_ticks.proofs.LiveLaws as live
 use Rattle.replay_ticks.proofs.replay.look_ahead.Goals as goal
 
--- a table is ready, so the crew doesn't advance
+-- If a table is ready, the worker pool doesn't advance.
 pub returns-then-ready-gt0-clause-reached : goal.returns-then-ready-gt0-clause-reached
 returns-then-ready-gt0-clause-reached g c = λ trace timing is watching.
     let crew = c.args.crew.now in
@@ -16,7 +16,7 @@ returns-then-ready-gt0-clause-reached g c = λ trace timing is watching.
 pub tick_moment-next-requires : goal.tick_moment-next-requires
 tick_moment-next-requires g c = next_fits c.args.crew.now.plans c.args.crew.now c.args.run_timing c.requires.go.0 c.requires.go.1 c.args.made c.requires.go.2
 
--- the crew advances to the next tick alone
+-- With a watched path, the worker pool advances to the next tick only.
 pub interval-requires-clause-not_past : goal.interval-requires-clause-not_past
 interval-requires-clause-not_past g c =
     let crew = c.args.crew.now in
@@ -49,7 +49,7 @@ returns-in-Some-clause-reached g c = λ trace timing is watching.
           c.interval.ensures.live,
     )
 
--- the crew advances by several ticks
+-- Without a watched path, the worker pool advances by several ticks.
 pub intervals-requires-clause-not_past : goal.intervals-requires-clause-not_past
 intervals-requires-clause-not_past g c =
     let crew = c.args.crew.now in

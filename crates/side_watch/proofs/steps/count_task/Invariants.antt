@@ -7,8 +7,8 @@ use Rattle.side_watch.specs.Sides.{cell_counted, side_cell_in}
 use Rattle.side_watch.specs.Watch.{AreSmallCells}
 use Rattle.side_watch.proofs.steps.count_task.Given as goal
 
--- Counting the task from the group that the walk is at on gives each group the same as counting it
--- from the task's own group on.
+-- The loop invariant: counting the task from the current group upwards completes the count that
+-- began at the task's own group.
 abbrev pub invariant-up : goal.invariant-up
 invariant-up l = record {
   each : length l.cells ≡ length l.fn.cells;

@@ -5,7 +5,8 @@ use Rattle.side_watch.specs.Sides.{cell_by, due_by, host_by, side_cell_in}
 use Rattle.side_watch.specs.Watch.{AreSmallCells}
 use Rattle.side_watch.proofs.steps.take_due.Given as goal
 
--- Taking the remaining due sides leads each group and the host to the state after all due sides.
+-- The loop invariant: taking the remaining due side events leads each group and the host to the
+-- state after all due side events.
 abbrev pub invariant-sides : goal.invariant-sides
 invariant-sides l = record {
   each : length l.cells ≡ length l.fn.cells;

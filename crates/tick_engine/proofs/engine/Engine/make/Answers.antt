@@ -6,7 +6,7 @@ use Rattle.tick_engine.specs.Step.{new_watch, unsampled_group}
 use Rattle.tick_engine.proofs.MakeLaws as first
 use Rattle.tick_engine.proofs.engine.Engine.make.Goals as goal
 
--- the parts that were made
+-- The components that were made are the specified components.
 rows_are : (c : goal.In_ok-with_capacity) → c.in_ok-make.field-0 ≡ new_table c.args.cpus (length c.args.lives.now)
 rows_are c = c.in_ok-make.ensures
 

@@ -13,11 +13,11 @@ use Rattle.tick_engine.proofs.RepresentLaws as represents
 use Rattle.tick_engine.proofs.StepLaws.{states_within}
 use Rattle.tick_engine.proofs.engine.Engine.tick.Goals as goal
 
--- a list that was written back in whole is what was written
+-- A list that was written back as a whole is the written list.
 seam : {A : Type 0} (xs rest : List A) → (n m : ℕ) → length xs ≡ m → n ≡ m → take n (xs ++ rest) ≡ xs
 seam xs rest n m long is = take_at xs rest n (long ∙ sym is)
 
--- the tables have the same sizes
+-- The tables have the same sizes.
 pub tick_all-requires-clause-sizes : goal.tick_all-requires-clause-sizes
 tick_all-requires-clause-sizes c =
     let P : EngineView → Type 0 = λ engine. HasSizes engine.cpus (length engine.groups) c.args.rows.now in
@@ -58,7 +58,7 @@ step_all-requires-clause-totals c =
     let groups_seen : c.deref-2.result.now ≡ c.tick_all.new.groups = c.deref-2.ensures.value ∙ seam c.tick_all.new.groups _ _ (length old.groups.items) groups_same groups_long in
     rw groups_seen (states_within (tick_at c.args.now c.args.rows.now) c.tick_all.new.groups c.requires.next.early c.tick_all.ensures.totals)
 
--- what the calls made of the engine
+-- The three calls have the effect of the tick on the engine.
 ticked : (c : goal.After-self-3-1) → represents.IsTicked (tick_at c.args.now c.args.rows.now)
     (record { cpus = c.self.inside.cpus; last = c.self.inside.last; groups = c.self.inside.groups.items; watches = c.self.inside.watches.items; fired = c.self.inside.fired.items })
     (record { cpus = c.self.inside.cpus; last = c.tick_all.new.last; groups = c.tick_all.new.groups; watches = c.step_all.new.watches; fired = c.step_all.new.fired.items })
@@ -84,7 +84,7 @@ ticked c =
       fired = c.step_all.ensures.fired ∙ rw (many, groups_seen, begun_seen) refl;
     }
 
--- what was lent is written back in whole
+-- The borrowed lists were written back as a whole.
 groups_whole : (c : goal.After-self-3-1) → take c.self.inside.groups.len (c.tick_all.new.groups ++ drop (length c.tick_all.new.groups) c.self.inside.groups.items) ≡ c.tick_all.new.groups
 groups_whole c =
     let long : c.self.inside.groups.len ≡ length c.self.inside.groups.items = omega (arith, c.deref_mut-2.ensures.len, ap length c.deref_mut-2.ensures.value) in
@@ -95,7 +95,7 @@ watches_whole c rest =
     let long : c.self.inside.watches.len ≡ length c.self.inside.watches.items = omega (arith, c.deref_mut.ensures.len, ap length c.deref_mut.ensures.value) in
     seam c.step_all.new.watches rest _ (length c.self.inside.watches.items) (represents.ticked_many (ticked c)) long
 
--- the tick comes next after the engine's last
+-- The tick is a legal successor of the engine's last tick.
 next : (c : goal.After-self-3-1) → IsNextTick c.self.inside.last (tick_at c.args.now c.args.rows.now)
 next c = let P : EngineView → Type 0 = λ engine. IsNextTick engine.last (tick_at c.args.now c.args.rows.now) in subst P (sym c.self.view_is) c.requires.next
 
