@@ -29,7 +29,8 @@ names_are command named drop_in is over = ap (λ names. names ++ listed (source_
 
 -- ---- a file that wasn't read
 
--- The run ends in the specified order if a file that the command names doesn't exist.
+-- If a file of the command doesn't exist, the run fails at that file, after reading the files
+-- before it.
 missing_order : (command : Command) (which kind : Which) (name : List ℕ) (before middle now : List ReadCall) → file_of command which ≡ Some name → kind ≡ which → ReadsEach (names_before command which) before middle → ReadsFile name 0 middle now (Some shelf.NoFile)
     → FailsAt command before now kind shelf.NoFile
 missing_order command which kind name before middle now named is first reads = subst (λ w. FailsAt command before now w shelf.NoFile) (sym is) (name, middle, named, first, reads)

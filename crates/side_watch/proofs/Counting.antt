@@ -43,7 +43,7 @@ pub by_both : (parents : List (Option ℕ)) (slot : ℕ) (cell : SideCell) (some
 by_both parents slot cell [] more = refl
 by_both parents slot cell (side ∷ some) more = by_both parents slot (cell_after parents slot cell side.what) some more
 
--- An act without a task doesn't change any number of tasks.
+-- A memory sample or a preference doesn't change the number of tasks.
 sample_counts : (parents : List (Option ℕ)) (slot at : ℕ) (cell : SideCell) (groups : List GroupLife) (a : Act) → (cell_by parents slot cell (sample_by at groups a)).tasks ≡ cell.tasks
 sample_counts parents slot at cell groups (act.Group path) = refl
 sample_counts parents slot at cell groups (act.Prefer path preference) =

@@ -198,7 +198,8 @@ map_map f g (x ∷ xs) = ap (λ rest. f (g x) ∷ rest) (map_map f g xs)
 signals_not : (groups : List Group) (now : ℕ) → watch_signals groups now no_watch ≡ false
 signals_not groups now = grind arith
 
--- Whether the trigger at index `i` signals is a test of that trigger.
+-- If `test` says for each trigger whether it signals, then `test` says for each index whether the
+-- trigger at that index signals.
 signals_by_number : (groups : List Group) (now : ℕ) (watch : TriggerSpec → TriggerWatch) (test : TriggerSpec → Bool) (triggers : List TriggerSpec) → All (λ spec. watch_signals groups now (watch spec) ≡ test spec) triggers →
     (i : ℕ) → watch_signals groups now (watch_in (map watch triggers) i) ≡ is_some_and (slice_get triggers i) test
 signals_by_number groups now watch test [] all i = signals_not groups now

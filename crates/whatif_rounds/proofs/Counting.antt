@@ -1,4 +1,4 @@
--- Proofs about the kills of a trace, tick by tick.
+-- Proves properties of the kills of a trace, tick by tick.
 use Rattle.std.proofs.Common.{◌≡◌, ℕ, ◌+◌, ◌-◌, ◌<◌, ◌≤◌, List, [], ◌∷◌, ◌++◌, length, get_or, sym, ap, ◌∙◌, subst, arith, append_assoc, None, Some, true, false}
 use Rattle.std.specs.Prelude.{slice_get}
 use Rattle.std.specs.List.{flat_map, range_with_len}
@@ -15,7 +15,7 @@ use Rattle.replay_ticks.specs.Replays.{IsReplay, Passes, ReplayView}
 
 -- ---- lists
 
--- the item in the middle of a list
+-- Computes the index of an item in the middle of three concatenated lists.
 in_middle : {X : Type 0} (before here suffix : List X) (left number : ℕ) (d : X) → left < length here → left + length before ≡ number
     → Some (get_or here left d) ≡ slice_get (before ++ (here ++ suffix)) number
 in_middle {X = X} before here suffix left number d inside counted =
@@ -29,8 +29,8 @@ in_middle {X = X} before here suffix left number d inside counted =
 
 -- ---- ticks
 
--- the kills of the first i + 1 ticks are the kills of the first `i` ticks, followed by the kills of
--- tick i + 1
+-- The kills of the first i + 1 ticks are the kills of the first `i` ticks, followed by the kills of
+-- tick i + 1.
 by_more : (trace : Trace) (timing : Timing) (rules : List Rule) (i : ℕ) → kills_by trace timing rules (i + 1) ≡ kills_by trace timing rules i ++ kills_in trace timing rules (i + 1)
 by_more trace timing rules i =
     let next : 1 + i ≡ i + 1 = omega arith in
@@ -39,11 +39,11 @@ by_more trace timing rules i =
     ∙ ap (λ k. kills_by trace timing rules i ++ (kills_in trace timing rules k ++ [])) next
     ∙ ap (λ kills. kills_by trace timing rules i ++ kills) (append-nil (kills_in trace timing rules (i + 1)))
 
--- the kills after those of a tick
+-- The kills after tick i + 1.
 abbrev not_past_tick : Trace → Timing → List Rule → ℕ → List Kill
 not_past_tick trace timing rules i = flat_map (kills_in trace timing rules) (range_with_len (1 + (i + 1)) (tick_count trace timing - (i + 1)))
 
--- all kills are the kills before a tick, at the tick and after it
+-- The kills of a trace are the kills before a tick, at the tick and after the tick.
 three_parts : (trace : Trace) (timing : Timing) (rules : List Rule) (i : ℕ) → i < tick_count trace timing
     → all_kills trace timing rules ≡ kills_by trace timing rules i ++ (kills_in trace timing rules (i + 1) ++ not_past_tick trace timing rules i)
 three_parts trace timing rules i left =
@@ -56,24 +56,26 @@ three_parts trace timing rules i left =
 
 -- ---- a replay that looks for a kill
 
--- A replay has made some ticks and passed all their kills: `left` more kills precede kill `number`.
+-- The replay has passed the kills of all replayed ticks. `left` is the number of further kills
+-- before the kill with the index `number`.
 pub record HasSearched (replay : ReplayView) (trace : Trace) (timing : Timing) (rules : List Rule) (left number : ℕ) : Type 0 where
   pub is : IsReplay replay trace timing rules replay.made
   pub counted : left + length (kills_by trace timing rules replay.made) ≡ number
 
--- before the first tick no kill has been passed
+-- Before the first tick, no kill has been passed.
 pub none_searched : (replay : ReplayView) (trace : Trace) (timing : Timing) (rules : List Rule) (number : ℕ) → IsReplay replay trace timing rules 0 → HasSearched replay trace timing rules number number
 none_searched replay trace timing rules number is = record {
   is = subst (IsReplay replay trace timing rules) (sym is.made) is;
   counted = subst (λ i. number + length (kills_by trace timing rules i) ≡ number) (sym is.made) (omega arith);
 }
 
--- the kills of the replay's next tick are the kills of the trace at that tick
+-- The kills at the replay's next tick are the kills of the trace at that tick.
 pub next_kills : (old new : ReplayView) (trace : Trace) (timing : Timing) (rules : List Rule) (kills : List Kill) → Passes trace timing rules old.made old new true
     → ((i : ℕ) → IsReplay new trace timing rules i → kills ≡ kills_in trace timing rules i) → kills ≡ kills_in trace timing rules (old.made + 1)
 next_kills old new trace timing rules kills maybe_rules are = are (old.made + 1) maybe_rules.1
 
--- kill `number` is among the kills of the tick
+-- If `left` is less than the number of kills at the tick, the kill with the index `number` is among
+-- them.
 pub found_here : (old new : ReplayView) (trace : Trace) (timing : Timing) (rules : List Rule) (kills : List Kill) (left number : ℕ) (d : Kill) → HasSearched old trace timing rules left number
     → Passes trace timing rules old.made old new true → kills ≡ kills_in trace timing rules (old.made + 1) → left < length kills
     → Some (get_or kills left d) ≡ slice_get (all_kills trace timing rules) number
@@ -82,7 +84,7 @@ found_here old new trace timing rules kills left number d so maybe_rules are ins
     ∙ in_middle (kills_by trace timing rules old.made) (kills_in trace timing rules (old.made + 1)) (not_past_tick trace timing rules old.made) left number d (subst (λ ks. left < length ks) are inside) so.counted
     ∙ sym (ap (λ ks. slice_get ks number) (three_parts trace timing rules old.made maybe_rules.0))
 
--- otherwise all kills of the tick are passed
+-- If `left` is at least the number of kills at the tick, all of them are passed.
 pub more_searched : (old new : ReplayView) (trace : Trace) (timing : Timing) (rules : List Rule) (kills : List Kill) (left less number : ℕ) → HasSearched old trace timing rules left number
     → Passes trace timing rules old.made old new true → kills ≡ kills_in trace timing rules (old.made + 1) → length kills ≤ left → less ≡ left - length kills
     → HasSearched new trace timing rules less number
@@ -97,12 +99,12 @@ more_searched old new trace timing rules kills left less number so maybe_rules a
       counted = subst (λ i. less + length (kills_by trace timing rules i) ≡ number) made (omega (arith, long, more, same, counted, past, rest));
     }
 
--- each tick that is made leaves one tick less to search
+-- Each replayed tick leaves one tick less to search.
 pub fewer_to_search : (old new : ReplayView) (trace : Trace) (timing : Timing) (rules : List Rule) (left number : ℕ) → HasSearched old trace timing rules left number → Passes trace timing rules old.made old new true
     → new.run_timing.last - new.made < old.run_timing.last - old.made
 fewer_to_search old new trace timing rules left number so maybe_rules = omega (arith, maybe_rules.0, maybe_rules.1.made, maybe_rules.1.paced.last, so.is.paced.last)
 
--- if no tick remains, there is no kill `number`
+-- If no tick remains, there is no kill with the index `number`.
 pub none_found : (old new : ReplayView) (trace : Trace) (timing : Timing) (rules : List Rule) (left number : ℕ) → HasSearched old trace timing rules left number → Passes trace timing rules old.made old new false
     → None ≡ slice_get (all_kills trace timing rules) number
 none_found old new trace timing rules left number so maybe_rules =

@@ -1,4 +1,4 @@
--- Proofs about the parts that a trace without the tasks of a group shares with the original: the
+-- Proves which parts a trace shares with the trace from which the tasks of a group are removed: the
 -- events up to the cut, the groups, the triggers and the end.
 use Rattle.std.proofs.Common.{◌≡◌, ℕ, ◌+◌, ◌≤◌, ◌<◌, List, [], ◌∷◌, ◌++◌, refl, ap, ◌∙◌, sym, subst, arith, append_assoc, cond, Bool, true, false, Option, None, Some, length}
 use Rattle.std.specs.Prelude.{if◌then◌else◌, nat_le, nat_lt, not}
@@ -37,8 +37,8 @@ up_to_both (x ∷ xs) ys at =
 still_early : (n at later : ℕ) → at ≤ later → nat_le n later ≡ false → nat_le n at ≡ false
 still_early n at later low off = grind (arith, nat_tests)
 
--- selecting the events up to a time, and then up to an earlier time, selects those up to the
--- earlier time
+-- Selecting the events up to a time, and then up to an earlier time, selects the events up to the
+-- earlier time.
 pub up_to_twice : (events : List Event) (at later : ℕ) → at ≤ later → up_to (up_to events later) at ≡ up_to events at
 up_to_twice [] at later low = refl
 up_to_twice (event ∷ events) at later low =
@@ -48,7 +48,7 @@ up_to_twice (event ∷ events) at later low =
       | false ↦ λ off. rest ∙ sym (ap (λ b. cond b (event ∷ up_to events at) (up_to events at)) (still_early event.at at later low off))
     ] refl
 
--- all these events are later than a time
+-- All events are later than time `at` (ns).
 abbrev AreLater : ℕ → List Event → Type 0
 AreLater at [] = Unit {0}
 AreLater at (event ∷ events) = (nat_le event.at at ≡ false) × AreLater at events
@@ -113,7 +113,7 @@ same_up_to limits events at victim now cut low =
 
 -- ---- triggers
 
--- none of these acts sets a trigger
+-- None of the acts sets a trigger.
 abbrev SetNone : List Act → Type 0
 SetNone [] = Unit {0}
 SetNone (what ∷ acts) = ((at : ℕ) (groups : List GroupLife) → trigger_by at groups what ≡ []) × ((at : ℕ) (groups : List GroupLife) → groups_after at groups what ≡ groups) × SetNone acts
@@ -171,7 +171,8 @@ exits_groups at v (pid ∷ pids) =
     ap (λ (w : World). w.groups) (after_from-append v (events_at at acts) (exits_from at (after_from v (events_at at acts)) pids))
     ∙ exits_groups at (after_from v (events_at at acts)) pids ∙ same_groups v at acts (none_found v pid (task_of v.tasks pid))
 
--- the remaining acts set the same triggers and change groups in the same way as the original act
+-- The remaining acts set the same triggers and change the groups in the same way as the original
+-- act.
 record ShowsSame (dead : List ℕ) (w v : World) (at : ℕ) (what : Act) (acts : List Act) : Type 0 where
   known : values_from shows v (events_at at acts) ≡ trigger_by at w.groups what
   groups : (after_from v (events_at at acts)).groups ≡ groups_after at w.groups what

@@ -1,4 +1,4 @@
--- Proofs that the victims of kills are removed from a trace round by round.
+-- Proves that the victims of kills are removed from a trace round by round.
 use Rattle.std.proofs.Common.{◌≡◌, ⊎_elim, ℕ, ◌+◌, ◌<◌, ◌≤◌, suc, List, [], ◌∷◌, ◌++◌, length, nat_lt, refl, ap, ◌∙◌, subst, arith, None, Some, Bool, true, false, if◌then◌else◌}
 use Rattle.std.specs.Prelude.{Result, Ok, Err, slice_get}
 use Rattle.psi_base.specs.declared.event.Cause.{Cause}
@@ -27,7 +27,7 @@ use Rattle.whatif_rounds.specs.Rounds.{AreLastPlans, ArePlansOf, IsOutgrown, IsT
 
 -- ---- the plans of an accepted trace
 
--- each event of legal events is legal after the previous ones
+-- Each event in a legal list is legal after the events before it.
 legal_there : (limits : Limits) (w : World) (prefix : List Event) (event : Event) (suffix : List Event) → AreLegal limits w (prefix ++ event ∷ suffix) → cause_of limits (after_from w prefix) event ≡ None
 legal_there limits w [] event suffix legal = legal.0
 legal_there limits w (first ∷ prefix) event suffix legal = legal_there limits (after_event w first) prefix event suffix legal.1
@@ -38,12 +38,12 @@ no_cause limits events line why accepted refused =
     let some = refused.cause in
     cc (none, some)
 
--- accepted events are never rejected
+-- Accepted events are never rejected.
 pub never_refused : (limits : Limits) (events : List Event) (refusal : Refusal) → IsAccepted limits events → IsRefusal limits events (fault.Refused refusal) → ⊥
 never_refused limits events refusal accepted refused =
     ⊎_elim (λ at. no_cause limits events refusal.line refusal.cause accepted at) (λ lacks. lacks.open_ (ended_at_end events accepted.ends)) refused
 
--- plans that represent an accepted trace are plans of it
+-- Plans that represent an accepted trace are plans of that trace.
 pub are_plans : (plans : PlansView) (options : Options) (trace : Trace) → MayReplay options → IsTraceAt options trace → Represent plans trace.cpus trace.events → ArePlansOf plans options trace
 are_plans plans options trace may is represents = record {
   counted = is.counted;
@@ -54,7 +54,7 @@ are_plans plans options trace may is represents = record {
   due = omega (arith, may.interval);
 }
 
--- an accepted trace has at most `most_events` events
+-- An accepted trace has at most `most_events` events.
 few_events : (limits : Limits) (events : List Event) → IsAccepted limits events → length events ≤ most_events
 few_events limits events accepted =
     let world = legal_after limits events accepted.legal in
@@ -62,11 +62,11 @@ few_events limits events accepted =
 
 -- ---- one round
 
--- the events, or their number if they are too many
+-- The events, or their number if they are too many.
 abbrev bounded_if : Bool → List Event → Result (List Event) TooLarge
 bounded_if b events = if b then Err (record { events = length events }) else Ok events
 
--- the trace, or the number of its events if they are too many
+-- The trace, or the number of its events if they are too many.
 abbrev trace_if : Bool → Trace → Result Trace ℕ
 trace_if b trace = if b then Err (length trace.events) else Ok trace
 
@@ -82,25 +82,26 @@ large_if true trace events large is =
     ap (λ (l : TooLarge). let lost : Result Trace ℕ = Err l.events in lost) same
 large_if false trace events large is = absurd (let no : ⊥ = cc is in no)
 
--- if the remaining events are few enough, both checks pass
+-- If few enough events remain, the check of the events and the check of the trace both succeed.
 kept_bounds : (trace : Trace) (events left : List Event) → bounded events ≡ Ok left → bounded_trace (record trace { events = events }) ≡ Ok (record trace { events = left })
 kept_bounds trace events left is = kept_if (nat_lt most_events (length events)) trace events left is
 
--- if the remaining events are too many, both checks fail with their number
+-- If too many events remain, the check of the events and the check of the trace both fail with
+-- their number.
 large_bounds : (trace : Trace) (events : List Event) (large : TooLarge) → bounded events ≡ Err large → bounded_trace (record trace { events = events }) ≡ Err large.events
 large_bounds trace events large is = large_if (nat_lt most_events (length events)) trace events large is
 
--- These events of a trace remain after `count` rounds.
+-- `events` are the events of the trace that remain after `count` rounds.
 pub record HasLeft (options : Options) (rules : List Rule) (trace : Trace) (count : ℕ) (events : List Event) : Type 0 where
   pub so_far : after_rounds trace (timing_of options) rules count ≡ Ok (record trace { events = events })
   pub accepted : IsAccepted (limits_of (of_ms options.tick_ms) trace.cpus) events
 
--- after 0 rounds all events remain
+-- After 0 rounds, all events remain.
 pub none_taken : (options : Options) (rules : List Rule) (trace : Trace) → IsTraceAt options trace → HasLeft options rules trace 0 trace.events
 unfolding after_rounds
 none_taken options rules trace is = record { so_far = refl; accepted = is.accepted }
 
--- the result of a round that finds a kill
+-- Computes the result of a round that finds a kill.
 round_by : (options : Options) (rules : List Rule) (trace : Trace) (count : ℕ) (events : List Event) (kill : Kill) → HasLeft options rules trace count events
     → slice_get (all_kills (record trace { events = events }) (timing_of options) rules) count ≡ Some kill
     → after_rounds trace (timing_of options) rules (suc count) ≡ bounded_trace (record trace { events = without events kill.at kill.victim.0 })
@@ -108,7 +109,7 @@ round_by options rules trace count events kill so found =
     one_round trace (record trace { events = events }) (timing_of options) rules count so.so_far
     ∙ ap (λ k. bounded_trace (without_kill (record trace { events = events }) k)) found
 
--- after one more round, the events without the tasks of the kill's victim remain
+-- After one more round, the events without the tasks of the killed group remain.
 pub one_taken : (options : Options) (rules : List Rule) (trace : Trace) (count : ℕ) (events left : List Event) (kill : Kill) → HasLeft options rules trace count events
     → slice_get (all_kills (record trace { events = events }) (timing_of options) rules) count ≡ Some kill
     → bounded (without events kill.at kill.victim.0) ≡ Ok left → IsAccepted (limits_of (of_ms options.tick_ms) trace.cpus) left
@@ -120,7 +121,7 @@ one_taken options rules trace count events left kill so found is accepted =
       accepted = accepted;
     }
 
--- the round left too many events, so the rounds end with their number
+-- If a round leaves too many events, the rounds end with the number of these events.
 pub too_large : (options : Options) (rules : List Rule) (trace : Trace) (count : ℕ) (events : List Event) (kill : Kill) (large : TooLarge) → count < most_rounds → HasLeft options rules trace count events
     → slice_get (all_kills (record trace { events = events }) (timing_of options) rules) count ≡ Some kill
     → bounded (without events kill.at kill.victim.0) ≡ Err large
@@ -129,7 +130,7 @@ too_large options rules trace count events kill large low so found is =
     last_outgrown trace (timing_of options) rules (suc count) large.events (omega (arith, low))
     (round_by options rules trace count events kill so found ∙ large_bounds trace (without events kill.at kill.victim.0) large is)
 
--- the two kinds of failure of a round; nothing is stated about an out-of-memory failure
+-- A failed round satisfies `IsOutgrown`. Nothing is required if memory ran out.
 pub outgrown_at : (options : Options) (rules : List Rule) (trace : Trace) (count : ℕ) (events : List Event) (kill : Kill) (found : Fault TooLarge) → count < most_rounds → HasLeft options rules trace count events
     → slice_get (all_kills (record trace { events = events }) (timing_of options) rules) count ≡ Some kill
     → FaultOf found (bounded (without events kill.at kill.victim.0)) → IsOutgrown options rules trace found
@@ -138,7 +139,7 @@ outgrown_at options rules trace count events kill (fault.NoMemory _) low so has 
 
 -- ---- the last round
 
--- if a round finds no kill, its plans are the plans of the last trace
+-- If a round finds no kill, its plans are the plans of the last trace.
 pub last_here : (options : Options) (rules : List Rule) (trace : Trace) (count : ℕ) (events : List Event) (plans : PlansView) → count ≤ most_rounds → HasLeft options rules trace count events
     → slice_get (all_kills (record trace { events = events }) (timing_of options) rules) count ≡ None → ArePlansOf plans options (record trace { events = events })
     → AreLastPlans options rules trace plans
@@ -149,7 +150,7 @@ last_here options rules trace count events plans low so none are = (
   are,
 )
 
--- after the last possible round, the plans of the remaining trace are the plans of the last trace
+-- After the last possible round, the plans of the remaining trace are the plans of the last trace.
 pub last_at_end : (options : Options) (rules : List Rule) (trace : Trace) (count : ℕ) (events : List Event) (plans : PlansView) → MayReplay options → IsTraceAt options trace → count ≡ most_rounds → HasLeft options rules trace count events
     → Represent plans trace.cpus events → AreLastPlans options rules trace plans
 last_at_end options rules trace count events plans may is all so represents = (

@@ -1,4 +1,5 @@
--- Proofs that each tick up to a kill prints the same lines without the tasks of the victim.
+-- Proves that each tick up to a kill prints the same lines after the tasks of the victim are
+-- removed.
 use Rattle.std.proofs.Common.{◌≡◌, ℕ, zero, suc, ◌+◌, ◌-◌, ◌/◌, ◌≤◌, ◌<◌, List, [], ◌∷◌, refl, ap, ◌∙◌, arith, cond, true, false, length, map}
 use Rattle.std.specs.Prelude.{if◌then◌else◌, take}
 use Rattle.std.specs.List.{flat_map, range_with_len}
@@ -24,18 +25,18 @@ use Rattle.whatif_rounds.proofs.Same.{IsSame, is_same}
 
 -- ---- times
 
--- the times of ticks never decrease
+-- The times of ticks never decrease.
 pub tick_before : (length j i : ℕ) → j ≤ i → tick_moment length j ≤ tick_moment length i
 tick_before length j i low = mul-le-mul_right length low
 
--- two functions that agree on a range give the same list
+-- Two functions that agree on a range give the same list.
 map_same : {A : Type 0} (f g : ℕ → A) (from n : ℕ) → ((i : ℕ) → i < from + n → f i ≡ g i) → map f (range_with_len from n) ≡ map g (range_with_len from n)
 map_same f g from zero same = refl
 map_same f g from (suc n) same = rw (same from (omega arith), map_same f g (from + 1) n (λ i high. same i (omega (arith, high)))) refl
 
 -- ---- ticks
 
--- a tick, from the events up to its time and all groups
+-- A tick, computed from the events up to its time and the list of all groups.
 abbrev tick_by : ℕ → List Event → List GroupLife → ℕ → Tick
 tick_by cpus prefix groups at = record {
   at = at;
@@ -66,7 +67,8 @@ same_fired trace events timing at i same low =
 
 -- ---- readings
 
--- a reading, from the events up to its time, all groups and the ticks up to it
+-- A reading, computed from the events up to its time, the list of all groups and the ticks up to
+-- it.
 abbrev reading_by : ℕ → List Event → List GroupLife → List Tick → ℕ → Reading
 reading_by cpus prefix groups ticks at = record {
   at = at;
@@ -105,7 +107,8 @@ same_kills trace events timing rules at i same low =
 
 -- ---- reports
 
--- the reports, from the events up to the tick's time, all groups and the ticks up to it
+-- The reports, computed from the events up to the time of the tick, the list of all groups and the
+-- ticks up to it.
 abbrev reports_by : Trace → Timing → ℕ → List Event → List GroupLife → List Tick → List ℕ
 reports_by trace timing i prefix groups ticks =
     flat_map (λ (group : List ℕ × ℕ). files_text trace.version (tick_moment timing.length i) group.0 group.1 (totals_after trace.cpus groups ticks group.1) (group_averages trace.cpus groups ticks group.1).averages) (live_groups (after prefix).groups)

@@ -1,4 +1,4 @@
--- Proofs that the result of a round prints the same lines up to the tick of the kill that the round
+-- Proves that the result of a round prints the same lines up to the tick of the kill that the round
 -- removes.
 use Rattle.std.proofs.Common.{◌≡◌, ℕ, zero, suc, ◌+◌, ◌≤◌, ◌<◌, List, refl, ap, ◌∙◌, sym, subst, arith, Bool, true, false, length, Some, nat_lt}
 use Rattle.std.specs.Prelude.{if◌then◌else◌, Option, Ok, Err, slice_get}
@@ -17,7 +17,7 @@ use Rattle.whatif_rounds.proofs.Ticking.{same_until_kill, tick_before}
 
 -- ---- rounds
 
--- a trace that a round left has few enough events
+-- The trace that a round leaves has at most `most_events` events.
 record IsLeft (trace next : Trace) : Type 0 where
   few : length trace.events ≤ most_events
   same : trace ≡ next
@@ -29,7 +29,7 @@ left_by trace next false is found = record { few = grind (arith, nat_tests, is);
 left_in_bounds : (trace next : Trace) → bounded_trace trace ≡ Ok next → IsLeft trace next
 left_in_bounds trace next is = left_by trace next (nat_lt most_events (length trace.events)) refl is
 
--- the result of a round that finds kill `number`
+-- Computes the result of a round that finds the kill with the index `number`.
 round_left : (trace left next : Trace) (timing : Timing) (rules : List Rule) (number : ℕ) (kill : Kill) → after_rounds trace timing rules number ≡ Ok left → slice_get (all_kills left timing rules) number ≡ Some kill
     → after_rounds trace timing rules (suc number) ≡ Ok next → IsLeft (trace_without left kill.at kill.victim.0) next
 round_left trace left next timing rules number kill so kills after =
@@ -38,7 +38,7 @@ round_left trace left next timing rules number kill so kills after =
 
 -- ---- texts
 
--- two functions that agree on a range give the same joined text
+-- Two functions that agree on a range give the same concatenated text.
 flat_same : (f g : ℕ → List ℕ) (from n : ℕ) → ((i : ℕ) → i < from + n → f i ≡ g i) → flat_map f (range_with_len from n) ≡ flat_map g (range_with_len from n)
 flat_same f g from zero same = refl
 flat_same f g from (suc n) same = rw (same from (omega arith), flat_same f g (from + 1) n (λ i high. same i (omega (arith, high)))) refl

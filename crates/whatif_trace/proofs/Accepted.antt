@@ -1,4 +1,4 @@
--- Proofs of the laws of a trace without the tasks of a group.
+-- Proves the laws about a trace from which the tasks of a group are removed.
 use Rattle.std.proofs.Common.{◌≡◌, ℕ, ◌+◌, ◌^◌, ◌≤◌, ◌<◌, List, [], ◌∷◌, ◌++◌, refl, ap, ◌∙◌, sym, subst, arith, true, false, length}
 use Rattle.std.specs.Prelude.{if◌then◌else◌, nat_lt}
 use Rattle.std.proofs.lemmas.Bool.Decides.{nat_tests}
@@ -25,11 +25,11 @@ some_event : (rest : List Event) (at : ℕ) → EndsLast rest → Begins (at + 1
 some_event [] at ends begins fit = absurd (none_last ends.0 (end_at ends.1) ends.2)
 some_event (event ∷ rest) at ends begins fit = let early = fit.0.at in omega (arith, early, begins)
 
--- the nanosecond after the cut fits into 64 bits, because the time of the next event does
+-- The time 1 ns after the cut fits in 64 bits, because the time of the next event does.
 pub early_enough : (limits : Limits) (events : List Event) (at : ℕ) → IsCut limits events at → AllFit events → at + 1 < 2 ^ 64
 early_enough limits events at cut fit = some_event (suffix events at) at cut.ends cut.begins (fit_rest (up_to events at) (suffix events at) (subst AllFit cut.whole fit))
 
--- the law for a cut before the end of the trace
+-- The law for a cut before the end of the trace.
 accepted_before : (limits : Limits) (events : List Event) (at victim : ℕ) → limits.cpus ≤ most_cpus → IsAccepted limits events → length (without events at victim) ≤ 4000000 → at < (after events).last → IsAccepted limits (without events at victim)
 accepted_before limits events at victim cpus accepted few before =
     let cut = cut_at limits events at accepted.legal accepted.ends before in

@@ -1,5 +1,5 @@
--- Proofs that the events that remain by the list of running tasks are those that remain by the
--- worlds of the trace.
+-- Proves that the remaining events computed from the list of running tasks are the remaining events
+-- defined by the worlds (states) of the trace.
 use Rattle.std.proofs.Common.{◌≡◌, ℕ, ◌+◌, ◌≤◌, ◌<◌, List, [], ◌∷◌, ◌++◌, refl, ap, ◌∙◌, sym, arith, cond, Bool, true, false, Option, None, Some, ◌==◌, length}
 use Rattle.std.specs.Prelude.{IfSome, nat_le, not}
 use Rattle.std.specs.List.{AllByRecursion}
@@ -32,7 +32,7 @@ use Rattle.whatif_trace.proofs.Steps.{NoneAgainst}
 below : (cpus cpu : ℕ) → nat_le cpus cpu ≡ false → cpu < cpus
 below cpus cpu off = grind (arith, nat_tests)
 
--- the list has the running task of a legal switch
+-- The list has the running task of a legal switch.
 there : (limits : Limits) (w : World) (at : ℕ) (runners : List (Option Pid)) (cpu : Cpu) (next : Option Pid) (how : How) → AreRunners limits.cpus runners w.tasks → NoneAgainst limits w at (act.Switch cpu next how) → runner_at runners cpu.0 ≡ pid_part (running_on w.tasks cpu.0)
 there limits w at runners cpu next how are none =
     let may = may_switch limits.cpus cpu.0 next (next_task w.tasks next) how (running_on w.tasks cpu.0) none in
@@ -88,7 +88,7 @@ rest_is limits dead w runners (event ∷ events) are legal =
 
 -- ---- the exits
 
--- the tasks after events depend only on the tasks and groups before them
+-- The tasks after some events depend only on the tasks and groups before them.
 same_suffix : (v u : World) (events : List Event) → v.tasks ≡ u.tasks → v.groups ≡ u.groups → ((after_from v events).tasks ≡ (after_from u events).tasks) × ((after_from v events).groups ≡ (after_from u events).groups)
 same_suffix v u [] tasks groups = (tasks, groups)
 same_suffix v u (event ∷ events) tasks groups =
@@ -109,7 +109,7 @@ exits_same at v u (pid ∷ pids) tasks groups =
     ap (λ es. prefix ++ es) (exits_same at (after_from v prefix) (after_from u prefix) pids suffix.0 suffix.1)
     ∙ ap (λ acts. events_at at acts ++ exits_from at (after_from u (events_at at acts)) pids) acts
 
--- an exit takes at most four acts
+-- An exit takes at most four acts.
 few_acts : (a b c : Bool) (x y z t : Act) → length (acts_if a (x ∷ []) ++ acts_if b (y ∷ []) ++ acts_if c (z ∷ []) ++ t ∷ []) ≤ 4
 few_acts true true true x y z t = omega arith
 few_acts true true false x y z t = omega arith
@@ -127,13 +127,13 @@ exit_few v pid (Some task) =
     few_acts (not (is_active task.mode)) (not (is_running task.mode)) task.stalled
     (act.Wake (record { 0 = pid }) task.cpu) (act.Switch task.cpu (Some (record { 0 = pid })) (making_room running)) (act.Unstall (record { 0 = pid })) (act.Switch task.cpu (cond (is_running task.mode) None running) Exit)
 
--- a legal world that can continue at a time
+-- A legal world that can take an event at time `at` (ns).
 pub record IsOpen (limits : Limits) (at : ℕ) (v : World) : Type 0 where
   pub world : IsLegalWorld limits v
   pub going : v.ended ≡ false
   pub early : at ≤ limits.latest
 
--- the same world, but the number of lines and the last time are 0
+-- The world with the number of lines and the time of the last event set to 0.
 abbrev fresh : World → World
 fresh v = record v { lines = 0; last = 0 }
 
@@ -147,7 +147,7 @@ exit_is : (cpus : ℕ) (v : World) (runners : List (Option Pid)) (pid : ℕ) (o 
 exit_is cpus v runners pid None are inside = refl
 exit_is cpus v runners pid (Some task) are inside = ap (exit_acts pid task) (sym (runner_known cpus runners v.tasks task.cpu.0 are inside))
 
--- each of these tasks is found in both maps alike
+-- Each of these tasks is the same in both maps.
 abbrev pub AreFound : Tasks → Tasks → List ℕ → Type 0
 AreFound tasks now pids = AllByRecursion (λ pid. task_of now pid ≡ task_of tasks pid) pids
 

@@ -1,4 +1,4 @@
--- Proofs about the map of tasks without the dead ones, when a task changes.
+-- Proves how a change of a task affects the map of tasks from which the dead tasks are removed.
 use Rattle.std.proofs.Common.{◌≡◌, ℕ, List, [], ◌∷◌, refl, ap, ◌∙◌, sym, arith, cond, Bool, true, false, Option, None, Some, ◌==◌, ⊎_elim}
 use Rattle.std.specs.Prelude.{◌&&◌, ◌||◌, filter, not}
 use Rattle.std.proofs.lemmas.Bool.Decides.{eqb_tells, nat_tests}
@@ -12,7 +12,7 @@ use Rattle.whatif_trace.proofs.Fewer.{AreWithout, found_dead, found_kept}
 
 -- ---- a task is replaced or removed
 
--- replacing a live task in both maps gives the same look-up in both
+-- Replacing a task that isn't dead in both maps gives the same look-up of that task in both.
 placed_found : (dead : List ℕ) (tasks fewer : Tasks) (k : ℕ) (x : Option Task) (pid : ℕ) → AreWithout dead tasks fewer → is_pid_among dead k ≡ false → ((pid == k) ≡ true) × (pid ≡ k) → cond (pid == k) x (task_of fewer pid) ≡ kept dead pid (cond (pid == k) x (task_of tasks pid))
 placed_found dead tasks fewer k x pid are alive same = rw (same.0, ap (is_pid_among dead) same.1 ∙ alive) refl
 
@@ -25,7 +25,7 @@ placed_alive dead tasks fewer k x are alive pid =
     ∙ ⊎_elim (λ same. placed_found dead tasks fewer k x pid are alive same) (λ other. placed_other dead tasks fewer k x x pid are other.0) (eqb_tells pid k)
     ∙ ap (kept dead pid) (sym (task_placed tasks k x pid))
 
--- replacing a dead task changes only the map of all tasks
+-- Replacing a dead task changes only the map of all tasks.
 placed_gone : (dead : List ℕ) (tasks fewer : Tasks) (k : ℕ) (x : Option Task) (pid : ℕ) → AreWithout dead tasks fewer → is_pid_among dead k ≡ true → ((pid == k) ≡ true) × (pid ≡ k) → task_of fewer pid ≡ kept dead pid (cond (pid == k) x (task_of tasks pid))
 placed_gone dead tasks fewer k x pid are gone same =
     ap (task_of fewer) same.1 ∙ found_dead dead tasks fewer are k gone ∙ rw (ap (is_pid_among dead) same.1 ∙ gone) refl
@@ -64,17 +64,17 @@ not_false : (b : Bool) → not b ≡ false → b ≡ true
 not_false true h = refl
 not_false false h = absurd (let no : ⊥ = cc h in no)
 
--- if the next task isn't dead, it starts in both maps
+-- If the next task isn't dead, it starts in both maps.
 pub start_alive : (dead : List ℕ) (tasks fewer : Tasks) (next : Option Pid) → AreWithout dead tasks fewer → is_alive dead next ≡ true → AreWithout dead (start next tasks) (start next fewer)
 start_alive dead tasks fewer None are alive = are
 start_alive dead tasks fewer (Some pid) are alive = change_alive dead tasks fewer pid.0 _ are (not_true (is_pid_among dead pid.0) alive)
 
--- if the next task is dead, or there is none, it starts only in the map of all tasks
+-- If the next task is dead, or there is no next task, it starts only in the map of all tasks.
 pub start_dead : (dead : List ℕ) (tasks fewer : Tasks) (next : Option Pid) → AreWithout dead tasks fewer → is_alive dead next ≡ false → AreWithout dead (start next tasks) fewer
 start_dead dead tasks fewer None are gone = are
 start_dead dead tasks fewer (Some pid) are gone = change_dead dead tasks fewer pid.0 _ are (not_false (is_pid_among dead pid.0) gone)
 
--- starting the next task only if it isn't dead preserves the relation of the maps
+-- Starting the next task only if it isn't dead preserves the relation of the maps.
 pub start_kept : (dead : List ℕ) (tasks fewer : Tasks) (next : Option Pid) → AreWithout dead tasks fewer → AreWithout dead (start next tasks) (start (if_alive dead next) fewer)
 start_kept dead tasks fewer next are =
     elim (is_alive dead next) as (λ b. is_alive dead next ≡ b → AreWithout dead (start next tasks) (start (cond b next None) fewer)) [
@@ -84,7 +84,7 @@ start_kept dead tasks fewer next are =
 
 -- ---- one dead pid less
 
--- the set of dead pids without one pid
+-- Removing one pid from the list of dead pids removes exactly that pid.
 pub among_less : (dead : List ℕ) (k pid : ℕ) → is_pid_among (filter (λ other. not (other == k)) dead) pid ≡ (is_pid_among dead pid && not (pid == k))
 among_less [] k pid = refl
 among_less (first ∷ dead) k pid =
@@ -105,14 +105,14 @@ none_there dead tasks fewer k pid are gone same =
     let is : pid ≡ k = grind (arith, nat_tests) in
     ap (task_of fewer) is ∙ found_dead dead tasks fewer are k gone
 
--- if a dead task exits, its pid is no longer among the dead and may be reused
+-- If a dead task exits, its pid is removed from the dead pids and may be reused.
 pub exits_dead : (dead : List ℕ) (tasks fewer : Tasks) (k : ℕ) → AreWithout dead tasks fewer → is_pid_among dead k ≡ true → AreWithout (filter (λ other. not (other == k)) dead) (placed tasks k None) fewer
 exits_dead dead tasks fewer k are gone pid =
     less_is dead tasks fewer k pid are (is_pid_among dead pid) (pid == k) refl refl (none_there dead tasks fewer k pid are gone)
     ∙ ap (λ b. cond b None (cond (pid == k) None (task_of tasks pid))) (sym (among_less dead k pid))
     ∙ ap (kept (filter (λ other. not (other == k)) dead) pid) (sym (task_placed tasks k None pid))
 
--- if a task that isn't dead exits, the set of dead pids is unchanged
+-- If a task that isn't dead exits, the dead pids don't change.
 same_among : (b c : Bool) → (b ≡ true → c ≡ false) → (b && not c) ≡ b
 same_among true c off = rw (off refl) refl
 same_among false c off = refl

@@ -1,4 +1,4 @@
--- Proofs that a trace is split at a time, and that its parts make up the trace.
+-- Proves that a trace is split at a time, and that the two parts make up the trace.
 use Rattle.std.proofs.Common.{◌≡◌, ℕ, zero, suc, ◌+◌, ◌-◌, ◌≤◌, ◌<◌, List, [], ◌∷◌, ◌++◌, refl, ap, ◌∙◌, sym, arith, cond, Bool, true, false, Option, None, Some, length, drop, take}
 use Rattle.std.specs.Prelude.{is_some, nat_le, nat_lt, replicate, slice_get}
 use Rattle.std.specs.List.{AllByRecursion}
@@ -90,12 +90,12 @@ is_there [] n room = absurd (no_room n (omega (arith, room)))
 is_there (x ∷ events) zero room = refl
 is_there (x ∷ events) (suc n) room = is_there events n (omega (arith, room))
 
--- a time is before the event's time, if there is an event
+-- Whether time `at` (ns) is before the time of the event. False if there is no event.
 abbrev pub is_before : ℕ → Option Event → Bool
 is_before at None = false
 is_before at (Some event) = nat_lt at event.at
 
--- a time is before the end if it is before the last event
+-- A time is before the end of the trace if and only if it is before the last event.
 pub before_known : (events : List Event) (at : ℕ) (o : Option Event) → slice_get events (length events - 1) ≡ o → is_before at o ≡ nat_lt at (after events).last
 before_known [] at None is = grind (arith, nat_tests)
 before_known [] at (Some event) is = absurd (let no : ⊥ = cc is in no)

@@ -1,4 +1,4 @@
--- Proofs about acts at one time, in order, in a world that has room for them.
+-- Proves properties of acts that happen at one time, in order, in a world that has room for them.
 use Rattle.std.proofs.Common.{◌≡◌, ℕ, ◌+◌, ◌≤◌, ◌<◌, List, [], ◌∷◌, ◌++◌, refl, ◌∙◌, subst, sym, arith, Bool, true, false, None}
 use Rattle.std.specs.Prelude.{◌||◌, if◌then◌else◌}
 use Rattle.psi_base.specs.declared.event.Act.{Act}
@@ -9,7 +9,8 @@ use Rattle.psi_counts.proofs.LegalLaws.{legal_kept}
 use Rattle.task_table.proofs.CauseLaws.{first_of_act}
 use Rattle.whatif_trace.proofs.Steps.{IsOfTasks, NoneAgainst, event_at}
 
--- a legal world that can continue at a time, with room for `room` more events and the end
+-- A legal world that can take events at time `at` (ns), with room for `room` more events and the
+-- end event.
 pub record IsReady (limits : Limits) (at room : ℕ) (v : World) : Type 0 where
   pub world : IsLegalWorld limits v
   pub going : v.ended ≡ false
@@ -17,7 +18,7 @@ pub record IsReady (limits : Limits) (at room : ℕ) (v : World) : Type 0 where
   pub early : at ≤ limits.latest
   pub few : v.lines + room < 4000000
 
--- a world with room for some events has room for fewer
+-- A world with room for some number of events has room for fewer events.
 pub ready_for : (limits : Limits) (at room less : ℕ) (v : World) → less ≤ room → IsReady limits at room v → IsReady limits at less v
 ready_for limits at room less v fewer ready = record {
   world = ready.world;
@@ -27,7 +28,8 @@ ready_for limits at room less v fewer ready = record {
   few = let few = ready.few in omega (arith, few, fewer);
 }
 
--- two worlds are equal except for their tasks, their number of lines and their last time
+-- The worlds `v` and `u` are equal except for their tasks, their numbers of lines and the times of
+-- their last events.
 pub record IsAside (v u : World) : Type 0 where
   pub groups : u.groups ≡ v.groups
   pub irqs : u.irqs ≡ v.irqs
@@ -35,7 +37,8 @@ pub record IsAside (v u : World) : Type 0 where
   pub pressures : u.pressures ≡ v.pressures
   pub ended : u.ended ≡ v.ended
 
--- acts at one time are legal, and the world after them is ready and differs only in its tasks
+-- The acts are legal at time `at` (ns). The world after them has room for `room` more events, and
+-- differs from `v` only in its tasks.
 pub record Does (limits : Limits) (at room : ℕ) (v : World) (acts : List Act) : Type 0 where
   pub legal : AreLegal limits v (events_at at acts)
   pub ready : IsReady limits at room (after_from v (events_at at acts))
@@ -63,7 +66,7 @@ or_false false c off = off
 plus_none : (n : ℕ) (b : Bool) → b ≡ false → n + (if b then 1 else 0) ≡ n
 plus_none n b off = rw off (omega arith)
 
--- one act is legal if no cause specific to it rejects it
+-- An act is legal if no cause specific to the act rejects it.
 pub does_one : (limits : Limits) (at room : ℕ) (v : World) (what : Act) → IsReady limits at (room + 1) v → IsOfTasks at what → NoneAgainst limits v at what → Does limits at room v (what ∷ [])
 does_one limits at room v what ready of none =
     let few = ready.few in
@@ -86,8 +89,8 @@ does_one limits at room v what ready of none =
       };
     }
 
--- the world after two lists of acts is the world after the second list, starting from the world
--- after the first
+-- The world after two lists of acts is the world after the second list, starting from the world
+-- after the first list.
 pub after_both : (v : World) (at : ℕ) (xs ys : List Act) → after_from v (events_at at (xs ++ ys)) ≡ after_from (after_from v (events_at at xs)) (events_at at ys)
 after_both v at [] ys = refl
 after_both v at (x ∷ xs) ys = after_both (after_event v (event_at at x)) at xs ys
@@ -96,7 +99,7 @@ legal_both : (limits : Limits) (at : ℕ) (v : World) (xs ys : List Act) → Are
 legal_both limits at v [] ys prefix rest = rest
 legal_both limits at v (x ∷ xs) ys prefix rest = (prefix.0, legal_both limits at (after_event v (event_at at x)) xs ys prefix.1 rest)
 
--- if two lists of acts are legal one after the other, so are the joined acts
+-- If two lists of acts are legal one after the other, the concatenated list is legal.
 pub does_then : (limits : Limits) (at mid room : ℕ) (v : World) (xs ys : List Act) → Does limits at mid v xs → Does limits at room (after_from v (events_at at xs)) ys → Does limits at room v (xs ++ ys)
 does_then limits at mid room v xs ys prefix rest =
     let same = sym (after_both v at xs ys) in

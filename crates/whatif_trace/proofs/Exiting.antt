@@ -1,4 +1,4 @@
--- Proofs about the exits of tasks that are killed.
+-- Proves that the exits of killed tasks are legal.
 use Rattle.std.proofs.Common.{◌≡◌, ℕ, ◌+◌, ◌<◌, List, [], ◌∷◌, ◌++◌, refl, ap, ◌∙◌, sym, subst, arith, cond, Bool, true, false, Option, None, Some, ◌==◌, length, ⊎_elim}
 use Rattle.std.specs.Prelude.{◌&&◌, ◌||◌, IfSome, if◌then◌else◌, nat_le, not}
 use Rattle.std.proofs.lemmas.Bool.Decides.{eqb_tells, nat_tests}
@@ -28,7 +28,8 @@ use Rattle.whatif_trace.proofs.Doing.{Does, IsReady, does_none, does_one, does_t
 use Rattle.whatif_trace.proofs.Leaving.{IsNext, comes_in, leaves, preempted, put_aside, runner_is, running, started}
 use Rattle.whatif_trace.proofs.Resting.{legal_join}
 
--- a task exits by these acts: afterwards no task has its pid, and all other tasks are as before
+-- The task with the pid `pid` exits by these acts. Afterwards no task has this pid, and all other
+-- tasks are unchanged.
 pub record Exited (limits : Limits) (at room : ℕ) (v : World) (pid : ℕ) (acts : List Act) : Type 0 where
   pub does : Does limits at room v acts
   pub tasks : (k : ℕ) → task_of (after_from v (events_at at acts)).tasks k ≡ cond (k == pid) None (task_of v.tasks k)
@@ -41,7 +42,7 @@ mode_is Ready is = absurd (let no : ⊥ = cc is in no)
 mode_is Blocked is = absurd (let no : ⊥ = cc is in no)
 mode_is Waiting is = absurd (let no : ⊥ = cc is in no)
 
--- a task that was switched out for it runs again as before
+-- A task that was switched out for the exiting task runs again afterwards.
 runs_again : (task : Task) → is_running task.mode ≡ true → running (preempted task) ≡ task
 runs_again task is = let same : record task { mode = Running } ≡ record task { mode = task.mode } = rw (mode_is task.mode is) refl in same
 
@@ -68,7 +69,7 @@ all_back tasks cpu pid task o runs k =
 apart_too : (a b : ℕ) → (a == b) ≡ false → (b == a) ≡ false
 apart_too a b off = grind (arith, nat_tests)
 
--- a task that was switched out is ready on its processor
+-- A task that was switched out is ready on its processor.
 ready_next : (v u : Tasks) (cpu pid : ℕ) (task : Task) (o : Option (ℕ × Task)) → running_on v cpu ≡ o → is_some_and (task_of v pid) (is_ready_on cpu) ≡ true
     → ((k : ℕ) → task_of u k ≡ cond (k == pid) (Some task) (put_aside o k (task_of v k))) → IsNext u cpu (pid_part o)
 ready_next v u cpu pid task None runs ready are = tt
@@ -183,7 +184,7 @@ by_found limits at room v pid (Some task) is ready =
     let within = subst (λ o. IfSome o (λ task. (task.cpu.0 < limits.cpus) × (task.slot.0 < length v.groups))) is (ready.world.within pid) in
     by_mode limits at room v (record { 0 = pid }) task (running_on v.tasks task.cpu.0) task.mode refl ready (below_cpus limits.cpus task.cpu.0 within.0) is refl
 
--- a task that is killed exits
+-- The exit of a killed task is legal.
 pub exit_goes : (limits : Limits) (at room : ℕ) (v : World) (pid : ℕ) → IsReady limits at (room + length (exit_of v pid (task_of v.tasks pid))) v → Exited limits at room v pid (exit_of v pid (task_of v.tasks pid))
 exit_goes limits at room v pid ready = by_found limits at room v pid (task_of v.tasks pid) refl ready
 

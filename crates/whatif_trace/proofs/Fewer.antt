@@ -1,5 +1,5 @@
--- Proofs about the map of tasks without the dead ones: its size, the members of a group, and the
--- running tasks.
+-- Proves properties of the map of tasks from which the dead tasks are removed: its size, the
+-- members of a group, and the running tasks.
 use Rattle.std.proofs.Common.{◌≡◌, ℕ, ◌-◌, ◌≤◌, List, [], ◌∷◌, refl, ap, ◌∙◌, sym, subst, arith, cond, Bool, true, false, Option, None, Some, ◌==◌, map}
 use Rattle.std.specs.Prelude.{◌||◌, if◌then◌else◌, is_some}
 use Rattle.std.specs.List.{AllByRecursion, list_any}
@@ -16,13 +16,13 @@ use Rattle.task_table.proofs.Runners.{only_runs, runs_there}
 use Rattle.whatif_spec.specs.Without.{is_pid_among}
 use Rattle.whatif_trace.specs.Rest.{kept}
 
--- `fewer` is the map `tasks` without the dead tasks
+-- `fewer` is the map `tasks` without the dead tasks.
 abbrev pub AreWithout : List ℕ → Tasks → Tasks → Type 0
 AreWithout dead tasks fewer = (pid : ℕ) → task_of fewer pid ≡ kept dead pid (task_of tasks pid)
 
 -- ---- the number of tasks
 
--- the tasks after removing the dead ones, in order
+-- The tasks after the dead tasks are removed one by one.
 abbrev taken : Tasks → List ℕ → Tasks
 taken tasks [] = tasks
 taken tasks (pid ∷ pids) = remove (taken tasks pids) pid
@@ -48,7 +48,7 @@ taken_few tasks (pid ∷ dead) =
     let most = one_fewer (tasks_by.contains_key (taken tasks dead) pid) (tasks_by.len (taken tasks dead)) in
     omega (arith, rest, less, most)
 
--- the map without the dead tasks isn't larger
+-- The map without the dead tasks isn't larger than the map of all tasks.
 pub no_more : (dead : List ℕ) (tasks fewer : Tasks) → AreWithout dead tasks fewer → tasks_by.len fewer ≤ tasks_by.len tasks
 no_more dead tasks fewer are =
     let same : fewer ≡ taken tasks dead = same_tasks fewer (taken tasks dead) (λ pid. are pid ∙ sym (taken_is tasks dead pid)) in
@@ -57,15 +57,15 @@ no_more dead tasks fewer are =
 
 -- ---- a task that is found
 
--- a task that isn't dead is found in both maps
+-- A task that isn't dead is found in both maps.
 pub found_kept : (dead : List ℕ) (tasks fewer : Tasks) → AreWithout dead tasks fewer → (pid : ℕ) → is_pid_among dead pid ≡ false → task_of fewer pid ≡ task_of tasks pid
 found_kept dead tasks fewer are pid alive = are pid ∙ ap (λ b. cond b None (task_of tasks pid)) alive
 
--- a dead task isn't found in the smaller map
+-- A dead task isn't found in the smaller map.
 pub found_dead : (dead : List ℕ) (tasks fewer : Tasks) → AreWithout dead tasks fewer → (pid : ℕ) → is_pid_among dead pid ≡ true → task_of fewer pid ≡ None
 found_dead dead tasks fewer are pid is = are pid ∙ ap (λ b. cond b None (task_of tasks pid)) is
 
--- a task that is found in the smaller map isn't dead, and is found in the map of all tasks
+-- A task that is found in the smaller map isn't dead, and is found in the map of all tasks.
 if_found : (b : Bool) (o : Option Task) (task : Task) → cond b None o ≡ Some task → (b ≡ false) × (o ≡ Some task)
 if_found true o task is = absurd (let no : ⊥ = cc is in no)
 if_found false o task is = (refl, is)
@@ -75,7 +75,7 @@ found_before dead tasks fewer are pid task is = if_found (is_pid_among dead pid)
 
 -- ---- members of a group
 
--- if the task with a pid passes a test, some task in the list passes it
+-- If the task with some pid passes a test, some task in the list passes the test.
 any_if : (test : Task → Bool) (es : List (ℕ × Task)) (pid : ℕ) (task : Task) → tasks_by.find nat_cmp pid es ≡ Some task → test task ≡ true → list_any test (map (λ e. e.1) es) ≡ true
 any_if test [] pid task is passes = absurd (let no : ⊥ = cc is in no)
 any_if test (e ∷ es) pid task is passes =
@@ -88,7 +88,7 @@ any_if test (e ∷ es) pid task is passes =
           ]
     ] (ap (λ b. cond b (Some e.1) (tasks_by.find nat_cmp pid es)) (sym (unsigned_tied pid e.0)) ∙ is)
 
--- if some task in the list passes a test, the task with some pid passes it
+-- If some task in the list passes a test, the task with some pid passes the test.
 any_found : (test : Task → Bool) (tasks : Tasks) (es : List (ℕ × Task)) → AllByRecursion (λ e. task_of tasks e.0 ≡ Some e.1) es → list_any test (map (λ e. e.1) es) ≡ true
     → (pid : ℕ) × (task : Task) × (task_of tasks pid ≡ Some task) × (test task ≡ true)
 any_found test tasks [] each some = absurd (let no : ⊥ = cc some in no)
@@ -98,12 +98,12 @@ any_found test tasks (e ∷ es) each some =
       | false ↦ λ _ rest. any_found test tasks es each.1 rest
     ] refl some
 
--- a test that isn't true is false
+-- A test that isn't true is false.
 pub either : (b : Bool) → (b ≡ true → ⊥) → b ≡ false
 either true not = absurd (not refl)
 either false not = refl
 
--- a group without members has none in the smaller map
+-- A group without tasks in the map of all tasks has no tasks in the smaller map.
 pub no_member : (dead : List ℕ) (tasks fewer : Tasks) → AreWithout dead tasks fewer → (slot : Option ℕ) → has_member tasks slot ≡ false → has_member fewer slot ≡ false
 no_member dead tasks fewer are slot none =
     let test : Task → Bool = λ task. is_slot slot (Some task.slot) in
@@ -115,7 +115,7 @@ no_member dead tasks fewer are slot none =
 
 -- ---- the running tasks
 
--- the running task, if it isn't dead
+-- The running task, or `None` if the task is dead.
 abbrev pub if_kept : List ℕ → Option (ℕ × Task) → Option (ℕ × Task)
 if_kept dead None = None
 if_kept dead (Some e) = if is_pid_among dead e.0 then None else Some e
@@ -124,7 +124,7 @@ none_runs : (o other : Option (ℕ × Task)) → (is_some other ≡ true → is_
 none_runs o None some none = refl
 none_runs o (Some e) some none = absurd (let on = some refl in let no : ⊥ = cc (on, none) in no)
 
--- a task that runs in the smaller map runs in the map of all tasks, and isn't dead
+-- A task that runs in the smaller map runs in the map of all tasks, and isn't dead.
 runs_before : (dead : List ℕ) (tasks fewer : Tasks) → AreWithout dead tasks fewer → (cpu : ℕ) (x : ℕ × Task) → running_on fewer cpu ≡ Some x → (is_pid_among dead x.0 ≡ false) × (task_of tasks x.0 ≡ Some x.1) × (is_running_on cpu x.1 ≡ true)
 runs_before dead tasks fewer are cpu x is =
     let there = running_found fewer cpu x is in
@@ -163,6 +163,6 @@ by_runner : (dead : List ℕ) (tasks fewer : Tasks) → AreWithout dead tasks fe
 by_runner dead tasks fewer are once cpu None is = none_kept dead tasks fewer are cpu is (running_on fewer cpu) refl
 by_runner dead tasks fewer are once cpu (Some e) is = some_kept dead tasks fewer are once cpu e is (running_on fewer cpu) refl
 
--- on each processor the same task runs in both maps, unless it is dead
+-- On each processor the same task runs in both maps, unless the task is dead.
 pub runs_kept : (dead : List ℕ) (tasks fewer : Tasks) → AreWithout dead tasks fewer → RunsOnce tasks → (cpu : ℕ) → running_on fewer cpu ≡ if_kept dead (running_on tasks cpu)
 runs_kept dead tasks fewer are once cpu = by_runner dead tasks fewer are once cpu (running_on tasks cpu) refl

@@ -1,4 +1,4 @@
--- Proof that the stored parts make up the remaining trace.
+-- Proves that the stored parts make up the remaining trace.
 use Rattle.std.proofs.Common.{◌≡◌, ℕ, ◌+◌, ◌<◌, List, ◌++◌, ◌∙◌, Option, None, drop, take}
 use Rattle.std.specs.Prelude.{replicate}
 use Rattle.psi_base.specs.declared.event.Event.{Event}

@@ -1,19 +1,19 @@
--- Proofs about the list of stored events, part by part.
+-- Proves properties of the list of remaining events, which is stored part by part.
 use Rattle.std.proofs.Common.{◌≡◌, ℕ, List, [], ◌++◌, ap, ◌∙◌, sym, append_assoc}
 use Rattle.std.proofs.lemmas.List.{append-nil, map-append}
 use Rattle.psi_base.specs.declared.event.Act.{Act}
 use Rattle.psi_base.specs.declared.event.Event.{Event}
 use Rattle.psi_spec.specs.World.{events_at}
 
--- storing no event leaves the list unchanged
+-- Storing no event doesn't change the list.
 pub none_kept : (old : List Event) → old ≡ old ++ []
 none_kept old = sym (append-nil old)
 
--- after a part is stored, the rest is stored after it
+-- Storing a part and then the rest stores the concatenation of both.
 pub part_kept : (old new part rest : List Event) → new ≡ old ++ part → new ++ rest ≡ old ++ (part ++ rest)
 part_kept old new part rest is = ap (λ es. es ++ rest) is ∙ append_assoc old part rest
 
--- two lists of acts at one time are stored one after the other
+-- Storing two lists of acts at one time, one after the other, stores the concatenation of both.
 pub acts_kept : (old mid new : List Event) (at : ℕ) (xs ys : List Act) → mid ≡ old ++ events_at at xs → new ≡ mid ++ events_at at ys → new ≡ old ++ events_at at (xs ++ ys)
 acts_kept old mid new at xs ys first then =
     then ∙ ap (λ es. es ++ events_at at ys) first ∙ append_assoc old (events_at at xs) (events_at at ys) ∙ ap (λ es. old ++ es) (sym (map-append _ xs ys))

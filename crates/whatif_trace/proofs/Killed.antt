@@ -1,4 +1,4 @@
--- Proofs about the pids of the killed tasks, and about which of them are dead.
+-- Proves properties of the pids of the killed tasks, and of the dead tasks among them.
 use Rattle.std.proofs.Common.{◌≡◌, ℕ, ◌≤◌, ◌<◌, List, [], ◌∷◌, refl, ap, ◌∙◌, sym, subst, arith, cond, Bool, true, false, Option, None, Some, ◌==◌, map, ⊎_elim, ◌⊎◌}
 use Rattle.std.specs.Prelude.{T, ◌&&◌, ◌||◌, filter, is_some, not}
 use Rattle.std.specs.List.{AllByRecursion, list_any}
@@ -40,7 +40,7 @@ later k x y low less = grind (arith, nat_tests)
 itself_is : (a : ℕ) → (a == a) ≡ true
 itself_is a = grind (arith, nat_tests)
 
--- a number that isn't above `x` isn't among numbers that are above `x`
+-- A number of at most `x` isn't in a list of numbers above `x`.
 none_above : (x : ℕ) (ys : List ℕ) (k : ℕ) → AllByRecursion (λ y. nat_cmp x y ≡ Less) ys → k ≤ x → is_pid_among ys k ≡ false
 none_above x [] k above low = refl
 none_above x (y ∷ ys) k above low = rw (later k x y low (less_is x y above.0)) (none_above x ys k above.1 low)
@@ -82,7 +82,7 @@ in_tail x xs ys above higher same k =
       | false ↦ λ apart. sym (ap (λ b. b || is_pid_among xs k) apart) ∙ same k ∙ ap (λ b. b || is_pid_among ys k) apart
     ] refl
 
--- two strictly ascending lists with the same members are equal
+-- Two strictly ascending lists with the same members are equal.
 pub same_numbers : (xs ys : List ℕ) → IsStrictlySortedBy nat_cmp xs → IsStrictlySortedBy nat_cmp ys → ((k : ℕ) → is_pid_among xs k ≡ is_pid_among ys k) → xs ≡ ys
 unfolding IsStrictlySortedBy
 same_numbers [] [] one other same = refl
@@ -112,7 +112,7 @@ none_equal x pid (y ∷ ys) is above =
     let apart : (y == pid) ≡ false = apart_above x pid y is above.0 in
     rw apart (ap (λ ns. y ∷ ns) (none_equal x pid ys is above.1))
 
--- removing a pid from a set removes exactly that pid
+-- Removing a pid from a set removes exactly that pid.
 pub taken_out : (pid : ℕ) (keys : List ℕ) → IsStrictlySortedBy nat_cmp keys → remove_key (is_at (nat_cmp pid)) keys ≡ without_pid keys (Some (record { 0 = pid }))
 unfolding IsStrictlySortedBy
 taken_out pid [] sorted = refl
@@ -147,7 +147,7 @@ sorted_entries test (e ∷ es) sorted =
       | false ↦ rest
     ]
 
--- each pid in the filtered list belongs to a task that passes the test
+-- Each pid in the filtered list is the pid of a task that passes the test.
 passes_if : (tasks : Tasks) (test : Task → Bool) (es : List (ℕ × Task)) → AllByRecursion (λ e. task_of tasks e.0 ≡ Some e.1) es → (pid : ℕ) → is_pid_among (map (λ e. e.0) (filter (λ e. test e.1) es)) pid ≡ true → is_some_and (task_of tasks pid) test ≡ true
 passes_if tasks test [] each pid is = absurd (let no : ⊥ = cc is in no)
 passes_if tasks test (e ∷ es) each pid is =
@@ -160,7 +160,7 @@ passes_if tasks test (e ∷ es) each pid is =
       | false ↦ λ _ among. passes_if tasks test es each.1 pid among
     ] refl is
 
--- each task that passes the test has its pid in the filtered list
+-- The filtered list has the pid of each task that passes the test.
 among_if : (test : Task → Bool) (es : List (ℕ × Task)) (pid : ℕ) → is_some_and (tasks_by.find nat_cmp pid es) test ≡ true → is_pid_among (map (λ e. e.0) (filter (λ e. test e.1) es)) pid ≡ true
 among_if test [] pid is = absurd (let no : ⊥ = cc is in no)
 among_if test (e ∷ es) pid is =
@@ -193,7 +193,8 @@ made_member made true if = rw (if refl) refl
 made_member true false if = refl
 made_member false false if = refl
 
--- the pids of all created tasks that are live in the group or its descendants are the members
+-- The pids of all created tasks that are live in the group or its descendants are the pids of the
+-- members.
 pub members_are : (w : World) (slot : ℕ) (events : List Event) (keys : List ℕ) → AreForked w.tasks events → IsStrictlySortedBy nat_cmp keys → ((pid : ℕ) → is_pid_among keys pid ≡ (is_made pid events && is_member w slot pid)) → keys ≡ members w slot
 members_are w slot events keys forked sorted are =
     same_numbers keys (members w slot) sorted (members_sorted w slot)

@@ -1,4 +1,4 @@
--- Proofs of how a killed task is switched in and out.
+-- Proves how a killed task is switched in and out.
 use Rattle.std.proofs.Common.{◌≡◌, ℕ, ◌+◌, List, [], ◌∷◌, ◌++◌, refl, ap, ◌∙◌, sym, subst, arith, cond, Bool, true, false, Option, None, Some, ◌==◌, length, ⊎_elim}
 use Rattle.std.specs.Prelude.{IfSome, nat_le}
 use Rattle.std.proofs.lemmas.Bool.Decides.{eqb_tells}
@@ -26,11 +26,11 @@ use Rattle.whatif_trace.proofs.Doing.{Does, IsReady, does_one, does_then, ready_
 
 -- ---- the running task
 
--- a task in mode running
+-- The task with the mode changed to running.
 abbrev pub running : Task → Task
 running task = record task { mode = Running }
 
--- a task in mode ready
+-- The task with the mode changed to ready.
 abbrev pub preempted : Task → Task
 preempted task = record task { mode = Ready }
 
@@ -47,7 +47,7 @@ runner_in tasks once cpu pid task is runs None none =
 runner_in tasks once cpu pid task is runs (Some e) found =
     ap Some (number_is tasks pid task e is (running_found tasks cpu e found).0 (only_runs tasks once cpu pid task e is runs found))
 
--- the task that runs on a processor is the task that is found there
+-- A task that runs on a processor is the task that is found to run there.
 pub runner_is : (tasks : Tasks) → RunsOnce tasks → (cpu pid : ℕ) (task : Task) → task_of tasks pid ≡ Some task → is_running_on cpu task ≡ true → running_on tasks cpu ≡ Some (pid, task)
 runner_is tasks once cpu pid task is runs = runner_in tasks once cpu pid task is runs (running_on tasks cpu) refl
 
@@ -57,7 +57,7 @@ pub found_changed : (tasks : Tasks) (k : ℕ) (f : Task → Task) (o : Option Ta
 found_changed tasks k f None is pid = ⊎_elim (λ same. ap (task_of tasks) same.1 ∙ is ∙ sym (ap (λ b. cond b None (task_of tasks pid)) same.0)) (λ other. sym (ap (λ b. cond b None (task_of tasks pid)) other.0)) (eqb_tells pid k)
 found_changed tasks k f (Some task) is pid = get_put tasks k (f task) pid
 
--- the result of a look-up after the next task was switched in
+-- The result of looking up a task after the next task was switched in.
 abbrev pub started : Option Pid → ℕ → Option Task → Option Task
 started None pid found = found
 started (Some next) pid found = cond (pid == next.0) (changed running found) found
@@ -68,7 +68,7 @@ found_started tasks (Some next) pid =
     found_changed tasks next.0 running (task_of tasks next.0) refl pid
     ∙ ⊎_elim (λ same. rw (ap (task_of tasks) same.1) refl) (λ other. rw other.0 refl) (eqb_tells pid next.0)
 
--- the result of a look-up after the running task was switched out for another
+-- The result of looking up a task after the running task was switched out for another task.
 abbrev pub put_aside : Option (ℕ × Task) → ℕ → Option Task → Option Task
 put_aside None pid found = found
 put_aside (Some e) pid found = cond (pid == e.0) (Some (preempted e.1)) found
@@ -83,7 +83,7 @@ may_make_room : (o : Option (ℕ × Task)) → how_cause (making_room (pid_part 
 may_make_room None = refl
 may_make_room (Some e) = refl
 
--- a ready task is switched in, and the running one is switched out
+-- A ready task is switched in, and the running task is switched out.
 pub record Comes (limits : Limits) (at room : ℕ) (v : World) (pid : Pid) (task : Task) (o : Option (ℕ × Task)) : Type 0 where
   pub does : Does limits at room v (act.Switch task.cpu (Some pid) (making_room (pid_part o)) ∷ [])
   pub tasks : (k : ℕ) → task_of (after_event v (event_at at (act.Switch task.cpu (Some pid) (making_room (pid_part o))))).tasks k ≡ cond (k == pid.0) (Some (running task)) (put_aside o k (task_of v.tasks k))
@@ -107,7 +107,7 @@ comes_in limits at room v pid task o ready there is can runs =
 
 -- ---- the killed task is switched out
 
--- the task that runs next after an exit, if any, is ready on the processor
+-- The task that runs next after an exit, if any, is ready on the processor.
 abbrev pub IsNext : Tasks → ℕ → Option Pid → Type 0
 IsNext tasks cpu next = IfSome next (λ _. is_some_and (next_task tasks next) (is_ready_on cpu) ≡ true)
 
@@ -131,7 +131,7 @@ exits limits at room v pid task next ready there is runs free turn =
           ∙ ap (started next k) (get_remove v.tasks pid.0 k);
     }
 
--- a task in a stall ends the stall first
+-- A task that is in a memory stall ends the stall first.
 next_still : (tasks : Tasks) (cpu : ℕ) (pid : ℕ) (task other : Task) (next : Option Pid) → running_on tasks cpu ≡ Some (pid, task) → IsNext tasks cpu next → IsNext (put tasks pid other) cpu next
 next_still tasks cpu pid task other None runs turn = tt
 next_still tasks cpu pid task other (Some next) runs turn =
@@ -161,7 +161,7 @@ frees limits at room v pid task next ready there is runs stalled turn =
       tasks = λ k. last.tasks k ∙ ap (λ ts. started next k (cond (k == pid.0) None (task_of ts k))) tasks ∙ ap (λ o. started next k (cond (k == pid.0) None o)) (get_put v.tasks pid.0 (freed task) k) ∙ then_exits v.tasks pid.0 k (freed task) next;
     }
 
--- a running task ends its stall, if it is in one, and exits
+-- A running task ends its memory stall, if it is in a stall, and exits.
 pub leaves : (limits : Limits) (at room : ℕ) (v : World) (pid : Pid) (task : Task) (next : Option Pid) → IsReady limits at (room + length (acts_if task.stalled (act.Unstall pid ∷ []) ++ act.Switch task.cpu next Exit ∷ [])) v → nat_le limits.cpus task.cpu.0 ≡ false
     → task_of v.tasks pid.0 ≡ Some task → is_running_on task.cpu.0 task ≡ true → IsNext v.tasks task.cpu.0 next
     → Leaves limits at room v pid next (acts_if task.stalled (act.Unstall pid ∷ []) ++ act.Switch task.cpu next Exit ∷ [])

@@ -1,4 +1,4 @@
--- Proofs that the dead tasks remain live in the original trace until they exit there.
+-- Proves that the dead tasks stay live in the original trace until they exit there.
 use Rattle.std.proofs.Common.{◌≡◌, ℕ, List, refl, ap, ◌∙◌, sym, subst, cond, Bool, true, false, Option, None, Some, ◌==◌}
 use Rattle.std.specs.Prelude.{◌&&◌, filter, is_some, not}
 use Rattle.psi_base.specs.declared.event.Act.{Act}
@@ -13,7 +13,7 @@ use Rattle.psi_spec.proofs.TaskLaws.{get_put, get_remove}
 use Rattle.whatif_spec.specs.Without.{dead_after, is_pid_among, pid_part, without_pid}
 use Rattle.whatif_trace.proofs.Changing.{among_less}
 
--- each of these pids has a live task
+-- Each of these pids is the pid of a live task.
 abbrev pub AreLive : List ℕ → Tasks → Type 0
 AreLive dead tasks = (pid : ℕ) → is_pid_among dead pid ≡ true → is_some (task_of tasks pid) ≡ true
 
@@ -37,7 +37,7 @@ both_true true false is = (refl, refl)
 both_true true true is = absurd (let no : ⊥ = cc is in no)
 both_true false c is = absurd (let no : ⊥ = cc is in no)
 
--- a task that exits is no longer among the dead
+-- A task that exits is removed from the dead tasks, and the other dead tasks are still live.
 exit_live : (dead : List ℕ) (tasks : Tasks) (k : ℕ) → AreLive dead tasks → AreLive (filter (λ other. not (other == k)) dead) (placed tasks k None)
 exit_live dead tasks k live pid is =
     let parts = both_true (is_pid_among dead pid) (pid == k) (sym (among_less dead k pid) ∙ is) in
@@ -45,7 +45,7 @@ exit_live dead tasks k live pid is =
 
 -- ---- by acts
 
--- the tasks that are dead after a switch, given the task that is switched out, if any
+-- The dead tasks after a switch. `running` is the task that is switched out, if any.
 abbrev pub dead_by : How → List ℕ → Option (ℕ × Task) → List ℕ
 dead_by Exit dead running = without_pid dead (pid_part running)
 dead_by Preempt dead running = dead
@@ -72,7 +72,7 @@ left_live dead tasks IoWait (Some e) live = put_live dead tasks e.0 _ live
 left_live dead tasks Idle None live = live
 left_live dead tasks Idle (Some e) live = put_live dead tasks e.0 _ live
 
--- after any act of the trace, the dead tasks are live in the original trace
+-- After each act of the trace, the dead tasks are live in the original trace.
 pub act_live : (dead : List ℕ) (w : World) (what : Act) → AreLive dead w.tasks → AreLive (dead_after dead w what) (tasks_after w.groups w.tasks what)
 act_live dead w (act.Fork pid path cpu) live = put_live dead w.tasks pid.0 _ live
 act_live dead w (act.Wake pid cpu) live = change_live dead w.tasks pid.0 _ (task_of w.tasks pid.0) live

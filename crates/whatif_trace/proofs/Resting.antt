@@ -1,4 +1,4 @@
--- Proofs about the events after the exits without the dead tasks, event by event.
+-- Proves, event by event, that the events after the exits are legal without the dead tasks.
 use Rattle.std.proofs.Common.{◌≡◌, ℕ, ◌+◌, ◌≤◌, ◌<◌, List, [], ◌∷◌, ◌++◌, refl, ap, ◌∙◌, sym, subst, arith, false, None, Some, length}
 use Rattle.std.specs.Prelude.{nat_lt, slice_get}
 use Rattle.std.specs.FinMap as tasks_by
@@ -27,11 +27,11 @@ use Rattle.whatif_trace.proofs.Living.{AreLive, act_live}
 use Rattle.whatif_trace.proofs.Steps.{Goes, HasRoom, NoneAgainst, event_at, forked_still, may_fork, moved_still, of_pid, of_tasks, removed_still, same_act}
 use Rattle.whatif_trace.proofs.Switching.{switch_goes}
 
--- a pid without a live task isn't among the dead
+-- A pid without a live task isn't the pid of a dead task.
 new_alive : (dead : List ℕ) (tasks : Tasks) (pid : ℕ) → AreLive dead tasks → task_of tasks pid ≡ None → is_pid_among dead pid ≡ false
 new_alive dead tasks pid live none = either (is_pid_among dead pid) (λ is. let some = live pid is in let no : ⊥ = cc (some, none) in no)
 
--- what remains of a legal act is legal, and the relation of the worlds is preserved
+-- What remains of a legal act is legal, and the relation of the two worlds is preserved.
 pub act_goes : (limits : Limits) (dead : List ℕ) (w v : World) (at : ℕ) (what : Act) → IsWithout dead w v → RunsOnce w.tasks → AreLive dead w.tasks → HasRoom limits v at → NoneAgainst limits w at what
     → Goes limits (dead_after dead w what) w v at what (act_without dead w what)
 act_goes limits dead w v at (act.Group path) is once live room none = same_act limits dead dead w v at (act.Group path) is room (ap (λ gs. add_cause gs path) is.groups ∙ none) is.tasks
@@ -78,7 +78,7 @@ act_goes limits dead w v at act.End is once live room none = same_act limits dea
 
 -- ---- event by event
 
--- the time of an event is legal
+-- The time of the event is legal: it isn't before the last event or after the latest time.
 pub record IsInTime (limits : Limits) (w : World) (event : Event) : Type 0 where
   pub on_time : w.last ≤ event.at
   pub early : event.at ≤ limits.latest
@@ -92,7 +92,7 @@ in_time limits w event legal =
     let off : (at : ℕ) (why : Cause) → slice_get cause_order at ≡ Some why → applies why limits w event ≡ false = λ at why is. passed (λ why. applies why limits w event) cause_order at why legal is in
     record { on_time = not_below event.at w.last (off 1 cause.TimeBack refl); early = not_below limits.latest event.at (off 2 cause.TimeTooLate refl) }
 
--- the first of these events isn't earlier than a time
+-- The first of these events isn't earlier than time `last` (ns).
 abbrev pub Begins : ℕ → List Event → Type 0
 Begins last [] = Unit {0}
 Begins last (event ∷ events) = last ≤ event.at
@@ -101,7 +101,7 @@ pub lines_from : (w : World) (events : List Event) → (after_from w events).lin
 lines_from w [] = omega arith
 lines_from w (event ∷ events) = let rest = lines_from (after_event w event) events in omega (arith, rest)
 
--- acts at one time set the last time to it, or leave the last time unchanged
+-- Acts at time `at` (ns) leave the time of the last event at most `at`.
 pub last_from : (w : World) (at : ℕ) (acts : List Act) → w.last ≤ at → (after_from w (events_at at acts)).last ≤ at
 last_from w at [] low = low
 last_from w at (what ∷ acts) low = last_from (after_event w (event_at at what)) at acts (omega arith)
@@ -114,7 +114,8 @@ pub next_begins : (limits : Limits) (w : World) (events : List Event) (last : �
 next_begins limits w [] last low legal = tt
 next_begins limits w (event ∷ events) last low legal = let time = (in_time limits w event legal.0).on_time in omega (arith, low, time)
 
--- the rest without the dead tasks is legal, and the relation of the worlds is preserved
+-- The remaining events without the dead tasks are legal, and the relation of the two worlds is
+-- preserved.
 pub record RestGoes (limits : Limits) (dead : List ℕ) (w v : World) (events : List Event) : Type 0 where
   pub legal : AreLegal limits v (rest_without dead w events)
   pub later : IsWithout (dead_later_on dead w events) (after_from w events) (after_from v (rest_without dead w events))

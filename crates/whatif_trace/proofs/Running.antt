@@ -1,4 +1,4 @@
--- Proofs that the list of running tasks stays correct after each legal event.
+-- Proves that the list of running tasks stays correct after each legal event.
 use Rattle.std.proofs.Common.{◌≡◌, ℕ, ◌<◌, List, [], ◌∷◌, refl, ap, ◌∙◌, sym, subst, arith, cond, Bool, true, false, Option, None, Some, ◌==◌, length, ⊎_elim}
 use Rattle.std.specs.Prelude.{◌&&◌, IfSome, nat_le, not, replicate, slice_index_or, slice_set}
 use Rattle.std.specs.FinMap as tasks_by
@@ -63,7 +63,7 @@ by_found tasks cpu place each (Some e) is =
     let there = running_found tasks cpu e is in
     some_found e place (sym (each e.0) ∙ ap (λ o. is_some_and o (is_running_on cpu)) there.0 ∙ there.1)
 
--- the list has the task that runs on each processor
+-- The list has the task that runs on each processor.
 pub runner_known : (cpus : ℕ) (runners : List (Option Pid)) (tasks : Tasks) (cpu : ℕ) → AreRunners cpus runners tasks → cpu < cpus → pid_part (running_on tasks cpu) ≡ runner_at runners cpu
 runner_known cpus runners tasks cpu are room = by_found tasks cpu (runner_at runners cpu) (λ q. are.each q cpu room) (running_on tasks cpu) refl
 
@@ -74,7 +74,7 @@ none_at n cpu room = get_or-replicate n cpu None None room
 
 -- ---- changes that don't affect whether a task runs
 
--- a change of a task doesn't change whether it runs on a processor
+-- A change of a task doesn't change whether the task runs on the processor.
 abbrev Alike : ℕ → Option Task → Option Task → Type 0
 Alike cpu before now = is_some_and now (is_running_on cpu) ≡ is_some_and before (is_running_on cpu)
 
@@ -141,7 +141,7 @@ keeps_new tasks k task none off = record {
 
 -- ---- a switch
 
--- the result of a look-up after the running task was switched out
+-- The result of looking up a task after the running task was switched out.
 abbrev gone_by : How → Option (ℕ × Task) → ℕ → Option Task → Option Task
 gone_by how None q found = found
 gone_by how (Some e) q found = cond (q == e.0) (left_by how e.1) found
@@ -163,7 +163,7 @@ one_place t c cpu h n = grind (arith, nat_tests)
 ready_place : (task : Task) (c cpu : ℕ) → is_ready_on cpu task ≡ true → (c == cpu) ≡ false → is_running_on c (running task) ≡ false
 ready_place t c cpu h n = grind (arith, nat_tests)
 
--- after the running task was switched out, no task runs on the processor
+-- After the running task was switched out, no task runs on the processor.
 off_here : (tasks : Tasks) (cpu : ℕ) (how : How) (o : Option (ℕ × Task)) → running_on tasks cpu ≡ o → is_wrong how o ≡ false → ((q : ℕ) → is_some_and (task_of tasks q) (is_running_on cpu) ≡ is_pid q (pid_part o)) → (q : ℕ) → is_some_and (gone_by how o q (task_of tasks q)) (is_running_on cpu) ≡ false
 off_here tasks cpu how None runs right each q = each q
 off_here tasks cpu how (Some e) runs right each q =
@@ -172,7 +172,7 @@ off_here tasks cpu how (Some e) runs right each q =
       | false ↦ λ other. each q ∙ other
     ] refl
 
--- on all other processors the same tasks run as before
+-- On all other processors, the same tasks run as before.
 still_there : (tasks : Tasks) (c cpu : ℕ) (how : How) (o : Option (ℕ × Task)) → running_on tasks cpu ≡ o → is_wrong how o ≡ false → (c == cpu) ≡ false → (q : ℕ) → Alike c (task_of tasks q) (gone_by how o q (task_of tasks q))
 still_there tasks c cpu how None runs right other q = refl
 still_there tasks c cpu how (Some e) runs right other q =
@@ -182,7 +182,7 @@ still_there tasks c cpu how (Some e) runs right other q =
     (λ apart. ap (λ b. is_some_and (cond b (left_by how e.1) (task_of tasks q)) (is_running_on c)) apart.0)
     (eqb_tells q e.0)
 
--- the next task runs on the processor, if it was ready there
+-- The next task runs on the processor if it was ready there.
 now_runs : (cpu : ℕ) (found : Option Task) → is_some_and found (is_ready_on cpu) ≡ true → is_some_and (changed running found) (is_running_on cpu) ≡ true
 now_runs cpu None ready = absurd (let no : ⊥ = cc ready in no)
 now_runs cpu (Some task) ready = rw (first_true (task.cpu.0 == cpu) (is_ready task.mode) ready) refl
@@ -195,7 +195,7 @@ runs_here cpu (Some pid) q found off ready =
       | false ↦ λ _. off
     ] refl
 
--- a ready task doesn't run
+-- A ready task doesn't run.
 ready_off : (mode : Mode) → is_ready mode ≡ true → is_running mode ≡ false
 ready_off Ready on = refl
 ready_off Running on = absurd (let no : ⊥ = cc on in no)
@@ -214,7 +214,7 @@ elsewhere c cpu (Some pid) q found other ready =
       | false ↦ λ _. refl
     ] refl
 
--- the next task is still ready after the running task was switched out
+-- The next task is still ready after the running task was switched out.
 still_ready : (tasks : Tasks) (cpu : ℕ) (how : How) (next : Option Pid) → IfSome next (λ _. is_some_and (next_task tasks next) (is_ready_on cpu) ≡ true) → (q : ℕ) → IfSome next (λ pid. (q == pid.0) ≡ true → is_some_and (task_of (leave how tasks (running_on tasks cpu)) q) (is_ready_on cpu) ≡ true)
 still_ready tasks cpu how None ready q = tt
 still_ready tasks cpu how (Some pid) ready q = λ is.
@@ -282,13 +282,13 @@ turns limits w at runners (act.Irq cpu ns) are none = are
 turns limits w at runners (act.Pressure path on) are none = are
 turns limits w at runners act.End are none = are
 
--- the list stays correct after any number of legal events
+-- The list stays correct after any number of legal events.
 pub turn_by_turn : (limits : Limits) (w : World) (events : List Event) (runners : List (Option Pid)) → AreRunners limits.cpus runners w.tasks → AreLegal limits w events → AreRunners limits.cpus (turned_by runners events) (after_from w events).tasks
 turn_by_turn limits w [] runners are legal = are
 turn_by_turn limits w (event ∷ events) runners are legal =
     turn_by_turn limits (after_event w event) events (turned runners event.act) (turns limits w event.at runners event.act are (let_through limits w event legal.0)) legal.1
 
--- no task runs before the first event
+-- No task runs before the first event.
 pub none_first : (cpus : ℕ) → AreRunners cpus (replicate cpus None) no_tasks
 none_first cpus = record {
   long = length-replicate cpus (let o : Option Pid = None in o);
@@ -304,11 +304,11 @@ other_pid : (pid q : ℕ) (place : Option Pid) → is_pid pid place ≡ true →
 other_pid pid q None is other = refl
 other_pid pid q (Some p) is other = apart_from q pid p.0 is other
 
--- the task is removed from the map of tasks
+-- `less` is the map `tasks` without the task with the pid `pid`.
 abbrev Gone : Tasks → ℕ → Tasks → Type 0
 Gone tasks pid less = (k : ℕ) → task_of less k ≡ cond (k == pid) None (task_of tasks k)
 
--- after the exit of the running task, no task runs on its processor
+-- After the exit of the running task, no task runs on its processor.
 none_here : (tasks less : Tasks) (pid cpu : ℕ) (place : Option Pid) → Gone tasks pid less → ((q : ℕ) → is_some_and (task_of tasks q) (is_running_on cpu) ≡ is_pid q place) → is_pid pid place ≡ true → (q : ℕ) → is_some_and (task_of less q) (is_running_on cpu) ≡ false
 none_here tasks less pid cpu place gone each is q =
     ap (λ o. is_some_and o (is_running_on cpu)) (gone q)
@@ -317,7 +317,7 @@ none_here tasks less pid cpu place gone each is q =
       | false ↦ λ other. each q ∙ other_pid pid q place is other
     ] refl
 
--- the exit of a task that doesn't run leaves the running task unchanged
+-- The exit of a task that doesn't run doesn't change the running task.
 same_here : (tasks less : Tasks) (pid cpu : ℕ) (task : Task) (place : Option Pid) → Gone tasks pid less → task_of tasks pid ≡ Some task → is_running_on cpu task ≡ false → ((q : ℕ) → is_some_and (task_of tasks q) (is_running_on cpu) ≡ is_pid q place) → (q : ℕ) → is_some_and (task_of less q) (is_running_on cpu) ≡ is_pid q place
 same_here tasks less pid cpu task place gone is off each q =
     ap (λ o. is_some_and o (is_running_on cpu)) (gone q)
@@ -334,7 +334,7 @@ never tasks less pid none gone = record {
   each = λ q cpu. ap (λ o. is_some_and o (is_running_on cpu)) (gone q ∙ ⊎_elim (λ same. ap (λ b. cond b None (task_of tasks q)) same.0 ∙ sym (ap (task_of tasks) same.1 ∙ none)) (λ other. ap (λ b. cond b None (task_of tasks q)) other.0) (eqb_tells q pid));
 }
 
--- after the exit of a running task, its processor is idle in the list
+-- After the exit of a running task, its processor is idle in the list.
 pub exit_runs : (cpus : ℕ) (runners : List (Option Pid)) (tasks less : Tasks) (pid : ℕ) (o : Option Task) → AreRunners cpus runners tasks → task_of tasks pid ≡ o → IfSome o (λ task. task.cpu.0 < cpus) → Gone tasks pid less → AreRunners cpus (exited runners o) less
 exit_runs cpus runners tasks less pid None are is inside gone = same_runners cpus runners tasks less are (never tasks less pid is gone)
 exit_runs cpus runners tasks less pid (Some task) are is inside gone =

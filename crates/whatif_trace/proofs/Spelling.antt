@@ -1,5 +1,5 @@
--- Proofs that the numbers of the remaining events fit the grammar, so the trace can be written as
--- text.
+-- Proves that the numbers of the remaining events fit the grammar of traces. Therefore the trace
+-- can be written as text.
 use Rattle.std.proofs.Common.{◌≡◌, ℕ, ◌+◌, ◌^◌, ◌≤◌, ◌<◌, List, [], ◌∷◌, ◌++◌, refl, ap, ◌∙◌, sym, subst, arith, cond, Bool, true, false, Option, None, Some, ◌==◌, length, ⊎_elim}
 use Rattle.std.specs.Prelude.{IfSome, if◌then◌else◌, is_some, not}
 use Rattle.std.specs.FinMap as tasks_by
@@ -28,11 +28,11 @@ use Rattle.std.proofs.lemmas.List.{length-append, length-map}
 
 -- ---- pids
 
--- the pid of each live task fits the grammar
+-- The pid of each live task fits the grammar.
 abbrev pub AreNumbers : Tasks → Type 0
 AreNumbers tasks = (pid : ℕ) → is_some (task_of tasks pid) ≡ true → IsPid (record { 0 = pid })
 
--- each task that is found later was found before
+-- Each task in the map `later` is also in the map `tasks`.
 abbrev AreBefore : Tasks → Tasks → Type 0
 AreBefore tasks later = (pid : ℕ) → is_some (task_of later pid) ≡ true → is_some (task_of tasks pid) ≡ true
 
@@ -70,7 +70,7 @@ numbers_put tasks k task is numbers pid some =
       | false ↦ λ _ found. numbers pid found
     ] refl (ap is_some (sym (get_put tasks k.0 task pid)) ∙ some)
 
--- an act that fits the grammar preserves that all pids do
+-- An act that fits the grammar preserves that the pids of all live tasks fit the grammar.
 numbers_act : (w : World) (what : Act) → ActFits what → AreNumbers w.tasks → AreNumbers (tasks_after w.groups w.tasks what)
 numbers_act w (act.Fork pid path cpu) fits numbers = numbers_put w.tasks pid _ fits.0 numbers
 numbers_act w (act.Wake pid cpu) fits numbers = λ k some. numbers k (change_before w.tasks pid.0 _ k some)
@@ -112,7 +112,7 @@ fit_join (x ∷ xs) ys prefix rest = (prefix.0, fit_join xs ys prefix.1 rest)
 
 -- ---- the rest
 
--- the acts fit the grammar, at any time
+-- All acts fit the grammar.
 abbrev pub ActsFit : List Act → Type 0
 ActsFit [] = Unit {0}
 ActsFit (what ∷ acts) = ActFits what × ActsFit acts

@@ -1,5 +1,5 @@
--- Proofs about one event after the exits: what remains of it is legal without the dead tasks, and
--- the relation of the worlds is preserved.
+-- Proves that what remains of one event after the exits is legal, and that the relation of the two
+-- worlds is preserved.
 use Rattle.std.proofs.Common.{◌≡◌, ℕ, ◌+◌, ◌≤◌, ◌<◌, List, [], ◌∷◌, refl, ap, ◌∙◌, sym, arith, Bool, true, false, Option, None, Some}
 use Rattle.std.specs.Prelude.{◌||◌, is_some, not, nat_le, if◌then◌else◌}
 use Rattle.std.proofs.lemmas.Bool.Decides.{nat_tests}
@@ -24,27 +24,27 @@ use Rattle.whatif_trace.proofs.Fewer.{AreWithout, no_member}
 abbrev pub event_at : ℕ → Act → Event
 event_at at what = record { at = at; act = what }
 
--- a world has room for one more event at a time
+-- The world has room for one more event at time `at` (ns).
 pub record HasRoom (limits : Limits) (v : World) (at : ℕ) : Type 0 where
   pub going : v.ended ≡ false
   pub forward : v.last ≤ at
   pub early : at ≤ limits.latest
   pub few : v.lines < 4000000
 
--- These acts are legal, and the world after them is the original trace's world after its act,
--- without the tasks that are dead at that point.
+-- The acts are legal. The world after them is the original trace's world after the act `what`,
+-- without the tasks that are dead then.
 pub record Goes (limits : Limits) (dead : List ℕ) (w v : World) (at : ℕ) (what : Act) (acts : List Act) : Type 0 where
   pub legal : AreLegal limits v (events_at at acts)
   pub later : IsWithout dead (after_event w (event_at at what)) (after_from v (events_at at acts))
 
--- no cause specific to this act rejects it
+-- No cause specific to the act rejects it.
 abbrev pub NoneAgainst : Limits → World → ℕ → Act → Type 0
 NoneAgainst limits w at what = act_cause limits.cpus w.groups w.tasks w.irqs w.triggers w.pressures at what ≡ None
 
 pub legal_one : (limits : Limits) (v : World) (at : ℕ) (what : Act) → HasRoom limits v at → NoneAgainst limits v at what → AreLegal limits v (events_at at (what ∷ []))
 legal_one limits v at what room none = (first_of_act limits v (event_at at what) room.going room.forward room.early room.few ∙ none, tt)
 
--- an act changes at most the tasks
+-- The act changes nothing but the tasks.
 pub record IsOfTasks (at : ℕ) (what : Act) : Type 0 where
   pub groups : (groups : List GroupLife) → groups_after at groups what ≡ groups
   pub irqs : (irqs : List ℕ) → irqs_after at irqs what ≡ irqs
@@ -62,7 +62,7 @@ still_ended b c off = rw off (or_false b)
 no_trigger : (n : ℕ) (b : Bool) → b ≡ false → n + (if b then 1 else 0) ≡ n
 no_trigger n b off = rw off (omega arith)
 
--- an act that remains unchanged
+-- The step for an act that remains unchanged.
 pub same_act : (limits : Limits) (dead later : List ℕ) (w v : World) (at : ℕ) (what : Act) → IsWithout dead w v → HasRoom limits v at → NoneAgainst limits v at what
     → AreWithout later (tasks_after w.groups w.tasks what) (tasks_after v.groups v.tasks what) → Goes limits later w v at what (what ∷ [])
 same_act limits dead later w v at what is room none tasks = record {
@@ -77,7 +77,7 @@ same_act limits dead later w v at what is room none tasks = record {
   };
 }
 
--- an act that is dropped
+-- The step for an act that is dropped.
 pub left_out : (limits : Limits) (dead later : List ℕ) (w v : World) (at : ℕ) (what : Act) → IsWithout dead w v → IsOfTasks at what
     → AreWithout later (tasks_after w.groups w.tasks what) v.tasks → Goes limits later w v at what []
 left_out limits dead later w v at what is of tasks = record {
@@ -92,7 +92,7 @@ left_out limits dead later w v at what is of tasks = record {
   };
 }
 
--- an act that is replaced by another one
+-- The step for an act that is replaced by another act.
 pub in_place : (limits : Limits) (dead later : List ℕ) (w v : World) (at : ℕ) (what other : Act) → IsWithout dead w v → IsOfTasks at what → IsOfTasks at other → HasRoom limits v at → NoneAgainst limits v at other
     → AreWithout later (tasks_after w.groups w.tasks what) (tasks_after v.groups v.tasks other) → Goes limits later w v at what (other ∷ [])
 in_place limits dead later w v at what other is of of_other room none tasks = record {
@@ -117,7 +117,7 @@ pub past : (b : Bool) (why : Cause) (rest : Option Cause) → (if b then Some wh
 past false why rest none = (refl, none)
 past true why rest none = absurd (let no : ⊥ = cc none in no)
 
--- a group that can be removed can also be removed with fewer tasks
+-- A group that can be removed can also be removed if there are fewer tasks.
 pub removed_still : (dead : List ℕ) (tasks fewer : Tasks) (groups : List GroupLife) (path : List ℕ) → AreWithout dead tasks fewer → empty_cause groups tasks path ≡ None → empty_cause groups fewer path ≡ None
 removed_still dead tasks fewer groups path are none =
     let parts = both_none (remove_cause groups path) (if has_member tasks (slot_of groups path) then Some cause.GroupBusy else None) none in
@@ -128,7 +128,7 @@ no_task : (o : Option Task) → is_some o ≡ false → o ≡ None
 no_task None none = refl
 no_task (Some task) none = absurd (let no : ⊥ = cc none in no)
 
--- the facts of a legal fork
+-- The conditions under which a fork is legal.
 pub record MayFork (cpus : ℕ) (groups : List GroupLife) (live : ℕ) (task : Option Task) (path : List ℕ) (cpu : ℕ) : Type 0 where
   pub few : nat_le 65536 live ≡ false
   pub group : not (is_some (slot_of groups path)) ≡ false
@@ -152,7 +152,7 @@ forked_still cpus groups live fewer task path cpu less none =
 
 -- ---- acts of tasks
 
--- an act of a task: if the task isn't dead the act remains, otherwise it is dropped
+-- The step for an act of a task. The act remains if the task isn't dead, and is dropped if it is.
 pub of_pid : (limits : Limits) (dead : List ℕ) (w v : World) (at : ℕ) (pid : Pid) (what : Act) → IsWithout dead w v → HasRoom limits v at → IsOfTasks at what
     → (is_pid_among dead pid.0 ≡ false → NoneAgainst limits v at what)
     → (is_pid_among dead pid.0 ≡ false → AreWithout dead (tasks_after w.groups w.tasks what) (tasks_after v.groups v.tasks what))

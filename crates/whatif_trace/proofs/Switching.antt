@@ -1,4 +1,4 @@
--- Proofs about a switch without the dead tasks.
+-- Proves that what remains of a switch without the dead tasks is legal.
 use Rattle.std.proofs.Common.{◌≡◌, ℕ, List, [], ◌∷◌, refl, ap, ◌∙◌, sym, subst, cond, Bool, true, false, Option, None, Some, ◌==◌, ⊎_elim}
 use Rattle.std.specs.Prelude.{◌&&◌, IfSome, filter, is_some, not, nat_le, if◌then◌else◌}
 use Rattle.std.proofs.lemmas.Bool.Decides.{eqb_tells}
@@ -34,12 +34,12 @@ ready_some : (o : Option Task) (cpu : ℕ) → is_some_and o (is_ready_on cpu) �
 ready_some None cpu ready = absurd (let no : ⊥ = cc ready in no)
 ready_some (Some task) cpu ready = refl
 
--- a task that is ready on an existing processor can run next, and so can no task
+-- A switch to a task that is ready on an existing processor, or to no task, is legal.
 pub next_may : (cpus cpu : ℕ) (next : Option Pid) (task : Option Task) → nat_le cpus cpu ≡ false → IfSome next (λ _. is_some_and task (is_ready_on cpu) ≡ true) → next_cause cpus cpu next task ≡ None
 next_may cpus cpu None task there ready = rw there refl
 next_may cpus cpu (Some pid) task there ready = rw (ready_some task cpu ready, there, ready) refl
 
--- a next task that isn't dead is ready in both maps
+-- A next task that isn't dead is ready in both maps.
 ready_kept : (dead : List ℕ) (tasks fewer : Tasks) (cpu : ℕ) (next : Option Pid) → AreWithout dead tasks fewer → is_alive dead next ≡ true → IfSome next (λ _. is_some_and (next_task tasks next) (is_ready_on cpu) ≡ true) → IfSome next (λ _. is_some_and (next_task fewer next) (is_ready_on cpu) ≡ true)
 ready_kept dead tasks fewer cpu None are alive ready = tt
 ready_kept dead tasks fewer cpu (Some pid) are alive ready = ap (λ o. is_some_and o (is_ready_on cpu)) (found_kept dead tasks fewer are pid.0 (not_true (is_pid_among dead pid.0) alive)) ∙ ready
@@ -59,7 +59,7 @@ may_be cpus cpu next task how running first second = rw (first, second) refl
 pub of_switch : (at : ℕ) (cpu : Cpu) (next : Option Pid) (how : How) → IsOfTasks at (act.Switch cpu next how)
 of_switch at cpu next how = record { groups = λ groups. refl; irqs = λ irqs. refl; plain = refl; on = refl; goes_on = refl }
 
--- facts about the switch in the trace
+-- The facts about the switch and the worlds that the proofs of this module use.
 record IsSwitch (limits : Limits) (dead : List ℕ) (w v : World) (at : ℕ) (cpu : Cpu) (next : Option Pid) (how : How) (running : Option (ℕ × Task)) : Type 0 where
   is : IsWithout dead w v
   room : HasRoom limits v at
@@ -70,11 +70,11 @@ record IsSwitch (limits : Limits) (dead : List ℕ) (w v : World) (at : ℕ) (cp
   runs : running_on w.tasks cpu.0 ≡ running
   kept : running_on v.tasks cpu.0 ≡ if_kept dead running
 
--- the tasks after the switch in the original trace
+-- The relation of the maps of tasks after the switch in the original trace.
 tasks_are : (w : World) (cpu : Cpu) (next : Option Pid) (how : How) (running : Option (ℕ × Task)) (dead : List ℕ) (fewer : Tasks) → running_on w.tasks cpu.0 ≡ running → AreWithout dead (start next (leave how w.tasks running)) fewer → AreWithout dead (start next (leave how w.tasks (running_on w.tasks cpu.0))) fewer
 tasks_are w cpu next how running dead fewer runs are = subst (λ o. AreWithout dead (start next (leave how w.tasks o)) fewer) (sym runs) are
 
--- a task that isn't dead is switched in, and no task that isn't dead is switched out
+-- The step for a switch that only switches in a task that isn't dead.
 comes : (limits : Limits) (dead later : List ℕ) (w v : World) (at : ℕ) (cpu : Cpu) (next : Option Pid) (how : How) (running : Option (ℕ × Task)) → IsSwitch limits dead w v at cpu next how running → if_kept dead running ≡ None → is_alive dead next ≡ true
     → AreWithout later (start next (leave how w.tasks running)) (start next v.tasks) → Goes limits later w v at (act.Switch cpu next how) (act.Switch cpu next Idle ∷ [])
 comes limits dead later w v at cpu next how running so none alive are =
@@ -84,13 +84,13 @@ comes limits dead later w v at cpu next how running so none alive are =
     (may_be limits.cpus cpu.0 next (next_task v.tasks next) Idle (running_on v.tasks cpu.0) (next_may limits.cpus cpu.0 next (next_task v.tasks next) so.there ready) (rw idle refl))
     (subst (λ o. AreWithout later (start next (leave how w.tasks (running_on w.tasks cpu.0))) (start next (leave Idle v.tasks o))) (sym idle) (tasks_are w cpu next how running later (start next v.tasks) so.runs are))
 
--- no task is switched in or out
+-- The step for a switch between dead tasks or no tasks.
 stays : (limits : Limits) (dead later : List ℕ) (w v : World) (at : ℕ) (cpu : Cpu) (next : Option Pid) (how : How) (running : Option (ℕ × Task)) → IsSwitch limits dead w v at cpu next how running
     → AreWithout later (start next (leave how w.tasks running)) v.tasks → Goes limits later w v at (act.Switch cpu next how) []
 stays limits dead later w v at cpu next how running so are =
     left_out limits dead later w v at (act.Switch cpu next how) so.is (of_switch at cpu next how) (tasks_are w cpu next how running later v.tasks so.runs are)
 
--- the remaining switch if no task that isn't dead is switched out
+-- The step for a switch that doesn't switch out any task that isn't dead.
 none_leaves : (limits : Limits) (dead later : List ℕ) (w v : World) (at : ℕ) (cpu : Cpu) (next : Option Pid) (how : How) (running : Option (ℕ × Task)) → IsSwitch limits dead w v at cpu next how running → if_kept dead running ≡ None
     → AreWithout later (leave how w.tasks running) v.tasks → is_alive later next ≡ is_alive dead next
     → Goes limits later w v at (act.Switch cpu next how) (if is_alive dead next then act.Switch cpu next Idle ∷ [] else [])
@@ -148,7 +148,7 @@ led_dead dead tasks fewer Sleep e are gone = placed_dead dead tasks fewer e.0 (l
 led_dead dead tasks fewer IoWait e are gone = placed_dead dead tasks fewer e.0 (left_by IoWait e.1) are gone
 led_dead dead tasks fewer Idle e are gone = placed_dead dead tasks fewer e.0 (left_by Idle e.1) are gone
 
--- the next task isn't the running one
+-- The next task isn't the running task.
 true_and : (b c : Bool) → c ≡ false → (b && not c) ≡ b
 true_and true c off = rw off refl
 true_and false c off = refl
@@ -195,7 +195,7 @@ whoever_ran : (limits : Limits) (dead : List ℕ) (w v : World) (at : ℕ) (cpu 
 whoever_ran limits dead w v at cpu next how None so = none_ran limits dead w v at cpu next how so
 whoever_ran limits dead w v at cpu next how (Some e) so = some_ran limits dead w v at cpu next how e so
 
--- what remains of a legal switch is legal
+-- What remains of a legal switch is legal.
 pub switch_goes : (limits : Limits) (dead : List ℕ) (w v : World) (at : ℕ) (cpu : Cpu) (next : Option Pid) (how : How) → IsWithout dead w v → RunsOnce w.tasks → HasRoom limits v at → NoneAgainst limits w at (act.Switch cpu next how)
     → Goes limits (dead_after dead w (act.Switch cpu next how)) w v at (act.Switch cpu next how) (switch_without dead cpu (pid_part (running_on w.tasks cpu.0)) next how)
 switch_goes limits dead w v at cpu next how is once room none =

@@ -1,4 +1,4 @@
--- Proofs about the whole remaining trace: the prefix, the exits and the later events.
+-- Proves properties of the whole remaining trace: the prefix, the exits and the later events.
 use Rattle.std.proofs.Common.{◌≡◌, ℕ, ◌+◌, ◌-◌, ◌≤◌, ◌<◌, List, [], ◌∷◌, ◌++◌, refl, ap, ◌∙◌, sym, subst, arith, append_assoc, Bool, true, false, length}
 use Rattle.std.specs.Prelude.{◌||◌, if◌then◌else◌, nat_lt}
 use Rattle.std.proofs.lemmas.Bool.Decides.{nat_tests}
@@ -23,18 +23,18 @@ use Rattle.whatif_trace.proofs.Doing.{IsReady}
 use Rattle.whatif_trace.proofs.Exiting.{ExitsGo, exits_go}
 use Rattle.whatif_trace.proofs.Whole.{legal_rest, members_live, parted, rest_both}
 
--- the `end` event
+-- The `end` event at time `at` (ns).
 abbrev pub end_at : ℕ → Event
 end_at at = record { at = at; act = act.End }
 
--- the `end` event always remains
+-- The `end` event always remains.
 one_left : (dead : List ℕ) (w : World) (prefix : List Event) (at : ℕ) → 1 ≤ length (rest_without dead w (prefix ++ end_at at ∷ []))
 one_left dead w prefix at =
     let parts = ap length (rest_both dead w prefix (end_at at ∷ [])) in
     let many = length-append (rest_without dead w prefix) (end_at at ∷ []) in
     omega (arith, parts, many)
 
--- one more event before later events that are legal
+-- If the later events are legal, they are also legal after one more event before them.
 one_more : (limits : Limits) (dead : List ℕ) (w v : World) (event : Event) (events : List Event) → IsWithout dead w v → IsLegalWorld limits w → AreLive dead w.tasks → AreLegal limits w (event ∷ events) → v.last ≤ event.at → v.lines < 4000000
     → (IsWithout (dead_after dead w event.act) (after_event w event) (after_from v (events_at event.at (act_without dead w event.act))) → Begins (after_from v (events_at event.at (act_without dead w event.act))).last events
     → RestGoes limits (dead_after dead w event.act) (after_event w event) (after_from v (events_at event.at (act_without dead w event.act))) events)
@@ -56,7 +56,7 @@ one_more limits dead w v event events is world live legal begins few others =
       later = subst (λ x. IsWithout (dead_later_on later next events) (after_from next events) x) (sym (after_from-append v prefix (rest_without later next events))) rest.later;
     }
 
--- the later events up to the end are legal
+-- The later events up to the end are legal.
 pub whole_goes : (limits : Limits) (dead : List ℕ) (w v : World) (prefix : List Event) (at : ℕ) → IsWithout dead w v → IsLegalWorld limits w → AreLive dead w.tasks → AreLegal limits w (prefix ++ end_at at ∷ []) → Begins v.last (prefix ++ end_at at ∷ [])
     → v.lines + length (rest_without dead w (prefix ++ end_at at ∷ [])) ≤ 4000000 → RestGoes limits dead w v (prefix ++ end_at at ∷ [])
 whole_goes limits dead w v [] at is world live legal begins few =
@@ -79,14 +79,14 @@ pub ended_at_end : (events : List Event) → EndsLast events → (after events).
 ended_at_end events ends =
     ap (λ es. (after es).ended) ends.2 ∙ ap (λ (w : World). w.ended) (after_from-append first_world ends.0 (end_at ends.1 ∷ [])) ∙ or_true (after ends.0).ended
 
--- a world that continues after a time hasn't ended
+-- A world in which an event follows after time `at` hasn't ended.
 going_on : (limits : Limits) (w : World) (at : ℕ) (rest : List Event) → AreLegal limits w rest → Begins (at + 1) rest → w.last ≤ at → at < (after_from w rest).last → (w.ended ≡ false) × (at + 1 ≤ limits.latest)
 going_on limits w at [] legal begins low high = absurd (omega (arith, low, high))
 going_on limits w at (event ∷ rest) legal begins low high =
     let early = (in_time limits w event legal.0).early in
     (open_of_legal limits w event legal.0, omega (arith, early, begins))
 
--- facts about a trace that is cut at a time before its end
+-- The facts about a trace that is cut at a time before its end.
 pub record IsCut (limits : Limits) (events : List Event) (at : ℕ) : Type 0 where
   pub legal : AreLegal limits first_world (up_to events at)
   pub whole : events ≡ up_to events at ++ suffix events at
@@ -124,7 +124,7 @@ cut_at limits events at legal ends before =
 
 -- ---- the three parts
 
--- the parts of the trace without the tasks of a group
+-- The parts of the trace from which the tasks of a group are removed.
 abbrev pub cut_world : List Event → ℕ → World
 cut_world events at = after (up_to events at)
 
@@ -144,7 +144,7 @@ pub three_parts : (events : List Event) (at victim : ℕ) → at < (after events
 unfolding without
 three_parts events at victim before = ap (λ b. if b then up_to events at ++ exits_of events at victim ++ rest_of events at victim else events) (is_below at (after events).last before)
 
--- the number of further events that fit after the exits, not counting the end
+-- The number of further events that fit after the exits, not counting the end event.
 abbrev pub room_of : List Event → ℕ → ℕ → ℕ
 room_of events at victim = length (rest_of events at victim) - 1
 
@@ -213,7 +213,7 @@ begins_prefix : (last : ℕ) (prefix rest : List Event) → Begins last (prefix 
 begins_prefix last [] rest begins = tt
 begins_prefix last (event ∷ prefix) rest begins = begins
 
--- the worlds after a proper prefix of the later events
+-- The relation of the two worlds after a proper prefix of the later events.
 pub part_goes : (limits : Limits) (events : List Event) (at victim : ℕ) → IsCut limits events at → Holds limits events at victim → (some : List Event) (event : Event) (more : List Event) → suffix events at ≡ some ++ event ∷ more
     → RestGoes limits (dead_of events at victim) (cut_world events at) (after_from (cut_world events at) (exits_of events at victim)) some
 part_goes limits events at victim cut held some event more is =
@@ -229,7 +229,7 @@ part_goes limits events at victim cut held some event more is =
     (begins_prefix v.last some (event ∷ more) (subst (Begins v.last) is (begins_later v.last (at + 1) (suffix events at) held.exits.ready.forward cut.begins)))
     (omega (arith, few, left, parts, many))
 
--- the remaining trace is legal
+-- The remaining trace is legal.
 pub legal_without : (limits : Limits) (events : List Event) (at victim : ℕ) → IsCut limits events at → Holds limits events at victim → AreLegal limits first_world (up_to events at ++ exits_of events at victim ++ rest_of events at victim)
 legal_without limits events at victim cut holds =
     subst (AreLegal limits first_world) (sym (append_assoc (up_to events at) (exits_of events at victim) (rest_of events at victim)))

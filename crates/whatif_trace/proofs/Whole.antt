@@ -1,4 +1,4 @@
--- Proofs that a trace without the tasks of a group is legal, and that its worlds are the original
+-- Proves that a trace without the tasks of a group is legal, and that its worlds are the original
 -- worlds without these tasks.
 use Rattle.std.proofs.Common.{◌≡◌, ℕ, ◌+◌, List, [], ◌∷◌, ◌++◌, refl, ap, ◌∙◌, sym, subst, arith, append_assoc, cond, Bool, true, false, Some, ◌==◌, length, drop, map}
 use Rattle.std.specs.Prelude.{◌||◌, filter, is_some, nat_le}
@@ -19,7 +19,7 @@ use Rattle.whatif_trace.proofs.Resting.{Begins}
 
 -- ---- the prefix and the rest
 
--- the events after the cut are later than the cut
+-- The events after the cut are later than the cut.
 later_begins : (limits : Limits) (w : World) (events : List Event) (at : ℕ) → AreLegal limits w events → (rest : List Event) × (events ≡ up_to events at ++ rest) × Begins (at + 1) rest
 later_begins limits w [] at legal = ([], refl, tt)
 later_begins limits w (event ∷ events) at legal =
@@ -48,7 +48,7 @@ legal_rest limits w (event ∷ prefix) rest legal = legal_rest limits (after_eve
 
 -- ---- the members
 
--- each pid among filtered entries is found in the map
+-- Each pid among filtered entries is the pid of a task in the map.
 among_entries : (tasks : Tasks) (test : ℕ × Task → Bool) (es : List (ℕ × Task)) → AllByRecursion (λ e. task_of tasks e.0 ≡ Some e.1) es → (pid : ℕ) → is_pid_among (map (λ e. e.0) (filter test es)) pid ≡ true → is_some (task_of tasks pid) ≡ true
 among_entries tasks test [] each pid is = absurd (let no : ⊥ = cc is in no)
 among_entries tasks test (e ∷ es) each pid is =
@@ -61,7 +61,7 @@ among_entries tasks test (e ∷ es) each pid is =
       | false ↦ λ among. among_entries tasks test es each.1 pid among
     ] is
 
--- the members of a group are live
+-- The members of a group are live.
 pub members_live : (w : World) (slot : ℕ) → AreLive (members w slot) w.tasks
 members_live w slot pid is = among_entries w.tasks (λ e. is_under (parents_of w.groups) e.1.slot.0 slot) (tasks_by.entries w.tasks) (found w.tasks) pid is
 
