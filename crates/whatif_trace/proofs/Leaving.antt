@@ -131,7 +131,7 @@ exits limits at room v pid task next ready there is runs free turn =
           ∙ ap (started next k) (get_remove v.tasks pid.0 k);
     }
 
--- A task that is in a memory stall ends the stall first.
+-- Replacing the running task doesn't change that the next task is ready.
 next_still : (tasks : Tasks) (cpu : ℕ) (pid : ℕ) (task other : Task) (next : Option Pid) → running_on tasks cpu ≡ Some (pid, task) → IsNext tasks cpu next → IsNext (put tasks pid other) cpu next
 next_still tasks cpu pid task other None runs turn = tt
 next_still tasks cpu pid task other (Some next) runs turn =

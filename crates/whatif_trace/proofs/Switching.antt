@@ -84,7 +84,7 @@ comes limits dead later w v at cpu next how running so none alive are =
     (may_be limits.cpus cpu.0 next (next_task v.tasks next) Idle (running_on v.tasks cpu.0) (next_may limits.cpus cpu.0 next (next_task v.tasks next) so.there ready) (rw idle refl))
     (subst (λ o. AreWithout later (start next (leave how w.tasks (running_on w.tasks cpu.0))) (start next (leave Idle v.tasks o))) (sym idle) (tasks_are w cpu next how running later (start next v.tasks) so.runs are))
 
--- The step for a switch between dead tasks or no tasks.
+-- The step for a switch of which nothing remains.
 stays : (limits : Limits) (dead later : List ℕ) (w v : World) (at : ℕ) (cpu : Cpu) (next : Option Pid) (how : How) (running : Option (ℕ × Task)) → IsSwitch limits dead w v at cpu next how running
     → AreWithout later (start next (leave how w.tasks running)) v.tasks → Goes limits later w v at (act.Switch cpu next how) []
 stays limits dead later w v at cpu next how running so are =
@@ -148,11 +148,12 @@ led_dead dead tasks fewer Sleep e are gone = placed_dead dead tasks fewer e.0 (l
 led_dead dead tasks fewer IoWait e are gone = placed_dead dead tasks fewer e.0 (left_by IoWait e.1) are gone
 led_dead dead tasks fewer Idle e are gone = placed_dead dead tasks fewer e.0 (left_by Idle e.1) are gone
 
--- The next task isn't the running task.
+-- A conjunction with the negation of a false test equals its first test.
 true_and : (b c : Bool) → c ≡ false → (b && not c) ≡ b
 true_and true c off = rw off refl
 true_and false c off = refl
 
+-- The next task isn't the running task.
 pub next_apart : (tasks : Tasks) (cpu pid : ℕ) (e : ℕ × Task) → is_some_and (task_of tasks pid) (is_ready_on cpu) ≡ true → running_on tasks cpu ≡ Some e → (pid == e.0) ≡ false
 next_apart tasks cpu pid e ready runs =
     let still = ready_left tasks cpu Exit pid ready (Some e) runs in
