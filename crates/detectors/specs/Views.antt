@@ -11,8 +11,8 @@ use Rattle.kill_spec.specs.LegalReadings.{Ascend, IsReading}
 
 -- ---- readings
 
--- A reading. `lives` has all groups that the trace ever creates, indexed by slot. `seen` has the
--- time, the host's memory and the live groups.
+-- A reading. `lives` has all groups that the trace ever creates; the index of a group in this list
+-- is its *slot*. `seen` has the time, the host's memory and the live groups.
 pub record ReadingView : Type 0 where
   pub lives : List GroupLife
   pub seen : Reading

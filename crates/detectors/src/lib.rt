@@ -1,7 +1,8 @@
 //! Readings of control groups, and oomd's detectors, which are true or false at a reading.
 //!
 //! A reading is the input of one evaluation of the rules: the time, the host's memory and the live
-//! groups. This crate doesn't combine detectors into rulesets (kill_engine does), and doesn't
+//! groups. The *slot* of a group is its index in the list of all groups that the trace ever
+//! creates. This crate doesn't combine detectors into rulesets (kill_engine does), and doesn't
 //! choose victims (victim_rank does).
 #![tactic(auto)]
 
