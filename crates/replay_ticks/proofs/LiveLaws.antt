@@ -113,8 +113,7 @@ sampled_text plans trace timing slot cpu low high at (sample ∷ samples) planne
     ap (λ seven. live_line at cpu sample.count seven ++ samples_text at cpu samples) times
     ∙ ap (λ text. live_line at cpu sample.count (times_after cpu slot trace.events sample.count at) ++ text) rest
 
--- If the clock of the first sample and the clocks of the other samples can be advanced to `at`, all
--- clocks in the list can.
+-- If the first clock and all other clocks can be advanced to `at`, all clocks in the list can.
 in_time_cons : (at : ℕ) (sample : Sample) (samples : List Sample) → IsInTime sample.clock at → All (λ (sample : Sample). IsInTime sample.clock at) samples → All (λ (sample : Sample). IsInTime sample.clock at) (sample ∷ samples)
 in_time_cons at sample samples first rest = λ k d below. by_place k d below
   where
@@ -139,8 +138,7 @@ up_to_within plan at =
     let most = count_by-le-length (λ (change : Change). nat_le change.at at) plan.changes in
     omega (arith, passed, most)
 
--- The samples of a processor were taken while it made its changes up to the tick that the worker
--- pool reached.
+-- The samples of a processor were taken while it made its changes up to the reached tick.
 beside_cpu : (plans : PlansView) (old new : CrewView) (slot cpu requested low at : ℕ) → IsSampled (plan_at plans cpu) slot requested low (clocks_at new.clocks cpu).made (watch_at old.watches cpu) (watch_at new.watches cpu) → AreAt plans new.clocks at → cpu < length new.clocks
     → AreBeside plans slot cpu low (clocks_at new.clocks cpu).made at (watch_at new.watches cpu).samples
 beside_cpu plans old new slot cpu requested low at is there below =
@@ -314,8 +312,7 @@ by_tick_kept : (watch : Option LiveWatch) (crew : CrewView) (trace : Trace) (tic
 by_tick_kept None crew trace tick i is = is
 by_tick_kept (Some watch) crew trace tick i is = (length-drop 1 crew.ready ∙ ap (λ n. n - 1) is.0, is.1)
 
--- After the worker pool has reached a tick and returned its table, its samples are the samples of
--- that tick.
+-- After a reached tick's table is returned, the worker pool's samples are the tick's samples.
 pub live_next : (slot : Option Slot) (old mid new : CrewView) (trace : Trace) (timing : Timing) (i : ℕ) → IsReached slot old mid trace timing i → new ≡ handed mid → IsSlotAt slot trace timing (i + 1) → IsLiveTick old new trace timing (i + 1)
 live_next slot old mid new trace timing i is same found = subst (λ (crew : CrewView). IsLiveTick old crew trace timing (i + 1)) (sym same) (live_kept old mid trace timing (i + 1) (is.live found))
 
