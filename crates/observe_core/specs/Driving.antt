@@ -39,8 +39,8 @@ pub record IsNewWatcher (number : ℕ) (replay : ReplayView) (watcher : WatcherV
 
 -- ---- before an interval
 
--- Preconditions for preparing a watcher, with these last samples, for a slot: the watcher has the
--- plans of the replay, and its readers belong to the rows of the replay's clocks.
+-- Preconditions for preparing a watcher to sample `slot`, with `lasts` as its last samples: the
+-- watcher has the plans of the replay, and its readers belong to the rows of the replay's clocks.
 pub record MayReady (replay : ReplayView) (slot : ℕ) (watcher : WatcherView) (lasts : List Sample) : Type 0 where
   pub some : IsSomeReplay replay
   pub few : length replay.plans.plans ≤ 64
@@ -50,12 +50,12 @@ pub record MayReady (replay : ReplayView) (slot : ℕ) (watcher : WatcherView) (
   pub rows_are : (cpu : ℕ) → cpu < length replay.plans.plans → Some (reader_at watcher.readers cpu).row ≡ row_at replay.crew.rows cpu
   pub lasts_are : length lasts ≡ length replay.plans.plans
 
--- the number of changes that a processor's clocks have made
+-- The number of changes that the clocks of processor `cpu` have made.
 abbrev pub made_by : CrewView → ℕ → ℕ
 made_by crew cpu = (clocks_at crew.clocks cpu).made
 
--- The watcher's reader of processor `cpu` was shown the number of changes made: it has now seen at
--- least that many, and had seen no more than that many before.
+-- The watcher's reader of processor `cpu` was notified of the `made` changes on the processor: it
+-- has seen at least these afterwards, and had seen at most these before.
 pub record HasMet (cpu made : ℕ) (old new : WatcherView) : Type 0 where
   pub reader : ReaderEnd
   pub are : new ≡ with_reader old cpu reader
@@ -63,9 +63,8 @@ pub record HasMet (cpu made : ℕ) (old new : WatcherView) : Type 0 where
   pub knows : reader.knows ≡ count_shown made (reader_at old.readers cpu).knows
   pub before : (reader_at old.readers cpu).knows.seen ≤ made
 
--- A watcher is prepared on the first `cpus` processors: each of its readers there has seen exactly
--- the changes that were made, and had seen no more than these before. Nothing else of the watcher
--- changed.
+-- A watcher is prepared on the first `cpus` processors: each reader has seen exactly the changes
+-- that were made, and had seen no more of them before. Nothing else of the watcher changed.
 pub record ArePreparedChanges (made : ℕ → ℕ) (cpus : ℕ) (old new : WatcherView) : Type 0 where
   pub observer_is : new.observer ≡ old.observer
   pub plans_are : new.plans ≡ old.plans
@@ -77,7 +76,7 @@ pub record ArePreparedChanges (made : ℕ → ℕ) (cpus : ℕ) (old new : Watch
   pub before : (cpu : ℕ) → cpu < cpus → (reader_at old.readers cpu).knows.seen ≤ made cpu
   pub later : (cpu : ℕ) → cpus ≤ cpu → reader_at new.readers cpu ≡ reader_at old.readers cpu
 
--- The last samples of the first `cpus` processors are the clocks of `slot`, after all changes that
+-- The last samples of the first `cpus` processors are the clocks of `slot` after all changes that
 -- were made.
 pub record AreLasts (plans : PlansView) (slot : ℕ) (made : ℕ → ℕ) (cpus : ℕ) (lasts : List Sample) : Type 0 where
   pub counts : (cpu : ℕ) → cpu < cpus → (last_at lasts cpu).count ≡ made cpu
@@ -95,7 +94,7 @@ pub record IsReady (plans : PlansView) (slot : ℕ) (made : ℕ → ℕ) (old ne
   pub prepared_changes : ArePreparedChanges made (length old.lasts) old.watcher new.watcher
   pub lasts_are : AreLasts plans slot made (length old.lasts) new.lasts
 
--- all observers are prepared to watch `slot`
+-- All observers are prepared to watch `slot`.
 pub record AreReady (plans : PlansView) (slot : ℕ) (made : ℕ → ℕ) (old new : List ObserverView) : Type 0 where
   pub many : length new ≡ length old
   pub each : (number : ℕ) (d : ObserverView) → number < length old
@@ -103,8 +102,8 @@ pub record AreReady (plans : PlansView) (slot : ℕ) (made : ℕ → ℕ) (old n
 
 -- ---- after an interval
 
--- A replay may learn how many changes a watcher's readers of `cpus` processors have seen: these are
--- all processors, and the readers belong to the rows of the replay's clocks.
+-- Preconditions for checking how many changes a watcher's readers have seen: `cpus` is the number
+-- of all processors, and the readers belong to the rows of the replay's clocks.
 pub record MaySettle (replay : ReplayView) (watcher : WatcherView) (cpus : ℕ) : Type 0 where
   pub some : IsSomeReplay replay
   pub few : length replay.plans.plans ≤ 64
@@ -113,24 +112,27 @@ pub record MaySettle (replay : ReplayView) (watcher : WatcherView) (cpus : ℕ) 
   pub readers_are : length watcher.readers ≡ length replay.plans.plans
   pub rows_are : (cpu : ℕ) → cpu < length replay.plans.plans → Some (reader_at watcher.readers cpu).row ≡ row_at replay.crew.rows cpu
 
--- The watcher's reader of a processor has seen at most the changes that were made. It is unchanged.
+-- The watcher's reader of processor `cpu` has seen at most the `made` changes of the processor. The
+-- watcher is unchanged.
 pub record HasSettled (cpu made : ℕ) (old new : WatcherView) : Type 0 where
   pub reader : ReaderEnd
   pub are : new ≡ with_reader old cpu reader
   pub same : reader ≡ reader_at old.readers cpu
   pub within : (reader_at old.readers cpu).knows.seen ≤ made
 
--- the same for the readers of the first `cpus` processors
+-- Each reader of the first `cpus` processors has seen at most the changes that were made on its
+-- processor.
 abbrev pub AreWithin : (ℕ → ℕ) → ℕ → WatcherView → Type 0
 AreWithin made cpus watcher = (cpu : ℕ) → cpu < cpus → (reader_at watcher.readers cpu).knows.seen ≤ made cpu
 
--- An observer's readers have seen at most the changes that were made, unless it ran out of memory.
--- It is unchanged.
+-- The observer is unchanged and, unless it ran out of memory, its readers have seen at most the
+-- changes that were made.
 pub record IsSettled (made : ℕ → ℕ) (old new : ObserverView) : Type 0 where
   pub same : new ≡ old
   pub within : old.failed ≡ false → AreWithin made (length old.lasts) old.watcher
 
--- the same for all observers
+-- All observers are unchanged and, unless they ran out of memory, their readers have seen at most
+-- the changes that were made.
 pub record AreSettled (made : ℕ → ℕ) (old new : List ObserverView) : Type 0 where
   pub many : length new ≡ length old
   pub each : (number : ℕ) (d : ObserverView) → number < length old
@@ -138,26 +140,27 @@ pub record AreSettled (made : ℕ → ℕ) (old new : List ObserverView) : Type 
 
 -- ---- after some ticks
 
--- the sample of an entry, without its times
+-- What a sample's entry says, apart from its times: the observer, the processor, the slot and the
+-- number of changes.
 abbrev pub look_of : Entry → Look
 look_of entry = record { observer = entry.observer; cpu = entry.cpu.0; slot = entry.slot.0; count = entry.count }
 
--- the samples of entries, without their times
+-- What the entries say apart from their times, in order.
 abbrev pub looks_of : List Entry → List Look
 looks_of entries = map look_of entries
 
--- an entry names an existing processor, and has that processor's plan
+-- The entry names an existing processor, and has that processor's plan.
 pub record IsOn (plans : PlansView) (entry : Entry) : Type 0 where
   pub cpu : entry.cpu.0 < length plans.plans
   pub plan : entry.plan.now ≡ plan_at plans entry.cpu.0
 
--- each entry names an existing processor, and has that processor's plan
+-- Each entry names an existing processor, and has that processor's plan.
 abbrev pub AreOn : PlansView → List Entry → Type 0
 AreOn plans [] = Unit {0}
 AreOn plans (entry ∷ entries) = IsOn plans entry × AreOn plans entries
 
--- What doesn't change while a trace is replayed with observers: the plans, the rows of all
--- processors, the board, the trace, its timing, and the observed path.
+-- What stays constant while a trace is replayed with observers: the plans, the rows of clocks of
+-- all processors, the board, the trace, its timing, and the observed path.
 pub record Setting : Type 0 where
   pub plans : PlansView
   pub rows : List (Option TableId)
@@ -166,21 +169,22 @@ pub record Setting : Type 0 where
   pub timing : Timing
   pub path : List ℕ
 
--- the slot of the observed path at tick `i`, if a live group has the path
+-- The slot of the group that has the observed path at tick `i`, or `None` if no live group has this
+-- path.
 abbrev pub slot_in : Setting → ℕ → Option ℕ
 slot_in set i = live_slot_at set.trace.events set.path (tick_moment set.timing.length i)
 
--- the samples that each observer must take at tick `i`
+-- The samples that each observer must take at tick `i`.
 abbrev pub due_in : Setting → ℕ → List Due
 due_in set i = due_at set.trace set.timing.length i (slot_in set i)
 
--- the samples that each observer must take at the first `count` ticks
+-- The samples that each observer must take at the first `count` ticks.
 abbrev pub due_until : Setting → ℕ → List Due
 due_until set count = flat_map (due_in set) (range_with_len 1 count)
 
--- The constant properties of observer `number`: it has the plans and the board, its readers belong
--- to the rows, and it has a last sample for each processor, and one part of the journal's ledger.
--- It has not run out of memory.
+-- The constant properties of observer `number`: it has the setting's plans and board, its readers
+-- belong to the rows of clocks, it has a last sample for each processor and one part of the
+-- journal's ledger, and it has not run out of memory.
 pub record IsPlaced (set : Setting) (number : ℕ) (observer : ObserverView) : Type 0 where
   pub number_is : observer.watcher.observer ≡ number
   pub plans_are : observer.watcher.plans ≡ set.plans
@@ -191,15 +195,16 @@ pub record IsPlaced (set : Setting) (number : ℕ) (observer : ObserverView) : T
   pub backed : observer.parts ≡ 1
   pub whole : observer.failed ≡ false
 
--- `own` has the samples of observer `number` that were due at the first `i` ticks. Their change
--- counts on each processor never decrease, and are at most what the processor's reader has seen.
+-- The entries `own` are the samples of observer `number` that were due at the first `i` ticks.
+-- Their change counts on each processor never decrease, and are at most the count that the
+-- processor's reader has seen.
 pub record HasTaken (set : Setting) (i number : ℕ) (readers : List ReaderEnd) (own : List Entry) : Type 0 where
   pub by : AreBy number own
   pub on : AreOn set.plans own
   pub done : AreDone (due_until set i) (looks_of own)
   pub rise : (cpu : ℕ) → RiseWithin 0 (counts_by number cpu (looks_of own)) (reader_at readers cpu).knows.seen
 
--- The journal has rejected no entry of the observer.
+-- The journal has rejected no entry of this observer.
 abbrev pub IsIn : ObserverView → Type 0
 IsIn observer = observer.fell ≡ false
 
@@ -207,11 +212,11 @@ IsIn observer = observer.fell ≡ false
 abbrev pub AreIn : List ObserverView → Type 0
 AreIn observers = All IsIn observers
 
--- The observer's share counts all its entries, unless the journal has rejected one.
+-- The observer's share of the ledger counts all its entries, unless the journal has rejected one.
 abbrev pub IsCounted : ObserverView → Type 0
 IsCounted observer = IsIn observer → observer.amount ≡ length observer.watcher.own
 
--- each observer's share counts all its entries, unless the journal has rejected one
+-- Each observer's share of the ledger counts all its entries, unless the journal has rejected one.
 abbrev pub AreCounted : List ObserverView → Type 0
 AreCounted observers = All IsCounted observers
 
@@ -228,58 +233,61 @@ abbrev pub HaveObserved : Setting → ℕ → List ObserverView → Type 0
 HaveObserved set i observers =
     (number : ℕ) (d : ObserverView) → number < length observers → HasObserved set i number (slice_index_or observers number d)
 
--- A new observer, which has taken no sample.
+-- A new observer that has taken no sample.
 pub record IsNew (set : Setting) (number : ℕ) (observer : ObserverView) : Type 0 where
   pub placed : IsPlaced set number observer
   pub none : observer.watcher.own ≡ []
   pub nothing : observer.amount ≡ 0
 
--- Precondition for creating observers in a setting: the replay has the setting's plans and rows.
+-- Precondition for creating observers in a setting: the replay has the plans and the rows of clocks
+-- of the setting.
 pub record MayBegin (set : Setting) (replay : ReplayView) : Type 0 where
   pub plans_are : replay.plans ≡ set.plans
   pub rows_are : replay.crew.rows ≡ set.rows
 
--- A replay of the setting's trace, which watches the setting's path, after its first `i` ticks.
+-- The replay has made the first `i` ticks of the setting's trace, and keeps clocks for the
+-- setting's path.
 pub record IsReached (set : Setting) (replay : ReplayView) (i : ℕ) : Type 0 where
   pub plans_are : replay.plans ≡ set.plans
   pub rows_are : replay.crew.rows ≡ set.rows
   pub replayed : IsReplay replay set.trace set.timing [] i
   pub watch : set.timing.watch ≡ Some (record { path = set.path; count = 1 })
 
--- A replay after its first `i` ticks, with observers that have taken the samples due at these
+-- The replay has made its first `i` ticks, and the observers have taken the samples due at these
 -- ticks.
 pub record IsObserved (set : Setting) (replay : ReplayView) (observers : List ObserverView) (i : ℕ) : Type 0 where
   pub reached : IsReached set replay i
   pub observed : HaveObserved set i observers
 
--- observers of this board, before the first tick of the replay
+-- The observers belong to `board`, and the replay has made no tick.
 abbrev pub IsToBegin : TableId → ReplayView → List ObserverView → Type 0
 IsToBegin board replay observers = (set : Setting) × (set.board ≡ board) × IsObserved set replay observers 0
 
--- precondition for one more tick: observers of this board have taken the samples up to some tick,
--- and at least one tick remains
+-- Precondition for one more tick: the observers belong to `board` and have taken all samples due so
+-- far, and at least one tick remains.
 abbrev pub IsToGo : TableId → ReplayView → List ObserverView → Type 0
 IsToGo board replay observers =
     (set : Setting) × (i : ℕ) × (set.board ≡ board) × IsObserved set replay observers i × (i < tick_count set.trace set.timing)
 
--- no observer has run out of memory
+-- No observer in the list has run out of memory.
 abbrev pub AreWhole : List ObserverView → Type 0
 AreWhole observers = All (λ (observer : ObserverView). observer.failed ≡ false) observers
 
 -- ---- the board
 
--- the board's state after tick `i`
+-- The state that the board shows after tick `i`. Observers are used without rules, so there are no
+-- kills.
 abbrev pub state_at : Trace → Timing → ℕ → BoardState
 state_at trace timing i = record { tick = i; events = signals_until trace timing i; kills = 0 }
 
--- the board has shown the states after tick 0 to tick `i`, in order
+-- The states published on the board: one after each tick from 0 to `i`, in order.
 pub record AreShown (trace : Trace) (timing : Timing) (i : ℕ) (states : List BoardState) : Type 0 where
   pub many : length states ≡ i + 1
   pub each : (k : ℕ) → k ≤ i → slice_get states k ≡ Some (state_at trace timing k)
 
 -- ---- one tick of the replay
 
--- the replay has made its next tick; its plans and rows are unchanged
+-- The replay has made one more tick. Its plans and its rows of clocks are unchanged.
 pub record HasPassed (old new : ReplayView) : Type 0 where
   pub plans_are : new.plans ≡ old.plans
   pub rows_are : new.crew.rows ≡ old.crew.rows

@@ -16,13 +16,13 @@ use Rattle.observer_log.specs.Watch.{AreReaders, IsTakenBy, WatcherView, named_b
 abbrev pub no_sample : Sample
 no_sample = record { count = 0; clock = zero_clock }
 
--- the last sample of processor `cpu`
+-- The last sample of processor `cpu` in the list, or an empty sample if the list is too short.
 abbrev pub last_at : List Sample → ℕ → Sample
 last_at lasts cpu = slice_index_or lasts cpu no_sample
 
--- Preconditions for sampling `slot` on each processor: the watcher has a reader and a last sample
--- for each processor, and the last sample is the slot's clock after all changes that the reader has
--- seen.
+-- Preconditions for sampling `slot` on each processor: the watcher has a reader for each processor,
+-- `lasts` has a last sample for each processor, and the last sample is the slot's clock after all
+-- changes that the reader has seen.
 pub record CanLook (slot : ℕ) (lasts : List Sample) (watcher : WatcherView) : Type 0 where
   pub few : length watcher.plans.plans ≤ 64
   pub lasts_are : length lasts ≡ length watcher.plans.plans
@@ -55,9 +55,10 @@ pub record HaveLooked (slot : ℕ) (lasts : List Sample) (cpus : ℕ) (old new :
 
 -- ---- observers
 
--- An observer: its watcher, its access to the board, the parts of its share of the journal's
--- ledger, the number of entries that the share counts, the last sample on each processor, whether
--- the journal has rejected an entry, and whether the observer ran out of memory for one.
+-- What contracts see of an observer: its watcher, its access to the board, the number of parts in
+-- its share of the journal's ledger, the number of entries that the share has counted, the last
+-- sample on each processor, whether the journal has rejected one of its entries, and whether the
+-- observer ran out of memory.
 pub record ObserverView : Type 0 where
   pub watcher : WatcherView
   pub pass : BoardEnd
@@ -67,14 +68,16 @@ pub record ObserverView : Type 0 where
   pub fell : Bool
   pub failed : Bool
 
--- Preconditions for watching `slot` with this board.
+-- Preconditions for reading `board` and sampling `slot`: the observer's pass belongs to the board,
+-- its share of the ledger has a part, and it can sample the slot on each processor.
 pub record CanWatch (board : TableId) (slot : ℕ) (observer : ObserverView) : Type 0 where
   pub board_is : observer.pass.board ≡ board
   pub backed : 0 < observer.parts
   pub can : CanLook slot observer.lasts observer.watcher
 
--- An observer watched `slot`: it read the board once, and sampled the slot on each processor,
--- unless it ran out of memory. It added each entry to the journal, unless the journal rejected one.
+-- The effect of watching `slot` once: the observer read the board once and, unless it ran out of
+-- memory, sampled the slot on each processor. It added each entry to the journal, unless the
+-- journal rejected one.
 pub record HasWatched (slot : ℕ) (old new : ObserverView) : Type 0 where
   pub board_is : new.pass.board ≡ old.pass.board
   pub parts_are : new.parts ≡ old.parts
@@ -87,7 +90,7 @@ pub record HasWatched (slot : ℕ) (old new : ObserverView) : Type 0 where
   pub stood : new.fell ≡ false → old.fell ≡ false
   pub added : new.failed ≡ false → new.fell ≡ false → new.amount ≡ old.amount + length old.lasts
 
--- Each observer watched `slot`.
+-- Each observer in the list watched `slot` once.
 pub record HaveAllWatched (slot : ℕ) (old new : List ObserverView) : Type 0 where
   pub many : length new ≡ length old
   pub each : (number : ℕ) (d : ObserverView) → number < length old

@@ -1,5 +1,5 @@
-//! Runs all observers, each in its own thread.
-//! The threads end when each observer has sampled all processors once.
+//! Runs all observers, each in its own thread. Each thread ends after its observer has sampled all
+//! processors once.
 ghost use Rattle.std.specs.List.{All};
 ghost use Rattle.observe_core.specs.Observing.{CanWatch, HasWatched, HaveAllWatched};
 

@@ -1,5 +1,5 @@
-//! Ends the observers, and merges their lists of entries in the journal's order.
-//! All ticks have been replayed before.
+//! Ends the observers, and merges their lists of entries in the order of the journal. It is used
+//! after the last tick of a replay.
 ghost use Rattle.std.specs.Prelude.{◌≡◌, ◌+◌, ℕ, IfOk, length, map};
 ghost use Rattle.std.specs.List.{All};
 ghost use Rattle.observer_log.specs.Board.{IsLast};
@@ -15,18 +15,18 @@ use std::alloc::Global;
 use std::sync::Wait;
 use std::sync::ledger::{Ledger, Share};
 
-/// The results of all observers, by observer.
+/// What the observers return when they end: one element per observer, in the order of observers.
 #[derive(Drop)]
 pub(crate) struct Ended<'a> {
     /// The entries of each observer.
     pub(crate) own: Vec<Own<'a>>,
-    /// The state of the board that each observer read last.
+    /// The board state that each observer read last.
     pub(crate) states: Vec<BoardState>,
 }
 
-/// Ends all observers, in order, and merges their shares of the journal's ledger into `all`. The
-/// shares count all entries of the lists, unless the journal rejected one. Fails with `NoMemory` if
-/// an observer ran out of memory.
+/// Ends all observers, in order, and merges their shares of the journal's ledger into `all`.
+/// Afterwards `all` has counted all entries of the lists, unless the journal rejected one. Fails
+/// with `NoMemory` if an observer ran out of memory.
 pub(crate) fn end_all<'a, L: Ledger, R: Wait>(
     rt: &R,
     alloc: Global,
@@ -60,8 +60,8 @@ pub(crate) fn end_all<'a, L: Ledger, R: Wait>(
     Ok(Ended { own, states })
 }
 
-/// Returns the entries of all lists, in the journal's order. Requires that `all` has merged all
-/// shares.
+/// Returns the entries of all lists, in the order of the journal. Requires that all shares of the
+/// journal's ledger were merged into `all`.
 pub(crate) fn ordered<'a, L: Ledger>(
     mut journal: Journal<'a, L>,
     all: &mut Share<L>,
@@ -73,7 +73,7 @@ pub(crate) fn ordered<'a, L: Ledger>(
     ensures own { IfOk result (λ entries. (observer : ℕ) →
         by observer entries.items ≡ list_of own.now observer) }
 {
-    // The journal has as many entries as the shares count.
+    // `audit` shows that the journal has as many entries as the shares have counted.
     journal.audit(all);
     journal.order(own)
 }

@@ -1,4 +1,5 @@
-//! The public call of `psi_observe`, with all that is promised about it.
+//! The public call of `psi_observe`. Its contract is the specification of the whole program; the
+//! definitions that it uses are in the crate observe_spec.
 ghost use Rattle.std.specs.Prelude.{◌≡◌, ◌≢◌, ◌↔◌, ◌+◌, ◌≤◌, ℕ, List, Some, None, Ok, map, string_bytes};
 ghost use Rattle.std.specs.Io.KnownBytes.{Appends, Keeps};
 ghost use Rattle.outside.specs.Outside.{AppendsPrefix, Increased, content_of};
@@ -21,13 +22,14 @@ use std::alloc::Global;
 use std::sync::Wait;
 use std::thread::Threads;
 
-/// Observes the trace and the path of these words, the command line without the program's name. The
-/// trace is replayed while observers sample the clocks of the group with this path and read the
-/// board of ticks, each in its own thread if one can be started. Writes the output to `out`, and
-/// the message of the status to `note`: one line, or nothing for `Done`. A failed write to `note`
-/// doesn't change the status. The threads of the replay call `gate` after each change that they
-/// made. An observer calls it with its number before each sample, and after the sample's entry was
-/// added to the journal.
+/// Runs one command line of `psi_observe`. `words` is the command line without the program's name:
+/// a trace, a number of observers and the path of a group. The trace is replayed while the
+/// observers sample the clocks of the group and read the board of ticks, each in its own thread if
+/// one can be started. Writes the output to `out`, and the message of the status to `note`: one
+/// line, or nothing for `Done`. A failed write to `note` doesn't change the status. `gate` is a
+/// hook for tests: the threads of the replay call it after each change of a clock, and an observer
+/// calls it with its number before each sample and after it added the sample's entry to the
+/// journal.
 pub fn observe<R: Threads + Wait + Sync, S: Shelf, K: Sink, N: Sink, G: Gate>(
     rt: &R,
     alloc: Global,
@@ -37,14 +39,15 @@ pub fn observe<R: Threads + Wait + Sync, S: Shelf, K: Sink, N: Sink, G: Gate>(
     note: &mut N,
     gate: &G,
 ) -> ObserveStatus
-    // Files are unchanged.
+    // The run doesn't change the files.
     ensures unchanged { S.holds shelf.new ≡ S.holds shelf.old }
 
     // The result is Usage exactly if the words aren't a name, a number from 1 to 8 and a path.
     ensures usage { (result ≡ ObserveStatus.Usage)
         ↔ (request_of (map string_bytes words.now) ≡ None) }
 
-    // What each status says about the trace and the output, and which failure counts increased.
+    // The general contract: what each status implies for the trace and the output, and which
+    // failure counts increased.
     ensures runs { (request : Request) →
         request_of (map string_bytes words.now) ≡ Some request →
         Observes request (S.holds shelf.old)
@@ -52,9 +55,10 @@ pub fn observe<R: Threads + Wait + Sync, S: Shelf, K: Sink, N: Sink, G: Gate>(
         (run_counts (S.faults shelf.new) (S.absent shelf.new) (K.faults out.new))
         (K.has out.old) (K.has out.new) result }
 
-    // If the run is done, exactly a text was appended to the output that this number of observers
-    // of the path may print for the trace. Each sample has at least its processor's changes up to
-    // the tick before its interval, and at most those up to the tick that ends it.
+    // If the result is Done, the text that was appended to the output is one that this number of
+    // observers of the path may print for the trace. Each sample includes at least its processor's
+    // changes up to the tick before its interval, and at most those up to the tick that ends the
+    // interval.
     ensures observed { (request : Request) (bytes : List ℕ) →
         request_of (map string_bytes words.now) ≡ Some request →
         content_of (S.holds shelf.old) request.trace ≡ Some bytes →
@@ -64,23 +68,24 @@ pub fn observe<R: Threads + Wait + Sync, S: Shelf, K: Sink, N: Sink, G: Gate>(
         × IsObservedText trace (timing_on request.path) request.path request.observers text
         × Appends (K.has out.old) (K.has out.new) text) }
 
-    // An accepted trace with at most a million samples gives the whole output, unless a read or
-    // write failed or memory ran out.
+    // If the trace is accepted and has at most a million samples, the whole output is written,
+    // unless a read or write fails or memory runs out.
     ensures complete { (request : Request) →
         request_of (map string_bytes words.now) ≡ Some request →
         ObservesAll request (S.holds shelf.old)
         (run_counts (S.faults shelf.old) (S.absent shelf.old) (K.faults out.old))
         (run_counts (S.faults shelf.new) (S.absent shelf.new) (K.faults out.new)) result }
 
-    // More samples of an accepted trace are too many, unless a read failed or memory ran out.
+    // If the trace is accepted and has more than a million samples, the result reports this, unless
+    // a read fails or memory runs out.
     ensures many { (request : Request) →
         request_of (map string_bytes words.now) ≡ Some request →
         RejectsManySamples request (S.holds shelf.old)
         (run_counts (S.faults shelf.old) (S.absent shelf.old) (K.faults out.old))
         (run_counts (S.faults shelf.new) (S.absent shelf.new) (K.faults out.new)) result }
 
-    // A rejected trace gives its first rejected line with the cause, unless a read failed or memory
-    // ran out.
+    // If the trace is rejected, the result is its first rejected line with the cause, unless a read
+    // fails or memory runs out.
     ensures refuses { (request : Request) →
         request_of (map string_bytes words.now) ≡ Some request →
         RejectsTrace request (S.holds shelf.old)
@@ -92,8 +97,8 @@ pub fn observe<R: Threads + Wait + Sync, S: Shelf, K: Sink, N: Sink, G: Gate>(
         (run_counts (S.faults shelf.old) (S.absent shelf.old) (K.faults out.old))
         (run_counts (S.faults shelf.new) (S.absent shelf.new) (K.faults out.new)) result }
 
-    // Whatever the size of the trace's file, at most this many bytes are read; none if the words
-    // aren't a request.
+    // At most `most_of_trace` bytes are read, whatever the size of the trace's file. Nothing is
+    // read if the words don't form a request.
     ensures reads { S.bytes_read shelf.new ≤ S.bytes_read shelf.old + most_of_trace }
     ensures unread { request_of (map string_bytes words.now) ≡ None →
         S.bytes_read shelf.new ≡ S.bytes_read shelf.old }
@@ -106,19 +111,20 @@ pub fn observe<R: Threads + Wait + Sync, S: Shelf, K: Sink, N: Sink, G: Gate>(
         request_of (map string_bytes words.now) ≡ Some request →
         ReadsTraceInOrder request (S.reads shelf.old) (S.reads shelf.new) result }
 
-    // Reading stops at the first rejected line of the trace. If that line is the result, at most
-    // the lines before it and the buffered bytes were read. A failed read is the result only if
-    // that line was incomplete.
+    // Reading stops at the first rejected line of the trace. If the result reports that line, at
+    // most the lines before it and the buffered bytes were read. If a read fails although the file
+    // has a rejected line, that line was incomplete in the bytes read before the failure.
     ensures stops { (request : Request) →
         request_of (map string_bytes words.now) ≡ Some request →
         StopsObserving request (S.holds shelf.old) (S.bytes_read shelf.old) (S.bytes_read shelf.new)
         result }
 
-    // Only Done and WriteFault write to the output.
+    // Unless the result is Done or WriteFault, the output is unchanged.
     ensures quiet { result ≢ ObserveStatus.Done → result ≢ ObserveStatus.WriteFault →
         Keeps (K.has out.old) (K.has out.new) }
 
-    // The message of the status was written to `note`: all of it, or a prefix if a write failed.
+    // The message of the status was appended to `note`: the whole message if no write to `note`
+    // failed, and a prefix of it in any case.
     ensures note { (Increased (N.faults note.old) (N.faults note.new) → ⊥) →
         Appends (N.has note.old) (N.has note.new)
         (observe_status_text (request_of (map string_bytes words.now)) result) }

@@ -1,4 +1,5 @@
-//! One tick of a replay with observers.
+//! One tick of a replay with observers. The observers take samples while the replay makes the
+//! changes up to the tick.
 ghost use Rattle.std.specs.Prelude.{◌≡◌, ◌+◌, ◌<◌, ℕ, length};
 ghost use Rattle.std.specs.List.{All};
 ghost use Rattle.std.specs.Thread.{IsSync};
@@ -19,7 +20,7 @@ use std::sync::Wait;
 use std::sync::ledger::Ledger;
 use std::thread::{Threads, join_mut};
 
-// Runs the next tick of a replay, while each observer watches a slot.
+// Replays the next tick, while each observer samples `slot` once on each processor.
 fn interval<'j, 'a, L: Ledger + Send + Sync, R: Threads + Wait + Sync, G: Gate>(
     rt: &R,
     mut replay: Replay<'a>,
@@ -49,8 +50,9 @@ fn interval<'j, 'a, L: Ledger + Send + Sync, R: Threads + Wait + Sync, G: Gate>(
     (replay, observers)
 }
 
-/// Runs the next tick of a replay. If the path is live at the tick, each observer watches its slot
-/// during the changes up to it, and has seen no later change.
+/// Replays the next tick. If a group has the observed path at the tick, each observer samples the
+/// group's slot while the replay makes the changes up to the tick. No sample includes a later
+/// change.
 pub(crate) fn tick<'j, 'a, L: Ledger + Send + Sync, R: Threads + Wait + Sync, G: Gate>(
     rt: &R,
     mut replay: Replay<'a>,

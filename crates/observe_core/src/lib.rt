@@ -1,8 +1,8 @@
-//! Observers of a trace that is replayed: the only public call [`observe`] reads the words, replays
-//! the trace tick by tick while observers take samples in their own threads, and prints what they
-//! saw.
+//! Observers of a replayed trace. The only public call is [`observe`]: it parses the words of the
+//! command line, replays the trace tick by tick while observers take samples in their own threads,
+//! and writes the samples.
 //!
-//! What it prints is specified in `observe_spec`; the board, the journal and the watchers are in
+//! `observe_spec` specifies the output. The board of ticks, the journal and the watchers are in
 //! `observer_log`.
 #![tactic(auto)]
 

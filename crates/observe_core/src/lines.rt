@@ -11,8 +11,8 @@ use outside::{Sink, WriteFailed};
 use pressure_text::{Piece, put_pieces, put_timed};
 use psi_base::Ns;
 
-// Writes the line of a sample: its observer and processor, the number of changes, the time (ns),
-// and the times (ns) in the seven states, ordered by state.
+// Writes the output line of a sample: the numbers of its observer and its processor, the number of
+// changes, the time (ns) of the last change, and the time (ns) in each of the seven states.
 #[tactic(auto, using(pressure_text::proofs::Puts::times))]
 fn put_entry<K: Sink>(out: &mut K, entry: &Entry<'_>) -> Result<(), WriteFailed>
     ensures bytes { PutsAll (K.has out.old) (K.has out.new) result (entry_line entry.now) }
@@ -35,7 +35,7 @@ fn put_entry<K: Sink>(out: &mut K, entry: &Entry<'_>) -> Result<(), WriteFailed>
     )
 }
 
-// Writes the line of the board's state that an observer read last.
+// Writes the output line of the board state that observer number `observer` read last.
 #[tactic(auto, using(outside::proofs::Grows::chain))]
 fn put_state<K: Sink>(out: &mut K, observer: u32, state: &BoardState) -> Result<(), WriteFailed>
     ensures bytes { PutsAll (K.has out.old) (K.has out.new) result
@@ -90,7 +90,8 @@ fn put_entries<K: Sink>(out: &mut K, entries: &[Entry<'_>]) -> Result<(), WriteF
     Ok(())
 }
 
-// Writes the lines of the states that the observers read last, by observer.
+// Writes one line for each observer, in the order of observers, with the board state that the
+// observer read last.
 #[tactic(auto, using(outside::proofs::Grows::growth))]
 fn put_states<K: Sink>(out: &mut K, states: &[BoardState]) -> Result<(), WriteFailed>
     requires { length states.now ≤ 8 }

@@ -1,5 +1,5 @@
-//! Takes samples of all processors for one observer, in the order of processors.
-//! Each sample is added to the journal at once.
+//! Takes a sample on each processor for one observer, in the order of processors. Each sample is
+//! added to the journal before the next sample is taken.
 ghost use Rattle.std.specs.Prelude.{◌≡◌, ◌+◌, ◌<◌, None, length, IfOk};
 ghost use Rattle.observe_core.specs.Observing.{CanLook, HaveLooked};
 
@@ -10,7 +10,8 @@ use psi_base::{Cpu, NoMemory, Slot};
 use std::sync::ledger::{Ledger, Share};
 use std::sync::{Mutex, Wait};
 
-// Adds an entry to the journal. Returns the rejection if the journal rejects the entry.
+// Adds an entry to the journal. Returns the reason if the journal rejects the entry, and `None` if
+// the journal has the entry.
 fn enter<'a, L: Ledger, R: Wait>(
     rt: &R,
     journal: &Mutex<Journal<'a, L>>,
@@ -29,9 +30,9 @@ fn enter<'a, L: Ledger, R: Wait>(
     }
 }
 
-/// Samples `slot` on each processor, not before the processor's last sample, and adds each sample
-/// to the journal. Returns the last rejection if the journal rejected an entry. Calls the gate
-/// after each sample.
+/// Takes a sample of `slot` on each processor, and adds it to the journal. A sample includes at
+/// least the changes of the processor's last sample in `lasts`. Returns the last rejection if the
+/// journal rejected an entry. Calls the gate (a hook for tests) before and after each sample.
 pub(crate) fn look_at_all<'a, L: Ledger, R: Wait, G: Gate>(
     rt: &R,
     journal: &Mutex<Journal<'a, L>>,

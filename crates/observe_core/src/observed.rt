@@ -1,5 +1,5 @@
-//! Replays a trace from its plans while observers sample it.
-//! It returns the samples, and writes nothing.
+//! Replays a trace while observers take samples, and returns the samples. The trace is given as
+//! plans, which list the changes on each processor. Nothing is written here.
 ghost use Rattle.std.specs.Prelude.{◌≡◌, [], Some, IfOk, length};
 ghost use Rattle.psi_spec.specs.Header.{version_of};
 ghost use Rattle.psi_spec.specs.Trace.{Trace};
@@ -28,16 +28,16 @@ use std::sync::ledger::{Blank, Ledger};
 use std::sync::{Mutex, Wait};
 use std::thread::Threads;
 
-/// The result of observing a trace.
+/// The result of a replay with observers.
 #[derive(Drop)]
 pub(crate) struct Observed<'a> {
     /// The samples, in the journal's order.
     pub(crate) entries: Vec<Entry<'a>>,
-    /// The state of the board that each observer read last, by observer.
+    /// The board state that each observer read last, in the order of observers.
     pub(crate) states: Vec<BoardState>,
 }
 
-// The options of a replay with observers of the group `path`.
+// Returns the options of a replay that keeps clocks for observers of the group `path`.
 fn options(alloc: Global, path: &Path) -> Result<Options, NoMemory>
     ensures { IfOk result (λ options. options ≡ options_on (Some path.now)) }
 {
@@ -53,8 +53,8 @@ fn options(alloc: Global, path: &Path) -> Result<Options, NoMemory>
     })
 }
 
-// Creates a replay of the trace of `plans` with observers of the group `path`, before its first
-// tick. `version` is the trace's version.
+// Creates a replay of the trace of `plans`, before its first tick, that keeps clocks for observers
+// of the group `path`. `version` is the trace's version.
 fn prepared<'a>(
     alloc: Global,
     version: u32,
@@ -73,8 +73,9 @@ fn prepared<'a>(
     prepare(alloc, version, plans, None, &options)
 }
 
-/// Replays the trace of `plans` with observers, each in its own thread if one can be started.
-/// `blank` has one part of the journal's ledger for each observer.
+/// Replays the trace of `plans` while observers take samples, each in its own thread if one can be
+/// started. `blank` is an unused ledger that has one part for each observer. `version` is the
+/// trace's version.
 pub(crate) fn observe_trace<'a, L: Ledger + Send + Sync, R: Threads + Wait + Sync, G: Gate>(
     rt: &R,
     alloc: Global,

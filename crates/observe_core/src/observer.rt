@@ -1,5 +1,5 @@
-//! One observer: it samples a group on all processors, and reads the board.
-//! Its samples are also entries of the journal that all observers share.
+//! One observer: it samples the clocks of a group on all processors, and reads the board of ticks.
+//! It adds its samples to the journal that all observers share.
 ghost use Rattle.std.specs.Prelude.{◌≡◌, ◌+◌, false, is_some, IfOk};
 ghost use Rattle.observer_log.specs.Board.{IsLast};
 ghost use Rattle.observe_core.specs.Observing.{CanWatch, HasWatched};
@@ -22,11 +22,11 @@ pub struct Observer<'j, 'a, L: Ledger> {
     pub(crate) watcher: Watcher<'a>,
     pub(crate) pass: BoardPass,
     pub(crate) share: Share<L>,
-    /// The last sample on each processor: the writer's own clock before an interval.
+    /// The last sample on each processor. Before an interval it is a copy of the current clock.
     pub(crate) lasts: Vec<Sample>,
-    /// The journal's last rejection of an entry, if any.
+    /// The journal's last rejection of an entry, or `None` if it has rejected none.
     pub(crate) fell: Option<Fall>,
-    /// The failure, if memory ran out for an entry.
+    /// The out-of-memory failure, or `None` if the observer hasn't run out of memory.
     pub(crate) failed: Option<NoMemory>,
 }
 
@@ -48,7 +48,7 @@ impl<'j, 'a, L: Ledger> Model for Observer<'j, 'a, L> {
 }
 
 impl<'j, 'a, L: Ledger> Observer<'j, 'a, L> {
-    /// Creates an observer with these parts, which has taken no sample.
+    /// Creates an observer from its parts. It has taken no sample.
     pub fn new(
         journal: &'j Mutex<Journal<'a, L>>,
         watcher: Watcher<'a>,
@@ -96,17 +96,17 @@ impl<'j, 'a, L: Ledger> Observer<'j, 'a, L> {
         }
     }
 
-    /// The failure, if memory ran out for an entry.
+    /// Returns the out-of-memory failure, or `None` if the observer hasn't run out of memory.
     pub fn failed(&self) -> Option<NoMemory>
         ensures { is_some result ≡ self.now.failed }
     {
         self.failed
     }
 
-    /// Ends the observer: it is shown all published states and reads the board for the last time,
-    /// and what it has read is checked against the published states. Returns its list and the state
-    /// that it read last, and merges its share into `all`. Fails with `NoMemory` if memory ran out
-    /// for an entry.
+    /// Ends the observer. It is notified of all published states and reads the board once more. All
+    /// states that it has read are checked against the published states. Returns the observer's
+    /// list of entries and the state that it read last, and merges its share into `all`. Fails with
+    /// `NoMemory` if the observer ran out of memory before.
     pub fn end<R: Wait>(
         self,
         rt: &R,

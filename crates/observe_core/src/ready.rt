@@ -1,5 +1,5 @@
-//! Prepares observers for an interval: their readers are shown the changes made up to now, and the
-//! writer's own clocks become their last samples.
+//! Prepares observers for the interval before a tick: each reader is notified of all changes made
+//! so far, and copies of the current clocks become the last samples.
 ghost use Rattle.std.specs.Prelude.{◌≡◌, ◌<◌, Some, length};
 ghost use Rattle.std.specs.List.{All};
 ghost use Rattle.replay_ticks.specs.Replays.{IsSomeReplay};
@@ -15,8 +15,8 @@ use psi_base::{Cpu, Slot};
 use replay_ticks::Replay;
 use std::sync::ledger::Ledger;
 
-// Synchronises a watcher's reader with the clocks of processor `cpu`: the reader has seen at most
-// the changes made before, and exactly these afterwards.
+// Synchronises the watcher's reader of processor `cpu` with the processor's clocks: before the call
+// the reader has seen at most all changes made, and after it exactly all of them.
 fn meet(replay: &mut Replay<'_>, watcher: &mut Watcher<'_>, cpu: Cpu)
     requires replay { IsSomeReplay replay.old }
     requires cpu { cpu.0 < length replay.old.plans.plans }
@@ -31,8 +31,8 @@ fn meet(replay: &mut Replay<'_>, watcher: &mut Watcher<'_>, cpu: Cpu)
     replay.meet(cpu, reader);
 }
 
-// Prepares a watcher for `slot`: its readers see all changes made, and `lasts` become copies of the
-// clocks.
+// Prepares a watcher for sampling `slot`: its readers see all changes made so far, and `lasts`
+// become copies of the current clocks of the slot.
 fn ready(replay: &mut Replay<'_>, watcher: &mut Watcher<'_>, lasts: &mut Vec<Sample>, slot: Slot)
     requires { MayReady replay.old slot.0 watcher.old lasts.old.items }
     ensures same { replay.new ≡ replay.old }
@@ -60,7 +60,7 @@ impl<'j, 'a, L: Ledger> Observer<'j, 'a, L> {
     }
 }
 
-/// Prepares all observers to watch `slot` in the next interval.
+/// Prepares all observers for sampling `slot` in the next interval.
 pub(crate) fn ready_all<L: Ledger>(
     replay: &mut Replay<'_>,
     observers: &mut [Observer<'_, '_, L>],

@@ -1,5 +1,5 @@
-//! Runs a request: reads the trace, observes it and writes the samples.
-//! The words of the request have been parsed before.
+//! Runs a parsed request: reads the trace, replays it while observers take samples, and writes the
+//! samples. The words of the request are parsed in `words`.
 ghost use Rattle.std.specs.Prelude.{◌≡◌, ◌+◌, ◌*◌, ◌/◌, ◌≤◌, ◌<◌, [], length};
 ghost use Rattle.outside.specs.Outside.{HasCause};
 ghost use Rattle.outside.specs.Calls.{PutsAll};
@@ -28,10 +28,10 @@ use std::sync::ledger::Blank;
 use std::thread::Threads;
 use trace_file::{TraceFault, read_plans};
 
-/// The most samples of a run.
+/// The largest number of samples that a run may take.
 const MOST_SAMPLES: u64 = 1_000_000;
 
-// The status for a trace that can't be read.
+// Returns the status for a trace that couldn't be read.
 fn fault_status(fault: TraceFault) -> ObserveStatus
     ensures status { IsStatusOf fault result }
 {
@@ -46,8 +46,8 @@ fn fault_status(fault: TraceFault) -> ObserveStatus
     }
 }
 
-// The number of samples of a trace if its path is live at every tick: one per tick, observer and
-// processor.
+// Returns the number of samples that the observers take if a group has the path at every tick: one
+// per tick, observer and processor.
 fn samples_requested(plans: &Plans, observers: u32) -> u64
     requires early { plans.now.finish ≤ last_moment }
     requires few { length plans.now.plans ≤ 64 }
@@ -57,7 +57,7 @@ fn samples_requested(plans: &Plans, observers: u32) -> u64
     plans.finish() / DEFAULT_TICK * u64::from(observers) * u64::from(plans.cpus())
 }
 
-// Writes all lines, gathered in large pieces.
+// Writes all output lines through the buffer `pending`, so that the sink gets large pieces.
 fn send<K: Sink>(
     pending: &mut Pending,
     entries: &[Entry<'_>],
@@ -78,7 +78,8 @@ fn send<K: Sink>(
     }
 }
 
-// Writes the samples, and the states of the board that the observers read last.
+// Writes the samples, and the board state that each observer read last. Returns `Done`, or
+// `WriteFault` if a write failed.
 fn write<K: Sink>(
     pending: &mut Pending,
     observed: &Observed<'_>,
@@ -97,8 +98,8 @@ fn write<K: Sink>(
     }
 }
 
-// Observes the trace of `plans`, and writes the samples. `version` is the trace's version. Writes
-// nothing if there would be too many samples or if memory runs out.
+// Replays the trace of `plans` while observers take samples, and writes the samples. `version` is
+// the trace's version. Writes nothing if there would be too many samples or if memory runs out.
 fn write_observed<R: Threads + Wait + Sync, K: Sink, G: Gate>(
     rt: &R,
     alloc: Global,
@@ -129,7 +130,8 @@ fn write_observed<R: Threads + Wait + Sync, K: Sink, G: Gate>(
     }
 }
 
-/// Runs a request: reads the trace, observes it and writes the samples.
+/// Runs a request: reads the trace, replays it while observers take samples, and writes the
+/// samples. Returns the status of the run.
 pub(crate) fn run_request<R: Threads + Wait + Sync, S: Shelf, K: Sink, G: Gate>(
     rt: &R,
     alloc: Global,

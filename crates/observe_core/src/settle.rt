@@ -1,5 +1,5 @@
-//! After an interval: the replay learns how many changes the observers' readers have seen, at most
-//! the number that it made. This bounds the samples of the interval.
+//! Checks after an interval that each observer's reader has seen at most the changes that the
+//! replay has made. This bounds the samples of the interval.
 ghost use Rattle.std.specs.Prelude.{◌≡◌, ◌<◌, Some, false, length};
 ghost use Rattle.std.specs.List.{All};
 ghost use Rattle.replay_ticks.specs.Replays.{IsSomeReplay};
@@ -14,7 +14,8 @@ use psi_base::Cpu;
 use replay_ticks::Replay;
 use std::sync::ledger::Ledger;
 
-// Learns how many changes of a processor the watcher's reader has seen.
+// Checks that the watcher's reader of processor `cpu` has seen at most the changes made on the
+// processor. Changes nothing.
 fn settle(replay: &mut Replay<'_>, watcher: &mut Watcher<'_>, cpu: Cpu)
     requires replay { IsSomeReplay replay.old }
     requires cpu { cpu.0 < length replay.old.plans.plans }
@@ -28,7 +29,8 @@ fn settle(replay: &mut Replay<'_>, watcher: &mut Watcher<'_>, cpu: Cpu)
     replay.settle(cpu, reader);
 }
 
-// Learns how many changes the watcher's readers of the first `cpus` processors have seen.
+// Checks that the watcher's readers of the first `cpus` processors have seen at most the changes
+// made. Changes nothing.
 fn settle_readers(replay: &mut Replay<'_>, watcher: &mut Watcher<'_>, cpus: usize)
     requires { MaySettle replay.old watcher.old cpus }
     ensures same { replay.new ≡ replay.old }
@@ -54,8 +56,8 @@ impl<'j, 'a, L: Ledger> Observer<'j, 'a, L> {
     }
 }
 
-/// Learns how many changes the readers of all observers have seen, except of observers that ran out
-/// of memory.
+/// Checks that the readers of all observers have seen at most the changes made. Skips observers
+/// that ran out of memory.
 pub(crate) fn settle_all<L: Ledger>(replay: &mut Replay<'_>, observers: &mut [Observer<'_, '_, L>])
     requires { All (λ (observer : ObserverView). observer.failed ≡ false →
         MaySettle replay.old observer.watcher (length observer.lasts)) observers.old }

@@ -1,5 +1,5 @@
-//! Creates the observers of a replay, with a reader for each processor.
-//! No thread is started here.
+//! Creates the observers of a replay. Each observer has a reader of every processor's clocks. No
+//! thread is started here.
 ghost use Rattle.std.specs.Prelude.{◌≡◌, ◌<◌, ℕ, Some, IfOk, length, slice_index_or};
 ghost use Rattle.replay_ticks.specs.Replays.{IsSomeReplay};
 ghost use Rattle.replay_workers.specs.Crew.{AreInRows, row_at};
@@ -18,7 +18,8 @@ use std::alloc::Global;
 use std::sync::ledger::{Ledger, Share};
 use std::sync::{Mutex, Wait};
 
-// Returns a reader of each processor's row. Requires that the clocks are in rows.
+// Returns a reader of the row of clocks of each processor, in order. Requires that the replay keeps
+// its clocks in such rows.
 fn readers_of(
     alloc: Global,
     cpus: u32,
@@ -39,8 +40,8 @@ fn readers_of(
     Ok(readers)
 }
 
-// Returns a placeholder as the last sample of each processor; `ready` replaces it before the first
-// interval.
+// Returns an empty sample for each processor, as its last sample. `ready` replaces these samples
+// before the first interval.
 fn places(alloc: Global, cpus: u32) -> Result<Vec<Sample>, NoMemory>
     ensures { IfOk result (λ lasts. length lasts.items ≡ cpus) }
 {
@@ -51,7 +52,7 @@ fn places(alloc: Global, cpus: u32) -> Result<Vec<Sample>, NoMemory>
     Ok(vec![in alloc; none; cpus as usize]?)
 }
 
-// Creates the watcher of all processors for observer `number`.
+// Creates the watcher of observer `number`, which takes samples on all processors.
 fn watcher_of<'a>(
     alloc: Global,
     number: u32,
@@ -68,7 +69,7 @@ fn watcher_of<'a>(
     Ok(Watcher::make(alloc, number, plans, readers))
 }
 
-// Creates observer `number`.
+// Creates observer `number`, with a watcher and with the board pass `pass`.
 fn observer_of<'j, 'a, L: Ledger>(
     alloc: Global,
     number: u32,
@@ -92,8 +93,8 @@ fn observer_of<'j, 'a, L: Ledger>(
     Ok(Observer::new(journal, watcher, pass, share, lasts))
 }
 
-/// Creates `count` observers (1 to 8), before the first tick of a replay. Each gets one part of the
-/// journal's ledger.
+/// Creates `count` observers (1 to 8) before the first tick of a replay. Each observer gets one
+/// part of the journal's ledger.
 pub(crate) fn make_observers<'j, 'a, L: Ledger, R: Wait>(
     rt: &R,
     alloc: Global,

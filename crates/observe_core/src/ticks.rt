@@ -1,5 +1,5 @@
-//! Replays all ticks with observers, and publishes each tick on the board.
-//! A single tick is in `interval`.
+//! Replays all ticks with observers, and publishes the state after each tick on the board. A single
+//! tick is in `interval`.
 ghost use Rattle.std.specs.Prelude.{◌≡◌, None, IfOk, ◌∷◌, [], length};
 ghost use Rattle.run_spec.specs.Replay.{tick_count};
 ghost use Rattle.observer_log.specs.Board.{first_state};
@@ -15,7 +15,8 @@ use std::sync::Wait;
 use std::sync::ledger::Ledger;
 use std::thread::Threads;
 
-// The out-of-memory failure of the first observer that had one, if any.
+// Returns the out-of-memory failure of the first observer that ran out of memory, or `None` if no
+// observer did.
 fn failure<L: Ledger>(observers: &[Observer<'_, '_, L>]) -> Option<NoMemory>
     ensures { result ≡ None → AreWhole observers.now }
 {
@@ -27,8 +28,8 @@ fn failure<L: Ledger>(observers: &[Observer<'_, '_, L>]) -> Option<NoMemory>
     None
 }
 
-/// Replays all ticks, and returns the observers. The state after each tick is published on the
-/// board. Fails with `NoMemory` if an observer runs out of memory.
+/// Replays all ticks, and returns the observers. After each tick the state of the replay is
+/// published on the board. Fails with `NoMemory` if an observer runs out of memory.
 pub(crate) fn all_ticks<'j, 'a, L: Ledger + Send + Sync, R: Threads + Wait + Sync, G: Gate>(
     rt: &R,
     mut replay: Replay<'a>,

@@ -1,5 +1,4 @@
-//! Parses the words of the command line.
-//! No file is opened here.
+//! Parses the words of the command line of `psi_observe`. No file is opened here.
 ghost use Rattle.std.specs.Prelude.{◌≡◌, IfOk, IfSome, MatchResult, Some, map, string_bytes};
 ghost use Rattle.observe_spec.specs.Words.{is_trace_name, request_of};
 ghost use Rattle.run_spec.specs.Words.{number_within};
@@ -9,7 +8,7 @@ ghost use Rattle.observe_core.specs.Requested.{RefusesWords, request_in};
 use psi_base::{Fault, NoMemory, Path, read_number};
 use std::alloc::Global;
 
-/// The error if the words aren't a trace's name, a number of observers and a path.
+/// The error if the words aren't the name of a trace, a number of observers and a path.
 #[derive(Clone, Copy, Debug, PartialEq, Eq)]
 pub(crate) struct BadWords;
 
@@ -24,8 +23,8 @@ pub(crate) struct Request<'a> {
     pub(crate) path: Path,
 }
 
-// Whether a trace file may have this name: the name isn't empty, and doesn't begin with `-` unless
-// it is `-` (standard input).
+// Returns whether `name` can be the name of a trace file: it isn't empty, and doesn't begin with
+// `-` unless it is `-` (standard input).
 fn is_trace_name(name: &str) -> bool
     ensures { result ≡ is_trace_name name.now }
 {
@@ -37,7 +36,7 @@ fn is_trace_name(name: &str) -> bool
     }
 }
 
-// Parses the number of observers. `None` unless `word` is a number from 1 to 8.
+// Parses the number of observers. Returns `None` unless `word` is a number from 1 to 8.
 fn observers_in(word: &str) -> Option<u32>
     ensures exact { result ≡ number_within 1 8 word.now }
     ensures within { IfSome result (IsWithin 1 8) }
@@ -48,9 +47,9 @@ fn observers_in(word: &str) -> Option<u32>
     }
 }
 
-/// Parses the request that the words spell, without the program's name. `BadWords` exactly if the
-/// words aren't a request. Only the path needs memory, so `NoMemory` implies that the words are a
-/// request.
+/// Parses a request from the words of the command line, without the program's name. Returns
+/// `BadWords` exactly if the words aren't a request. Only the path needs memory, so `NoMemory`
+/// implies that the words are a request.
 #[tactic(auto, unfolding(observe_spec::specs::Words::request_of))]
 pub(crate) fn read_request(alloc: Global, words: &[String]) -> Result<Request<'_>, Fault<BadWords>>
     ensures exact { MatchResult result

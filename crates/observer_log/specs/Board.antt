@@ -1,4 +1,5 @@
--- The tick board: what the holders of passes know of it, and the invariant between any two steps.
+-- The tick board: what the holder of each pass knows about it, and the invariant that holds between
+-- any two steps.
 use Rattle.std.specs.Prelude.{◌≡◌, ℕ, ◌+◌, ◌-◌, ◌<◌, ◌≤◌, max, List, [], ◌∷◌, ◌++◌, length, slice_get, Option, Some}
 use mathlib.Core.Option.{some}
 use lib.ListN.{get_elem?}
@@ -14,24 +15,25 @@ use Rattle.observer_log.specs.declared.board.View.TheVariants.{Spent, Shown, See
 
 -- ---- states on the board
 
--- a state as three words
+-- A board state as the three words that are stored.
 abbrev pub words_of : BoardState → List ℕ
 words_of state = state.tick ∷ state.events ∷ state.kills ∷ []
 
--- the state before the first tick
+-- The state of the replay before the first tick.
 abbrev pub first_state : BoardState
 first_state = record { tick = 0; events = 0; kills = 0 }
 
--- The state is the published state of its tick.
+-- `state` is the published state of its tick; `states` are all published states, in the order of
+-- ticks.
 abbrev pub IsPublished : List BoardState → BoardState → Type 0
 IsPublished states state = slice_get states state.tick ≡ Some state
 
--- Each state in the list is a published one.
+-- Each state in the second list is a published one; the first list has all published states.
 abbrev pub ArePublished : List BoardState → List BoardState → Type 0
 ArePublished states [] = Unit {0}
 ArePublished states (state ∷ more) = IsPublished states state × ArePublished states more
 
--- The state is the last published one.
+-- `state` is the last of the published states.
 abbrev pub IsLast : List BoardState → BoardState → Type 0
 IsLast states state = slice_get states (length states - 1) ≡ Some state
 
@@ -41,35 +43,35 @@ Begins states prefix = (rest : List BoardState) × (states ≡ prefix ++ rest)
 
 -- ---- what the holder of a pass knows
 
--- the knowledge of a new observer, who was notified of `states` and has read nothing
+-- What a new observer knows: it was notified of `states` and has read nothing.
 abbrev pub newcomer : List BoardState → Watching
 newcomer states = record { least = length states - 1; read = [] }
 
--- the observer's knowledge after it read `state`
+-- What an observer knows after it read `state`.
 abbrev pub after_read : BoardState → Watching → Watching
 after_read state watching = record { least = state.tick; read = state ∷ watching.read }
 
--- the observer's knowledge after it was notified of `states`
+-- What an observer knows after it was notified of `states`.
 abbrev pub after_known : List BoardState → Watching → Watching
 after_known states watching = record { least = max watching.least (length states - 1); read = watching.read }
 
--- the driver's view of a new board: the first state is published
+-- What the driver of a new board knows: only the first state is published.
 abbrev pub first_view : View
 first_view = Driver (record { states = first_state ∷ []; heard = [] })
 
--- the view of a new observer that the driver with this view admits
+-- What a new observer knows, given the view of the driver that creates its pass.
 abbrev pub admitted : View → View
 admitted (Driver driver) = Observer (newcomer driver.states)
 admitted view = Spent
 
--- the note that a pass with this view creates: the driver's has the published states, an observer's
--- the states that it read
+-- The note that a pass with this view creates: the driver's note has the published states, and an
+-- observer's note has the states that the observer read.
 abbrev pub note_of : View → View
 note_of (Driver driver) = Shown driver.states
 note_of (Observer watching) = Seen watching.read
 note_of view = Spent
 
--- the view of a pass after it took a note
+-- The view of a pass after it took the note.
 abbrev pub with_note : View → View → View
 with_note (Driver driver) (Seen read) = Driver (record { states = driver.states; heard = read })
 with_note (Observer watching) (Shown states) = Observer (after_known states watching)
@@ -77,8 +79,8 @@ with_note view note = view
 
 -- ---- the invariant
 
--- What the view of the pass `other` says of a board whose driver's pass has the number `seat` and
--- has published `states`.
+-- Whether the view of pass number `other` is correct for a board whose driver has pass number
+-- `seat` and has published `states`.
 abbrev pub Knows : ℕ → List BoardState → ℕ → View → Type 0
 Knows seat states other Spent = Unit {0}
 Knows seat states other (Shown shown) = Begins states shown
@@ -86,32 +88,34 @@ Knows seat states other (Seen read) = ArePublished states read
 Knows seat states other (Driver driver) = (other ≡ seat) × (driver.states ≡ states) × ArePublished states driver.heard
 Knows seat states other (Observer watching) = (watching.least < length states) × ArePublished states watching.read
 
--- A board whose driver's pass has the number `seat`: the driver's view is at this number, the board
--- shows the last published state, the tick of this state is its index among the published states,
--- and the view of each pass is right.
+-- The invariant of a board whose driver has pass number `seat`: the view of this pass is `driver`,
+-- the board shows the last published state, the tick of this state is its index among the published
+-- states, and the view of each pass is correct.
 pub record IsBoard (seat : ℕ) (driver : Publishing) (value : BoardState) (views : List View) : Type 0 where
   pub here : get_elem? views seat ≡ some (Driver driver)
   pub last : length driver.states ≡ value.tick + 1
   pub shown : IsPublished driver.states value
   pub each : (other : ℕ) (view : View) → get_elem? views other ≡ some view → Knows seat driver.states other view
 
--- The invariant: the board has a driver, at some number.
+-- The invariant of a board: it has a driver, and all views are correct.
 abbrev pub HoldsBoard : BoardState → List View → Type 0
 HoldsBoard value views = (seat : ℕ) × (driver : Publishing) × IsBoard seat driver value views
 
 -- ---- the steps
 
--- The driver published one more state.
+-- The effect of publishing: the driver has published one more state.
 abbrev pub HasPublished : View → BoardState → BoardState → View → Type 0
 HasPublished before old new after =
     (driver : Publishing) → before ≡ Driver driver → after ≡ Driver (record { states = driver.states ++ new ∷ []; heard = driver.heard })
 
--- An observer read a state, whose tick is at least the observer's `least`.
+-- The effect of a read: the observer has read one more state, whose tick is at least the observer's
+-- `least`.
 abbrev pub HasRead : View → BoardState → BoardState → View → Type 0
 HasRead before old new after =
     (watching : Watching) → before ≡ Observer watching → (after ≡ Observer (after_read new watching)) × (watching.least ≤ new.tick)
 
--- The states that an observer reported to the driver are published ones.
+-- The effect of a comparison: each state that an observer reported to the driver is a published
+-- one. The driver's view is unchanged.
 abbrev pub HasCompared : View → BoardState → BoardState → View → Type 0
 HasCompared before old new after =
     (driver : Publishing) → before ≡ Driver driver → (after ≡ before) × ArePublished driver.states driver.heard
@@ -121,22 +125,24 @@ HasCompared before old new after =
 abbrev pub BoardSeat : Type 0
 BoardSeat = Seat BoardState (Doing BoardState View)
 
--- The driver's pass: its board, and the states published on it.
+-- What contracts see of the driver's pass: its board, and the states published on the board.
 pub record DriverEnd : Type 0 where
   pub board : TableId
   pub states : List BoardState
 
--- An observer's pass: its board, and what the observer knows.
+-- What contracts see of an observer's pass: its board, and what the observer knows.
 pub record BoardEnd : Type 0 where
   pub board : TableId
   pub knows : Watching
 
--- the view as the driver's; for any other kind of view, a driver that has published nothing
+-- The driver's knowledge in a view. For any other view the result is a driver that has published
+-- nothing.
 abbrev pub as_driver : View → Publishing
 as_driver (Driver driver) = driver
 as_driver view = record { states = []; heard = [] }
 
--- the view as an observer's; for any other kind of view, an observer that knows nothing
+-- The observer's knowledge in a view. For any other view the result is an observer that knows
+-- nothing.
 abbrev pub as_observer : View → Watching
 as_observer (Observer watching) = watching
 as_observer view = newcomer []
@@ -155,8 +161,8 @@ IsObserver seat = cell_view seat ≡ Observer (as_observer (cell_view seat))
 
 -- ---- a law
 
--- An observer that was notified of all published states, and then read a state, has read the last
--- published state, if each state that it has read is a published one.
+-- If an observer was notified of all published states and then read a state, that state is the last
+-- published one, provided that each state that the observer has read is a published one.
 abbrev pub LastReadIsLast : Type 0
 LastReadIsLast = (states : List BoardState) (state : BoardState) (before : Watching) → (after_known states before).least ≤ state.tick →
     ArePublished states (after_read state (after_known states before)).read → IsLast states state

@@ -1,4 +1,5 @@
--- The contract of a watcher that lends one of its readers.
+-- The contract of a watcher that lends one of its readers. The borrower may change the reader; the
+-- rest of the watcher is unchanged.
 use Rattle.std.specs.Prelude.{ℕ, [], slice_set}
 use Rattle.std.specs.Borrow.{Fml, Lends, MutBor}
 use mir.Syntax.{named}
@@ -7,12 +8,12 @@ use Rattle.clock_row.specs.Ends.{ReaderEnd}
 use Rattle.observer_log.specs.contracts.watcher.Watcher as Watcher
 use Rattle.observer_log.specs.Watch.{WatcherView}
 
--- the watcher with `reader` as the reader of processor `cpu`
+-- The watcher with the reader of processor `cpu` replaced by `reader`.
 abbrev pub with_reader : WatcherView → ℕ → ReaderEnd → WatcherView
 with_reader watcher cpu reader = record watcher { readers = slice_set watcher.readers cpu reader }
 
--- After the loan, the watcher has the lent reader in its final state as the reader of processor
--- `cpu`, and is unchanged otherwise.
+-- After the loan, the watcher has the reader of processor `cpu` in the state in which the borrower
+-- left it. Nothing else of the watcher changed.
 abbrev pub LendsReader : MutBor WatcherView → ℕ → MutBor ReaderEnd → Fml
 LendsReader watcher cpu reader =
     Lends (Watcher.the_row (record { mir = named 1; lft = [] })) ClockReader.the_row watcher reader (with_reader watcher.now cpu)

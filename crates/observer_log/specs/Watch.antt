@@ -1,4 +1,5 @@
--- Watchers: the readers with which they take samples, and the entries that they store.
+-- Watchers: the readers with which they take samples, and the entries that they store. A watcher
+-- works for one observer.
 use Rattle.std.specs.Prelude.{◌≡◌, ℕ, ◌+◌, ◌<◌, ◌≤◌, List, [], ◌∷◌, ◌++◌, length, slice_index_or, slice_set}
 use Rattle.plan_laws.specs.Plan.{PlanView, no_plan}
 use Rattle.proc_plan.specs.Plans.{PlansView, plan_at}
@@ -9,22 +10,22 @@ use Rattle.observer_log.specs.declared.entry.Entry.{Entry}
 
 -- ---- readers
 
--- a value for a reader that doesn't exist
+-- A placeholder for a reader that doesn't exist.
 abbrev pub no_reader : ReaderEnd
 no_reader = record {
   row = record { words = 0; slots = 0; views_name = 0; atom = 0; block = 0; offset = 0; slot_names = [] };
   knows = new_reader no_plan 0;
 }
 
--- the reader of processor `cpu`
+-- The reader of processor `cpu`, or a placeholder if the list is too short.
 abbrev pub reader_at : List ReaderEnd → ℕ → ReaderEnd
 reader_at readers cpu = slice_index_or readers cpu no_reader
 
--- the plan of the reader of processor `cpu`
+-- The plan whose clocks the reader of processor `cpu` reads.
 abbrev pub named_by : List ReaderEnd → ℕ → PlanView
 named_by readers cpu = (reader_at readers cpu).knows.plan
 
--- There is one reader for each processor, which reads the clocks of the processor's plan.
+-- There is one reader for each processor, and it reads the clocks of the processor's plan.
 pub record AreReaders (plans : PlansView) (readers : List ReaderEnd) : Type 0 where
   pub many : length readers ≡ length plans.plans
   pub name : (cpu : ℕ) → cpu < length plans.plans → named_by readers cpu ≡ plan_at plans cpu
@@ -39,13 +40,14 @@ pub record WatcherView : Type 0 where
   pub readers : List ReaderEnd
   pub own : List Entry
 
--- a new watcher, which has no entries
+-- A new watcher without entries.
 abbrev pub new_watcher : ℕ → PlansView → List ReaderEnd → WatcherView
 new_watcher observer plans readers = record { observer = observer; plans = plans; readers = readers; own = [] }
 
 -- ---- taking a sample
 
--- An observer took the entry of `slot` on processor `cpu`, after at least `least` changes.
+-- The entry was taken by `observer` from `slot` on processor `cpu`, and includes at least `least`
+-- changes of the processor's plan.
 pub record IsTakenBy (observer : ℕ) (plans : PlansView) (cpu slot least : ℕ) (entry : Entry) : Type 0 where
   pub observer_is : entry.observer ≡ observer
   pub plan_is : entry.plan.now ≡ plan_at plans cpu
@@ -53,8 +55,8 @@ pub record IsTakenBy (observer : ℕ) (plans : PlansView) (cpu slot least : ℕ)
   pub slot_is : entry.slot.0 ≡ slot
   pub later : least ≤ entry.count
 
--- The reader of processor `cpu` took a sample after `count` changes, following a sample after
--- `last` changes, with at most eight tries. The other readers are unchanged.
+-- The reader of processor `cpu` took a sample that includes `count` changes, after a sample that
+-- included `last` changes. The read was tried at most eight times. The other readers are unchanged.
 pub record HasSampled (cpu last count : ℕ) (old new : List ReaderEnd) : Type 0 where
   pub reader : ReaderEnd
   pub are : new ≡ slice_set old cpu reader
@@ -64,8 +66,8 @@ pub record HasSampled (cpu last count : ℕ) (old new : List ReaderEnd) : Type 0
   pub tried : IsTried (count ∷ []) last (reader_at old cpu).knows reader.knows
   pub few : tries_of reader.knows ≤ tries_of (reader_at old cpu).knows + 8
 
--- A watcher took a sample of `slot` on processor `cpu` with the processor's reader, following a
--- sample after `last` changes, and appended its entry to the list.
+-- A watcher took a sample of `slot` on processor `cpu`, and appended its entry to the list. The
+-- previous sample included `last` changes.
 pub record HasLooked (cpu slot last : ℕ) (old new : WatcherView) : Type 0 where
   pub observer_is : new.observer ≡ old.observer
   pub plans_are : new.plans ≡ old.plans

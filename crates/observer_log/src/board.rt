@@ -1,5 +1,5 @@
-//! The tick board: the driver of a replay publishes its state at each tick, and observers read the
-//! latest state without a lock.
+//! The tick board: the driver of a replay publishes the replay's state at each tick, and observers
+//! read the latest state without a lock.
 ghost use Rattle.std.specs.Prelude.{◌≡◌, ◌≤◌, [], ◌∷◌, ◌++◌, length, IfOk, IsOk, Ok};
 ghost use Rattle.observer_log.specs.Board.{ArePublished, after_read, after_known, first_state, newcomer};
 
@@ -40,40 +40,42 @@ impl Words<3> for BoardState {
     }
 }
 
-/// What the driver knows. Contracts read an array of length 0 as a list of any length.
+/// What the driver has published and learned. Contracts read an array of length 0 as a list of any
+/// length.
 pub struct Publishing {
     /// All published states, ordered by tick, including the state before the first tick.
     pub states: [BoardState; 0],
-    /// The states that the observer whom the driver notified last has read.
+    /// The states that an observer has read: the observer that the driver notified last.
     pub heard: [BoardState; 0],
 }
 
-/// What an observer knows. Contracts read an array of length 0 as a list of any length.
+/// What an observer has read and was notified of. Contracts read an array of length 0 as a list of
+/// any length.
 pub struct Watching {
-    /// The tick that the observer's next read reaches at least: the latest that it read or was
-    /// notified of.
+    /// The observer's next read returns this tick or a later one. It is the latest tick that the
+    /// observer read or was notified of.
     pub least: u64,
-    /// The states that the observer has read, the last first.
+    /// The states that the observer has read, the latest read first.
     pub read: [BoardState; 0],
 }
 
-/// What the holder of a pass knows of the board. A *note* is a message that one pass creates and
-/// another takes.
+/// What the holder of a pass knows about the board. A *note* is a pass that carries the knowledge
+/// of one pass to another.
 pub enum View {
-    /// Nothing: the pass was a note that was taken.
+    /// The pass was a note, and its knowledge was taken over: nothing remains.
     Spent,
-    /// A note of the driver: the states published before the note was created.
+    /// A note from the driver: the states that were published before the note was created.
     Shown([BoardState; 0]),
-    /// A note of an observer: the states that it has read.
+    /// A note from an observer: the states that the observer has read.
     Seen([BoardState; 0]),
-    /// The driver's knowledge.
+    /// The knowledge of the driver.
     Driver(Publishing),
-    /// An observer's knowledge.
+    /// The knowledge of an observer.
     Observer(Watching),
 }
 
-/// The invariant of the board: how the state on it and the views of all passes are related between
-/// any two steps.
+/// The invariant of the board. It relates the state on the board to the views of all passes, and
+/// holds between any two steps.
 pub struct BoardRule;
 
 impl Protocol<BoardState, View> for BoardRule {
@@ -112,7 +114,7 @@ impl Outcome<BoardState, View> for Compares {
     ghost then = { HasCompared };
 }
 
-// Step 3, a split: the driver creates the pass of a new observer.
+// Step 3, a split: the driver creates a pass for a new observer.
 struct Admits;
 
 impl Split<View> for Admits {
@@ -123,8 +125,8 @@ impl Split<View> for Admits {
     ghost right = { admitted };
 }
 
-// Steps 3 and 4, a split and a join: a pass creates a note of what it knows, and another pass takes
-// the note.
+// Steps 3 and 4, a split and a join: one pass creates a note of its knowledge, and another pass
+// takes the note.
 struct Shows;
 
 impl Split<View> for Shows {
@@ -148,7 +150,7 @@ type Cell = RuledSeqCell<BoardState, View, BoardRule, 3>;
 
 type Seat = Pass<BoardState, View>;
 
-/// The tick board, which threads share. Contracts see its identity.
+/// The tick board, which all threads share. Contracts see its identity.
 #[derive(Drop)]
 pub struct Board {
     cell: Cell,
@@ -197,7 +199,8 @@ impl Model for BoardPass {
 }
 
 impl Board {
-    /// Creates a board at tick 0, and the driver's pass. `NoMemory` if memory runs out.
+    /// Creates a board that shows tick 0, and returns it with the driver's pass. Returns `NoMemory`
+    /// if memory runs out.
     pub fn make(alloc: Global) -> Result<(Board, DriverPass), NoMemory>
         ensures board { IfOk result (λ made. made.1.board ≡ made.0) }
         ensures first { IfOk result (λ made. made.1.states ≡ first_state ∷ []) }
@@ -211,7 +214,7 @@ impl Board {
         Ok((Board { cell }, DriverPass { seat }))
     }
 
-    /// Publishes the state of the next tick, so that observers read it from now on.
+    /// Publishes the state of the next tick. Later reads return this state or a later one.
     pub fn publish<R: Wait>(&self, rt: &R, pass: &mut DriverPass, state: BoardState)
         requires board { pass.old.board ≡ self.now }
         requires next { state.tick ≡ length pass.old.states }
@@ -221,8 +224,8 @@ impl Board {
         self.cell.swap_as::<Publishes, R>(rt, &mut pass.seat, state);
     }
 
-    /// Creates a pass for a new observer, who has read nothing, and whose first read returns at
-    /// least the latest tick published.
+    /// Creates a pass for a new observer, which has read nothing. The first read with the pass
+    /// returns the latest published tick or a later one.
     pub fn pass<R: Wait>(&self, _rt: &R, driver: &mut DriverPass) -> Result<BoardPass, NoMemory>
         requires board { driver.old.board ≡ self.now }
         ensures ok { IsOk result }
@@ -246,9 +249,9 @@ impl Board {
         self.cell.load_as::<Reads, R>(rt, &mut pass.seat)
     }
 
-    /// Notifies an observer of all published states, so that its later reads return at least the
-    /// latest tick. Each state that the observer has read is the published state of its tick.
-    /// Always returns `Ok`.
+    /// Notifies an observer of all published states, so that its later reads return the latest tick
+    /// or a later one. Also checks that each state that the observer has read is the published
+    /// state of its tick. Always returns `Ok`.
     pub fn tell<R: Wait>(
         &self,
         rt: &R,

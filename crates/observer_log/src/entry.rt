@@ -1,4 +1,5 @@
-//! An entry of the journal: one sample that an observer took of a group on a processor.
+//! An entry of the journal: one sample that an observer took of a group on one processor. Entries
+//! of wrong samples can't be created.
 ghost use Rattle.std.specs.Prelude.{◌≡◌, ◌≤◌, length};
 ghost use Rattle.plan_laws.specs.Plan.{IsClock, last_change, planned};
 
@@ -6,9 +7,9 @@ use clock_row::Sample;
 use proc_plan::Plan;
 use psi_base::{Cpu, Ns, Slot};
 
-/// A sample that an observer took: the times of the group in `slot` on a processor after `count`
-/// changes of its plan, at the time of the last of these changes. The type ensures this: an entry
-/// with other numbers can't be created.
+/// A sample that an observer took: how long (ns) the group in `slot` was in each state on processor
+/// `cpu`, after `count` changes of the processor's plan and up to the time of the last of these
+/// changes. The ghost fields ensure that the numbers are correct.
 #[derive(Clone, Copy)]
 pub struct Entry<'a> {
     /// The number of the observer, from 0.
@@ -19,16 +20,17 @@ pub struct Entry<'a> {
     pub slot: Slot,
     /// The number of changes that the sample includes: at most all changes of the plan.
     pub count: u64,
-    /// The time (ns) of the last of these changes, or 0 if there is none.
+    /// The time (ns) of the last of the `count` changes, or 0 if `count` is 0.
     pub at: Ns,
-    /// The time (ns) that the group was in each state, ordered by state.
+    /// The time (ns) that the group was in each of the seven states, in the order of states.
     pub seven: [u64; 7],
     pub ghost within: { count ≤ length plan.now.changes },
     pub ghost moment: { at ≡ last_change plan.now count },
     pub ghost times: { seven ≡ planned plan.now slot.0 count at },
 }
 
-// Returns the time (ns) of change `count`, numbered from 1, or 0 for 0.
+// Returns the time (ns) of change number `count` of the plan, counted from 1. Returns 0 if `count`
+// is 0.
 fn moment_of(plan: &Plan, count: u64) -> Ns
     requires { count ≤ length plan.now.changes }
     ensures { result ≡ last_change plan.now count }
@@ -40,8 +42,8 @@ fn moment_of(plan: &Plan, count: u64) -> Ns
 }
 
 impl<'a> Entry<'a> {
-    /// Returns the entry of a sample. Precondition: `sample` is the clock of `slot` after the
-    /// sample's number of changes of the plan.
+    /// Returns the entry of a sample. Requires that `sample` has the clock of `slot` after the
+    /// first `sample.count` changes of the plan.
     pub fn take(observer: u32, plan: &'a Plan, cpu: Cpu, slot: Slot, sample: &Sample) -> Entry<'a>
         requires { IsClock sample.now.clock plan.now slot.0 sample.now.count }
         ensures observer { result.observer ≡ observer }
@@ -50,7 +52,7 @@ impl<'a> Entry<'a> {
         ensures slot { result.slot ≡ slot }
         ensures count { result.count ≡ sample.now.count }
     {
-        // The contract of `len` says that the plan is well-formed, which the reads below require.
+        // The call gives the proof that the plan is well-formed, which the next lines require.
         plan.len();
         let at = moment_of(plan, sample.count);
         Entry {

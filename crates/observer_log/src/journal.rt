@@ -1,4 +1,5 @@
-//! The journal: the entries of all observers. The caller protects it by a lock.
+//! The journal: the entries of all observers, in the order in which they were added. The journal
+//! has no lock; callers that share it must use one.
 ghost use Rattle.std.specs.Prelude.{◌≡◌, ◌↔◌, ◌+◌, ◌<◌, [], ◌∷◌, ◌++◌, ℕ, length, IfErr, IfOk, Err, Ok, None, Some};
 ghost use Rattle.observer_log.specs.Entries.{AreOwn, by, counts_of, list_of};
 ghost use Rattle.observer_log.specs.Journal.{Agrees, AreInOrder, IsBefore, IsGood, IsNotBefore, joined, last_of};
@@ -21,7 +22,8 @@ pub struct Fall {
 }
 
 impl Fall {
-    /// Returns the greater number of changes, that of the last entry.
+    /// Returns the number of changes in the last entry, which is greater than the number in the
+    /// rejected entry.
     pub fn last(self) -> u64
         ensures { result ≡ self.last }
     {
@@ -43,8 +45,8 @@ impl From<NoMemory> for AddFault {
 }
 
 /// The entries of all observers, in the order in which they were added, with a ledger that counts
-/// them. By its type each entry is correct, and for each observer and processor the numbers of
-/// changes never decrease. Contracts see the list.
+/// them. For each observer and processor, the numbers of changes in the entries never decrease.
+/// Contracts see the list of entries.
 #[derive(Drop)]
 pub struct Journal<'a, L: Ledger> {
     entries: Vec<Entry<'a>>,
@@ -64,8 +66,8 @@ impl<'a, L: Ledger> Model for Journal<'a, L> {
         × (vec_len journal.entries ≡ journal.book.total) };
 }
 
-// Returns the number of changes in the last entry of an observer and a processor, or `None` if
-// there is no such entry.
+// Returns the number of changes in the last entry of an observer on a processor, or `None` if there
+// is no such entry.
 fn last_count(entries: &[Entry<'_>], observer: u32, cpu: Cpu) -> Option<u64>
     ensures { result ≡ last_of (counts_of observer cpu.0 entries.now) }
 {
@@ -81,7 +83,7 @@ fn last_count(entries: &[Entry<'_>], observer: u32, cpu: Cpu) -> Option<u64>
 }
 
 // Returns the number of changes in the last entry of the same observer and processor as `entry`, if
-// it is greater than the number in `entry`, otherwise `None`.
+// this number is greater than that of `entry`, and `None` otherwise.
 fn greater_last(entries: &[Entry<'_>], entry: &Entry<'_>) -> Option<u64>
     ensures falls { (last : ℕ) →
         (result ≡ Some last) ↔ IsBefore entries.now entry.now last }
@@ -95,7 +97,7 @@ fn greater_last(entries: &[Entry<'_>], entry: &Entry<'_>) -> Option<u64>
 }
 
 impl<'a, L: Ledger> Journal<'a, L> {
-    /// Creates an empty journal, whose entries the ledger `book` counts. Does not allocate.
+    /// Creates an empty journal. The ledger `book` counts its entries. Does not allocate.
     pub fn make(alloc: Global, book: Book<L>) -> Journal<'a, L>
         requires { book.total ≡ 0 }
         ensures { result ≡ [] }
@@ -106,9 +108,9 @@ impl<'a, L: Ledger> Journal<'a, L> {
         }
     }
 
-    /// Appends an entry, and adds one to the caller's share. Fails with `Falls` exactly if the last
-    /// entry of the same observer and processor has a greater number of changes. Nothing changes if
-    /// it fails.
+    /// Appends an entry, and counts it in the caller's share of the ledger. Fails with `Falls`
+    /// exactly if the last entry of the same observer and processor has a greater number of
+    /// changes. A failed call changes nothing.
     pub fn add(&mut self, entry: Entry<'a>, share: &mut Share<L>) -> Result<(), AddFault>
         requires { 0 < share.old.parts }
         ensures added { IfOk result (λ _. self.new ≡ self.old ++ entry.entry ∷ []) }
@@ -140,9 +142,9 @@ impl<'a, L: Ledger> Journal<'a, L> {
         &self.entries
     }
 
-    /// Returns the entries of the observers' own lists: in the journal's order if the journal
-    /// agrees with the lists, otherwise one list after another. `own` has the list of observer `i`
-    /// at index `i`.
+    /// Returns the entries of the observers' own lists. They are in the journal's order if the
+    /// journal agrees with the lists, otherwise one list follows the other. `own` has the list of
+    /// observer `i` at index `i`.
     pub fn order(&self, own: &[Own<'a>]) -> Result<Vec<Entry<'a>>, NoMemory>
         requires { AreOwn own.now }
         ensures agrees { Agrees self.now own.now →
@@ -159,8 +161,8 @@ impl<'a, L: Ledger> Journal<'a, L> {
         }
     }
 
-    /// Shows by contract that the number of entries is the number added with all shares of the
-    /// ledger. Precondition: `all` has all shares.
+    /// Proves that the journal has as many entries as were counted in all shares of the ledger
+    /// together. Requires that all shares were merged into `all`. Changes nothing.
     pub fn audit(&mut self, all: &mut Share<L>)
         requires { all.old.parts ≡ L.parts }
         ensures same { self.new ≡ self.old }

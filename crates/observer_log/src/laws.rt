@@ -1,9 +1,9 @@
-//! The law of the tick board. The function has an empty body: its contract is the law.
+//! The law of the tick board. The body of the function is empty: its contract states the law.
 ghost use Rattle.observer_log.specs.Board.{LastReadIsLast};
 
-/// An observer that reads the board after it was notified of all states has read the last state, if
-/// every state that it has read is a published one. The driver checks the latter when it notifies
-/// the observer again.
+/// If an observer was notified of all states and reads the board afterwards, the state that it
+/// reads is the last published one, provided that each state that it has read is a published one.
+/// The driver checks this proviso when it notifies the observer again.
 pub fn law_last_read()
     ensures { LastReadIsLast }
 {}

@@ -1,12 +1,12 @@
-//! Observers of a replay: watchers that take samples, a journal of what they saw (protected by a
-//! lock), and a board of ticks that they read without a lock.
+//! Observers of a replay: watchers that take samples, a journal of the samples (which callers
+//! protect by a lock), and a board of ticks that observers read without a lock.
 //!
-//! An observer takes samples with a [`Watcher`], which stores an [`Entry`] of each in the
-//! observer's own list ([`Own`]), and adds the entries to the [`Journal`], which all observers
-//! share. When all observers have ended, [`Journal::order`] puts the entries of their own lists
-//! into the journal's order. The driver of the replay publishes each tick on the [`Board`].
+//! An observer takes samples with a [`Watcher`], which stores an [`Entry`] of each sample in the
+//! observer's own list ([`Own`]). The observer also adds each entry to the [`Journal`], which all
+//! observers share. When all observers have ended, [`Journal::order`] puts the entries of their own
+//! lists into the journal's order. The driver of the replay publishes each tick on the [`Board`].
 //!
-//! The crate starts no threads: observe_core does.
+//! This crate starts no threads: observe_core does.
 #![tactic(auto)]
 
 mod board;

@@ -1,4 +1,5 @@
-//! Merges the entries of the observers' own lists into the order of the journal.
+//! Merges the entries of the observers' own lists into the order of the journal. The result has
+//! entries of the lists, because only these name the plans.
 ghost use Rattle.std.specs.Prelude.{◌≡◌, ◌↔◌, ℕ, true, IfOk, None, Ok, Some};
 ghost use Rattle.observer_log.specs.Entries.{AreOwn, by, list_of, entry_content};
 ghost use Rattle.observer_log.specs.Journal.{Agrees, AreInOrder, joined};
@@ -8,7 +9,7 @@ use crate::own::Own;
 use psi_base::NoMemory;
 use std::alloc::Global;
 
-// Whether two entries are equal, apart from the plan.
+// Returns whether two entries are equal, apart from their plans.
 fn say_same(one: &Entry<'_>, other: &Entry<'_>) -> bool
     ensures { (result ≡ true) ↔ (entry_content one.now ≡ entry_content other.now) }
 {
@@ -20,8 +21,8 @@ fn say_same(one: &Entry<'_>, other: &Entry<'_>) -> bool
         && one.seven == other.seven
 }
 
-/// Returns the entries of the lists in the order of the journal. The entries of the result come
-/// from the lists, not from the journal. `None` if the journal doesn't agree with the lists.
+/// Returns the entries of the lists in the order of the journal, or `None` if the journal doesn't
+/// agree with the lists. The result consists of entries of the lists, not of the journal.
 pub(crate) fn in_order<'a>(
     alloc: Global,
     journal: &[Entry<'_>],

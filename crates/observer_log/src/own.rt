@@ -1,4 +1,5 @@
-//! An observer's own list of entries, which it stores besides the shared journal.
+//! An observer's own list of entries. The observer also adds the same entries to the shared
+//! journal.
 ghost use Rattle.std.specs.Prelude.{◌≡◌, []};
 
 use crate::entry::Entry;

@@ -1,4 +1,5 @@
-//! A watcher: it takes samples for one observer and stores their entries.
+//! A watcher: it takes samples for one observer with a reader for each processor, and stores their
+//! entries in the observer's own list.
 ghost use Rattle.std.specs.Prelude.{◌≡◌, ◌<◌, length, IfErr, IfOk};
 ghost use Rattle.std.specs.Borrow.{sem};
 ghost use Rattle.plan_laws.specs.Plan.{IsClock};
@@ -89,10 +90,10 @@ impl<'a> Watcher<'a> {
         }
     }
 
-    /// Takes one sample of `slot` on a processor, after at least as many changes as `last`, the
-    /// previous sample of the slot, and appends its entry to the list. Calls the gate (a hook for
-    /// tests) with the number of the observer before it takes the sample. If memory runs out, the
-    /// function fails before it calls the gate, and nothing has changed.
+    /// Takes one sample of `slot` on processor `cpu`, and appends its entry to the list. The sample
+    /// includes at least the changes of `last`, the previous sample of the slot. Calls the gate (a
+    /// hook for tests) with the number of the observer before it takes the sample. If memory runs
+    /// out, the function fails before it calls the gate, and nothing has changed.
     pub fn look<G: Gate>(
         &mut self,
         cpu: Cpu,
@@ -126,8 +127,8 @@ impl<'a> Watcher<'a> {
         Ok(())
     }
 
-    /// Lends the reader of a processor, with which the writer of its row may meet and settle. The
-    /// list of entries doesn't change.
+    /// Lends the reader of processor `cpu`, so that the writer of the processor's clocks can
+    /// exchange knowledge with it. The list of entries doesn't change.
     pub fn reader(&mut self, cpu: Cpu) -> &mut ClockReader
         requires { cpu.0 < length self.old.plans.plans }
         ensures* writes_back { sem 𝓛 (LendsReader self.entry cpu.0 result) }
