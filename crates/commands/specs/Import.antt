@@ -1,4 +1,4 @@
--- The status of an import that fails.
+-- The status of an import that fails. The crate ftrace_import defines which texts can be imported.
 use Rattle.std.specs.Prelude.{◌≡◌}
 use Rattle.run_spec.specs.declared.status.Status.{Status}
 use Rattle.run_spec.specs.declared.status.Status.TheVariants as status
@@ -6,7 +6,7 @@ use Rattle.run_spec.specs.declared.status.Which.TheVariants.{ImportFile}
 use Rattle.ftrace_import.specs.declared.text.ImportFault.{ImportFault}
 use Rattle.ftrace_import.specs.declared.text.ImportFault.TheVariants as fault
 
--- the status for an ftrace text that can't be imported
+-- The status of a run whose ftrace text can't be imported.
 abbrev pub IsStatusOfImport : ImportFault → Status → Type 0
 IsStatusOfImport (fault.Refused line why) result = result ≡ status.Import line why
 IsStatusOfImport fault.NoFile result = result ≡ status.NoFile ImportFile

@@ -1,5 +1,5 @@
-//! The output of `check`, which accepts or refuses a trace without replaying it.
-//! Refusals are reported by the caller.
+//! The output of `check`, which accepts or rejects a trace without replaying it. The caller reports
+//! a rejected trace.
 ghost use Rattle.std.specs.Prelude.{List};
 ghost use Rattle.outside.specs.Outside.{SameInner};
 ghost use Rattle.psi_base.specs.declared.event.Event.{Event};
@@ -14,7 +14,8 @@ use pressure_text::write_check;
 use run_spec::Status;
 use task_table::Table;
 
-/// Writes the line for an accepted trace.
+/// Writes the output line for an accepted trace. `table` is the state of the tasks after all events
+/// of the trace.
 pub fn write_checked<K: Sink>(table: &Table, out: &mut K) -> Status
     ensures writes { (limits : Limits) (events : List Event) →
         IsPlayed table.now.limits table.now.world limits events →

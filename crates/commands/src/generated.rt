@@ -1,5 +1,4 @@
-//! The commands for generated traces, `gen` and `stress`.
-//! They read no file.
+//! The commands `gen` and `stress`, which generate a trace from a seed. They read no file.
 ghost use Rattle.std.specs.Prelude.{◌≡◌, ◌++◌, ◌∷◌, List, [], IfOk, None, OnOk};
 ghost use Rattle.outside.specs.Outside.{HasCause, SameInner};
 ghost use Rattle.outside.specs.Calls.{PutsAll};
@@ -26,7 +25,7 @@ use std::alloc::Global;
 use std::thread::Threads;
 use trace_gen::{Generator, generate};
 
-/// Writes the text of a generated trace. If memory runs out, nothing is written.
+/// Writes the text of the generated trace with this shape. If memory runs out, nothing is written.
 pub fn write_generated<K: Sink>(alloc: Global, shape: Shape, out: &mut K) -> Status
     requires { IsShape shape }
     ensures writes { WritesText (gen_text shape) (K.faults out.old) (K.faults out.new)
@@ -47,7 +46,8 @@ pub fn write_generated<K: Sink>(alloc: Global, shape: Shape, out: &mut K) -> Sta
     }
 }
 
-// Adds an event to a planner. Requires that the event is legal after the previous events.
+// Gives an event to the planner, which splits a trace by processor. Requires that the event is
+// legal after the previous events.
 fn take_legal(planner: &mut Planner, event: Event) -> Result<(), NoMemory>
     requires fits { Fits event }
     requires legal { (limits : Limits) × (events : List Event)
@@ -64,7 +64,7 @@ fn take_legal(planner: &mut Planner, event: Event) -> Result<(), NoMemory>
     }
 }
 
-// Generates a trace, and splits it by processor.
+// Generates the trace with this shape, and splits it by processor.
 fn plan_generated(alloc: Global, shape: Shape) -> Result<Planner, NoMemory>
     requires { IsShape shape }
     ensures { IfOk result (λ planner.
@@ -78,8 +78,8 @@ fn plan_generated(alloc: Global, shape: Shape) -> Result<Planner, NoMemory>
     Ok(planner)
 }
 
-// Replays all remaining ticks, and writes the report on the root at the last tick, if there is a
-// tick, and the last line.
+// Replays all remaining ticks, and writes the last line. If there is a tick, the report on the root
+// group at the last tick is written first.
 fn put_end<R: Threads + Sync, K: Sink, G: Gate>(
     rt: &R,
     replay: &mut Replay<'_>,
@@ -103,8 +103,8 @@ fn put_end<R: Threads + Sync, K: Sink, G: Gate>(
     replay.finish(out)
 }
 
-// The options of `stress`: the defaults of `replay`, but with a report only at the last tick, and
-// with `workers` threads.
+// Returns the options of `stress`: the defaults of `replay`, but with a report only at the last
+// tick, and with at most `workers` threads.
 fn stress_options(workers: u32) -> Options
     ensures { result ≡ stress_options workers }
 {
@@ -120,8 +120,8 @@ fn stress_options(workers: u32) -> Options
     }
 }
 
-/// Replays a generated trace, and writes the report on the root at the last tick and the last line.
-/// If memory runs out, nothing is written.
+/// Replays the generated trace with this shape, and writes the report on the root group at the last
+/// tick and the last line. If memory runs out, nothing is written.
 pub fn write_stress<R: Threads + Sync, K: Sink, G: Gate>(
     rt: &R,
     alloc: Global,

@@ -1,5 +1,5 @@
-//! The command `import`: converts a text of the kernel's ftrace to a trace.
-//! The text is parsed in ftrace_import.
+//! The command `import`: converts a text of the kernel's ftrace to a trace. The crate ftrace_import
+//! parses the text.
 ghost use Rattle.std.specs.Prelude.{◌≡◌, ◌+◌, ◌≤◌, ◌++◌, ◌∷◌, IfOk, vec_capacity};
 ghost use Rattle.outside.specs.Outside.{HasCause, SameInner};
 ghost use Rattle.outside.specs.Calls.{PutsAll};
@@ -21,10 +21,10 @@ use run_spec::{Command, Status, Which};
 use std::alloc::Global;
 use trace_gen::{put_event, put_header};
 
-/// The most bytes of an event's line, including the newline.
+/// The largest size (bytes) of the line of an event, including the newline.
 const ROOM: usize = 513;
 
-// The status for an ftrace text that can't be imported.
+// Returns the status for an ftrace text that can't be imported.
 fn import_status(fault: ImportFault) -> Status
     ensures { IsStatusOfImport fault result }
 {
@@ -38,7 +38,8 @@ fn import_status(fault: ImportFault) -> Status
     }
 }
 
-// Writes the lines of the remaining events. Requires that `line` has capacity for any event's line.
+// Writes the lines of the remaining events. Requires that `line` has capacity for the line of any
+// event.
 fn put_events<K: Sink>(
     events: &mut Imported,
     line: &mut Vec<u8>,
@@ -56,8 +57,8 @@ fn put_events<K: Sink>(
     Ok(())
 }
 
-// Writes the header for `cpus` processors, and the lines of the remaining events. Requires that
-// `line` has capacity for any event's line.
+// Writes the header of a trace with `cpus` processors, and the lines of the remaining events.
+// Requires that `line` has capacity for the line of any event.
 #[tactic(auto, using(outside::proofs::Grows::chain))]
 fn put_imported<K: Sink>(
     cpus: u32,
@@ -76,14 +77,14 @@ fn put_imported<K: Sink>(
     put_events(events, line, out)
 }
 
-// Creates an empty line with capacity for any event's line.
+// Creates an empty line with capacity for the line of any event.
 fn new_line(alloc: Global) -> Result<Vec<u8>, NoMemory>
     ensures { IfOk result (λ line. 513 ≤ vec_capacity line) }
 {
     Ok(Vec::with_capacity(alloc, ROOM)?)
 }
 
-// Writes the trace with the imported events. If memory runs out, nothing is written.
+// Writes the trace of the imported events. If memory runs out, nothing is written.
 fn write_imported<K: Sink>(alloc: Global, cpus: u32, mut events: Imported, out: &mut K) -> Status
     requires { AllFit events.left }
     ensures writes { WritesText (text_of (import_trace cpus events.left))
@@ -109,8 +110,8 @@ fn write_imported<K: Sink>(alloc: Global, cpus: u32, mut events: Imported, out: 
     }
 }
 
-/// Runs `import` for the ftrace text `name`, from a machine with `cpus` processors. The whole text
-/// is read before anything is written.
+/// Runs `import` on the ftrace file `name`, which was recorded on a machine with `cpus` processors.
+/// The whole file is read before anything is written.
 pub fn run_import<S: Shelf, K: Sink>(
     alloc: Global,
     name: &str,

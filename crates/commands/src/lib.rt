@@ -1,8 +1,7 @@
-//! The commands: what each of `replay`, `whatif`, `stall`, `check`, `gen`, `stress` and `import`
-//! writes.
+//! The output of the commands `replay`, `whatif`, `stall`, `check`, `gen`, `stress` and `import`.
 //!
-//! Reading traces and rules, removing victims and parsing words are done in the crates below;
-//! replay_core chooses the command. Each module is one command or two that share their output.
+//! Other crates read traces and rules, remove victims and parse words; replay_core selects the
+//! command. Each module has one command, or two that share their output.
 #![tactic(auto)]
 
 mod check;

@@ -1,5 +1,5 @@
-//! Writes the lines of `stall`.
-//! The clocks must have made all changes of the trace before.
+//! Writes the output lines of `stall`: one for each group and processor. Requires that the clocks
+//! have made all changes of the trace.
 
 ghost use Rattle.std.specs.Prelude.{◌≡◌, ℕ, ◌<◌, ◌≤◌, length};
 ghost use Rattle.std.specs.List.{All};
@@ -20,8 +20,8 @@ use psi_base::{Cpu, Ns, Slot};
 use psi_spec::GroupLife;
 use replay_workers::own_times;
 
-// Writes the line of a group on a processor at the last time (ns) of a trace of version 1, which
-// has no interrupt time.
+// Writes the line of the group in `slot` on a processor, at the time `last` (ns) of the trace's
+// end. The trace has version 1, so the line has no interrupt time.
 fn put_times<K: Sink, C: ProcClocks>(
     out: &mut K,
     cpu: Cpu,
@@ -47,8 +47,8 @@ fn put_times<K: Sink, C: ProcClocks>(
     write_stall(out, cpu, path, clocks.own(slot).opened(last))
 }
 
-// Writes the line of a group on a processor at the last time (ns) of a trace of version 2, which
-// has interrupt time.
+// Writes the line of the group in `slot` on a processor, at the time `last` (ns) of the trace's
+// end. The trace has version 2, so the line has the interrupt time.
 fn put_irq_times<K: Sink, C: IrqClocks>(
     out: &mut K,
     cpu: Cpu,
@@ -74,7 +74,8 @@ fn put_irq_times<K: Sink, C: IrqClocks>(
     write_stall_irq(out, cpu, path, own_times(clocks, slot, last))
 }
 
-// Writes the line of a group on a processor at the last time (ns) of a trace with this version.
+// Writes the line of the group in `slot` on a processor, at the time `last` (ns) of the trace's
+// end. `version` is the trace's version.
 fn put_group<K: Sink, C: IrqClocks>(
     out: &mut K,
     version: u32,
@@ -105,7 +106,7 @@ fn put_group<K: Sink, C: IrqClocks>(
     }
 }
 
-// Writes the lines of a processor at the last time (ns) of a trace, for the groups in the order
+// Writes the lines of a processor at the time `last` (ns) of the trace's end, for the groups in
 // `order`.
 #[tactic(auto, using(outside::proofs::Grows::growth))]
 fn put_processor<K: Sink, C: IrqClocks>(
@@ -135,9 +136,9 @@ fn put_processor<K: Sink, C: IrqClocks>(
     Ok(())
 }
 
-/// Writes the lines of all processors at the last time (ns) of a trace: processor by processor, for
-/// the groups in the order `order`. Requires that each processor's clocks have made all changes of
-/// its plan.
+/// Writes the lines of all processors at the time `last` (ns) of the trace's end: one processor
+/// after the other, for the groups in `order`. Requires that each processor's clocks have made all
+/// changes of its plan.
 pub(crate) fn put_lines<K: Sink>(
     out: &mut K,
     version: u32,

@@ -1,5 +1,5 @@
-//! The output of `replay`, which `whatif` writes too.
-//! The lines of a tick are written in replay_ticks.
+//! The output of `replay`, which is also the output of `whatif`. The lines of a single tick are
+//! written in replay_ticks.
 ghost use Rattle.std.specs.Prelude.{◌≡◌, ◌≤◌, List};
 ghost use Rattle.outside.specs.Outside.{HasCause, SameInner};
 ghost use Rattle.psi_base.specs.declared.event.Event.{Event};
@@ -50,8 +50,8 @@ fn put_replay<R: Threads + Sync, K: Sink, G: Gate>(
     }
 }
 
-/// Writes the output of `replay` for the trace of `plans`, with rules if there are any. `version`
-/// is the trace's version. If memory runs out, nothing is written.
+/// Writes the output of `replay` for the trace of `plans`. `version` is the trace's version, and
+/// `rules` are the rules if the command has a rules file. If memory runs out, nothing is written.
 pub fn write_planned<R: Threads + Sync, K: Sink, G: Gate>(
     rt: &R,
     alloc: Global,
@@ -90,8 +90,9 @@ pub fn write_planned<R: Threads + Sync, K: Sink, G: Gate>(
     }
 }
 
-/// Writes the output of `replay` for the trace that `planner` has split by processor, with rules if
-/// there are any. `version` is the trace's version. If memory runs out, nothing is written.
+/// Writes the output of `replay` for the trace that `planner` has split by processor. `version` is
+/// the trace's version, and `rules` are the rules if the command has a rules file. If memory runs
+/// out, nothing is written.
 pub fn write_replay<R: Threads + Sync, K: Sink, G: Gate>(
     rt: &R,
     alloc: Global,

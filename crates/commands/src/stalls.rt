@@ -1,5 +1,5 @@
-//! The output of `stall`: the stall sums of a trace at its end.
-//! The trace has been split by processor; each processor's clocks make its changes in a thread.
+//! The output of `stall`: the stall times of each group at the end of a trace. The trace has been
+//! split by processor; a thread makes the changes of each processor's clocks.
 ghost use Rattle.std.specs.Prelude.{◌≡◌, ℕ, ◌<◌, ◌≤◌, List, length};
 ghost use Rattle.psi_base.specs.declared.event.Event.{Event};
 ghost use Rattle.outside.specs.Outside.{SameInner};
@@ -22,8 +22,8 @@ use std::alloc::Global;
 use std::thread;
 use std::thread::Threads;
 
-// Makes all changes of all processors, each processor in its own thread if one can be started. The
-// threads don't communicate.
+// Makes all changes of all processors' clocks, each processor in its own thread if one can be
+// started. The threads don't communicate.
 fn make_each<R: Threads + Sync>(rt: &R, plans: &Plans, clocks: &mut [PlainClocks<'_>])
     requires each { length clocks.old ≡ length plans.now.plans }
     requires few { length clocks.old ≤ 64 }
@@ -52,7 +52,7 @@ fn make_each<R: Threads + Sync>(rt: &R, plans: &Plans, clocks: &mut [PlainClocks
     );
 }
 
-/// Writes the stall sums of the trace that `planner` has split by processor. `version` is the
+/// Writes the stall times of the trace that `planner` has split by processor. `version` is the
 /// trace's version. If memory runs out, nothing is written.
 pub fn write_stalls<R: Threads + Sync, K: Sink>(
     rt: &R,

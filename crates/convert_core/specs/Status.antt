@@ -7,7 +7,7 @@ use Rattle.convert_table.specs.declared.fault.TableCause.TheVariants as table
 use Rattle.convert_core.specs.declared.status.Status.{Status}
 use Rattle.convert_core.specs.declared.status.Status.TheVariants as status
 
--- the exit status
+-- The exit code that reports a status.
 abbrev pub code_of : Status → ℕ
 code_of status.Done = 0
 code_of status.Usage = 1
@@ -18,13 +18,13 @@ code_of status.ReadFault = 5
 code_of status.WriteFault = 6
 code_of (status.NoMemory _) = 7
 
--- the name of a page's cause
+-- The name of the cause for which a page is invalid.
 abbrev pub page_cause_text : PageCause → List ℕ
 page_cause_text page.TooLong = codes "TooLong"
 page_cause_text page.ShortRecord = codes "ShortRecord"
 page_cause_text page.TooMany = codes "TooMany"
 
--- the name of a table's cause
+-- The name of the cause for which a table is invalid.
 abbrev pub table_cause_text : TableCause → List ℕ
 table_cause_text table.TooLong = codes "TooLong"
 table_cause_text table.BadHeader = codes "BadHeader"
@@ -33,24 +33,25 @@ table_cause_text table.BadRow = codes "BadRow"
 table_cause_text table.NoEnd = codes "NoEnd"
 table_cause_text table.AfterEnd = codes "AfterEnd"
 
--- the word with this number, from 0; nothing if there is none
+-- Word number `number` (from 0), or nothing if there are fewer words.
 abbrev pub word_at : List (List ℕ) → ℕ → List ℕ
 word_at [] number = []
 word_at (word ∷ words) number = if number == 0 then word else word_at words (number - 1)
 
--- the line that reports a rejected page of a file with this name
+-- The line that reports that page number `number` of the file `name` is invalid.
 abbrev pub page_text : List ℕ → ℕ → PageCause → List ℕ
 page_text name number why = name ++ codes " page " ++ decimal number ++ codes ": " ++ page_cause_text why ++ codes "\n"
 
--- the line that reports a rejected table
+-- The line that reports an invalid line of a table.
 abbrev pub table_text : ℕ → TableCause → List ℕ
 table_text line why = codes "table line " ++ (decimal line ++ (codes ": " ++ (table_cause_text why ++ codes "\n")))
 
--- the line that reports a missing file
+-- The line that reports that the file `name` doesn't exist.
 abbrev pub missing_text : List ℕ → List ℕ
 missing_text name = codes "no file: " ++ (name ++ codes "\n")
 
--- the line that reports a status, with its newline, for a command's words; nothing for Done
+-- The line that reports a status, with its newline, or nothing for Done. `words` are the words of
+-- the command line, which name the files.
 abbrev pub status_text : List (List ℕ) → Status → List ℕ
 status_text words status.Done = []
 status_text words status.Usage = codes "usage: psi_convert events TABLE PAGES..\n"

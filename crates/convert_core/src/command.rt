@@ -1,4 +1,5 @@
-//! The public call of `psi_convert`, with all that is promised about it.
+//! The public call of `psi_convert`. Its contract is the specification of the whole program; the
+//! definitions that it uses are in `specs/Convert.antt`.
 ghost use Rattle.std.specs.Prelude.{◌≡◌, ◌≢◌, ◌∷◌, ◌≤◌, ℕ, List, Some, true, false, codes, length, map, string_bytes};
 ghost use Rattle.std.specs.Io.KnownBytes.{Appends, Keeps};
 ghost use Rattle.std.specs.List.{list_all};
@@ -13,7 +14,8 @@ use crate::status::Status;
 use outside::{Shelf, Sink};
 use std::alloc::Global;
 
-// Whether a word names a file.
+// Returns whether a word can be the name of a file: it isn't empty, and doesn't begin with `-`
+// unless it is one byte long.
 fn is_name(word: &str) -> bool
     ensures { result ≡ is_name word.now }
 {
@@ -27,7 +29,7 @@ fn all_names(names: &[String]) -> bool
     names.iter().all(|name| is_name(name.as_str()))
 }
 
-// Whether words name a table and 1 to 4,096 files of pages.
+// Returns whether the words can be the names of a table and of 1 to 4,096 files of pages.
 fn are_names(names: &[String]) -> bool
     ensures exact { result ≡ are_names (map string_bytes names.now) }
     ensures count { result ≡ true → (2 ≤ length names.now) × (length names.now ≤ 4097) }
@@ -38,7 +40,7 @@ fn are_names(names: &[String]) -> bool
     all_names(names)
 }
 
-// Runs the command with these names of a table and of files of pages.
+// Runs the command. The first of `names` is the table, and the others are the files of pages.
 fn run_names<S: Shelf, K: Sink>(
     alloc: Global,
     names: &[String],
@@ -68,7 +70,7 @@ fn run_names<S: Shelf, K: Sink>(
     convert(alloc, shelf, table.as_str(), pages, out)
 }
 
-// Runs the command of these words.
+// Runs the command line `words`. Returns `Usage` if the words aren't a command.
 fn run_words<S: Shelf, K: Sink>(
     alloc: Global,
     words: &[String],
@@ -105,10 +107,11 @@ fn run_words<S: Shelf, K: Sink>(
     run_names(alloc, names, shelf, out)
 }
 
-/// Runs the command of these words, the command line without the program's name: `events`, the name
-/// of a table, and the names of files of pages, one for each processor. Writes the events of the
-/// pages to `out` as lines, one processor after another, and the message of the status to `note`:
-/// one line, or nothing for `Done`. A failed write to `note` doesn't change the status.
+/// Runs one command line of `psi_convert`. `words` is the command line without the program's name:
+/// `events`, the name of a table, and the names of files of pages, one for each processor. Writes
+/// the events of the pages to `out` as lines, one processor after another, and the message of the
+/// status to `note`: one line, or nothing for `Done`. A failed write to `note` doesn't change the
+/// status.
 pub fn run<S: Shelf, K: Sink, N: Sink>(
     alloc: Global,
     words: &[String],
@@ -116,20 +119,21 @@ pub fn run<S: Shelf, K: Sink, N: Sink>(
     out: &mut K,
     note: &mut N,
 ) -> Status
-    // Files are unchanged.
+    // The run doesn't change the files.
     ensures unchanged { S.holds shelf.new ≡ S.holds shelf.old }
 
-    // The result is Usage exactly if the words aren't a command. Then nothing is read or written.
+    // The result is Usage exactly if the words aren't a command. In this case nothing is read or
+    // written.
     ensures usage { result ≡ Status.Usage → is_command (map string_bytes words.now) ≡ false }
     ensures unknown { is_command (map string_bytes words.now) ≡ false → result ≡ Status.Usage }
     ensures quiet { result ≡ Status.Usage → Keeps (K.has out.old) (K.has out.new) }
     ensures unread { result ≡ Status.Usage → S.reads shelf.new ≡ S.reads shelf.old }
 
-    // The headline: for the bytes of the table and of the files of pages, whatever they are, what a
-    // run writes and how it ends is what the definition gives. Done: exactly the text of all
-    // events. Page: exactly that of the events before the first fault, which the status reports.
-    // Table: the table's first fault, and nothing is written. If a read or write failed, the output
-    // grew by a prefix of that text. If memory ran out, nothing is written.
+    // The main result, for any bytes of the table and of the files of pages: the output and the
+    // status are those that `convert_of` defines. Done: the text of all events was appended. Page:
+    // the text of the events before the first error was appended. Table: the table has an error,
+    // and nothing was written. If a read or a write failed, a prefix of the text was appended. If
+    // memory ran out, nothing was written.
     ensures events { (table : List ℕ) (pages : List (List ℕ)) (bytes : List ℕ)
         (wholes : List (List ℕ)) → is_command (map string_bytes words.now) ≡ true →
         map string_bytes words.now ≡ codes "events" ∷ table ∷ pages →
@@ -142,18 +146,19 @@ pub fn run<S: Shelf, K: Sink, N: Sink>(
         (counts_of_run (S.faults shelf.old) (S.absent shelf.old) (K.faults out.old))
         (counts_of_run (S.faults shelf.new) (S.absent shelf.new) (K.faults out.new)) result }
 
-    // The files are read in the order of their names, each byte at most once, and nothing after a
-    // read that failed.
+    // The files are read in the order of their names. Each byte is read at most once, and nothing
+    // is read after a failed read.
     ensures order { (names : List (List ℕ)) → is_command (map string_bytes words.now) ≡ true →
         map string_bytes words.now ≡ codes "events" ∷ names →
         ReadsInOrder names (S.reads shelf.old) (S.reads shelf.new) (shelf_fault_in result) }
 
-    // The result is NoFile only for a name that doesn't exist, if the files are known.
+    // If the result is NoFile and the files are known, the reported file doesn't exist.
     ensures missed { (names : List (List ℕ)) (file : ℕ) →
         map string_bytes words.now ≡ codes "events" ∷ names → result ≡ Status.NoFile file →
         IsMissing (S.holds shelf.old) 0 names file }
 
-    // The message of the status was written to `note`: all of it, or a prefix if a write failed.
+    // The message of the status was appended to `note`: the whole message if no write to `note`
+    // failed, and a prefix of it in any case.
     ensures note { (Increased (N.faults note.old) (N.faults note.new) → ⊥) →
         Appends (N.has note.old) (N.has note.new)
         (status_text (map string_bytes words.now) result) }

@@ -1,4 +1,5 @@
-//! The events of the files of a command.
+//! Runs the command `events`: reads the table, and writes the events of all files with its layout.
+//! Each file has the pages of one processor.
 ghost use Rattle.std.specs.Prelude.{◌≡◌, ◌≢◌, ◌+◌, ◌≤◌, ◌∷◌, [], ℕ, List, IfOk, Some, Ok, length, map, string_bytes};
 ghost use Rattle.outside.specs.Outside.{content_of};
 ghost use Rattle.convert_core.specs.Convert.{contents_of, convert_of, files_output};
@@ -13,17 +14,18 @@ use page_spec::Layout;
 use psi_base::{Fault, NoMemory};
 use std::alloc::Global;
 
-/// One more than the most bytes of a table, so that a longer one is rejected.
+/// One more than the largest size (bytes) of a table. A longer table is read up to this size and
+/// rejected.
 const MOST_OF_TABLE: usize = 65_537;
 
-// Memory for one page.
+// Allocates memory for one page of `size` bytes, filled with zeros.
 fn page_memory(alloc: Global, size: usize) -> Result<Vec<u8>, NoMemory>
     ensures { IfOk result (λ page. length page.items ≡ size) }
 {
     Ok(vec![in alloc; 0; size]?)
 }
 
-// Whether all events were written, or those up to a fault of the pages.
+// Returns whether all events were written, or all events before an invalid page.
 fn ends_whole(status: Status) -> bool
     ensures { result ≡ ends_whole status }
 {
@@ -33,8 +35,8 @@ fn ends_whole(status: Status) -> bool
     }
 }
 
-// Writes the events of files of pages in large pieces. All of them are sent before the end, unless
-// a file is missing or a read or write failed.
+// Writes the events of all files through the buffer `pending`, so that the sink gets large pieces.
+// The buffer is flushed at the end, unless a file is missing or a read or write failed.
 fn put_buffered<S: Shelf, K: Sink>(
     shelf: &mut S,
     layout: &Layout,
@@ -72,7 +74,7 @@ fn put_buffered<S: Shelf, K: Sink>(
     }
 }
 
-// Writes the events of files of pages with a layout.
+// Writes the events of all files, whose pages have this layout.
 fn put_events<S: Shelf, K: Sink>(
     alloc: Global,
     shelf: &mut S,
@@ -107,7 +109,7 @@ fn put_events<S: Shelf, K: Sink>(
     put_buffered(shelf, layout, names, &mut page, &mut pending, out)
 }
 
-// The status of a table's file that wasn't read.
+// Returns the status for a table that couldn't be read.
 fn table_status(fault: FileFault) -> Status
     ensures exact { result ≡ table_status fault }
     ensures command { result ≢ Status.Usage }
@@ -119,7 +121,7 @@ fn table_status(fault: FileFault) -> Status
     }
 }
 
-// The status of a table that has no layout.
+// Returns the status for a table that couldn't be parsed.
 fn refused_status(fault: Fault<TableFault>) -> Status
     ensures exact { result ≡ refused_status fault }
     ensures command { result ≢ Status.Usage }
@@ -130,7 +132,7 @@ fn refused_status(fault: Fault<TableFault>) -> Status
     }
 }
 
-/// Writes the events of files of pages with the layout of a table.
+/// Reads the table, and writes the events of all files with its layout.
 pub(crate) fn convert<S: Shelf, K: Sink>(
     alloc: Global,
     shelf: &mut S,

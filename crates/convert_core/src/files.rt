@@ -1,4 +1,4 @@
-//! The events of several files of pages.
+//! Writes the events of several files of pages. File number `n` has the pages of processor `n`.
 ghost use Rattle.std.specs.Prelude.{◌≡◌, ◌≢◌, ◌+◌, ◌≤◌, ℕ, List, Some, length, map, string_bytes};
 ghost use Rattle.outside.specs.Outside.{SameInner};
 ghost use Rattle.convert_core.specs.Convert.{contents_of, files_output};
@@ -9,7 +9,7 @@ use outside::{Shelf, Sink};
 use page_files::{FileStop, put_file};
 use page_spec::Layout;
 
-// The end of the file of a processor as that of the run.
+// Returns the status of the run, given the reason why the file of processor `cpu` ended.
 fn status_at(cpu: u32, stop: FileStop) -> Status
     requires { cpu + 1 ≤ 4096 }
     ensures exact { result ≡ status_at cpu stop }
@@ -23,9 +23,9 @@ fn status_at(cpu: u32, stop: FileStop) -> Status
     }
 }
 
-/// Writes the events of files of pages as lines, one file after another, up to the first fault. The
-/// first file is that of the processor `cpu`, and `page` is memory for one page. After a failed
-/// read or write the sink has a prefix of the lines.
+/// Writes the events of the files `names` as lines, one file after another, up to the first error.
+/// The first file has the pages of processor `cpu`, and `page` is memory for one page. If a read or
+/// a write fails, a prefix of the lines was written.
 pub(crate) fn put_files<S: Shelf, K: Sink>(
     shelf: &mut S,
     layout: &Layout,

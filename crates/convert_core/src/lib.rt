@@ -1,7 +1,7 @@
-//! The program `psi_convert` without its files and streams: [`run`] reads the words of a command,
-//! a table and pages, and prints the events of the pages as lines.
+//! The program `psi_convert` without the real files and streams: [`run`] parses the words of a
+//! command, reads a table and pages, and writes the events of the pages as lines.
 //!
-//! `specs/Convert.antt` defines the output of every run, from the bytes of the files.
+//! `specs/Convert.antt` defines the output of every run, given the bytes of the files.
 #![tactic(auto)]
 
 mod command;

@@ -1,4 +1,4 @@
-//! Messages for statuses.
+//! Writes the messages of statuses to the error stream. A run that succeeds has no message.
 ghost use Rattle.std.specs.Prelude.{◌≡◌, ◌+◌, map, string_bytes};
 ghost use Rattle.outside.specs.Outside.{HasCause};
 ghost use Rattle.outside.specs.Calls.{PutsAll};
@@ -33,7 +33,7 @@ fn table_cause_name(cause: TableCause) -> &'static [u8]
     }
 }
 
-// Writes the message for a rejected page of a file.
+// Writes the message for an invalid page of a file.
 #[tactic(auto, using(outside::proofs::Grows::chain))]
 fn put_page_fault<N: Sink>(
     note: &mut N,
@@ -53,7 +53,7 @@ fn put_page_fault<N: Sink>(
     put_all(note, b"\n")
 }
 
-// Writes the message for a rejected table.
+// Writes the message for an invalid line of a table.
 fn put_table_fault<N: Sink>(note: &mut N, line: u32, cause: TableCause) -> Result<(), WriteFailed>
     ensures bytes { PutsAll (N.has note.old) (N.has note.new) result (table_text line cause) }
     ensures cause { HasCause (N.faults note.old) (N.faults note.new) result }
@@ -72,7 +72,7 @@ fn put_table_fault<N: Sink>(note: &mut N, line: u32, cause: TableCause) -> Resul
     )
 }
 
-// The word with this number, from 0; nothing if there is none.
+// Returns word number `number` (from 0), or nothing if there are fewer words.
 fn word_at(words: &[String], number: u32) -> &str
     ensures { result.now ≡ word_at (map string_bytes words.now) number }
 {
@@ -97,7 +97,7 @@ fn put_missing<N: Sink>(note: &mut N, name: &str) -> Result<(), WriteFailed>
     )
 }
 
-/// Writes the message of a status in one line, and nothing for `Done`. Does not allocate.
+/// Writes the message of a status as one line, or nothing for `Done`. Does not allocate.
 pub(crate) fn put_status<N: Sink>(
     note: &mut N,
     words: &[String],

@@ -1,4 +1,4 @@
-//! How a run ends.
+//! The status of a run, and the exit code that reports it.
 ghost use Rattle.std.specs.Prelude.{◌≡◌};
 ghost use Rattle.convert_core.specs.Status.{code_of};
 
@@ -6,36 +6,37 @@ use convert_table::TableFault;
 use page_spec::PageCause;
 use psi_base::NoMemory;
 
-/// How a run ended.
+/// The status of a run.
 #[derive(Clone, Copy, Debug, PartialEq, Eq)]
 pub enum Status {
     /// The whole output was written.
     Done,
     /// The words aren't a command.
     Usage,
-    /// A page is rejected: the number of its file among the files of pages, from 0, its number in
-    /// the file, from 0, and the cause. The events before it were written.
+    /// A page is invalid. `cpu` is the number of its file and `page` the number of the page in this
+    /// file, both from 0. All events before the error were written.
     Page {
         cpu: u32,
         page: u64,
         cause: PageCause,
     },
-    /// The table is rejected with this fault.
+    /// The table is invalid.
     Table(TableFault),
-    /// There is no file of this name: the table's (0), or one of the files of pages (from 1).
+    /// A file doesn't exist: the table if `file` is 0, otherwise the file of pages with this number
+    /// (from 1).
     NoFile {
         file: u32,
     },
-    /// A read failed, after a prefix of the output.
+    /// A read failed. A prefix of the output was written.
     ReadFault,
-    /// A write failed, after a prefix of the output.
+    /// A write failed. A prefix of the output was written.
     WriteFault,
-    /// Out of memory.
+    /// Memory ran out.
     NoMemory(NoMemory),
 }
 
 impl Status {
-    /// The exit status of the program.
+    /// Returns the exit code that reports the status.
     pub fn code(self) -> u8
         ensures { result ≡ code_of self }
     {

@@ -1,4 +1,5 @@
--- The text of a layout: the layout that bytes spell, or the first fault.
+-- Defines the layout that a table describes, or the first error of the table. A table is a text of
+-- lines, whose words are separated by spaces.
 use Rattle.std.specs.Prelude.{ℕ, ◌+◌, List, [], ◌∷◌, ◌++◌, length, nat_lt, nat_le, ◌==◌, ◌&&◌, Bool, true, false, if◌then◌else◌, codes, Option, None, Some, option_map, Result, Ok, Err}
 use Rattle.std.specs.Str.{bytes_eq}
 use Rattle.psi_base.specs.Number.{number_of}
@@ -20,17 +21,17 @@ use Rattle.convert_table.specs.declared.row.Row.TheVariants as row
 
 -- ---- words
 
--- the next part, and those after it
+-- The first part of a list and the parts after it, or `None` if the list is empty.
 abbrev pub next : List (List ℕ) → Option (List ℕ × List (List ℕ))
 next [] = None
 next (part ∷ parts) = Some (part, parts)
 
--- no part is left
+-- A result exactly if no part remains.
 abbrev pub ended : List (List ℕ) → Option (Unit {0})
 ended [] = Some tt
 ended (part ∷ parts) = None
 
--- a number, if it is below 65,536
+-- The number if it is below 65,536, and `None` otherwise.
 abbrev pub if_small : Option ℕ → Option ℕ
 if_small None = None
 if_small (Some number) = if nat_lt number 65536 then Some number else None
@@ -38,19 +39,20 @@ if_small (Some number) = if nat_lt number 65536 then Some number else None
 abbrev pub small : List ℕ → Option ℕ
 small word = if_small (number_of word)
 
--- the byte of a word of one byte
+-- The byte of a word that has exactly one byte, and `None` for any other word.
 abbrev pub byte_in : List ℕ → Option ℕ
 byte_in (byte ∷ []) = Some byte
 byte_in _ = None
 
 -- ---- fields
 
--- the width of a number of a size
+-- The width of a number with `size` bytes: 1, 2, 4 or 8.
 abbrev pub width_of : ℕ → Option Width
 width_of size =
     if size == 1 then Some One else if size == 2 then Some Two else if size == 4 then Some Four else if size == 8 then Some Eight else None
 
--- a field of this form
+-- The field with this form, offset (bytes) and size (bytes), or `None` if the form is unknown or
+-- the size isn't allowed.
 abbrev pub field_with : List ℕ → ℕ → ℕ → Option Field
 field_with form offset size =
     if bytes_eq form (codes "unsigned") then option_map (λ width. field.Unsigned offset width) (width_of size)
@@ -60,7 +62,8 @@ field_with form offset size =
     else if bytes_eq form (codes "located") && size == 4 then Some (field.Located offset)
     else None
 
--- a field: its form, offset and size, with colons (58) between them
+-- The field that a word describes: its form, offset (bytes) and size (bytes), separated by colons
+-- (byte 58).
 unfoldable pub field_of : List ℕ → Option Field
 field_of word = do
   form ← next (parts_at 58 word)
@@ -71,7 +74,7 @@ field_of word = do
   count ← small size.0
   field_with form.0 start count
 
--- fields, if each is one
+-- A list of fields with the first field added, or `None` if one of the two is `None`.
 abbrev pub with_first : Option Field → Option (List Field) → Option (List Field)
 with_first None rest = None
 with_first (Some first) None = None
@@ -83,7 +86,8 @@ fields_of (word ∷ words) = with_first (field_of word) (fields_of words)
 
 -- ---- lines
 
--- the letter of a state: its bits, and the letter
+-- The letter of a task's state, from the words after `letter`: the bits of the state, and the
+-- letter.
 unfoldable pub state_letter_of : List (List ℕ) → Option StateLetter
 state_letter_of words = do
   bits ← next words
@@ -93,7 +97,7 @@ state_letter_of words = do
   byte ← byte_in letter.0
   Some (record { bits = number; letter = byte })
 
--- a kind of event: its number, its name and its fields
+-- A kind of event, from the words after `kind`: its number, its name and its fields.
 unfoldable pub kind_of : List (List ℕ) → Option Kind
 kind_of words = do
   number ← next words
@@ -102,28 +106,29 @@ kind_of words = do
   fields ← fields_of name.1
   Some (record { number = value; name = name.0; fields = fields })
 
--- a line of this first word and these other words
+-- A row, from the first word of its line and the other words.
 abbrev pub row_with : List ℕ → List (List ℕ) → Option Row
 row_with word words =
     if bytes_eq word (codes "letter") then option_map (λ letter. row.Letter letter) (state_letter_of words)
     else if bytes_eq word (codes "kind") then option_map (λ kind. row.Event kind) (kind_of words)
     else None
 
--- a line between the page's and the end; its words are between spaces (32)
+-- A row, from a line after the line `page` and before the line `end`. Words are separated by spaces
+-- (byte 32).
 unfoldable pub row_of : List ℕ → Option Row
 row_of line = do
   word ← next (parts_at 32 line)
   row_with word.0 word.1
 
--- the sizes of a page and its header, if the first word is `page`: the header has at least 16
--- bytes, and the page at most 2 MiB
+-- The sizes (bytes) of a page and of its header, if the first word is `page`, the header has at
+-- least 16 bytes, and the page at most 2 MiB and at least the header.
 abbrev pub page_with : List ℕ → ℕ → ℕ → Option PageSize
 page_with word size start =
     if bytes_eq word (codes "page") && nat_le 16 start && nat_le start size && nat_le size 2097152
     then Some (record { page = size; header = start })
     else None
 
--- the sizes of a line
+-- The sizes (bytes) of a page and of its header, from the second line of a table.
 unfoldable pub page_of : List ℕ → Option PageSize
 page_of line = do
   word ← next (parts_at 32 line)
@@ -136,53 +141,58 @@ page_of line = do
 
 -- ---- the table
 
--- a fault of the line with this number, from 1
+-- The error `why` of line number `line` (from 1).
 abbrev pub table_fault : ℕ → TableCause → TableFault
 table_fault line why = record { line = line; cause = why }
 
--- a layout, from its parts
+-- The layout with these sizes, state letters and kinds of events.
 abbrev pub layout_with : PageSize → List StateLetter → List Kind → Layout
 layout_with size letters kinds = record { page = size.page; header = size.header; letters = letters; kinds = kinds }
 
--- nothing follows the last newline
+-- Whether only an empty part remains, because the text ends with a newline.
 abbrev pub is_last : List (List ℕ) → Bool
 is_last ([] ∷ []) = true
 is_last _ = false
 
--- the layout after the end's line, which has this number, if nothing follows it
+-- The result after the line `end`, which has number `number`: the layout if nothing follows, and
+-- otherwise an error in the next line.
 abbrev pub end_from : PageSize → ℕ → List StateLetter → List Kind → List (List ℕ) → Result Layout TableFault
 end_from size number letters kinds lines =
     if is_last lines then Ok (layout_with size letters kinds) else Err (table_fault (number + 1) AfterEnd)
 
--- a line's letter or kind after those before it, or the line's fault
+-- The result for a row in line `number`: its letter or kind is appended to the previous ones, and
+-- `following` gives the result of the further lines. If the line isn't a row, the result is an
+-- error.
 abbrev pub row_then : ℕ → List StateLetter → List Kind → Option Row
     → (List StateLetter → List Kind → Result Layout TableFault) → Result Layout TableFault
 row_then number letters kinds None following = Err (table_fault number BadRow)
 row_then number letters kinds (Some (row.Letter letter)) following = following (letters ++ letter ∷ []) kinds
 row_then number letters kinds (Some (row.Event kind)) following = following letters (kinds ++ kind ∷ [])
 
--- the layout of lines, the first of which has this number, after these letters and kinds
+-- The result for the lines from number `number` on; `letters` and `kinds` are those of the lines
+-- before.
 abbrev pub rows_from : PageSize → ℕ → List StateLetter → List Kind → List (List ℕ) → Result Layout TableFault
 rows_from size number letters kinds [] = Err (table_fault number NoEnd)
 rows_from size number letters kinds (line ∷ lines) =
     if bytes_eq line (codes "end") then end_from size number letters kinds lines
     else row_then number letters kinds (row_of line) (λ more_letters more_kinds. rows_from size (number + 1) more_letters more_kinds lines)
 
--- the layout of the lines after the second one, which has these sizes
+-- The result for the lines after the second line, which gave the sizes; an error if it gave none.
 abbrev pub sized_layout : Option PageSize → List (List ℕ) → Result Layout TableFault
 sized_layout None lines = Err (table_fault 2 BadPage)
 sized_layout (Some size) lines = rows_from size 3 [] [] lines
 
--- the layout of the lines after the first one
+-- The result for the lines after the first line.
 abbrev pub after_first : List (List ℕ) → Result Layout TableFault
 after_first [] = Err (table_fault 2 BadPage)
 after_first (second ∷ lines) = sized_layout (page_of second) lines
 
--- the layout of all lines
+-- The result for all lines of a table.
 abbrev pub lines_layout : List (List ℕ) → Result Layout TableFault
 lines_layout [] = Err (table_fault 1 BadHeader)
 lines_layout (first ∷ lines) = if bytes_eq first (codes "psi_layout 1") then after_first lines else Err (table_fault 1 BadHeader)
 
--- the layout that bytes spell, in lines between newlines (10)
+-- The result for the bytes of a table: a layout, or the first error. Lines are separated by
+-- newlines (byte 10).
 unfoldable pub table_of : List ℕ → Result Layout TableFault
 table_of bytes = if nat_lt 65536 (length bytes) then Err (table_fault 1 TooLong) else lines_layout (parts_at 10 bytes)

@@ -1,7 +1,7 @@
-//! Why a table is rejected.
+//! The errors of a table: the number of the invalid line, and why it is invalid.
 use psi_base::Fault;
 
-/// Why a line of a table is rejected.
+/// The reason why a line of a table is invalid.
 #[derive(Clone, Copy, Debug, PartialEq, Eq)]
 pub enum TableCause {
     /// The table has more than 65,536 bytes.
@@ -10,20 +10,20 @@ pub enum TableCause {
     BadHeader,
     /// The second line isn't `page SIZE HEADER` with sizes in range.
     BadPage,
-    /// The line isn't of the form of its first word.
+    /// The line doesn't have the form that its first word requires.
     BadRow,
-    /// The line isn't there: the table has no `end`.
+    /// The table ends without the line `end`.
     NoEnd,
-    /// Something follows `end`.
+    /// Text follows the line `end`.
     AfterEnd,
 }
 
-/// The first fault of a table.
+/// The first error of a table.
 #[derive(Clone, Copy, Debug, PartialEq, Eq)]
 pub struct TableFault {
-    /// The number of the line, from 1.
+    /// The number of the invalid line, from 1.
     pub line: u32,
-    /// Why it is rejected.
+    /// The reason why the line is invalid.
     pub cause: TableCause,
 }
 

@@ -1,9 +1,9 @@
-//! Reads a table with the layout of a kernel's pages and events: the text of a
-//! [`page_spec::Layout`].
+//! Parses a table, the text of a [`page_spec::Layout`]. A table describes the kernel's pages and
+//! events.
 //!
-//! Its lines are `psi_layout 1`; `page SIZE HEADER`; any number of `letter BITS LETTER` and `kind
-//! NUMBER NAME FIELD..`, a field being `FORM:OFFSET:SIZE`; and `end`. `specs/Table.antt` defines
-//! it.
+//! The lines of a table are `psi_layout 1`; `page SIZE HEADER`; any number of `letter BITS LETTER`
+//! and `kind NUMBER NAME FIELD..`, with fields `FORM:OFFSET:SIZE`; and `end`. `specs/Table.antt`
+//! defines the result for every text.
 #![tactic(auto)]
 
 mod fault;

@@ -1,4 +1,4 @@
-//! A whole table.
+//! Parses a whole table, line by line. The form of each line is in `row`.
 ghost use Rattle.std.specs.Prelude.{◌≡◌, ◌+◌, ◌^◌, ◌<◌, ◌≤◌, [], IfOk, length};
 ghost use Rattle.psi_base.specs.Gives.{Gives};
 ghost use Rattle.psi_base.specs.Path.{parts_at};
@@ -11,17 +11,17 @@ use page_spec::{KindList, Layout, LetterList};
 use psi_base::{Fault, Parts};
 use std::alloc::Global;
 
-/// The lines of a table that aren't read yet.
+/// The lines of a table that haven't been parsed yet.
 type Lines<'a> = Parts<'a, b'\n'>;
 
-// A fault of the line with this number.
+// Returns the error for line number `line` (from 1).
 fn refused(line: u32, cause: TableCause) -> Fault<TableFault>
     ensures { result ≡ refused_at line cause }
 {
     Fault::Refused(TableFault { line, cause })
 }
 
-// Whether nothing follows the newline of the line before.
+// Returns whether only an empty part remains: the text ends with the newline of the line before.
 fn is_last(mut lines: Lines) -> bool
     ensures { result ≡ is_last lines.entry }
 {
@@ -31,7 +31,8 @@ fn is_last(mut lines: Lines) -> bool
     }
 }
 
-// The layout of the lines from the third one on.
+// Parses the lines from the third on, and returns the layout. `size` has the sizes of the second
+// line.
 fn read_rows(alloc: Global, size: PageSize, lines: Lines) -> Result<Layout, Fault<TableFault>>
     requires { length lines < 2 ^ 31 }
     ensures exact { Gives result (rows_from size 3 [] [] lines.entry) }
@@ -65,7 +66,7 @@ fn read_rows(alloc: Global, size: PageSize, lines: Lines) -> Result<Layout, Faul
     Err(refused(number, TableCause::NoEnd))
 }
 
-// The layout of all lines.
+// Parses all lines of a table, and returns the layout.
 fn read_lines(alloc: Global, mut lines: Lines) -> Result<Layout, Fault<TableFault>>
     requires { length lines < 2 ^ 31 }
     ensures exact { Gives result (lines_layout lines.entry) }
@@ -87,7 +88,7 @@ fn read_lines(alloc: Global, mut lines: Lines) -> Result<Layout, Fault<TableFaul
     }
 }
 
-/// The layout in a table, or the table's first fault.
+/// Parses a table, and returns its layout or its first error.
 #[tactic(auto, unfolding(crate::specs::Table::table_of))]
 pub fn read_table(alloc: Global, bytes: &[u8]) -> Result<Layout, Fault<TableFault>>
     ensures exact { Gives result (table_of bytes.now) }

@@ -1,4 +1,4 @@
-//! The lines of a table.
+//! Parses single lines of a table. The order of the lines is checked in `read`.
 ghost use Rattle.std.specs.Prelude.{◌≡◌, ◌^◌, ◌<◌, ◌≤◌, [], ◌∷◌, IfSome, MatchOption, None, Some};
 ghost use Rattle.convert_table.specs.Table.{byte_in, ended, field_of, field_with, fields_of, kind_of, state_letter_of, next, page_of, row_of, small, width_of};
 ghost use Rattle.convert_table.specs.Takes.{GivesSome};
@@ -7,10 +7,10 @@ use page_spec::{Field, FieldList, Kind, StateLetter, Width};
 use psi_base::{Fault, Parts, Text, read_number};
 use std::alloc::Global;
 
-/// The words of a line that aren't read yet.
+/// The words of a line that haven't been parsed yet.
 pub(crate) type Words<'a> = Parts<'a, b' '>;
 
-/// A line isn't of its form.
+/// The error if a line doesn't have the form that its first word requires.
 #[derive(Clone, Copy, Debug, PartialEq, Eq)]
 pub(crate) struct BadRow;
 
@@ -25,10 +25,10 @@ impl From<BadRow> for Fault<BadRow> {
     }
 }
 
-/// A line between the page's and the end.
+/// A line after the line `page` and before the line `end`.
 #[derive(Drop)]
 pub(crate) enum Row {
-    /// The letter of a state.
+    /// The letter of a task's state.
     Letter(StateLetter),
     /// A kind of event.
     Event(Kind),
@@ -41,7 +41,7 @@ pub(crate) struct PageSize {
     pub(crate) header: u32,
 }
 
-// The next part.
+// Removes and returns the first part, or returns `None` if no part remains.
 fn next<'a, const AT: u8>(parts: &mut Parts<'a, AT>) -> Option<&'a [u8]>
     ensures { MatchOption result (next parts.old ≡ None)
         (λ part. next parts.old ≡ Some (part.now, parts.new)) }
@@ -49,7 +49,7 @@ fn next<'a, const AT: u8>(parts: &mut Parts<'a, AT>) -> Option<&'a [u8]>
     parts.next_part()
 }
 
-// Checks that no part is left.
+// Checks that no part remains. Returns `None` if a part remains.
 fn ended<const AT: u8>(parts: &mut Parts<'_, AT>) -> Option<()>
     ensures { MatchOption result (ended parts.old ≡ None) (λ _. ended parts.old ≡ Some tt) }
 {
@@ -59,7 +59,7 @@ fn ended<const AT: u8>(parts: &mut Parts<'_, AT>) -> Option<()>
     }
 }
 
-// A number below 65,536.
+// Parses a number below 65,536. Returns `None` for any other word.
 fn small(word: &[u8]) -> Option<u32>
     ensures exact { result ≡ small word.now }
     ensures below { IfSome result (λ n. n < 65536) }
@@ -70,7 +70,7 @@ fn small(word: &[u8]) -> Option<u32>
     }
 }
 
-// The width of a number of this size.
+// Returns the width of a number with `size` bytes, or `None` if no number has this size.
 fn width_of(size: u32) -> Option<Width>
     ensures { result ≡ width_of size }
 {
@@ -83,7 +83,8 @@ fn width_of(size: u32) -> Option<Width>
     }
 }
 
-// A field of this form.
+// Returns the field with this form, offset (bytes) and size (bytes), or `None` if the form is
+// unknown or the size isn't allowed.
 fn field_with(form: &[u8], offset: u32, size: u32) -> Option<Field>
     ensures { result ≡ field_with form.now offset size }
 {
@@ -105,7 +106,7 @@ fn field_with(form: &[u8], offset: u32, size: u32) -> Option<Field>
     }
 }
 
-// A field: its form, offset and size, with colons between them.
+// Parses a field: its form, its offset (bytes) and its size (bytes), separated by colons.
 #[tactic(auto, unfolding(crate::specs::Table::field_of))]
 fn field_of(word: &[u8]) -> Option<Field>
     ensures { result ≡ field_of word.now }
@@ -120,7 +121,7 @@ fn field_of(word: &[u8]) -> Option<Field>
     field_with(form, offset, size)
 }
 
-// All fields of the words.
+// Parses all remaining words of a line as fields.
 fn fields_of(alloc: Global, words: Words) -> Result<FieldList, Fault<BadRow>>
     ensures { GivesSome result (fields_of words.entry) }
 {
@@ -135,14 +136,14 @@ fn fields_of(alloc: Global, words: Words) -> Result<FieldList, Fault<BadRow>>
     Ok(FieldList::new(fields))
 }
 
-// The byte of a word of one byte.
+// Returns the byte of a word that has exactly one byte, and `None` for any other word.
 fn byte_in(word: &[u8]) -> Option<u8>
     ensures { result ≡ byte_in word.now }
 {
     if word.len() == 1 { Some(word[0]) } else { None }
 }
 
-// The letter of a state: its bits, and the letter.
+// Parses the words after `letter`: the bits of a task's state, and the letter of this state.
 #[tactic(auto, unfolding(crate::specs::Table::state_letter_of))]
 fn state_letter_of(mut words: Words) -> Option<StateLetter>
     ensures { result ≡ state_letter_of words.entry }
@@ -155,7 +156,7 @@ fn state_letter_of(mut words: Words) -> Option<StateLetter>
     Some(StateLetter { bits, letter })
 }
 
-// A kind of event: its number, its name and its fields.
+// Parses the words after `kind`: the number, the name and the fields of a kind of event.
 #[tactic(auto, unfolding(crate::specs::Table::kind_of))]
 fn kind_of(alloc: Global, mut words: Words) -> Result<Kind, Fault<BadRow>>
     ensures { GivesSome result (kind_of words.entry) }
@@ -172,7 +173,8 @@ fn kind_of(alloc: Global, mut words: Words) -> Result<Kind, Fault<BadRow>>
     })
 }
 
-/// The sizes in the second line.
+/// Parses the second line of a table, `page SIZE HEADER`. Returns `None` if the line has another
+/// form or a size is out of range.
 #[tactic(auto, unfolding(crate::specs::Table::page_of))]
 pub(crate) fn page_of(line: &[u8]) -> Option<PageSize>
     ensures exact { result ≡ page_of line.now }
@@ -196,7 +198,7 @@ pub(crate) fn page_of(line: &[u8]) -> Option<PageSize>
     }
 }
 
-/// A line between the page's and the end.
+/// Parses a line after the line `page` and before the line `end`.
 #[tactic(auto, unfolding(crate::specs::Table::row_of))]
 pub(crate) fn row_of(alloc: Global, line: &[u8]) -> Result<Row, Fault<BadRow>>
     ensures { GivesSome result (row_of line.now) }

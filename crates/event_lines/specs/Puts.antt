@@ -1,4 +1,5 @@
--- What a call that writes the lines of items leaves in a sink.
+-- What was appended to a sink by a call that writes the lines of events. An item is an event or a
+-- number of lost events.
 use Rattle.std.specs.Prelude.{◌≡◌, ℕ, ◌≤◌, List, Option, None, Some, Result, Ok, Err, IsErrOf}
 use Rattle.std.specs.Io.KnownBytes.{Appends}
 use Rattle.outside.specs.Outside.{AppendsPrefix, Increased}
@@ -8,14 +9,16 @@ use Rattle.page_spec.specs.Lines.{items_text}
 use Rattle.event_lines.specs.declared.page.PageStop.{PageStop}
 use Rattle.event_lines.specs.declared.page.PageStop.TheVariants.{Refused, WriteFault}
 
--- The lines of the items of a processor were written, and there was no fault; or they were, up to
--- the fault; or a write failed after a prefix of them.
+-- The result of writing the lines of the items in `found` for processor `cpu`; `old` and `new` are
+-- the sink's content before and after. If the result is Ok, all lines were appended and `found` has
+-- no error. If it is Refused, all lines before the error were appended. If it is WriteFault, a
+-- prefix of the lines was appended.
 abbrev pub PutsFound : {T : Type 0} → Option (List ℕ) → Option (List ℕ) → ℕ → Found PageCause → Result T PageStop → Type 0
 PutsFound old new cpu found (Ok done) = (found.fault ≡ None) × Appends old new (items_text cpu found.items)
 PutsFound old new cpu found (Err (Refused why)) = (found.fault ≡ Some why) × Appends old new (items_text cpu found.items)
 PutsFound old new cpu found (Err WriteFault) = AppendsPrefix old new (items_text cpu found.items)
 
--- a count of failed writes increased if the result is a failed write, and is unchanged otherwise
+-- The number of failed writes increased if the result is WriteFault, and is unchanged otherwise.
 pub record HasWriteCause {T : Type 0} (before now : ℕ) (result : Result T PageStop) : Type 0 where
   pub later : before ≤ now
   pub failed : IsErrOf result WriteFault → Increased before now

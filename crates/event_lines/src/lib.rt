@@ -1,6 +1,6 @@
-//! Writes the events of a page as lines of text to a sink, as they are decoded.
+//! Writes the events of a page to a sink, one line per event, while it decodes them.
 //!
-//! It doesn't allocate, and it reads no file: `page_files` gives it the pages.
+//! The crate doesn't allocate, and reads no file: `page_files` provides the pages.
 #![tactic(auto)]
 
 mod line;

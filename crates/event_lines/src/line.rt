@@ -1,4 +1,5 @@
-//! Events and losses as lines of text.
+//! Writes events and numbers of lost events as lines of text. A byte of a text that isn't printable
+//! is written as an escape.
 ghost use Rattle.std.specs.Prelude.{◌≡◌, ◌≤◌, ◌<◌, ◌++◌, true, codes, decimal, length};
 ghost use Rattle.outside.specs.Outside.{HasCause, SameInner};
 ghost use Rattle.outside.specs.Calls.{PutsAll};
@@ -18,7 +19,7 @@ fn is_plain(byte: u8) -> bool
     32 < byte && byte < 127 && byte != b'\\'
 }
 
-// Writes a byte of a text.
+// Writes one byte of a text: a printable byte as it is, any other byte as an escape.
 fn put_byte<K: Sink>(out: &mut K, byte: u8) -> Result<(), WriteFailed>
     ensures bytes { PutsAll (K.has out.old) (K.has out.new) result (byte_text byte) }
     ensures cause { HasCause (K.faults out.old) (K.faults out.new) result }
@@ -39,7 +40,7 @@ fn put_byte<K: Sink>(out: &mut K, byte: u8) -> Result<(), WriteFailed>
     }
 }
 
-// Writes a text.
+// Writes a text, with escapes for the bytes that aren't printable.
 fn put_bytes<K: Sink>(out: &mut K, bytes: &[u8]) -> Result<(), WriteFailed>
     ensures bytes { PutsAll (K.has out.old) (K.has out.new) result (bytes_text bytes.now) }
     ensures cause { HasCause (K.faults out.old) (K.faults out.new) result }
@@ -51,7 +52,7 @@ fn put_bytes<K: Sink>(out: &mut K, bytes: &[u8]) -> Result<(), WriteFailed>
     Ok(())
 }
 
-// Writes a negative number, from its absolute value.
+// Writes a negative number; `number` is its absolute value.
 #[tactic(auto, using(outside::proofs::Grows::chain))]
 fn put_minus<K: Sink>(out: &mut K, number: u64) -> Result<(), WriteFailed>
     ensures bytes { PutsAll (K.has out.old) (K.has out.new) result
@@ -78,7 +79,7 @@ fn put_value<K: Sink>(out: &mut K, value: FieldValue<'_>) -> Result<(), WriteFai
     }
 }
 
-// Writes a space and the value of a field of a record.
+// Writes a space and the value of a field. `bytes` are the bytes of the event's record.
 #[tactic(auto, using(outside::proofs::Grows::chain))]
 fn put_field<K: Sink>(
     out: &mut K,
@@ -96,7 +97,8 @@ fn put_field<K: Sink>(
     put_value(out, value_of(letters, bytes, field))
 }
 
-// Writes the values of fields of a record, each after a space.
+// Writes the values of all fields, each with a space before it. `bytes` are the bytes of the
+// event's record.
 fn put_values<K: Sink>(
     out: &mut K,
     letters: &[StateLetter],
@@ -115,7 +117,7 @@ fn put_values<K: Sink>(
     Ok(())
 }
 
-// Writes the start of a line: a time (ns), a processor and a word.
+// Writes the start of a line: the time (ns), the number of the processor, and a word.
 #[tactic(auto, using(outside::proofs::Grows::chain))]
 fn put_start<K: Sink>(out: &mut K, time: u64, cpu: u32, word: &[u8]) -> Result<(), WriteFailed>
     ensures bytes { PutsAll (K.has out.old) (K.has out.new) result
@@ -130,7 +132,7 @@ fn put_start<K: Sink>(out: &mut K, time: u64, cpu: u32, word: &[u8]) -> Result<(
     put_all(out, word)
 }
 
-/// Writes the line of an event.
+/// Writes the line of an event that happened on processor `cpu`.
 #[tactic(auto, using(outside::proofs::Grows::chain))]
 pub(crate) fn put_event<K: Sink>(
     out: &mut K,
@@ -154,7 +156,7 @@ pub(crate) fn put_event<K: Sink>(
     put_all(out, b"\n")
 }
 
-// Writes a space, a number and a newline.
+// Writes a space, the number `count` and a newline, which end a line.
 #[tactic(auto, using(outside::proofs::Grows::chain))]
 fn put_count<K: Sink>(out: &mut K, count: u64) -> Result<(), WriteFailed>
     ensures bytes { PutsAll (K.has out.old) (K.has out.new) result (count_text count) }
@@ -166,7 +168,8 @@ fn put_count<K: Sink>(out: &mut K, count: u64) -> Result<(), WriteFailed>
     put_all(out, b"\n")
 }
 
-/// Writes the line of lost events.
+/// Writes the line that reports `count` lost events on processor `cpu`; `time` (ns) is that of the
+/// page after them.
 #[tactic(auto, using(outside::proofs::Grows::chain))]
 pub(crate) fn put_lost<K: Sink>(
     out: &mut K,

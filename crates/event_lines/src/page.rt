@@ -1,4 +1,5 @@
-//! The events of a page.
+//! Writes the lines of one page: the events that were lost before it, and its own events. The text
+//! of a single line is in `line`.
 ghost use Rattle.std.specs.Prelude.{◌≡◌, ◌≤◌, length};
 ghost use Rattle.outside.specs.Outside.{HasCause, SameInner};
 ghost use Rattle.outside.specs.Calls.{PutsAll};
@@ -11,10 +12,10 @@ use outside::{Sink, WriteFailed};
 use page_events::{Header, Records, next_event, read_header};
 use page_spec::{Layout, PageCause};
 
-/// Why the events of a page weren't all written.
+/// The reason why not all events of a page were written.
 #[derive(Clone, Copy, Debug, PartialEq, Eq)]
 pub enum PageStop {
-    /// The page is rejected.
+    /// The page is invalid, for this cause.
     Refused(PageCause),
     /// A write failed.
     WriteFault,
@@ -42,7 +43,7 @@ impl From<WriteFailed> for PageStop {
     }
 }
 
-// Writes the events of records.
+// Writes one line for each event in the records, up to the first record that is too short.
 fn put_events<'a, K: Sink>(
     layout: &'a Layout,
     cpu: u32,
@@ -67,7 +68,8 @@ fn put_events<'a, K: Sink>(
     }
 }
 
-// Writes the losses before a page.
+// Writes a line with the number of events that were lost before a page, or nothing if `lost` is
+// `None`.
 fn put_losses<K: Sink>(
     out: &mut K,
     cpu: u32,
@@ -85,7 +87,8 @@ fn put_losses<K: Sink>(
     }
 }
 
-// Writes the losses before a page, and the events of its records.
+// Writes the number of events that were lost before the page, if any were, and the events of its
+// records.
 fn put_read<'a, K: Sink>(
     layout: &'a Layout,
     cpu: u32,
@@ -104,8 +107,8 @@ fn put_read<'a, K: Sink>(
     }
 }
 
-/// Writes the losses and the events of a page as lines, up to the first fault. After a failed write
-/// the sink has a prefix of the lines.
+/// Writes the lines of a page, up to its first error: the number of events that were lost before
+/// it, and its own events. If a write fails, a prefix of these lines was written.
 pub fn put_page<'a, K: Sink>(
     layout: &'a Layout,
     cpu: u32,

@@ -102,7 +102,7 @@ pub record AreReady (plans : PlansView) (slot : ℕ) (made : ℕ → ℕ) (old n
 
 -- ---- after an interval
 
--- Preconditions for checking how many changes a watcher's readers have seen: `cpus` is the number
+-- Preconditions for synchronising with a watcher's readers after an interval: `cpus` is the number
 -- of all processors, and the readers belong to the rows of the replay's clocks.
 pub record MaySettle (replay : ReplayView) (watcher : WatcherView) (cpus : ℕ) : Type 0 where
   pub some : IsSomeReplay replay

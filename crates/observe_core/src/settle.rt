@@ -1,5 +1,6 @@
-//! Checks after an interval that each observer's reader has seen at most the changes that the
-//! replay has made. This bounds the samples of the interval.
+//! Synchronises with the observers' readers after an interval. The contracts state the result: each
+//! reader has seen at most the changes that the replay has made. This bounds the samples of the
+//! interval.
 ghost use Rattle.std.specs.Prelude.{◌≡◌, ◌<◌, Some, false, length};
 ghost use Rattle.std.specs.List.{All};
 ghost use Rattle.replay_ticks.specs.Replays.{IsSomeReplay};
@@ -14,8 +15,8 @@ use psi_base::Cpu;
 use replay_ticks::Replay;
 use std::sync::ledger::Ledger;
 
-// Checks that the watcher's reader of processor `cpu` has seen at most the changes made on the
-// processor. Changes nothing.
+// Synchronises with the watcher's reader of processor `cpu`, which has seen at most the changes
+// made on the processor. The reader doesn't change.
 fn settle(replay: &mut Replay<'_>, watcher: &mut Watcher<'_>, cpu: Cpu)
     requires replay { IsSomeReplay replay.old }
     requires cpu { cpu.0 < length replay.old.plans.plans }
@@ -29,8 +30,8 @@ fn settle(replay: &mut Replay<'_>, watcher: &mut Watcher<'_>, cpu: Cpu)
     replay.settle(cpu, reader);
 }
 
-// Checks that the watcher's readers of the first `cpus` processors have seen at most the changes
-// made. Changes nothing.
+// Synchronises with the watcher's readers of the first `cpus` processors, which have seen at most
+// the changes made.
 fn settle_readers(replay: &mut Replay<'_>, watcher: &mut Watcher<'_>, cpus: usize)
     requires { MaySettle replay.old watcher.old cpus }
     ensures same { replay.new ≡ replay.old }
@@ -56,8 +57,8 @@ impl<'j, 'a, L: Ledger> Observer<'j, 'a, L> {
     }
 }
 
-/// Checks that the readers of all observers have seen at most the changes made. Skips observers
-/// that ran out of memory.
+/// Synchronises with the readers of all observers, which have seen at most the changes made. Skips
+/// observers that ran out of memory.
 pub(crate) fn settle_all<L: Ledger>(replay: &mut Replay<'_>, observers: &mut [Observer<'_, '_, L>])
     requires { All (λ (observer : ObserverView). observer.failed ≡ false →
         MaySettle replay.old observer.watcher (length observer.lasts)) observers.old }

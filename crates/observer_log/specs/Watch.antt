@@ -56,7 +56,8 @@ pub record IsTakenBy (observer : ℕ) (plans : PlansView) (cpu slot least : ℕ)
   pub later : least ≤ entry.count
 
 -- The reader of processor `cpu` took a sample that includes `count` changes, after a sample that
--- included `last` changes. The read was tried at most eight times. The other readers are unchanged.
+-- included `last` changes. The new sample repeats that sample if eight tries to read the clocks
+-- failed. The other readers are unchanged.
 pub record HasSampled (cpu last count : ℕ) (old new : List ReaderEnd) : Type 0 where
   pub reader : ReaderEnd
   pub are : new ≡ slice_set old cpu reader

@@ -1,4 +1,5 @@
--- Borrowed parts and values, as the definitions see them.
+-- Relates the types of this crate, which borrow their bytes from a page, to the types of the
+-- specification in page_spec.
 use Rattle.page_spec.specs.Records.{Step, record_at}
 use Rattle.page_spec.specs.Records.{Step as step}
 use Rattle.page_spec.specs.Fields.{Value}
@@ -8,13 +9,13 @@ use Rattle.page_events.specs.declared.part.Part.TheVariants as part
 use Rattle.page_events.specs.declared.value.FieldValue.{FieldValue}
 use Rattle.page_events.specs.declared.value.FieldValue.TheVariants as seen
 
--- a part of a page's records
+-- The specification's form of a decoded part.
 abbrev pub step_of : Part → Step
 step_of part.End = step.Ends
 step_of (part.Skipped time rest) = step.Skips time rest.now
 step_of (part.Found time bytes rest) = step.Gives (record_at time bytes.now) rest.now
 
--- the value of a field
+-- The specification's form of a field's value.
 abbrev pub seen_value : FieldValue → Value
 seen_value (seen.Count number) = value.Count number
 seen_value (seen.Minus number) = value.Minus number

@@ -1,10 +1,11 @@
-//! Numbers, least byte first, and parts of bytes.
+//! Reads little-endian numbers from bytes, and takes parts of bytes. Nothing here knows what the
+//! bytes mean.
 ghost use Rattle.std.specs.Prelude.{◌≡◌, ◌≤◌, length, take, drop};
 ghost use Rattle.page_spec.specs.Fields.{half_of, long_of, number_in, size_of, word_of};
 
 use page_spec::Width;
 
-/// The number in the first two bytes.
+/// Returns the little-endian number in the first two bytes.
 #[inline(always)]
 pub(crate) fn half(bytes: &[u8]) -> u16
     requires { 2 ≤ length bytes.now }
@@ -13,7 +14,7 @@ pub(crate) fn half(bytes: &[u8]) -> u16
     u16::from_le_bytes([bytes[0], bytes[1]])
 }
 
-/// The number in the first four bytes.
+/// Returns the little-endian number in the first four bytes.
 #[inline(always)]
 pub(crate) fn word(bytes: &[u8]) -> u32
     requires { 4 ≤ length bytes.now }
@@ -22,7 +23,7 @@ pub(crate) fn word(bytes: &[u8]) -> u32
     u32::from_le_bytes([bytes[0], bytes[1], bytes[2], bytes[3]])
 }
 
-/// The number in the first eight bytes.
+/// Returns the little-endian number in the first eight bytes.
 #[inline(always)]
 pub(crate) fn long(bytes: &[u8]) -> u64
     requires { 8 ≤ length bytes.now }
@@ -33,7 +34,7 @@ pub(crate) fn long(bytes: &[u8]) -> u64
     ])
 }
 
-/// The size of a number in bytes.
+/// Returns the number of bytes of a number with this width.
 #[inline(always)]
 pub(crate) fn size(width: Width) -> usize
     ensures size { result ≡ size_of width }
@@ -47,7 +48,7 @@ pub(crate) fn size(width: Width) -> usize
     }
 }
 
-/// The number of this width in the first bytes.
+/// Returns the little-endian number of this width in the first bytes.
 #[inline(always)]
 pub(crate) fn number(width: Width, bytes: &[u8]) -> u64
     requires { size_of width ≤ length bytes.now }
@@ -61,7 +62,7 @@ pub(crate) fn number(width: Width, bytes: &[u8]) -> u64
     }
 }
 
-/// The bytes from an offset on; none if there are no more.
+/// Returns the bytes from offset `from` on, or nothing if there are fewer bytes.
 #[inline(always)]
 pub(crate) fn bytes_from(bytes: &[u8], from: usize) -> &[u8]
     ensures { result.now ≡ drop from bytes.now }
@@ -73,7 +74,7 @@ pub(crate) fn bytes_from(bytes: &[u8], from: usize) -> &[u8]
     }
 }
 
-/// The first bytes, at most this many.
+/// Returns the first `most` bytes, or all bytes if there are fewer.
 #[inline(always)]
 pub(crate) fn bytes_to(bytes: &[u8], most: usize) -> &[u8]
     ensures { result.now ≡ take most bytes.now }

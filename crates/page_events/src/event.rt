@@ -1,4 +1,5 @@
-//! The events among the records of a page.
+//! Finds the events among the records of a page. Events of kinds that the layout doesn't list are
+//! skipped.
 ghost use Rattle.std.specs.Prelude.{◌≡◌, ◌∷◌, [], List, length, true, IfOk, IfSome, OnSome, ◌<◌};
 ghost use Rattle.std.specs.Option.{option_copied};
 ghost use Rattle.page_spec.specs.Fields.{has_fields};
@@ -10,35 +11,35 @@ use crate::records::Records;
 use crate::value::has_fields;
 use page_spec::{Kind, Layout, PageCause};
 
-/// An event: a record of a kind that is read. The record has all of the kind's fields.
+/// An event of a kind that the layout lists. Its record is long enough for all fields of the kind.
 #[derive(Clone, Copy)]
 pub struct Event<'a> {
-    /// Its time in ns.
+    /// The time of the event in ns.
     pub time: u64,
-    /// Its kind.
+    /// The kind of the event.
     pub kind: &'a Kind,
-    /// The bytes of its record.
+    /// The bytes of the event's record.
     pub bytes: &'a [u8],
 }
 
-/// What a record is.
+/// What a record contains.
 pub(crate) enum Outcome<'a> {
-    /// An event of a kind that isn't read.
+    /// An event of a kind that the layout doesn't list.
     Unread,
-    /// Too short.
+    /// Too few bytes for the number of the kind, or for the kind's fields.
     Short,
-    /// An event of this kind.
+    /// An event of this kind, with all its fields.
     Read(&'a Kind),
 }
 
-// The kind of event with a number.
+// Returns the kind with this number, or `None` if the layout doesn't list it.
 fn kind_with(kinds: &[Kind], number: u16) -> Option<&Kind>
     ensures { option_copied result ≡ kind_with kinds.now number }
 {
     kinds.iter().find(|kind| kind.number == number)
 }
 
-// What a record is.
+// Returns what a record contains.
 fn outcome_of<'a>(kinds: &'a [Kind], bytes: &[u8]) -> Outcome<'a>
     ensures { reading_seen result ≡ reading_of kinds.now bytes.now }
 {
@@ -57,8 +58,8 @@ fn outcome_of<'a>(kinds: &'a [Kind], bytes: &[u8]) -> Outcome<'a>
     }
 }
 
-/// Removes records up to the next event, and returns it. `None` if there is none, and an error for
-/// a record that is too short.
+/// Removes records up to and including the next event, and returns this event. Returns `None` if no
+/// event remains, and an error if a record is too short.
 pub fn next_event<'a>(
     layout: &'a Layout,
     records: &mut Records<'a>,

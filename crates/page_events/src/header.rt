@@ -1,4 +1,5 @@
-//! The header of a page.
+//! Reads the header of a page of a kernel ring buffer: the time, the number of lost events, and the
+//! bytes of the records. The decoding of single records is in `records`.
 ghost use Rattle.std.specs.Prelude.{◌≡◌, ◌+◌, ◌^◌, ◌<◌, ◌≤◌, length, MatchResult};
 ghost use Rattle.page_spec.specs.Records.{lost_before, lost_in, page_time, records_of, used_of};
 ghost use Rattle.page_spec.specs.declared.cause.PageCause.TheVariants.{TooLong};
@@ -7,19 +8,21 @@ use crate::bytes::{bytes_from, bytes_to, long, word};
 use crate::records::Records;
 use page_spec::{Layout, PageCause};
 
-/// The header of a page, and the page's records.
+/// The header of a page, and the records of the page.
 #[derive(Drop)]
 pub struct Header<'a> {
-    /// The time before the first record, in ns.
+    /// The time of the page in ns: the first record's time is relative to it.
     pub time: u64,
-    /// The number of events that were lost before the page, if any: 0 if it is unknown.
+    /// The number of events that were lost before the page, or `None` if none was lost. 0 means
+    /// that the number is unknown.
     pub lost: Option<u64>,
-    /// The records.
+    /// The records of the page, in order.
     pub records: Records<'a>,
 }
 
-// The number of events that were lost before a page, from its word of flags and the offset of its
-// records' end.
+// Returns the number of events that were lost before a page, or `None` if none was lost. `flags` is
+// the third word of the page. `end` is the offset (bytes) after the records, at which the page may
+// store the number; 0 means that the number is unknown.
 fn lost(flags: u32, end: usize, page: &[u8]) -> Option<u64>
     requires { end < 2 ^ 63 }
     ensures { result ≡ lost_in flags end page.now }
@@ -33,7 +36,7 @@ fn lost(flags: u32, end: usize, page: &[u8]) -> Option<u64>
     }
 }
 
-/// Reads the header of a page. An error if its records don't fit in the page.
+/// Reads the header of a page. Returns `TooLong` if the records don't fit in the page.
 pub fn read_header<'a>(layout: &Layout, page: &'a [u8]) -> Result<Header<'a>, PageCause>
     requires { 16 ≤ length page.now }
     ensures { MatchResult result

@@ -1,8 +1,9 @@
-//! Decodes the pages of ring buffers: the header of a page, its records, and their events.
+//! Decodes the pages of the kernel's ring buffers: the header of a page, its records, and their
+//! events.
 //!
-//! It only reads bytes in memory, and does not allocate. [`Records`] are the records of a page in
-//! order, and [`next_event`] returns the next event among them. A [`FieldValue`] of an event
-//! borrows its text from the page.
+//! The crate only reads bytes in memory, and does not allocate. [`Records`] are the records of a
+//! page in order, and [`next_event`] returns the next event among them. A [`FieldValue`] of an
+//! event borrows its text from the page.
 #![tactic(auto)]
 
 mod bytes;

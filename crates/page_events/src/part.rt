@@ -1,4 +1,5 @@
-//! What the rest of a page's records begins with.
+//! Decodes the next part of a page's data: a record, a part to skip, or the end. A part begins with
+//! a word, whose lower 5 bits are its kind.
 ghost use Rattle.std.specs.Prelude.{◌≡◌, ◌^◌, ◌<◌, ◌≤◌, length};
 ghost use Rattle.page_spec.specs.Fields.{word_of};
 ghost use Rattle.page_spec.specs.Records.{kind_step, long_step, step_at};
@@ -6,17 +7,18 @@ ghost use Rattle.page_events.specs.Parts.{step_of};
 
 use crate::bytes::{bytes_from, bytes_to, word};
 
-/// What the rest of a page's records begins with, with the time (ns) and the rest after it.
+/// The next part of a page's data. `time` (ns) is the time after the part, and `rest` are the bytes
+/// after it.
 #[derive(Drop)]
 pub(crate) enum Part<'a> {
-    /// Nothing more.
+    /// No part follows.
     End,
-    /// Something that is no event.
+    /// A part without an event: padding or a time stamp.
     Skipped {
         time: u64,
         rest: &'a [u8],
     },
-    /// The record of an event, with its bytes.
+    /// The record of an event; `bytes` are its bytes.
     Found {
         time: u64,
         bytes: &'a [u8],
@@ -24,13 +26,15 @@ pub(crate) enum Part<'a> {
     },
 }
 
-/// The unit of a time's second word, in ns.
+/// The unit (ns) of the second word of a time: the first word has 27 bits of the time.
 const UNIT: u64 = 1 << 27;
 
-/// One more than the largest time in a record, in ns.
+/// One more than the largest time (ns) that an absolute time stamp has: 59 bits.
 const RANGE: u64 = 1 << 59;
 
-// The part of a kind with a second word, with which `after` begins.
+// Returns a part that has a second word, which is at the start of `after`. `kind` and `amount` are
+// the lower 5 and the higher 27 bits of the first word, and `time` (ns) is the time before the
+// part.
 #[inline(always)]
 fn long_part(time: u64, kind: u32, amount: u64, after: &[u8]) -> Part<'_>
     requires word { 4 ≤ length after.now }
@@ -69,7 +73,8 @@ fn long_part(time: u64, kind: u32, amount: u64, after: &[u8]) -> Part<'_>
     }
 }
 
-// The part of any kind. `after` follows its first word.
+// Returns a part of any kind. `kind` and `amount` are the lower 5 and the higher 27 bits of its
+// first word, `after` are the bytes after this word, and `time` (ns) is the time before the part.
 #[inline(always)]
 fn kind_part(time: u64, kind: u32, amount: u64, after: &[u8]) -> Part<'_>
     requires kind { kind < 32 }
@@ -91,7 +96,7 @@ fn kind_part(time: u64, kind: u32, amount: u64, after: &[u8]) -> Part<'_>
     }
 }
 
-/// What the rest of a page's records begins with, after a time (ns).
+/// Returns the part at the start of `rest`; `time` (ns) is the time before it.
 #[inline(always)]
 #[tactic(auto, unfolding(page_spec::specs::Records::step_at))]
 pub(crate) fn part_at(time: u64, rest: &[u8]) -> Part<'_>

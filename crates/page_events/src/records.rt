@@ -1,4 +1,5 @@
-//! The records of a page, in order.
+//! Iterates over the records of a page, in order. Bytes that are no records, such as padding and
+//! time stamps, are skipped.
 ghost use Rattle.std.specs.Prelude.{◌≡◌, ◌∷◌, [], List, MatchOption, length, ◌≤◌};
 ghost use Rattle.page_spec.specs.Records.{record_at, records_after};
 ghost use Rattle.page_events.specs.Walks.{WalksTo};
@@ -6,16 +7,17 @@ ghost use Rattle.page_events.specs.Walks.{WalksTo};
 use crate::part::{Part, part_at};
 use std::marker::Model;
 
-/// The record of an event.
+/// A record that stores an event.
 #[derive(Clone, Copy)]
 pub struct EventRecord<'a> {
-    /// Its time in ns.
+    /// The time of the event in ns.
     pub time: u64,
-    /// Its bytes.
+    /// The bytes of the event.
     pub bytes: &'a [u8],
 }
 
-/// Where a walk through records is, and the bytes of the record before that place, if there is one.
+/// The result of a walk to the next record: the time (ns) and the bytes after the record, and the
+/// record's own bytes. `found` is `None` if there was no further record.
 #[derive(Drop)]
 pub(crate) struct Walked<'a> {
     pub(crate) time: u64,
@@ -23,7 +25,8 @@ pub(crate) struct Walked<'a> {
     pub(crate) found: Option<&'a [u8]>,
 }
 
-// Goes to the place after the next record.
+// Walks to the next record. `rest` are the bytes to decode, and `time` (ns) is the time before
+// them.
 fn walk(time: u64, rest: &[u8]) -> Walked<'_>
     ensures { WalksTo time rest.now result }
 {
@@ -69,14 +72,15 @@ impl<'a> Model for Records<'a> {
 }
 
 impl<'a> Records<'a> {
-    /// The records in these bytes, after a time (ns).
+    /// Creates the records that are stored in the bytes `rest`; `time` (ns) is the time before the
+    /// first of them.
     pub fn new(time: u64, rest: &'a [u8]) -> Self
         ensures { result ≡ records_after time rest.now }
     {
         Records { time, rest }
     }
 
-    /// Removes and returns the first remaining record. `None` if there is none.
+    /// Removes and returns the first remaining record, or returns `None` if no record remains.
     #[tactic(auto, unfolding(page_spec::specs::Records::records_from))]
     pub fn next_record(&mut self) -> Option<EventRecord<'a>>
         ensures { MatchOption result ((self.old ≡ []) × (self.new ≡ []))

@@ -1,4 +1,5 @@
-//! The values of an event's fields.
+//! Decodes the values of an event's fields: numbers with or without a sign, the letter of a task's
+//! state, and texts.
 ghost use Rattle.std.specs.Prelude.{◌≡◌, ◌≤◌, ◌<◌, ◌^◌, ◌*◌, ◌-◌, ◌==◌, length, position};
 ghost use Rattle.page_spec.specs.Fields.{at_most, end_of, has_fields, letter_of, located, signed_of, size_of, until_zero, value_of};
 ghost use Rattle.page_events.specs.Parts.{seen_value};
@@ -11,15 +12,16 @@ use page_spec::{Field, StateLetter, Width};
 pub enum FieldValue<'a> {
     /// A number.
     Count(u64),
-    /// A negative number, by its absolute value.
+    /// A negative number, as its absolute value.
     Minus(u64),
-    /// The letter of a state.
+    /// The letter of a task's state.
     Letter(u8),
     /// A text.
     Bytes(&'a [u8]),
 }
 
-// One more than the largest number of this width with a sign.
+// Returns 2 to the power of the number of bits minus 1: signed numbers of this width are less than
+// it.
 fn half_range(width: Width) -> u64
     ensures value { result ≡ 2 ^ (8 * size_of width - 1) }
 {
@@ -31,7 +33,8 @@ fn half_range(width: Width) -> u64
     }
 }
 
-// A number as a signed one of this width.
+// Returns the value of a signed number of this width in two's complement. `number` has the same
+// bits without a sign.
 fn signed<'a>(width: Width, number: u64) -> FieldValue<'a>
     requires { number < 2 ^ (8 * size_of width) }
     ensures { seen_value result ≡ signed_of width number }
@@ -44,7 +47,8 @@ fn signed<'a>(width: Width, number: u64) -> FieldValue<'a>
     }
 }
 
-// The letter of a state.
+// Returns the letter of a task's state: that of the first row that shares a bit with `state`, or
+// `R` (running) if no row does.
 fn letter(letters: &[StateLetter], state: u64) -> u8
     ensures { result ≡ letter_of letters.now state }
 {
@@ -54,14 +58,14 @@ fn letter(letters: &[StateLetter], state: u64) -> u8
         .map_or(b'R', |row| row.letter)
 }
 
-// The place of the first zero byte.
+// Returns the index of the first zero byte, or `None` if no byte is zero.
 fn zero_place(bytes: &[u8]) -> Option<usize>
     ensures { result ≡ position (λ byte. byte == 0) bytes.now }
 {
     bytes.iter().position(|byte| *byte == 0)
 }
 
-// The bytes before the first zero byte.
+// Returns the bytes before the first zero byte, or all bytes if none is zero.
 fn until_zero(bytes: &[u8]) -> &[u8]
     ensures { result.now ≡ until_zero bytes.now }
 {
@@ -71,7 +75,8 @@ fn until_zero(bytes: &[u8]) -> &[u8]
     }
 }
 
-// The text at the place that a word reports.
+// Returns the text that `word` locates in `bytes`: the lower 16 bits are the text's offset (bytes),
+// and the higher 16 bits its length (bytes). The text ends before a zero byte.
 fn located(word: u32, bytes: &[u8]) -> &[u8]
     ensures { result.now ≡ located word bytes.now }
 {
@@ -79,7 +84,7 @@ fn located(word: u32, bytes: &[u8]) -> &[u8]
     until_zero(bytes_to(rest, (word / 65536) as usize))
 }
 
-// At most this many bytes, or all if this is 0.
+// Returns the first `most` bytes, or all bytes if `most` is 0.
 fn at_most(most: u32, bytes: &[u8]) -> &[u8]
     ensures { result.now ≡ at_most most bytes.now }
 {
@@ -90,7 +95,8 @@ fn at_most(most: u32, bytes: &[u8]) -> &[u8]
     }
 }
 
-// The offset after a field's own bytes.
+// Returns the offset (bytes) up to which a record must reach to have the field. A text may be
+// empty, so no byte of it is required.
 fn end_of(field: Field) -> usize
     ensures { result ≡ end_of field }
 {
@@ -103,14 +109,15 @@ fn end_of(field: Field) -> usize
     }
 }
 
-/// Whether a record has all bytes of the fields.
+/// Returns whether the record is long enough for all fields.
 pub(crate) fn has_fields(bytes: &[u8], fields: &[Field]) -> bool
     ensures { result ≡ has_fields bytes.now fields.now }
 {
     fields.iter().all(|field| end_of(*field) <= bytes.len())
 }
 
-/// The value of a field of a record, which has all of the field's bytes.
+/// Returns the value of a field of a record. `bytes` are the record's bytes, and `letters` the
+/// letters of task states. Requires that the record is long enough for the field.
 pub fn value_of<'a>(letters: &[StateLetter], bytes: &'a [u8], field: Field) -> FieldValue<'a>
     requires { end_of field ≤ length bytes.now }
     ensures { seen_value result ≡ value_of letters.now bytes.now field }

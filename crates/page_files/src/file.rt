@@ -1,4 +1,5 @@
-//! The events of a file of pages.
+//! Writes the events of a file, which consists of pages of one processor's ring buffer. The file is
+//! read page by page.
 ghost use Rattle.std.specs.Prelude.{◌≡◌, ◌≤◌, ℕ, List, length, IsErr, IsErrOf, Some, None};
 ghost use Rattle.outside.specs.Outside.{HasCauses, IsAbsent, SameInner, content_of, counts_of};
 ghost use Rattle.outside.specs.Reads.{ReadsFile};
@@ -10,23 +11,23 @@ use event_lines::{PageStop, put_page};
 use outside::{Shelf, ShelfFault, Sink};
 use page_spec::{Layout, PageCause};
 
-/// The most pages of a file.
+/// The largest number of pages in a file.
 const MOST_PAGES: u64 = 0xffff_ffff;
 
-/// Why the events of a file weren't all written.
+/// The reason why not all events of a file were written.
 #[derive(Clone, Copy, Debug, PartialEq, Eq)]
 pub enum FileStop {
     /// There is no file with this name.
     NoFile,
     /// A read failed.
     ReadFault,
-    /// The page with this number, from 0, is rejected.
+    /// The page with this number (from 0) is invalid, for this cause.
     Refused { page: u64, cause: PageCause },
     /// A write failed.
     WriteFault,
 }
 
-// A shelf's fault as the end of a file's reading.
+// Returns the reason for a read that failed.
 fn read_stop(fault: ShelfFault) -> FileStop
     ensures { result ≡ stop_of_read fault }
 {
@@ -36,7 +37,7 @@ fn read_stop(fault: ShelfFault) -> FileStop
     }
 }
 
-// The end of a page's writing as that of its file.
+// Returns the reason if page number `page` couldn't be written, given the reason for the page.
 fn page_stop(page: u64, stop: PageStop) -> FileStop
     ensures { result ≡ stop_at page stop }
 {
@@ -46,10 +47,9 @@ fn page_stop(page: u64, stop: PageStop) -> FileStop
     }
 }
 
-/// Writes the losses and the events of a file's pages as lines, up to the first fault; fewer bytes
-/// after the last whole page are left out. `page` is memory for one page. Each byte is read once,
-/// and no page after the one with the first fault. After a failed read or write the sink has a
-/// prefix of the lines.
+/// Writes the lines of all pages of a file, up to the first error. Bytes after the last whole page
+/// are ignored. `page` is memory for one page. No byte is read twice, and nothing is read after a
+/// page with an error. If a read or a write fails, a prefix of the lines was written.
 pub fn put_file<S: Shelf, K: Sink>(
     shelf: &mut S,
     name: &str,

@@ -1,12 +1,13 @@
-//! Reads the part of a file from a place on, however the shelf's reads split it.
+//! Fills a buffer with bytes of a file. A single read may return fewer bytes than the buffer holds,
+//! so reads are repeated.
 ghost use Rattle.std.specs.Prelude.{◌≡◌, ◌+◌, ◌^◌, ◌<◌, ◌≤◌, ℕ, List, drop, length, take, IfOk, IsErr, IsErrOf, Some, None};
 ghost use Rattle.outside.specs.Outside.{HasCauses, IsAbsent, content_of, counts_of};
 ghost use Rattle.page_files.specs.Fills.{FillsInOrder};
 
 use outside::{Shelf, ShelfFault, read_after};
 
-// Reads from a place (in bytes) until the buffer is full or the file ends, and returns the number
-// of bytes.
+// Reads bytes of the file from offset `at` (bytes) until the buffer is full or the file ends.
+// Returns the number of bytes read.
 pub(crate) fn fill<S: Shelf>(
     shelf: &mut S,
     name: &str,

@@ -1,6 +1,7 @@
-//! Writes the events of a file of pages as lines: reads each page once, and keeps one in memory.
+//! Writes the events of a file of pages as lines. Each page is read once, and only one page is in
+//! memory.
 //!
-//! It doesn't know what a page has: `event_lines` writes each page's events.
+//! The crate doesn't interpret the pages: `event_lines` writes the events of each page.
 #![tactic(auto)]
 
 mod file;

@@ -21,14 +21,15 @@ use std::alloc::Global;
 use std::env;
 use std::process::ExitCode;
 
-// The exit status of a run.
+// Returns the exit code that reports a status.
 fn exit_code(status: Status) -> ExitCode
     ensures { exit_status result ≡ code_of status }
 {
     ExitCode::from(status.code())
 }
 
-// Ends the program if memory ran out for the words.
+// Writes the out-of-memory message and returns its exit code. It is used if memory runs out before
+// the arguments are collected.
 fn end_without_words<N: Sink>(none: NoMemory, note: &mut N) -> ExitCode
     ensures { EndsAs [] (Status.NoMemory no_memory) (exit_status result)
         (N.faults note.old) (N.faults note.new) (N.has note.old) (N.has note.new) }
@@ -37,8 +38,8 @@ fn end_without_words<N: Sink>(none: NoMemory, note: &mut N) -> ExitCode
     exit_code(Status::NoMemory(none))
 }
 
-// Runs the words and ends as the run did: what a run promises about a status, the files, the
-// output, the counts and the reads holds for the status that the exit code and the message report.
+// Runs the command line, and returns the exit code of its status. What the contract of `run` says
+// about the status, the files, the output, the failure counts and the reads is true of this status.
 fn end_of<S: Shelf, K: Sink, N: Sink>(
     alloc: Global,
     words: Result<Vec<String>, NoMemory>,

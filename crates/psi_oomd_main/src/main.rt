@@ -22,14 +22,15 @@ use std::env;
 use std::process::ExitCode;
 use std::thread::Threads;
 
-// The exit status of a run.
+// Returns the exit code that reports a status.
 fn exit_code(status: Status) -> ExitCode
     ensures { exit_status result ≡ code_of status }
 {
     ExitCode::from(status.code())
 }
 
-// Reports that memory ran out before the arguments were collected.
+// Writes the out-of-memory message and returns its exit code. It is used if memory runs out before
+// the arguments are collected.
 fn end_without_words<N: Sink>(none: NoMemory, note: &mut N) -> ExitCode
     ensures { EndsAs None (Status.NoMemory no_memory) (exit_status result)
         (N.faults note.old) (N.faults note.new) (N.has note.old) (N.has note.new) }
@@ -38,8 +39,8 @@ fn end_without_words<N: Sink>(none: NoMemory, note: &mut N) -> ExitCode
     exit_code(Status::NoMemory(none))
 }
 
-// Runs the command line and returns the exit code of its status. The promises of `run` about the
-// status, the files, the output, the failure counts and the reads hold for the reported status.
+// Runs the command line, and returns the exit code of its status. What the contract of `run` says
+// about the status, the files, the output, the failure counts and the reads is true of this status.
 fn end_of<R: Threads + Sync, S: Shelf, K: Sink, N: Sink>(
     rt: &R,
     alloc: Global,

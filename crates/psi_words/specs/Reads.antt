@@ -1,4 +1,5 @@
--- The result of a call that parses words, compared with the result of its definition.
+-- How the result of a call that parses words is related to its definition: an optional value, which
+-- is `None` for words that must be rejected.
 use Rattle.std.specs.Prelude.{◌≡◌, ℕ, List, map, Result, Ok, Err, Option, Some, None}
 use Rattle.std.specs.Prelude.{IfSome, IsUtf8, ⊤}
 use Rattle.std.specs.Borrow.{Bor}
@@ -7,23 +8,24 @@ use Rattle.psi_base.specs.declared.event.Fault.TheVariants.{Refused, NoMemory}
 use Rattle.run_spec.specs.declared.command.Command.{Command}
 use Rattle.run_spec.specs.declared.command.Command.TheVariants.{Stall, Check, Replay, Gen, Stress, Import, Rules, Whatif}
 
--- the call returned the definition's value, or an error if the definition gives `None`
+-- The call returned the value that the definition gives, or an error exactly if the definition
+-- gives `None`.
 abbrev pub Finds : {A E : Type 0} → Result A E → Option A → Type 0
 Finds (Ok x) read = read ≡ Some x
 Finds (Err why) read = read ≡ None
 
--- the call returned the definition's value, or rejected the words if the definition gives `None`;
--- nothing is said if memory ran out
+-- The call returned the value that the definition gives, or rejected the words and the definition
+-- gives `None`. If memory ran out, nothing is known.
 abbrev pub ReadsWord : {A E : Type 0} → Result A (Fault E) → Option A → Type 0
 ReadsWord (Ok x) read = read ≡ Some x
 ReadsWord (Err (Refused why)) read = read ≡ None
 ReadsWord (Err (NoMemory _)) read = ⊤
 
--- the names in a list of borrowed texts
+-- The names in a list of borrowed texts.
 abbrev pub names_in : List (Bor (List ℕ)) → List (List ℕ)
 names_in names = map (λ name. name.now) names
 
--- the file names in a command are UTF-8
+-- All file names in the command are valid UTF-8.
 abbrev pub HasTextNames : Command → Type 0
 HasTextNames (Stall trace) = IsUtf8 trace
 HasTextNames (Check trace tick_ms) = IsUtf8 trace

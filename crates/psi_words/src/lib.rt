@@ -1,7 +1,7 @@
-//! Command lines: parses the words after the program's name into a command, with one simple `clap`
-//! command for each.
+//! Command lines of `psi_oomd`: parses the words after the program's name into a command. Each
+//! command has its own simple `clap` command.
 //!
-//! It checks ranges and fills in defaults, but opens no files.
+//! The crate checks ranges and fills in defaults, but opens no files.
 #![tactic(auto)]
 
 mod parsed;

@@ -1,6 +1,6 @@
-//! Parses words with `clap`: options with one value each, and a positional argument.
+//! Parses words with `clap`: options with one value each, and one positional argument.
 //!
-//! The meaning of the options is in `tables`.
+//! The meaning of each option is in `tables`.
 ghost use Rattle.std.specs.Prelude.{◌≡◌, IfOk, map, false, [], string_bytes, option_copied};
 ghost use Rattle.std.specs.Str.{bytes_eq};
 ghost use Rattle.clap.specs.Words.{app_of, rule_of};
@@ -16,7 +16,7 @@ use psi_base::Fault;
 use std::alloc::{AllocError, Global};
 use std::marker::Model;
 
-/// The id of the positional argument. No option has this name.
+/// The identifier of the positional argument in `clap`. No option has this name.
 const POSITIONAL: &str = "TRACE";
 
 // Returns the `clap` argument for an option `--name` with one value.
@@ -55,7 +55,7 @@ fn command<'a>(alloc: Global, names: &[&'a str]) -> Result<Command<'a>, AllocErr
     command.arg(positional(alloc))
 }
 
-/// Parsed words: the options with their values, and the positional argument if there is one.
+/// The parsed words: the options with their values, and the positional argument or none.
 #[derive(Drop)]
 pub(crate) struct Parsed<'a> {
     found: ArgMatches<'a>,
@@ -74,7 +74,8 @@ impl<'a> Model for Parsed<'a> {
 }
 
 impl<'a> Parsed<'a> {
-    /// Parses words. `names` are the names of the allowed options.
+    /// Parses words with `clap`. `names` are the names of the allowed options. Fails if the words
+    /// have another option, an option without a value, or more than one positional argument.
     pub(crate) fn read(
         alloc: Global,
         names: &[&'a str],

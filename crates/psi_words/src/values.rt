@@ -1,6 +1,6 @@
-//! Parses the values of options: numbers in their ranges, file names, and paths.
+//! Parses the values of options: numbers in a range, file names, and paths.
 //!
-//! Which option has which range and default is in `tables`.
+//! The range and the default of each option are in `tables`.
 ghost use Rattle.std.specs.Prelude.{◌≤◌, IfOk, IfSome, IsUtf8, option_copied};
 ghost use Rattle.psi_words.specs.Reads.{Finds, ReadsWord};
 ghost use Rattle.run_spec.specs.Words as spec;
@@ -9,7 +9,7 @@ use crate::words::BadWords;
 use psi_base::{Fault, Path, Text, read_number};
 use std::alloc::Global;
 
-/// Parses a number from `least` to `most`.
+/// Parses a number, and checks that it is between `least` and `most`, both included.
 pub(crate) fn number_within(least: u64, most: u64, text: &str) -> Result<u64, BadWords>
     ensures exact { Finds result (spec.number_within least most text.now) }
     ensures most { IfOk result (λ number. number ≤ most) }
@@ -20,7 +20,8 @@ pub(crate) fn number_within(least: u64, most: u64, text: &str) -> Result<u64, Ba
     }
 }
 
-/// Parses the number of a required option, from `least` to `most`. Fails if the option isn't given.
+/// Parses the number of a required option, and checks that it is between `least` and `most`, both
+/// included. Fails if the option isn't given.
 pub(crate) fn needed(least: u64, most: u64, parsed: Option<&str>) -> Result<u64, BadWords>
     ensures exact { Finds result (spec.needed least most (option_copied parsed.entry)) }
     ensures most { IfOk result (λ number. number ≤ most) }
@@ -31,8 +32,8 @@ pub(crate) fn needed(least: u64, most: u64, parsed: Option<&str>) -> Result<u64,
     }
 }
 
-/// Parses the number of an optional option, from `least` to `most`. Returns `default` if the option
-/// isn't given.
+/// Parses the number of an optional option, and checks that it is between `least` and `most`, both
+/// included. Returns `default` if the option isn't given.
 pub(crate) fn number_or(
     default: u32,
     least: u32,
@@ -50,8 +51,8 @@ pub(crate) fn number_or(
     }
 }
 
-/// Returns the name of a rules file or drop-in file, or `None` if the option isn't given. Fails for
-/// an empty name, and for `-`, because these files can't be standard input.
+/// Returns the name of a rules file or a drop-in file, or `None` if the option isn't given. Fails
+/// for an empty name, and for `-`, because these files can't be standard input.
 pub(crate) fn rules(alloc: Global, parsed: Option<&str>) -> Result<Option<Text>, Fault<BadWords>>
     ensures exact { ReadsWord result (spec.rules_option (option_copied parsed.entry)) }
     ensures text { IfOk result (λ name. IfSome name IsUtf8) }

@@ -15,7 +15,7 @@ use psi_base::Fault;
 use run_spec::Command;
 use std::alloc::Global;
 
-/// The words aren't a valid command line.
+/// The error if the words aren't a valid command line.
 #[derive(Clone, Copy, Debug, PartialEq, Eq)]
 pub struct BadWords;
 

@@ -1,5 +1,5 @@
-//! Runs each command on its files.
-//! The work is done in the crates `commands`, `rules_file` and `whatif_rounds`.
+//! Runs each command on its files. The commands themselves are in the crates `commands`,
+//! `rules_file` and `whatif_rounds`.
 ghost use Rattle.std.specs.Prelude.{◌≡◌, ◌+◌, ◌≤◌, None, IfSome, IsUtf8};
 ghost use Rattle.outside.specs.Outside.{SameInner};
 ghost use Rattle.run_spec.specs.MostRead.{most_read};
@@ -24,7 +24,7 @@ use std::thread::Threads;
 use task_table::Table;
 use trace_file::{TraceFault, play_trace};
 
-/// The status for a trace that can't be read.
+/// Returns the status for a trace that couldn't be read.
 pub(crate) fn fault_status(fault: TraceFault) -> Status
     ensures status { IsStatusOf fault result }
 {
@@ -41,7 +41,7 @@ pub(crate) fn fault_status(fault: TraceFault) -> Status
     }
 }
 
-// Runs `stall` on the trace file `name`.
+// Runs `stall` on the trace file `name`, and writes the stall times of each group.
 fn run_stall<R: Threads + Sync, S: Shelf, K: Sink>(
     rt: &R,
     alloc: Global,
@@ -68,7 +68,7 @@ fn run_stall<R: Threads + Sync, S: Shelf, K: Sink>(
     }
 }
 
-// Runs `check` on the trace file `name`, for ticks of `tick_ms` ms.
+// Checks the trace file `name` for a replay with ticks of `tick_ms` ms, without replaying it.
 fn run_check<S: Shelf, K: Sink>(
     alloc: Global,
     name: &str,
@@ -97,8 +97,8 @@ fn run_check<S: Shelf, K: Sink>(
     }
 }
 
-// Runs `replay` on the trace file `name`, with the rules of the rules file and the drop-in file if
-// the options name them.
+// Runs `replay` on the trace file `name`, with the rules of the rules file and the drop-in file, if
+// the options name these files.
 fn run_replay<R: Threads + Sync, S: Shelf, K: Sink, G: Gate>(
     rt: &R,
     alloc: Global,
@@ -142,7 +142,7 @@ fn run_replay<R: Threads + Sync, S: Shelf, K: Sink, G: Gate>(
     }
 }
 
-/// Runs a command on its files, and writes its output.
+/// Runs a command on its files, writes its output, and returns its status.
 pub(crate) fn run_command<R: Threads + Sync, S: Shelf, K: Sink, G: Gate>(
     rt: &R,
     alloc: Global,

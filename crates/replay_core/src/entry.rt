@@ -98,7 +98,7 @@ pub fn run<R: Threads + Sync, S: Shelf, K: Sink, N: Sink, G: Gate>(
         (result ≡ Status.Usage) ⊎ (result ≡ Status.NoMemory no_memory) }
 
     // The general contract: what each status implies for the command's files and the output, and
-    // which failure counts increased. The clauses after this one say it for single commands.
+    // which failure counts increased. The following clauses state it for each command.
     ensures runs { (command : Command) →
         command_of (map string_bytes words.now) ≡ Some command →
         Runs command (S.holds shelf.old)

@@ -1,7 +1,7 @@
-//! The top call [`run`]: reads the words of a command and its files, and prints its output and the
-//! message of its status.
+//! The entry point [`run`] of `psi_oomd`: it parses the words of a command line, reads the files,
+//! and writes the output and the message of the status.
 //!
-//! This crate chooses the code of each command; `commands`, `rules_file` and `whatif_rounds` do the
+//! This crate selects the code of each command; `commands`, `rules_file` and `whatif_rounds` do the
 //! work. `run_spec` specifies the result of every run.
 #![tactic(auto)]
 

@@ -1,4 +1,4 @@
--- The status of a run, by the results of reading and writing.
+-- The status of a run of `psi_oomd`, given the results of reading the files and writing the output.
 use Rattle.std.specs.Prelude.{◌≡◌, ◌≤◌, ℕ, List, Option, Result, Ok, Err}
 use Rattle.std.specs.Io.KnownBytes.{Appends, Keeps}
 use Rattle.outside.specs.Outside.{AppendsPrefix, Increased}
@@ -22,26 +22,27 @@ use Rattle.whatif_trace.specs.declared.removal.TooLarge.{TooLarge}
 use Rattle.trace_file.specs.declared.trace.TraceFault.{TraceFault}
 use Rattle.trace_file.specs.declared.trace.TraceFault.TheVariants as fault
 
--- The result of writing `text`: all of it was written, a prefix of it if a write failed, or nothing
--- if memory ran out. The number of failed writes increased if a write failed, and is unchanged
--- otherwise.
+-- The result of writing `text`. `had` and `has` are the output before and after, `before` and `now`
+-- the numbers of failed writes. If the status is Done, the whole text was appended. If it is
+-- WriteFault, a prefix was appended and a write failed. If memory ran out, nothing was written.
 abbrev pub WritesText : List ℕ → ℕ → ℕ → Option (List ℕ) → Option (List ℕ) → Status → Type 0
 WritesText text before now had has status.Done = Appends had has text × (now ≡ before)
 WritesText text before now had has status.WriteFault = AppendsPrefix had has text × Increased before now
 WritesText text before now had has (status.NoMemory _) = Keeps had has × (now ≡ before)
 WritesText text before now had has _ = ⊥
 
--- The result of writing some text with the property `IsSo`.
+-- The result of writing some text that has the property `IsSo`.
 abbrev pub WritesSome : (List ℕ → Type 0) → ℕ → ℕ → Option (List ℕ) → Option (List ℕ) → Status → Type 0
 WritesSome IsSo before now had has result = (text : List ℕ) × IsSo text × WritesText text before now had has result
 
--- the bytes that were written are some text with the property `IsSo`, or a prefix of it after a
--- failure
+-- Some text that has the property `IsSo` was appended to the output, or a prefix of the text if the
+-- call failed.
 abbrev pub PutsSome : {T E : Type 0} → (List ℕ → Type 0) → Option (List ℕ) → Option (List ℕ) → Result T E → Type 0
 PutsSome IsSo had has result = (text : List ℕ) × IsSo text × PutsAll had has result text
 
--- The output of `whatif` for a trace: an output of `replay` for the last trace, or nothing if a
--- round left too many events.
+-- The result of `whatif` for a trace: the output of `replay` for the last trace was written, or
+-- nothing if a round left too many events or memory ran out. The last trace is what remains after
+-- all victims were removed.
 abbrev pub WritesLast : Trace → Timing → List Rule → ℕ → ℕ → Option (List ℕ) → Option (List ℕ) → Status → Type 0
 WritesLast trace timing rules before now had has (status.TooLarge events) =
     (last_trace trace timing rules ≡ Err events) × Keeps had has × (now ≡ before)
@@ -49,20 +50,20 @@ WritesLast trace timing rules before now had has (status.NoMemory _) = Keeps had
 WritesLast trace timing rules before now had has result =
     (last : Trace) × (last_trace trace timing rules ≡ Ok last) × WritesSome (IsReplayText last timing rules) before now had has result
 
--- the status for a trace that can't be read
+-- The status of a run whose trace couldn't be read.
 abbrev pub IsStatusOf : TraceFault → Status → Type 0
 IsStatusOf (fault.Refused refusal) result = result ≡ status.Trace refusal.line refusal.cause
 IsStatusOf fault.NoFile result = result ≡ status.NoFile TraceFile
 IsStatusOf fault.ReadFault result = result ≡ status.ReadFault
 IsStatusOf (fault.NoMemory none) result = result ≡ status.NoMemory none
 
--- the status for rounds that failed
+-- The status of a run whose rounds failed: too many events remained, or memory ran out.
 abbrev pub IsStatusOfRounds : Fault TooLarge → Status → Type 0
 IsStatusOfRounds (of_rounds.Refused large) result = result ≡ status.TooLarge large.events
 IsStatusOfRounds (of_rounds.NoMemory none) result = result ≡ status.NoMemory none
 
--- precondition for replaying a planned trace with these options: the trace is accepted with the
--- options' tick length, and the options are in range
+-- Precondition for replaying a planned trace with these options: the trace was accepted with the
+-- options' tick length, and the options are in range.
 pub record IsToReplay (planner : PlannerView) (options : Options) (limits : Limits) (events : List Event) : Type 0 where
   pub taken : HasTaken planner limits events
   pub ended : IsAccepted limits events

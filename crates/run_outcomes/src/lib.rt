@@ -1,5 +1,5 @@
-//! The status of a run, from the results of reading its files and writing its text: definitions and
-//! lemmas that the commands share.
+//! The status of a run, given the results of reading its files and writing its output: definitions
+//! and lemmas that the commands share.
 //!
-//! This crate has no code that runs; the commands are in the crates above.
+//! This crate has no executable code; the commands are in `commands` and `replay_core`.
 #![tactic(auto)]
