@@ -1,4 +1,5 @@
-//! Tests of the arithmetic of pressure: averages, triggers and shares.
+//! Tests of the arithmetic of pressure: averages, triggers and shares of processors. Single
+//! functions are called with given times.
 
 use crate::check::is;
 use aggregate::{Rows, Totals, share};
@@ -33,7 +34,7 @@ fn powers(rt: HostRuntime) {
     is(&rt, power(1677, u64::MAX), 0, "1677 to the greatest");
 }
 
-/// The totals of a group that has been in an IO stall without a break up to `at` (ns).
+/// Returns the totals (ns) of a group that has been in an IO stall without a break up to `at` (ns).
 fn io_until(at: u64) -> [u64; 7] {
     [at, at, 0, 0, 0, 0, 0]
 }
@@ -67,8 +68,8 @@ fn averages_of_interrupts(rt: HostRuntime) {
     is(&rt, averages.get(State::CpuFull), [0, 0, 0], "processors");
 }
 
-// With ticks of 5 s, one period is missed at the first tick and two at the second; time beyond the
-// length of a sample is carried over.
+// With ticks of 5 s, one period is missed at the first tick and two at the second. Time beyond the
+// length of a sample is carried over to the next sample.
 #[test]
 fn averages_of_missed_periods(rt: HostRuntime) {
     let mut averages = Averages::new(0);
@@ -124,8 +125,8 @@ fn rows_by_slot_and_processor(rt: HostRuntime) {
     is(&rt, rows.row(Slot(2)), &[[2; 8], [0; 8]], "slot 2");
 }
 
-/// Checks whether a trigger with this threshold and window (us) can be created; if not, it is
-/// rejected as out of range.
+/// Checks whether a trigger with this threshold and window (us) can be created. If it can't, it
+/// must be rejected as out of range.
 fn is_made(rt: &impl Abort, threshold: u64, window: u64, good: bool) {
     let refused = Trigger::new(0, 0, threshold, window).err();
     let wanted = if good { None } else { Some(Cause::BadWindow) };
@@ -144,8 +145,9 @@ fn windows_in_range(rt: HostRuntime) {
     is_made(&rt, u64::MAX, u64::MAX, false);
 }
 
-/// Checks when a trigger of 150 ms in a window of a second fires, with ticks every 100 ms up to
-/// 2500 ms, and a stall that lasts up to `until` (ms). `wanted` has the times of the signals (ms).
+/// Checks when a trigger of 150 ms in a window of one second fires. There are ticks every 100 ms up
+/// to 2,500 ms, and a stall that lasts up to `until` (ms). `wanted` has the times (ms) of the
+/// signals.
 fn are_signals(rt: &impl Abort, alloc: Global, until: u64, wanted: &[u64]) {
     let mut at = Vec::new(alloc);
     let mut trigger = Trigger::new(0, 0, 150_000, 1_000_000).expect(rt, "a trigger");
@@ -159,7 +161,7 @@ fn are_signals(rt: &impl Abort, alloc: Global, until: u64, wanted: &[u64]) {
 }
 
 // During a stall that doesn't end, the trigger fires once per window. If the stall ends after the
-// first signal, a pending event is still signalled, and no further one.
+// first signal, one pending event is still signalled, and no further one.
 #[test]
 fn signals_of_a_trigger(rt: HostRuntime) {
     are_signals(&rt, rt.alloc(), 2500, &[200, 1200, 2200]);

@@ -1,4 +1,5 @@
-//! Assertions about values. A call costs less to prove than an assertion with a message in place.
+//! Assertions about values, for the tests. A call of a function costs less to prove than an
+//! assertion with a message.
 ghost use Rattle.std.specs.Prelude.{◌≡◌, true};
 
 use std::fmt::Debug;
@@ -9,7 +10,7 @@ pub fn is<T: Copy + PartialEq + Debug>(rt: &impl Abort, found: T, wanted: T, wha
     assert_eq!(rt; found, wanted, "{what}");
 }
 
-/// Aborts the test unless `is_so`, and prints `what`.
+/// Aborts the test and prints `what`, unless `is_so` is true.
 pub fn holds(rt: &impl Abort, is_so: bool, what: &str)
     ensures { is_so ≡ true }
 {

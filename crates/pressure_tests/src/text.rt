@@ -1,3 +1,4 @@
-//! Tests of the lines that commands print, and of pressure files, written and parsed.
+//! Tests of text: the lines that commands print, and the pressure files of groups, which are
+//! written and parsed.
 mod reading;
 mod writing;

@@ -1,9 +1,11 @@
-//! Tests of a trace that is truncated after any of its bytes.
+//! Tests that each command rejects a truncated trace. A trace of one processor is truncated after
+//! each of its bytes.
 
 use crate::runs::{Host, assert_prints, assert_refused};
 use psi_base::Cause;
 
-/// A group is removed and created again, and a waiting task moves into the new group.
+/// A trace in which a group is removed and created again, and a waiting task moves into the new
+/// group.
 const TRACE: &str = "psitrace 1 cpus=1\n\
     0 fork 1 / 0\n\
     0 switch 0 1 idle\n\
@@ -16,8 +18,8 @@ const TRACE: &str = "psitrace 1 cpus=1\n\
 
 const COMMANDS: [&str; 3] = ["check t", "stall t", "replay t --report-s 2"];
 
-/// Checks that each command rejects a prefix of the trace at line `line`, which is its first
-/// incomplete line.
+/// Checks that each command rejects this prefix of the trace at line `line`, the first incomplete
+/// line of the prefix.
 fn assert_prefix_refused(rt: &impl Host, prefix: &[u8], line: u32) {
     let (cause, name) = if line == 1 {
         (Cause::BadHeader, "BadHeader")

@@ -49,7 +49,7 @@ fn drop_in_of(rt: &impl Host, parts: &[&str]) -> String {
     format!(in rt.alloc(); "{{\"rulesets\":[{parts}]}}").expect(rt, "memory")
 }
 
-/// Runs a command line with the trace `LIVING`, the rules, and a drop-in file with these parts.
+/// Runs a command line with the trace `LIVING`, these rules, and a drop-in file with these parts.
 fn run_over(rt: &impl Host, line: &str, rules: &str, parts: &[&str]) -> Ran {
     let drop_in = drop_in_of(rt, parts);
     let files = Files {
@@ -69,7 +69,7 @@ fn assert_done(rt: &impl Abort, ran: &Ran, first: &str, last: &str) {
     assert!(rt; is_done, "{ran} in place of {first:?} to {last:?}");
 }
 
-/// Checks that a run ended with this exit status and this note, and printed nothing.
+/// Checks that a run ended with this exit code and this note, and printed nothing.
 fn assert_reported(rt: &impl Abort, line: &str, ran: &Ran, code: u8, note: &str) {
     let is_reported = ran.status.code() == code
         && ran.output.is_empty()
@@ -97,15 +97,15 @@ fn parts_replace(rt: HostRuntime) {
     assert_done(&rt, &ran, first, THREE);
 }
 
-/// Checks that `replay` and `rules` both reject these drop-in parts with this exit status and note.
+/// Checks that `replay` and `rules` both reject these drop-in parts with this exit code and note.
 fn assert_refused(rt: &impl Host, rules: &str, parts: &[&str], code: u8, note: &str) {
     for line in &[REPLAY, "rules r --drop-in d"] {
         assert_reported(rt, line, &run_over(rt, line, rules, parts), code, note);
     }
 }
 
-/// Checks that `replay` and `rules` both reject these drop-in parts for the rules `KILLS`, with a
-/// note that names the part and the fault.
+/// Checks that `replay` and `rules` both reject these drop-in parts for the rules `KILLS`. The note
+/// names the part and the error.
 fn assert_parts_refused(rt: &impl Host, parts: &[&str], note: &str) {
     assert_refused(rt, KILLS, parts, 9, note);
 }
@@ -117,14 +117,14 @@ fn refused_parts(rt: HostRuntime) {
     assert_parts_refused(&rt, &[NEVER, NEITHER], "drop-in ruleset 1: NoParts\n");
     // The first part is checked completely before the second part.
     assert_parts_refused(&rt, &[NEVER_FOR_Q, NEITHER], unknown);
-    // A malformed part is reported before faults of other parts.
+    // A malformed part is reported before errors in other parts.
     assert_parts_refused(&rt, &[NEITHER, "1"], "drop-in ruleset 1: WrongKind\n");
     assert_parts_refused(&rt, &["{"], "drop-in: BadJson\n");
-    // A fault of the rules file is reported before any fault of the drop-in file.
+    // An error in the rules file is reported before any error in the drop-in file.
     assert_refused(&rt, "[]", &["{"], 3, "rules: WrongKind\n");
 }
 
-/// Command lines, each with its exit status and note if the drop-in file is faulty.
+/// Each row has a command line, and its exit code and note if the drop-in file is faulty.
 const ORDER: [(&str, u8, &str); 6] = [
     (
         "replay u --rules r --drop-in d",
@@ -153,7 +153,7 @@ const RULES_ALONE: Files = Files {
     drop_in: r#"{"rulesets":[]}"#,
 };
 
-/// Checks the exit status and note of `rules` if one call fails.
+/// Checks the exit code and the note of `rules` if one call fails.
 fn assert_fault(rt: &impl Host, line: &str, failing: Failing, code: u8, note: &str) {
     let ran = run_files(rt, line, RULES_ALONE, 65536, failing);
     assert_reported(rt, line, &ran, code, note);
@@ -166,7 +166,7 @@ fn printed_rules(rt: HostRuntime) {
         let ran = run_files(&rt, line, RULES_ALONE, 65536, NO_FAULT);
         assert_run(&rt, line, &ran, Status::Done, PRINTED, "");
     }
-    // For each file, one read returns its bytes and one read returns its end.
+    // Each file takes two reads: one returns its bytes, and one returns its end.
     for read in 0..4 {
         let failing = Failing { read, ..NO_FAULT };
         assert_fault(&rt, "rules r --drop-in d", failing, 5, "read fault\n");

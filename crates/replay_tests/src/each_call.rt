@@ -1,11 +1,12 @@
-//! Tests of replays in which each read and each write fails in turn.
+//! Tests of replays in which each read and each write fails in turn. The traces have one kill and
+//! one live sample, and are read in small pieces.
 
 use crate::gates::{LIVE_LINES, ONE_PROCESSOR};
 use crate::replays::REPLAYED;
 use crate::runs::{Failing, Files, Host, NO_FAULT, NONE, ONE_WAIT, Ran, run_files, trace_alone};
 use replay_core::Status;
 
-/// The most bytes that one call moves.
+/// The largest number of bytes per read or write.
 const MOST: usize = 7;
 
 /// A trace with a group that has more memory than the rules allow from the first evaluation on, at
@@ -31,12 +32,13 @@ struct Replay<'a> {
 }
 
 impl Replay<'_> {
-    /// Whether a run had no fault and printed one of the possible outputs completely.
+    /// Returns whether a run succeeded and printed one of the possible outputs completely.
     fn is_whole(&self, ran: &Ran) -> bool {
         ran.status == Status::Done && ran.note.is_empty() && self.outputs.contains(&ran.output)
     }
 
-    /// Whether a run ended with a failed write, after a proper prefix of a possible output.
+    /// Returns whether a run ended with a failed write, and printed a proper prefix of a possible
+    /// output.
     fn is_prefix_of(&self, ran: &Ran) -> bool {
         let is_reported = ran.note.as_slice() == b"write fault\n".as_slice();
         let is_prefix_of = self.outputs.iter().any(|whole| ran.output.len() < whole.len()
@@ -45,14 +47,14 @@ impl Replay<'_> {
     }
 }
 
-/// Whether a run ended with a failed read, and printed nothing.
+/// Returns whether a run ended with a failed read, and printed nothing.
 fn is_unread(ran: &Ran) -> bool {
     let is_reported = ran.note.as_slice() == b"read fault\n".as_slice();
     ran.status == Status::ReadFault && is_reported && ran.output.is_empty()
 }
 
-/// Runs a replay in which read `read` fails. Returns true if the run succeeds because it makes
-/// fewer reads. Otherwise checks that the run ends with the failed read, and returns false.
+/// Runs a replay in which read number `read` fails. Returns true if the run makes fewer reads and
+/// therefore succeeds. Otherwise checks that the run ends with the failed read, and returns false.
 fn is_read(rt: &impl Host, replay: &Replay, read: u64) -> bool {
     let failing = Failing { read, ..NO_FAULT };
     let ran = run_files(rt, replay.line, replay.files, MOST, failing);
@@ -61,8 +63,9 @@ fn is_read(rt: &impl Host, replay: &Replay, read: u64) -> bool {
     is_whole
 }
 
-/// Runs a replay in which write `write` fails. Returns true if the run succeeds because it makes
-/// fewer writes. Otherwise checks that the run ends with the failed write, and returns false.
+/// Runs a replay in which write number `write` fails. Returns true if the run makes fewer writes
+/// and therefore succeeds. Otherwise checks that the run ends with the failed write, and returns
+/// false.
 fn is_written(rt: &impl Host, replay: &Replay, write: u64) -> bool {
     let failing = Failing { write, ..NO_FAULT };
     let ran = run_files(rt, replay.line, replay.files, MOST, failing);
@@ -75,7 +78,7 @@ fn is_written(rt: &impl Host, replay: &Replay, write: u64) -> bool {
     is_whole
 }
 
-/// Returns the number of reads of a replay. Checks that the run fails if any of them fails.
+/// Returns the number of reads of a replay. Checks that the run fails if any one of them fails.
 fn reads_of(rt: &impl Host, replay: &Replay) -> u64 {
     for read in 0..NONE {
         if is_read(rt, replay, read) {
@@ -85,7 +88,7 @@ fn reads_of(rt: &impl Host, replay: &Replay) -> u64 {
     panic!(rt; "{}: each read fails", replay.line)
 }
 
-/// Returns the number of writes of a replay. Checks that the run fails if any of them fails.
+/// Returns the number of writes of a replay. Checks that the run fails if any one of them fails.
 fn writes_of(rt: &impl Host, replay: &Replay) -> u64 {
     for write in 0..NONE {
         if is_written(rt, replay, write) {
@@ -95,7 +98,7 @@ fn writes_of(rt: &impl Host, replay: &Replay) -> u64 {
     panic!(rt; "{}: each write fails", replay.line)
 }
 
-/// Checks that the number of calls is large enough for these bytes.
+/// Checks that a replay makes at least as many calls as these bytes require.
 fn assert_enough(rt: &impl Host, line: &str, calls: u64, bytes: usize) {
     assert!(rt;
         (bytes / MOST) as u64 <= calls,
@@ -115,7 +118,7 @@ fn assert_each_call_fails(rt: &impl Host, line: &str, files: Files, outputs: &[V
     assert_enough(rt, line, writes_of(rt, &replay), printed);
 }
 
-/// Returns the output of a command line with no injected failure.
+/// Returns the output of a command line if no call fails.
 fn printed(rt: &impl Host, line: &str, files: Files) -> Vec<u8> {
     run_files(rt, line, files, 65536, NO_FAULT).output
 }
@@ -143,7 +146,7 @@ fn one_wait(rt: HostRuntime) {
     assert_each_call_fails(&rt, "replay t", trace_alone(ONE_WAIT.as_bytes()), &outputs);
 }
 
-/// The rules file is read before the trace, by calls of the same shelf.
+/// The rules file and the trace are read from the same shelf, the rules file first.
 #[test]
 fn one_kill(rt: HostRuntime) {
     let line = "replay t --rules r --tick-ms 1000 --report-s 0";

@@ -1,4 +1,5 @@
-//! Tests of reads and writes that fail.
+//! Tests of reads and writes that fail, and of the status and note that report them. The command is
+//! `stall` on small traces.
 
 use crate::runs::{
     Failing, Host, NONE, ONE_WAIT, assert_prints_nothing, assert_prints_prefix, assert_run,
@@ -13,8 +14,8 @@ const REFUSED_IN_PREFIX: &str = "psitrace 1 cpus=1\n5 fork 1 / 0\n4 end\n5 end\n
 
 const AFTER_THE_END: &str = "psitrace 1 cpus=1\n5 end\nxyz";
 
-/// Checks that `stall` prints nothing and ends with this status and note if read `read` fails. A
-/// read returns at most `most` bytes.
+/// Checks that `stall` prints nothing and ends with this status and note if read number `read`
+/// fails. A read returns at most `most` bytes.
 fn assert_unread(rt: &impl Host, trace: &str, most: usize, read: u64, status: Status, note: &str) {
     assert_prints_nothing(rt, "stall t", trace, most, read, status, note);
 }
@@ -40,7 +41,7 @@ fn reads_that_fail(rt: HostRuntime) {
         back,
         "trace line 3: TimeBack\n",
     );
-    // One byte after the end is enough for the error: the next read isn't made.
+    // One byte after the end is enough for the error, so the next read isn't made.
     let refused = Status::Trace {
         line: 3,
         cause: Cause::AfterEnd,

@@ -1,5 +1,5 @@
-//! Tests that threads run at the same time: a gate blocks each thread until another one has
-//! arrived.
+//! Tests that the threads of a replay run at the same time: a gate blocks each thread until another
+//! thread has arrived.
 
 use crate::runs::{Host, assert_run, run_gated, run_open};
 use outside::Gate;
@@ -8,7 +8,7 @@ use replay_core::Status;
 use std::sync::atomic::AtomicBool;
 use std::sync::atomic::Ordering::SeqCst;
 
-/// How often a thread checks for another thread before it gives up.
+/// The number of times that a thread checks for another thread before it gives up.
 const TURNS: u32 = 200_000_000;
 
 /// A trace of one processor. Its task runs, waits for IO for a second, and is ready until the end.
@@ -59,7 +59,7 @@ struct Meeting {
     is_missed: AtomicBool,
 }
 
-/// Waits until another thread has arrived. Sets `is_missed` if none arrives.
+/// Waits until another thread has set `other`. Sets `is_missed` if no thread does.
 fn wait_for(other: &AtomicBool, is_missed: &AtomicBool) {
     for _ in 0..TURNS {
         if other.load(SeqCst) {
@@ -152,8 +152,8 @@ fn line_of(text: &[u8], number: usize) -> &[u8] {
         .unwrap_or(b"".as_slice())
 }
 
-/// Checks that a command line prints the expected live line at its place if the gate orders the
-/// first sample of a processor after one of its changes.
+/// Checks that a command line prints the expected live line if the gate forces the first sample of
+/// a processor between two of its changes.
 fn assert_samples_between(
     rt: &impl Host,
     line: &str,
@@ -189,14 +189,15 @@ fn samples_while_workers_run(rt: HostRuntime) {
     }
 }
 
-/// Returns the index of a line among the possible live lines, if it is at least `from`.
+/// Returns the index of a line among the possible live lines, or `None` if it is below `from` or
+/// the line isn't one of them.
 fn place_from(line: &[u8], from: usize) -> Option<usize> {
     let place = LIVE_LINES.iter().position(|live| live.as_bytes() == line)?;
     if place < from { None } else { Some(place) }
 }
 
-/// Whether an output consists of `count` live lines, whose numbers of changes never decrease,
-/// followed by `end`.
+/// Returns whether an output consists of `count` live lines, whose numbers of changes never
+/// decrease, followed by `end`.
 fn begins_live(output: &[u8], count: usize, end: &[u8]) -> bool {
     let mut from = 0;
     for number in 0..count {

@@ -1,4 +1,5 @@
-//! Tests of the calls of a gate: one for each change, with its number, and two for each sample.
+//! Tests of the calls that a replay makes of its gate: one for each change of a processor, and two
+//! for each live sample.
 
 use crate::runs::{Host, Ran, run_gated};
 use outside::Gate;
@@ -7,8 +8,8 @@ use replay_core::Status;
 use std::sync::atomic::Ordering::SeqCst;
 use std::sync::atomic::{AtomicBool, AtomicU64};
 
-/// A trace of two processors and three ticks. The root is live at each tick, and in the second
-/// interval nothing changes.
+/// A trace of two processors and three ticks. The root group is live at each tick, and nothing
+/// changes in the second interval.
 const THREE_TICKS: &str = "psitrace 1 cpus=2\n\
     0 fork 1 / 0\n\
     0 fork 2 / 1\n\
@@ -23,10 +24,10 @@ const THREE_TICKS: &str = "psitrace 1 cpus=2\n\
 /// The number of changes of each processor in `THREE_TICKS`.
 const CHANGES: [u64; 2] = [5, 3];
 
-/// The most samples of a processor that can be stored.
+/// The largest number of samples of a processor that can be stored.
 const ROOM: usize = 16;
 
-/// The gate's calls for one processor.
+/// The calls of the gate for one processor.
 #[derive(Drop)]
 struct Notice {
     /// The number of calls for a change.
@@ -35,7 +36,7 @@ struct Notice {
     requested: AtomicU64,
     /// The number of calls after a sample.
     sampled: AtomicU64,
-    /// For each sample, the number of changes that it includes.
+    /// The number of changes that each sample includes.
     counts: Vec<AtomicU64>,
 }
 
@@ -53,17 +54,18 @@ impl Notice {
         }
     }
 
-    /// The number of changes that sample `number` includes.
+    /// Returns the number of changes that sample number `number` includes, or `None` if there are
+    /// fewer samples.
     fn count_at(&self, number: usize) -> Option<u64> {
         self.counts.get(number).map(|count| count.load(SeqCst))
     }
 }
 
-/// A gate that counts its calls by processor, and records whether a call has an unexpected number.
+/// A gate that counts its calls for each processor, and records whether a call was unexpected.
 #[derive(Drop)]
 struct Counting {
     known: Vec<Notice>,
-    /// The number of samples per processor and interval.
+    /// The number of samples of a processor in an interval.
     each: u64,
     is_wrong: AtomicBool,
 }
@@ -78,22 +80,22 @@ impl Counting {
         }
     }
 
-    /// Records that a call was unexpected, unless `is_right` is true.
+    /// Records an unexpected call, unless `is_right` is true.
     fn note(&self, is_right: Option<bool>) {
         if is_right != Some(true) {
             self.is_wrong.store(true, SeqCst);
         }
     }
 
-    /// Whether change number `count` of a processor follows the previous one.
+    /// Returns whether change number `count` of a processor follows the previous change.
     fn is_next_change(&self, cpu: Cpu, count: u64) -> Option<bool> {
         let known = self.known.get(cpu.0 as usize)?;
         let before = known.moved.fetch_add(1, SeqCst);
         Some(before < count && count - before == 1)
     }
 
-    /// Whether sample `index` of a processor is the next one of its interval, after the previous
-    /// sample was taken.
+    /// Returns whether sample `index` of a processor is the next sample of its interval, and the
+    /// previous sample has been taken.
     fn is_next_sample(&self, cpu: Cpu, index: u32) -> Option<bool> {
         let known = self.known.get(cpu.0 as usize)?;
         let before = known.requested.fetch_add(1, SeqCst);
@@ -101,8 +103,8 @@ impl Counting {
         Some(place == u64::from(index) && known.sampled.load(SeqCst) == before)
     }
 
-    /// Whether the gate was called before this sample. Stores `count`, the number of changes that
-    /// the sample includes.
+    /// Stores `count`, the number of changes that a sample includes, and returns whether the gate
+    /// was called before this sample.
     fn is_requested(&self, cpu: Cpu, count: u64) -> Option<bool> {
         let known = self.known.get(cpu.0 as usize)?;
         let before = known.sampled.fetch_add(1, SeqCst);
@@ -126,7 +128,7 @@ impl Gate for Counting {
     }
 }
 
-/// Returns the number of changes in a live line of processor `cpu`. `None` for any other line.
+/// Returns the number of changes in a live line of processor `cpu`, or `None` for any other line.
 fn live_count(line: &[u8], cpu: u8) -> Option<u64> {
     let rest = line.strip_prefix(b"live ")?;
     let mut words = rest.split(|byte| *byte == b' ').skip(1);
@@ -137,8 +139,8 @@ fn live_count(line: &[u8], cpu: u8) -> Option<u64> {
     read_number(words.next()?.strip_prefix(b"count=")?)
 }
 
-/// Whether a processor has `samples` live lines, each with the number of changes that the gate was
-/// called with.
+/// Returns whether a processor has `samples` live lines, with the numbers of changes that the gate
+/// was called with.
 fn are_lines(ran: &Ran, cpu: u8, known: &Notice, samples: usize) -> bool {
     let lines = ran.output.split(|byte| *byte == b'\n');
     let live = lines.filter_map(|line| live_count(line, cpu)).count();
@@ -152,7 +154,7 @@ fn are_lines(ran: &Ran, cpu: u8, known: &Notice, samples: usize) -> bool {
             .all(|(number, count)| known.count_at(number) == Some(count))
 }
 
-/// Whether the gate of a run was called for all changes, and for `samples` samples of each
+/// Returns whether the gate was called for all changes of a run, and for `samples` samples of each
 /// processor.
 fn is_reported(ran: &Ran, gate: &Counting, samples: usize) -> bool {
     ran.status == Status::Done
@@ -163,8 +165,8 @@ fn is_reported(ran: &Ran, gate: &Counting, samples: usize) -> bool {
         })
 }
 
-/// Checks that the gate of a command line is called for each change, and for `samples` samples of
-/// each processor, `each` of them in an interval.
+/// Checks that the gate of a run is called for each change, and for `samples` samples of each
+/// processor, `each` of them in an interval.
 fn assert_reported(rt: &impl Host, line: &str, each: u64, samples: usize) {
     let gate = Counting::new(rt, each);
     let ran = run_gated(rt, line, THREE_TICKS, &gate);

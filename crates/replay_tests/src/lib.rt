@@ -1,6 +1,6 @@
-//! Tests of the top call with files and sinks in memory: traces and outputs in pieces, words,
-//! faults at each call, traces truncated at any byte, traces at their limits, gates that block
-//! threads or count, drop-in files, and traces without the victims of kills.
+//! Tests of the entry point `run` with files and sinks in memory: traces and outputs in pieces,
+//! command words, failures of each call, truncated traces, traces at their limits, gates that block
+//! threads or count calls, drop-in files, and `whatif`.
 //!
 //! Real files and processes aren't used here: they are tested with the built program.
 #![tactic(auto)]

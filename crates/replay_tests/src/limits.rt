@@ -1,5 +1,5 @@
-//! Tests of traces at their limits, and one beyond. The limits of event lines are tested with the
-//! built program, those of a rules file in rule_tests.
+//! Tests of traces at their limits, and one beyond each limit. The limits of event lines are tested
+//! with the built program, the limits of a rules file in rule_tests.
 
 use crate::runs::{Host, assert_prints, assert_refused};
 use psi_base::Cause;
@@ -26,13 +26,13 @@ fn repeated(rt: &impl Host, prefix: &str, piece: &str, times: usize) -> String {
     text
 }
 
-/// Checks that `check` accepts these lines, followed by an end, and prints `known`.
+/// Checks that `check` accepts these lines, followed by an end line, and prints `known`.
 fn assert_accepted(rt: &impl Host, lines: &str, known: &str) {
     let trace = repeated(rt, lines, "0 end\n", 1);
     assert_prints(rt, "check t", &trace, 65536, known);
 }
 
-/// Checks that `check` rejects line `number` with this cause.
+/// Checks that `check` rejects line `number` for this cause.
 fn assert_line_refused(rt: &impl Host, lines: &str, number: u32, cause: Cause, name: &str) {
     assert_refused(rt, "check t", lines.as_bytes(), number, cause, name);
 }

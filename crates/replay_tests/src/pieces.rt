@@ -1,4 +1,5 @@
-//! Tests of accepted traces whose text is read, and whose output is written, in pieces.
+//! Tests of `stall` and `check` on accepted traces. The trace is read, and the output is written,
+//! in pieces of different sizes.
 
 use crate::runs::{Host, assert_prints};
 use std::process::Abort;

@@ -1,5 +1,5 @@
-//! Runs a command line with one trace, and at most one rules file and one drop-in file, in memory;
-//! and checks of a run. A test aborts if memory runs out.
+//! Helpers for the tests: run a command line in memory, with one trace and at most one rules file
+//! and one drop-in file, and check the run. A test aborts if memory runs out.
 
 use outside::{Gate, OpenGate};
 use outside_fakes::{MemShelf, MemSink};
@@ -9,8 +9,8 @@ use std::fmt;
 use std::process::Abort;
 use std::thread::Threads;
 
-/// The number of the read, of the write and of the note's write that fails, each counted from 0.
-/// `NONE` means that none fails.
+/// The numbers of the read, of the write and of the write to the note that fail, each counted from
+/// 0. `NONE` means that no such call fails.
 #[derive(Clone, Copy, Debug)]
 pub struct Failing {
     pub read: u64,
@@ -21,7 +21,7 @@ pub struct Failing {
 /// The number of a call that no test reaches.
 pub const NONE: u64 = 1_000_000;
 
-/// No call fails.
+/// No call of a run fails.
 pub const NO_FAULT: Failing = Failing {
     read: NONE,
     write: NONE,
@@ -43,8 +43,8 @@ pub trait Host: Threads + AllocGlobal + Sync + Abort {}
 
 impl<R: Threads + AllocGlobal + Sync + Abort> Host for R {}
 
-/// The results of a run: its status, output and note. The length of the trace and the most bytes
-/// per call are there for messages.
+/// The results of a run: its status, output and note. The length of the trace and the largest
+/// number of bytes per call are used in messages.
 #[derive(Drop)]
 pub struct Ran {
     pub status: Status,
@@ -55,7 +55,7 @@ pub struct Ran {
     failing: Failing,
 }
 
-/// Returns bytes as text for a message.
+/// Returns bytes as text, for a message.
 fn shown(bytes: &[u8]) -> &str {
     str::from_utf8(bytes).unwrap_or("no text")
 }
@@ -80,7 +80,7 @@ pub struct Files<'a> {
     pub drop_in: &'a str,
 }
 
-/// Files with this trace, and with empty rules and drop-in files.
+/// Returns files with this trace, and with empty rules and drop-in files.
 pub fn trace_alone(trace: &[u8]) -> Files<'_> {
     Files {
         trace,
@@ -106,12 +106,12 @@ fn file_of(rt: &impl Host, name: &str, bytes: &[u8]) -> (Text, Text) {
     (name, bytes)
 }
 
-/// Makes the list of failing calls, which has one number.
+/// Makes the list of failing calls, which has only the number `call`.
 fn call_of(rt: &impl Host, call: u64) -> Vec<u64> {
     vec![in rt.alloc(); call].expect(rt, "memory")
 }
 
-/// Makes a shelf that returns at most `most` bytes per call.
+/// Makes a shelf that returns at most `most` bytes per read.
 fn shelf_of(rt: &impl Host, files: Files, most: usize, failing: Failing) -> MemShelf {
     let held = vec![in rt.alloc();
         file_of(rt, "t", files.trace),
@@ -128,8 +128,8 @@ fn sink_of(rt: &impl Host, most: usize, call: u64) -> MemSink {
     sink.expect(rt, "memory")
 }
 
-/// Runs a command line with these files, injected failures, and a gate that may block threads. The
-/// shelf and both sinks move at most `most` bytes per call.
+/// Runs a command line with these files, failing calls, and a gate that may block threads. The
+/// shelf and both sinks transfer at most `most` bytes per call.
 fn run_over(
     rt: &impl Host,
     line: &str,
@@ -161,13 +161,13 @@ fn run_over(
     }
 }
 
-/// Runs a command line with these files and injected failures.
+/// Runs a command line with these files and failing calls.
 pub fn run_files(rt: &impl Host, line: &str, files: Files, most: usize, failing: Failing) -> Ran {
     run_over(rt, line, files, most, failing, &OpenGate)
 }
 
-/// Runs a command line with this trace, without rules or injected failures, with a gate that may
-/// block threads.
+/// Runs a command line with this trace and a gate that may block threads, without rules or failing
+/// calls.
 pub fn run_gated(rt: &impl Host, line: &str, trace: &str, gate: &impl Gate) -> Ran {
     run_over(
         rt,
@@ -179,12 +179,12 @@ pub fn run_gated(rt: &impl Host, line: &str, trace: &str, gate: &impl Gate) -> R
     )
 }
 
-/// Runs a command line with this trace, without rules or injected failures.
+/// Runs a command line with this trace, without rules or failing calls.
 pub fn run_open(rt: &impl Host, line: &str, trace: &str) -> Ran {
     run_gated(rt, line, trace, &OpenGate)
 }
 
-/// Runs a command line with this trace and injected failures, without rules.
+/// Runs a command line with this trace and failing calls, without rules.
 pub fn run_trace(rt: &impl Host, line: &str, trace: &str, most: usize, failing: Failing) -> Ran {
     run_files(rt, line, trace_alone(trace.as_bytes()), most, failing)
 }
@@ -207,14 +207,14 @@ pub fn assert_run(
     );
 }
 
-/// Checks that a command line prints exactly this output for this trace, with no injected failure.
+/// Checks that a command line prints exactly this output for this trace if no call fails.
 pub fn assert_prints(rt: &impl Host, line: &str, trace: &str, most: usize, output: &str) {
     let ran = run_trace(rt, line, trace, most, NO_FAULT);
     assert_run(rt, line, &ran, Status::Done, output, "");
 }
 
-/// Checks that a command line ends with this status and note and prints nothing if read `read`
-/// fails.
+/// Checks that a command line prints nothing and ends with this status and note if read number
+/// `read` fails.
 pub fn assert_prints_nothing(
     rt: &impl Host,
     line: &str,
@@ -248,7 +248,7 @@ pub fn assert_prints_prefix(
     );
 }
 
-/// Checks that this trace is rejected at line `number` with this cause, and that the note names the
+/// Checks that this trace is rejected at line `number` for this cause, and that the note names the
 /// cause.
 pub fn assert_refused(
     rt: &impl Host,

@@ -1,4 +1,5 @@
-//! Tests of `whatif`, which replays traces without the victims of kills.
+//! Tests of `whatif`, which replays a trace without the victims of kills: the kills that it prints,
+//! and its failures.
 
 use crate::runs::{Failing, Files, Host, NO_FAULT, Ran, assert_run, run_files};
 use replay_core::Status;
@@ -6,7 +7,8 @@ use replay_core::Status;
 const WHATIF: &str = "whatif t --rules r --tick-ms 1000 --report-s 0";
 
 /// Rules that kill a group under `/s` at each evaluation, with a post-action delay of 15 s for the
-/// ruleset. The victim is the group with most memory, and of equal groups the first by path.
+/// ruleset. The victim is the group with the most memory, and of equal groups the first one by
+/// path.
 const KILLS: &str =
     r#"{"rulesets":[{"name":"r","detectors":[["g",{"name":"exists","args":{"cgroup":"s/*"}}]],"actions":[{"name":"kill_by_memory_size_or_growth","args":{"cgroup":"s/*"}}]}]}"#;
 
@@ -30,8 +32,8 @@ const TWO: &str = "psitrace 1 cpus=1\n\
     0 fork 2 /s/b 0\n\
     36000000000 end\n";
 
-/// A trace in which the victim forks another task after the kill. This task is not removed, and may
-/// be killed later.
+/// A trace in which the victim forks another task after the kill. The new task isn't removed, and
+/// may be killed later.
 const LATER: &str = "psitrace 1 cpus=1\n\
     0 group /s\n\
     0 group /s/a\n\
@@ -48,7 +50,7 @@ const AT_END: &str = "psitrace 1 cpus=1\n\
     0 fork 1 /s/a 0\n\
     5000000000 end\n";
 
-/// Runs a command line with this trace, these rules and injected failures.
+/// Runs a command line with this trace, these rules and failing calls.
 fn run_over(rt: &impl Host, line: &str, trace: &str, rules: &str, failing: Failing) -> Ran {
     let files = Files {
         trace: trace.as_bytes(),
@@ -58,8 +60,8 @@ fn run_over(rt: &impl Host, line: &str, trace: &str, rules: &str, failing: Faili
     run_files(rt, line, files, 65536, failing)
 }
 
-/// Whether an output begins with the lines `kills`, has no other kill, and ends with the line
-/// `end`.
+/// Returns whether an output begins with the lines `kills`, has no other kill, and ends with the
+/// line `end`.
 fn has_kills(output: &[u8], kills: &str, end: &str) -> bool {
     let others = output.strip_prefix(kills.as_bytes());
     let others = others.and_then(|others| str::from_utf8(others).ok());
@@ -68,7 +70,8 @@ fn has_kills(output: &[u8], kills: &str, end: &str) -> bool {
     no_more && output.ends_with(end.as_bytes())
 }
 
-/// Checks that `whatif` prints the lines `kills`, has no other kill, and ends with the line `end`.
+/// Checks that the output of `whatif` begins with the lines `kills`, has no other kill, and ends
+/// with the line `end`.
 fn assert_shows(rt: &impl Host, trace: &str, rules: &str, kills: &str, end: &str) {
     let ran = run_over(rt, WHATIF, trace, rules, NO_FAULT);
     let is_done = ran.status == Status::Done && ran.note.is_empty();

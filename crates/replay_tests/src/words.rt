@@ -1,4 +1,5 @@
-//! Tests of words that aren't a command, of missing files, and of the codes of statuses.
+//! Tests of command lines that aren't a command or that name a missing file, and of the exit codes
+//! of all statuses.
 
 use crate::runs::{Host, NONE, ONE_WAIT, assert_prints_nothing};
 use dropin_rules::{DropCause, DropFault};
@@ -18,7 +19,7 @@ fn assert_reported(rt: &impl Host, line: &str, status: Status, note: &str) {
     assert_prints_nothing(rt, line, ONE_WAIT, 7, NONE, status, note);
 }
 
-// The shelf in memory has no files named `u` and `-`.
+// The shelf in memory has no files with the names `u` and `-`.
 #[test]
 fn words_and_names(rt: HostRuntime) {
     let usage =

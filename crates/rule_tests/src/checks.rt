@@ -1,4 +1,5 @@
-//! Range checks that establish the preconditions of the tested calls, and checks of results.
+//! Helpers for the tests: range checks that establish the preconditions of the tested calls, and a
+//! check of texts.
 
 ghost use Rattle.std.specs.Prelude.{◌≡◌, ◌<◌, ◌≤◌, All, length, true};
 ghost use Rattle.pressure_spec.specs.Within.{IsRow};
@@ -12,20 +13,20 @@ use ruleset_json::{Action, After, Size};
 use std::fmt::Display;
 use std::process::Abort;
 
-/// The most bytes or scans in a sample (2^60).
+/// The largest number of bytes or scans in a sample: 2^60.
 pub const MOST: u64 = 1 << 60;
 
 /// The greatest average in fixed point: 100 percent.
 const WHOLE: u64 = 204_800;
 
-/// Whether a sample of the host is in range.
+/// Returns whether a sample of the host is in range.
 pub fn is_host(host: &HostReading) -> bool
     ensures { result ≡ true → IsHostReading host.now }
 {
     host.mem_total <= MOST && host.swap_total <= MOST && host.swap_free <= MOST
 }
 
-/// Whether a row of averages is in range.
+/// Returns whether a row of averages is in range.
 fn is_row(row: &[u64; 3]) -> bool
     ensures { result ≡ true → IsRow row.now }
 {
@@ -37,7 +38,7 @@ fn is_row(row: &[u64; 3]) -> bool
     true
 }
 
-/// Whether all rows are in range.
+/// Returns whether all rows of averages are in range.
 fn are_rows(rows: &[[u64; 3]]) -> bool
     ensures { result ≡ true → All IsRow rows.now }
 {
@@ -49,7 +50,7 @@ fn are_rows(rows: &[[u64; 3]]) -> bool
     true
 }
 
-/// Whether a group's values are in range and its slot is below `slots`.
+/// Returns whether a group's values are in range and its slot is below `slots`.
 pub fn is_group(group: &GroupReading, slots: usize) -> bool
     ensures { result ≡ true → IsGroupReading slots group.now }
 {
@@ -57,7 +58,7 @@ pub fn is_group(group: &GroupReading, slots: usize) -> bool
     (group.slot.0 as usize) < slots && is_small && are_rows(&group.averages)
 }
 
-/// Whether a group's path comes after all paths of a reading.
+/// Returns whether a group's path comes after all paths of a reading.
 pub fn comes_last(reading: &Reading, group: &GroupReading) -> bool
     requires { group.now.slot.0 < length reading.now.lives }
     ensures { result ≡ true → ComesLast reading.now group.now }
@@ -93,7 +94,7 @@ fn is_time(after: &After) -> bool
     after.delay_s <= 1_000_000
 }
 
-/// Whether an action's arguments are in range.
+/// Returns whether an action's arguments are in range.
 pub fn is_action(action: &Action) -> bool
     ensures { result ≡ true → FitsAction action.now }
 {

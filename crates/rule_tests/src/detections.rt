@@ -1,5 +1,5 @@
-//! Tests of detectors: rows of readings, each with the expected answer. The numbers follow from the
-//! rules of detectors.
+//! Tests of detectors: each test gives a detector several readings in turn, each with the expected
+//! answer. The numbers follow from the rules of detectors.
 
 use crate::checks::MOST;
 use crate::readings::{NO_HOST, SECOND, bare_group, life, scanned, using};
@@ -13,7 +13,7 @@ use std::alloc::Global;
 use std::process::Abort;
 
 /// A reading and the expected answer: the time (s), the host, the groups, and whether the detector
-/// is true.
+/// returns true.
 #[derive(Clone, Copy)]
 struct Case {
     at_s: u32,
@@ -22,14 +22,14 @@ struct Case {
     is_true: bool,
 }
 
-/// A group with these IO full averages over 10 s and over 60 s.
+/// Makes a group with these IO full averages over 10 s and over 60 s.
 fn pressed(slot: u32, ten: u64, sixty: u64) -> Option<GroupReading> {
     let mut group = bare_group(slot);
     group.averages[State::IoFull as usize] = [ten, sixty, 0];
     Some(group)
 }
 
-/// A row with these groups, and without a sample of the host.
+/// Makes a case with these groups, and without a sample of the host.
 fn row(at_s: u32, groups: [Option<GroupReading>; 2], is_true: bool) -> Case {
     Case {
         at_s,
@@ -39,7 +39,8 @@ fn row(at_s: u32, groups: [Option<GroupReading>; 2], is_true: bool) -> Case {
     }
 }
 
-/// A row with a host of `mem_total` bytes of memory, and one group that uses `current` bytes.
+/// Makes a case with a host of `mem_total` bytes of memory, and one group that uses `current`
+/// bytes.
 fn filled(at_s: u32, mem_total: u64, current: u64, is_true: bool) -> Case {
     let host = HostReading {
         mem_total,
@@ -54,7 +55,7 @@ fn filled(at_s: u32, mem_total: u64, current: u64, is_true: bool) -> Case {
     }
 }
 
-/// A row with a host of `swap_total` bytes of swap, `swap_free` of them free.
+/// Makes a case with a host of `swap_total` bytes of swap, `swap_free` bytes of which are free.
 fn swapped(at_s: u32, swap_total: u64, swap_free: u64, is_true: bool) -> Case {
     let host = HostReading {
         mem_total: 0,
@@ -69,7 +70,7 @@ fn swapped(at_s: u32, swap_total: u64, swap_free: u64, is_true: bool) -> Case {
     }
 }
 
-/// Four groups: the root, two of its children, and a child of the first child.
+/// Makes four groups: the root, two of its children, and a child of the first child.
 fn groups(rt: &impl Abort, alloc: Global) -> [GroupLife; 4] {
     [
         life(rt, alloc, "/", None),
@@ -79,12 +80,12 @@ fn groups(rt: &impl Abort, alloc: Global) -> [GroupLife; 4] {
     ]
 }
 
-/// Parses the patterns of a text.
+/// Parses the patterns in a text.
 fn patterns(rt: &impl Abort, alloc: Global, text: &str) -> Patterns {
     Patterns::read(alloc, text).expect(rt, text)
 }
 
-/// Checks a detector's answer in each row, in order.
+/// Checks a detector's answer in each case, in order.
 fn answers(rt: &impl Abort, alloc: Global, spec: &DetectorSpec, rows: &[Case]) {
     let mut rig = Rig::make(rt, alloc, &groups(rt, alloc));
     let detector = Detector::new(alloc, spec, rig.reading.lives().len() as u32);
@@ -100,7 +101,7 @@ fn answers(rt: &impl Abort, alloc: Global, spec: &DetectorSpec, rows: &[Case]) {
     }
 }
 
-// A detector that is true if IO pressure over 10 s has been above 40 percent (81,920 in fixed
+// Makes a detector that is true if IO pressure over 10 s has been above 40 percent (81,920 in fixed
 // point) for `duration_s` seconds.
 fn pressure_above(rt: &impl Abort, alloc: Global, text: &str, duration_s: u32) -> DetectorSpec {
     DetectorSpec::PressureAbove {
@@ -111,7 +112,7 @@ fn pressure_above(rt: &impl Abort, alloc: Global, text: &str, duration_s: u32) -
     }
 }
 
-// A detector that is true if IO pressure over 60 s has been above 40 percent for `duration_s`
+// Makes a detector that is true if IO pressure over 60 s has been above 40 percent for `duration_s`
 // seconds, and IO pressure over 10 s is at least 0.85 of its previous value.
 fn pressure_rising(rt: &impl Abort, alloc: Global, text: &str, duration_s: u32) -> DetectorSpec {
     DetectorSpec::PressureRisingBeyond {

@@ -1,5 +1,5 @@
-//! Tests of rules: rows of readings, each with the expected kills. These follow from the rules of
-//! action chains and of post-action delays.
+//! Tests of whole rules: each test gives rules several readings in turn, each with the expected
+//! kills. The kills follow from the rules of action chains and of post-action delays.
 
 use crate::checks::is_text;
 use crate::readings::{NO_HOST, SECOND, life, using};
@@ -13,12 +13,12 @@ use ruleset_json::{Rules, read};
 use std::alloc::Global;
 use std::process::Abort;
 
-/// A reading, five seconds after the previous one, and the expected kills. The reading is the
-/// memory (bytes) of the group `/a`, `None` if it isn't live. Each kill is a time (s), ruleset,
-/// action and slot.
+/// A reading, five seconds after the previous one, and the expected kills. The reading has the
+/// memory (bytes) of the group `/a`, or `None` if the group isn't live. The kills are a text with
+/// the time (s), ruleset, action and slot of each.
 type Case = (Option<u64>, &'static str);
 
-/// The root and one of its children.
+/// Makes two groups: the root and one child.
 fn groups(rt: &impl Abort, alloc: Global) -> [GroupLife; 2] {
     [life(rt, alloc, "/", None), life(rt, alloc, "/a", None)]
 }
@@ -29,7 +29,7 @@ fn rules(rt: &impl Abort, alloc: Global, text: &str) -> Rules {
     read(alloc, text.as_bytes()).expect(rt, "rules")
 }
 
-/// The group `/a` with `current` bytes of memory; `None` if it isn't live.
+/// Makes the group `/a` with `current` bytes of memory, or `None` if it isn't live.
 fn group(current: &Option<u64>) -> Option<GroupReading> {
     match current {
         Some(current) => using(1, *current),
@@ -48,7 +48,7 @@ fn shown(rt: &impl Abort, alloc: Global, kills: &[Kill]) -> String {
     text
 }
 
-/// Checks the kills at each row, in order.
+/// Checks the kills after each reading, in order.
 fn kills(rt: &impl Abort, alloc: Global, text: &str, rows: &[Case]) {
     let mut rig = Rig::make(rt, alloc, &groups(rt, alloc));
     let killer = Killer::make(alloc, rules(rt, alloc, text), rig.reading.lives());

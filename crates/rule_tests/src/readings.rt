@@ -1,5 +1,5 @@
-//! Parts for building readings in tests: hosts, groups and their lives.
-//! The tests add the values that matter to them.
+//! Helpers that make parts of readings: hosts, groups and the lives of groups. A test sets only the
+//! values that matter to it.
 use detectors::{GroupReading, HostReading};
 use pressure_spec::QUANTITIES;
 use psi_base::{Ns, Path, Preference, Slot};
@@ -23,7 +23,7 @@ pub fn path(rt: &impl Abort, alloc: Global, text: &str) -> Path {
     path.expect(rt, text)
 }
 
-/// The life of a group that was created at 0 and is still live.
+/// Makes the life of a group that was created at 0 ns and is still live.
 pub fn life(rt: &impl Abort, alloc: Global, text: &str, parent: Option<Slot>) -> GroupLife {
     GroupLife {
         path: path(rt, alloc, text),
@@ -34,7 +34,7 @@ pub fn life(rt: &impl Abort, alloc: Global, text: &str, parent: Option<Slot>) ->
     }
 }
 
-/// A group with tasks, whose other values are zero.
+/// Makes a group with tasks, whose other values are zero.
 pub fn bare_group(slot: u32) -> GroupReading {
     GroupReading {
         slot: Slot(slot),
@@ -47,14 +47,14 @@ pub fn bare_group(slot: u32) -> GroupReading {
     }
 }
 
-/// A group that uses `current` bytes of memory.
+/// Makes a group that uses `current` bytes of memory.
 pub fn using(slot: u32, current: u64) -> Option<GroupReading> {
     let mut group = bare_group(slot);
     group.current = current;
     Some(group)
 }
 
-/// A group with `scan` page scans.
+/// Makes a group with `scan` page scans.
 pub fn scanned(slot: u32, scan: u64) -> Option<GroupReading> {
     let mut group = bare_group(slot);
     group.scan = scan;

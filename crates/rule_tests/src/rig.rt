@@ -1,4 +1,5 @@
-//! A rig: one reading that a test fills again and again, at increasing times.
+//! A rig for the tests: one reading that a test fills again and again, at increasing times. It
+//! checks that the values are in range.
 ghost use Rattle.std.specs.Prelude.{◌≡◌, None, Some};
 ghost use Rattle.detectors.specs.Views.{IsAfter};
 
@@ -9,7 +10,7 @@ use psi_spec::GroupLife;
 use std::alloc::Global;
 use std::process::Abort;
 
-/// A reading, and its time (ns), which is `None` before the first reading.
+/// A reading and its time (ns), or `None` before the first reading.
 #[derive(Drop)]
 pub struct Rig {
     pub reading: Reading,
@@ -35,7 +36,7 @@ fn put_groups(rt: &impl Abort, reading: &mut Reading, groups: &[Option<GroupRead
 }
 
 impl Rig {
-    /// Makes a rig of groups with these lives, before the first reading.
+    /// Makes a rig for groups with these lives, before the first reading.
     pub fn make(rt: &impl Abort, alloc: Global, lives: &[GroupLife]) -> Rig
         ensures lives { result.reading.lives ≡ lives.now }
         ensures last { result.last ≡ None }

@@ -1,4 +1,5 @@
-//! Tests of rules files, of the path patterns in them, and of rules printed as text.
+//! Tests of rules files: their JSON, the arguments of plugins, path patterns, errors, and rules
+//! that are printed as text.
 mod faults;
 mod forms;
 mod json;

@@ -1,5 +1,5 @@
-//! Tests of the choice of a victim: rows of readings with the expected victim. The numbers follow
-//! from the rules of victims.
+//! Tests of the choice of a victim: each test gives an action several readings, and has the
+//! expected victim at the last one. The numbers follow from the rules of victims.
 
 ghost use Rattle.std.specs.Prelude.{◌≡◌, length};
 
@@ -15,10 +15,10 @@ use std::alloc::Global;
 use std::process::Abort;
 use victim_rank::{MatchTable, Past, victim};
 
-/// A reading: the groups in the byte order of their paths, `None` for a group that isn't live.
+/// A reading: the groups in the byte order of their paths, with `None` for a group that isn't live.
 type Row = [Option<GroupReading>; 3];
 
-/// A group that uses `current` bytes of memory and has a preference.
+/// Makes a group that uses `current` bytes of memory and has a preference.
 fn preferring(slot: u32, current: u64, preference: Preference) -> Option<GroupReading> {
     let mut group = bare_group(slot);
     group.current = current;
@@ -26,7 +26,7 @@ fn preferring(slot: u32, current: u64, preference: Preference) -> Option<GroupRe
     Some(group)
 }
 
-/// A group that uses `current` bytes of memory and has no task.
+/// Makes a group that uses `current` bytes of memory and has no task.
 fn empty(slot: u32, current: u64) -> Option<GroupReading> {
     let mut group = bare_group(slot);
     group.current = current;
@@ -34,22 +34,22 @@ fn empty(slot: u32, current: u64) -> Option<GroupReading> {
     Some(group)
 }
 
-/// A group that uses `swap` bytes of swap.
+/// Makes a group that uses `swap` bytes of swap.
 fn swapping(slot: u32, swap: u64) -> Option<GroupReading> {
     let mut group = bare_group(slot);
     group.swap = swap;
     Some(group)
 }
 
-/// A group with these memory full averages over 10 s and over 60 s.
+/// Makes a group with these memory full averages over 10 s and over 60 s.
 fn pressed(slot: u32, ten: u64, sixty: u64) -> Option<GroupReading> {
     let mut group = bare_group(slot);
     group.averages[State::MemFull as usize] = [ten, sixty, 0];
     Some(group)
 }
 
-/// Six groups: the root, three of its children, and two children of the first child, whose paths
-/// come before the paths of the second and third child.
+/// Makes six groups: the root, three of its children, and two children of the first child. The
+/// paths of the latter come before those of the second and third child.
 fn lives(rt: &impl Abort, alloc: Global) -> [GroupLife; 6] {
     [
         life(rt, alloc, "/", None),
@@ -61,7 +61,7 @@ fn lives(rt: &impl Abort, alloc: Global) -> [GroupLife; 6] {
     ]
 }
 
-/// The options of an action for the time after it, without a delay.
+/// Makes the options for what follows an action: no delay, and a recursive choice if `recursive`.
 fn after(recursive: bool) -> After {
     After {
         recursive,
@@ -70,13 +70,13 @@ fn after(recursive: bool) -> After {
     }
 }
 
-/// A pattern that matches the children of the root.
+/// Makes a pattern that matches the children of the root.
 fn below_root(rt: &impl Abort, alloc: Global) -> Patterns {
     Patterns::read(alloc, "*").expect(rt, "patterns")
 }
 
-/// An action that chooses a child of the root by size or growth: a child with at least half of all
-/// memory, or a child that grew by a factor of at least 1.25.
+/// Makes an action that chooses a child of the root by size or growth: a child with at least half
+/// of all memory, or a child that grew by a factor of at least 1.25.
 fn size_or_growth(rt: &impl Abort, alloc: Global, percentile: u32, recursive: bool) -> Action {
     Action::SizeOrGrowth {
         cgroup: below_root(rt, alloc),

@@ -1,4 +1,5 @@
--- A processor for tests: tasks in groups, and the clocks that follow the changes of the tasks.
+-- The invariant of the simulated processor of the tests: tasks in groups, and the clocks of the
+-- groups, whose counts follow the changes of the tasks.
 use Rattle.std.specs.Prelude.{◌≡◌, ℕ, ◌≤◌, ◌<◌, List, length, Bool, Option, IfSome}
 use Rattle.std.specs.List.{All, sum_by}
 use Rattle.psi_base.specs.declared.event.Slot.{Slot}
@@ -8,22 +9,24 @@ use Rattle.psi_spec.specs.World.{most_groups}
 use Rattle.psi_counts.specs.Touch.{AreAtMost, on_chain}
 use Rattle.slot_clocks.specs.Clocks.{AreReported, ClocksView, cell_at}
 
--- the running task, if any, is in an existing group
+-- If a task is running, its group is one of the first `groups` groups.
 abbrev pub IsSlot : ℕ → Option (Slot × Bool) → Type 0
 IsSlot groups current = IfSome current (λ running. running.0.0 < groups)
 
--- a task, if it is live, is in an existing group and adds at most one to each count
+-- If the task is live, its group is one of the first `groups` groups, and the task adds at most one
+-- to each count.
 abbrev pub IsTask : ℕ → Option (Slot × Counts) → Type 0
 IsTask groups task = IfSome task (λ part. (part.0.0 < groups) × AreAtMost 1 part.1)
 
--- a group's counts are the sums over the tasks in the group and its descendants
+-- The counts of the group `slot` are the sums over the tasks in the group and in its descendants.
 pub record AreSums (parents : List (Option ℕ)) (slot : ℕ) (tasks : List (Option (Slot × Counts))) (counts : Counts) : Type 0 where
   pub io : counts.io ≡ sum_by (λ task. (on_chain parents slot task).io) tasks
   pub stalled : counts.stalled ≡ sum_by (λ task. (on_chain parents slot task).stalled) tasks
   pub running : counts.running ≡ sum_by (λ task. (on_chain parents slot task).running) tasks
   pub stalled_running : counts.stalled_running ≡ sum_by (λ task. (on_chain parents slot task).stalled_running) tasks
 
--- the clocks have the counts of the tasks
+-- The invariant of a processor: all tasks and parents are in range, and the counts of each group's
+-- clock match the tasks.
 pub record IsProcessor (parents : List (Option ℕ)) (groups : ℕ) (tasks : List (Option (Slot × Counts))) (clocks : ClocksView)
     (last : ℕ) : Type 0 where
   pub older : AreOlder parents

@@ -1,5 +1,5 @@
-//! Tests of masks of states, and of single clocks.
-//! Groups and plans play no part here.
+//! Tests of the masks of states that counts give, and of single clocks that follow such masks. No
+//! groups and no plans are used.
 
 use crate::events::is;
 use cpu_clock::Clock;
@@ -20,9 +20,9 @@ const N: bool = false;
 
 const Y: bool = true;
 
-/// Counts, whether the running task is among the counted tasks, whether the running task is in a
-/// memory stall, and which states hold: IO some and full, memory some and full, CPU some and full,
-/// nonidle.
+/// Each row has counts, whether the running task is among the counted tasks, whether the running
+/// task is in a memory stall, and which states hold: IO some and full, memory some and full, CPU
+/// some and full, nonidle.
 const STATES_HELD: [([u32; 4], bool, bool, [bool; 7]); 13] = [
     ([0, 0, 0, 0], N, N, [N, N, N, N, N, N, N]),
     ([1, 0, 0, 0], N, N, [Y, Y, N, N, N, N, Y]),
@@ -58,7 +58,7 @@ fn states_by_counts(rt: HostRuntime) {
     assert!(rt; !Mask::empty().holds(State::Nonidle));
 }
 
-// A task is created and starts to run at 0, and waits for IO from 500,000,000 ns.
+// A task is created and starts to run at 0 ns, and waits for IO from 500,000,000 ns on.
 #[test]
 fn clock_of_three_changes(rt: HostRuntime) {
     let mut clock = Clock::zero();
@@ -79,9 +79,9 @@ fn clock_of_three_changes(rt: HostRuntime) {
     is(&rt, again, words, "words of the clock of the words");
 }
 
-/// For a task that runs from 10 ns: the counts at 35 ns, whether the running task is among the
-/// counted tasks, and the words of the clock afterwards. If the states are unchanged, so is the
-/// clock; otherwise the clock restarts at 35 ns.
+/// Each row changes a clock at 35 ns, for a task that has been running since 10 ns. The row has the
+/// counts from 35 ns on, whether the running task is among the counted tasks, and the words of the
+/// clock after the change. The clock restarts at 35 ns if the states change.
 const TURNS: [([u32; 4], bool, [u64; 9]); 4] = [
     ([0, 0, 1, 0], true, [0, 0, 0, 0, 0, 0, 0, 0b100_0000, 10]),
     ([0, 0, 2, 0], true, [0, 0, 0, 0, 0, 0, 25, 0b101_0000, 35]),

@@ -1,4 +1,5 @@
-//! Shared helpers: events and plans from lines, and an assertion of equality.
+//! Helpers that several modules share: traces, functions that make events and plans from lines, and
+//! an assertion of equality.
 
 ghost use Rattle.std.specs.Prelude.{◌≡◌, ◌≤◌, length, IfOk};
 ghost use Rattle.psi_spec.specs.Trace.{AllFit, IsCpuCount};
@@ -11,7 +12,7 @@ use std::alloc::Global;
 use std::fmt::Debug;
 use std::process::Abort;
 
-/// A task that waits for IO for one second, and then for a processor.
+/// A trace of one task, which waits for IO for one second and then for a processor.
 pub const WAITS: [&[u8]; 5] = [
     b"0 fork 1 / 0",
     b"0 switch 0 1 idle",
@@ -20,8 +21,8 @@ pub const WAITS: [&[u8]; 5] = [
     b"2000000000 end",
 ];
 
-/// A task of the root that runs for two seconds, with a quarter of a second of interrupts. Later
-/// interrupts, when no task runs, count for no group.
+/// A trace of one task in the root group, which runs for two seconds, a quarter of a second of them
+/// with interrupts. Later interrupts, when no task runs, count for no group.
 pub const INTERRUPTS: [&[u8]; 6] = [
     b"0 fork 1 / 0",
     b"0 switch 0 1 idle",
@@ -31,7 +32,7 @@ pub const INTERRUPTS: [&[u8]; 6] = [
     b"2000000000 end",
 ];
 
-/// Parses one event from each line.
+/// Parses one event from each line. Returns the cause of the first line that isn't an event.
 pub fn events_of(alloc: Global, lines: &[&[u8]]) -> Result<Vec<Event>, Fault<Cause>>
     ensures { IfOk result (λ events. AllFit events.items) }
 {
@@ -43,7 +44,8 @@ pub fn events_of(alloc: Global, lines: &[&[u8]]) -> Result<Vec<Event>, Fault<Cau
     Ok(events)
 }
 
-/// Builds the plans of the trace with these lines.
+/// Builds the plans of the trace with these lines, for `cpus` processors and times up to `latest`
+/// (ns).
 pub fn plans_of(rt: &impl Abort, alloc: Global, cpus: u32, latest: Ns, lines: &[&[u8]]) -> Plans
     requires counted { IsCpuCount cpus }
     requires short { latest ≤ last_moment }
@@ -53,7 +55,7 @@ pub fn plans_of(rt: &impl Abort, alloc: Global, cpus: u32, latest: Ns, lines: &[
     Plans::build(alloc, cpus, latest, &events).expect(rt, "plans")
 }
 
-/// Aborts the test with the case if `found` isn't `wanted`. This is a function of its own because a
+/// Aborts the test if `found` isn't `wanted`, and prints `case`. A function is used because a
 /// formatted check is expensive to prove at each call.
 pub fn is<T: Copy + PartialEq + Debug, C: Copy + Debug>(
     rt: &impl Abort,

@@ -1,5 +1,5 @@
-//! Tests of the tree of groups: creation, removal, accounting and orders.
-//! Tasks aren't involved.
+//! Tests of the tree of groups: creation, removal, switches of accounting, and the orders in which
+//! groups are listed. Tasks aren't involved.
 
 use crate::events::is;
 use group_tree::Tree;
@@ -12,8 +12,8 @@ fn path(rt: &impl Abort, alloc: Global, text: &str) -> Path {
     read.expect(rt, "a path")
 }
 
-/// Creates a group, or returns the cause that rejects it. Checks that `add_cause` predicts the
-/// same.
+/// Creates a group, or returns the cause for which it is rejected. Checks that `add_cause` predicts
+/// the result.
 fn add(rt: &impl Abort, alloc: Global, tree: &mut Tree, text: &str, at: Ns) -> Result<Slot, Cause> {
     let path = path(rt, alloc, text);
     let predicted = tree.add_cause(&path);
@@ -26,8 +26,8 @@ fn add(rt: &impl Abort, alloc: Global, tree: &mut Tree, text: &str, at: Ns) -> R
     outcome
 }
 
-/// Removes a group, or returns the cause that rejects it. Checks that `remove_cause` predicts the
-/// same.
+/// Removes a group, or returns the cause for which this is rejected. Checks that `remove_cause`
+/// predicts the result.
 fn remove(
     rt: &impl Abort,
     alloc: Global,
@@ -42,8 +42,8 @@ fn remove(
     outcome
 }
 
-/// Switches a group's accounting, or returns the cause that rejects it. Checks that
-/// `pressure_cause` predicts the same.
+/// Switches a group's accounting, or returns the cause for which this is rejected. Checks that
+/// `pressure_cause` predicts the result.
 fn switch(
     rt: &impl Abort,
     alloc: Global,
@@ -58,7 +58,7 @@ fn switch(
     outcome
 }
 
-/// Creates groups, removes some of them, and creates these again with the same paths.
+/// Returns a tree in which some groups were removed and then created again with the same paths.
 fn small_forest(rt: &impl Abort, alloc: Global) -> Tree {
     let mut tree = Tree::new(alloc).expect(rt, "memory");
     for text in &["/a", "/a/b", "/b"] {
@@ -73,7 +73,8 @@ fn small_forest(rt: &impl Abort, alloc: Global) -> Tree {
     tree
 }
 
-/// The groups of the forest: path, parent, and the times (ns) of creation and removal.
+/// The groups of `small_forest`, in the order of slots: path, parent, and the times (ns) of
+/// creation and removal.
 const LIVES: [(&str, Option<Slot>, Ns, Option<Ns>); 8] = [
     ("/", None, 0, None),
     ("/a", Some(Slot(0)), 1, Some(2)),
@@ -96,8 +97,8 @@ fn lives_of_groups(rt: HostRuntime) {
     }
 }
 
-// Accounting belongs to one live group, not to a removed group with the same path, to ancestors or
-// to descendants. Accounting is on for a new group.
+// A switch of accounting affects the live group with the path, but no removed group with the same
+// path, no ancestor and no descendant. Accounting is on for a new group.
 #[test]
 fn accounts_of_groups(rt: HostRuntime) {
     let mut tree = small_forest(&rt, rt.alloc());
@@ -155,7 +156,7 @@ fn found_groups(rt: HostRuntime) {
     }
 }
 
-/// Checks the chain of slots from a group to the root.
+/// Checks that `want` is the chain of slots from the group `slot` to the root.
 fn has_above(rt: &impl Abort, alloc: Global, tree: &Tree, slot: Slot, want: &[Slot]) {
     assert!(rt; (slot.0 as usize) < tree.len());
     let up: Vec<Slot> = tree.chain(slot).collect(alloc).expect(rt, "memory");
@@ -182,7 +183,7 @@ fn groups_above(rt: HostRuntime) {
     }
 }
 
-// In byte order, `.` comes before `/`.
+// The live groups are in the byte order of their paths, in which `.` comes before `/`.
 #[test]
 fn live_groups_by_path(rt: HostRuntime) {
     let tree = small_forest(&rt, rt.alloc());
@@ -209,7 +210,7 @@ fn all_groups_by_path(rt: HostRuntime) {
     have_paths(&rt, &tree, &order, &want);
 }
 
-/// Creates and removes a group at the path `/g`, and checks the slot.
+/// Creates and removes the group `/g`, and checks that its slot is `slot`.
 fn made_and_gone(rt: &impl Abort, alloc: Global, tree: &mut Tree, slot: Slot) {
     is(rt, add(rt, alloc, tree, "/g", 1), Ok(slot), "made");
     is(rt, remove(rt, alloc, tree, "/g", 1), Ok(slot), "gone");

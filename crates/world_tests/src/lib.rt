@@ -1,5 +1,5 @@
-//! Tests of the world that a trace describes, and of its plans: the table of tasks, groups, clocks,
-//! plans and what reads them, rows of clocks, and the journals and boards of observers.
+//! Tests of the state that a trace describes, and of its plans: the table of tasks, the groups,
+//! clocks, plans and what follows them, rows of clocks, and the journals and boards of observers.
 //!
 //! Expected values are written by hand or come from clocks of a single thread. Ticks, text and
 //! rules are tested in other crates (pressure_tests, rule_tests).

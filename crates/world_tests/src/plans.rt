@@ -1,4 +1,5 @@
-//! Tests of plans: traces that are split by processor.
+//! Tests of plans, which split a trace by processor: the changes on each processor, and the clocks
+//! that follow them.
 mod accounts;
 mod changes;
 mod clocks;

@@ -1,4 +1,5 @@
-//! A processor for the tests: tasks in groups, with clocks whose counts always match the tasks.
+//! A simulated processor for the tests: tasks in groups, and the clocks of the groups. The counts
+//! of the clocks always match the tasks.
 
 ghost use Rattle.std.specs.Prelude.{length, IsTrue};
 ghost use Rattle.std.proofs.Props.{props};
@@ -16,8 +17,8 @@ use std::test::Fail;
 /// The last time (ns) that a clock supports.
 const LAST_MOMENT: Ns = 60_000_000_000_000_000;
 
-/// A processor with tasks in groups. `tasks` has the group and the counts of each task, `None` if
-/// the task isn't live.
+/// A processor with tasks in groups. `tasks` has the group and the counts of each task, or `None`
+/// for a task that isn't live.
 #[derive(Drop)]
 pub struct Processor {
     parents: Vec<Option<Slot>>,
@@ -28,7 +29,7 @@ pub struct Processor {
         (length parents.items) tasks.items clocks last } by { Prim.hlevel props },
 }
 
-// Whether each parent has a smaller slot than its child.
+// Returns whether each parent has a smaller slot than its child.
 fn are_older(parents: &[Option<Slot>]) -> bool
     ensures { IsTrue result → AreOlder (parent_numbers parents.now) }
 {
@@ -42,8 +43,8 @@ fn are_older(parents: &[Option<Slot>]) -> bool
     true
 }
 
-// Whether the task isn't live, or is in one of the first `groups` slots and adds at most one to
-// each count.
+// Returns whether the task isn't live, or is in one of the first `groups` slots and adds at most
+// one to each count.
 fn is_task(task: Option<(Slot, Counts)>, groups: usize) -> bool
     ensures { IsTrue result → IsTask groups task }
 {
@@ -59,7 +60,7 @@ fn is_task(task: Option<(Slot, Counts)>, groups: usize) -> bool
     }
 }
 
-// Whether no task runs, or the running task is in one of the first `groups` slots.
+// Returns whether no task runs, or the running task is in one of the first `groups` slots.
 fn is_slot(current: Option<(Slot, bool)>, groups: usize) -> bool
     ensures { IsTrue result → IsSlot groups current }
 {
@@ -122,8 +123,8 @@ impl Processor {
         true
     }
 
-    /// Returns the times (ns) of a group up to `at`. `None` if `at` is before the last change or
-    /// beyond the limit of clocks.
+    /// Returns the time (ns) that a group was in each state up to `at` (ns), or `None` if `at` is
+    /// before the last change or beyond the limit of clocks.
     pub fn opened(&self, slot: Slot, at: Ns) -> Option<[u64; 7]> {
         if at < self.last || at > LAST_MOMENT {
             return None;

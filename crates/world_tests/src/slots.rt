@@ -1,4 +1,5 @@
-//! Tests of the clocks of one processor, change by change.
+//! Tests of the clocks of four groups on one processor, change by change: tasks run, stall, wait,
+//! move and exit.
 
 use crate::events::is;
 use crate::processor::Processor;
@@ -46,10 +47,10 @@ struct Row {
     clocks: [[u64; 9]; 4],
 }
 
-/// The words of a clock that no change has reached.
+/// The words of a clock that no change has affected.
 const ZERO: [u64; 9] = [0; 9];
 
-/// The expected rows for the root, /a, /a/b and /c.
+/// The changes and the expected clocks of the root, /a, /a/b and /c.
 const ROWS: [Row; 7] = [
     // Task 0 is created in /a/b.
     Row {
@@ -183,7 +184,7 @@ fn changes_of_a_processor(rt: HostRuntime) {
     );
 }
 
-/// Returns the parents of a hundred groups, each a child of the previous one.
+/// Returns the parents of a hundred groups, each of which is a child of the previous one.
 fn nested(rt: &impl Abort, alloc: Global) -> Vec<Option<Slot>> {
     let mut parents = Vec::new(alloc);
     parents.push(None).expect(rt, "memory");
@@ -193,7 +194,7 @@ fn nested(rt: &impl Abort, alloc: Global) -> Vec<Option<Slot>> {
     parents
 }
 
-/// Checks that in all groups except the root a task has waited for the processor since 7 ns.
+/// Checks that in each group except the root a task has been waiting for the processor since 7 ns.
 fn wait_since_seven(rt: &impl Abort, processor: &Processor) {
     for slot in 1..100u32 {
         let words = processor.clock(Slot(slot)).to_words();
@@ -201,7 +202,7 @@ fn wait_since_seven(rt: &impl Abort, processor: &Processor) {
     }
 }
 
-// One change reaches all groups of the chain at once. A slot out of range has the zero clock.
+// One change affects all groups of the chain at once. A slot out of range has the zero clock.
 #[test]
 fn groups_that_a_change_first_reaches(rt: HostRuntime) {
     let parents = nested(&rt, rt.alloc());

@@ -1,4 +1,5 @@
-//! The clocks of a plan after some changes, for the tests.
+//! A helper for the tests: the clocks of a processor after a number of changes of its plan, made in
+//! a single thread.
 
 ghost use Rattle.std.specs.Prelude.{◌≡◌, ◌≤◌, length, IfOk};
 
@@ -6,7 +7,8 @@ use proc_plan::{PlainClocks, Plan, ProcClocks};
 use psi_base::NoMemory;
 use std::alloc::Global;
 
-/// Returns plain clocks of the first `slots` slots after `changes` changes of a plan.
+/// Returns clocks of the first `slots` slots after `changes` changes of a plan. The clocks belong
+/// to a single thread.
 pub fn clocks_after<'a>(
     alloc: Global,
     plan: &'a Plan,

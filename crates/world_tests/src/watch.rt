@@ -1,4 +1,5 @@
-//! A test of the side watch, which follows memory, preferences and tasks over a whole trace.
+//! Tests of the side watch, which follows memory samples, preferences and task counts. One watch
+//! follows a whole trace.
 
 use crate::events::{is, plans_of};
 use kill_spec::HostReading;
@@ -8,7 +9,8 @@ use side_watch::{GroupMemory, SideWatch};
 use std::alloc::Global;
 use std::process::Abort;
 
-/// A task in a nested group moves up and exits, and a path is created again.
+/// A trace in which a task of a nested group moves up and exits, and a path is removed and created
+/// again.
 const LINES: [&[u8]; 16] = [
     b"1 group /a",
     b"1 group /a/b",
@@ -28,8 +30,8 @@ const LINES: [&[u8]; 16] = [
     b"12 end",
 ];
 
-/// Whether each of the four groups has a live task in it or its descendants: the root, `/a`, and
-/// the two groups with the path `/a/b`.
+/// Returns whether each of the four groups has a live task in it or in its descendants: the root,
+/// `/a`, and the two groups with the path `/a/b`.
 fn populated(watch: &SideWatch) -> [bool; 4] {
     [
         watch.is_populated(Slot(0)),
@@ -48,7 +50,7 @@ fn preferences(watch: &SideWatch) -> [Preference; 4] {
     ]
 }
 
-/// The memory samples of the two groups with the path `/a/b`.
+/// Returns the memory samples of the two groups with the path `/a/b`.
 fn memories(watch: &SideWatch) -> [GroupMemory; 2] {
     [watch.memory(Slot(2)), watch.memory(Slot(3))]
 }
@@ -80,8 +82,8 @@ const HOST: HostReading = HostReading {
     swap_free: 250,
 };
 
-// At 1 ns no task is live. At 3 ns the task counts for each ancestor too, and the later of two
-// samples at that time is used. The host is sampled at 5 ns.
+// At 1 ns no task is live. At 3 ns the task also counts for each ancestor, and the later of two
+// samples at this time is used. The host is sampled at 5 ns.
 fn first_moments(rt: &impl Abort, watch: &mut SideWatch, plans: &Plans) {
     let plain = Preference::Plain;
     watch.advance(plans.sides(), 1);
@@ -99,7 +101,7 @@ fn first_moments(rt: &impl Abort, watch: &mut SideWatch, plans: &Plans) {
     is(rt, watch.host(), NO_HOST, "the host at 4");
 }
 
-// At 8 ns the path has a new group, without a sample. At 12 ns the task has exited.
+// At 8 ns the path has a new group, which has no sample. At 12 ns the task has exited.
 fn last_moments(rt: &impl Abort, watch: &mut SideWatch, plans: &Plans) {
     let [plain, avoid, prefer] = [Preference::Plain, Preference::Avoid, Preference::Prefer];
     watch.advance(plans.sides(), 8);
@@ -119,7 +121,7 @@ fn last_moments(rt: &impl Abort, watch: &mut SideWatch, plans: &Plans) {
     is(rt, memories(watch), known, "memories at 12");
 }
 
-// Follows the trace through both halves, with one watch.
+// Follows the trace from its start to its end with one watch.
 fn at_all_moments(rt: &impl Abort, alloc: Global, plans: &Plans) {
     let mut watch = SideWatch::make(alloc, plans.lives()).expect(rt, "memory");
     first_moments(rt, &mut watch, plans);

@@ -1,4 +1,5 @@
-//! Tests of small traces, and of what remains of each after a kill.
+//! Tests of the removal of a kill's victim from a trace: the lines that remain of small traces of
+//! two processors.
 
 ghost use Rattle.psi_spec.specs.Trace.{AllFit};
 
@@ -35,8 +36,8 @@ const READY_LEFT: [&[u8]; 6] = [
 ];
 
 /// A trace with four tasks of the victim: one waits, one runs in a stall, one is blocked in a stall
-/// and one is ready. A task of the root also runs, and is switched out for two of them. The pid of
-/// one of them is used again later, for a task of the root.
+/// and one is ready. A task of the root also runs, and is switched out for two of them. The process
+/// ID of one task is used again later, for a task of the root.
 const MANY: [&[u8]; 22] = [
     b"0 group /s",
     b"0 group /s/a",

@@ -1,4 +1,5 @@
-//! Range checks that establish the preconditions of the engine's calls.
+//! Range checks for the tests. They establish the preconditions of the calls of the engine: lives,
+//! triggers and growing times.
 
 ghost use Rattle.std.specs.Prelude.{◌≡◌, ℕ, [], All, length, slice_index_or, true};
 ghost use Rattle.psi_spec.specs.Within.{IsTriggerWithin};
@@ -14,13 +15,13 @@ use psi_spec::GroupLife;
 /// The last time (ns) that the engine supports.
 pub const LAST_MOMENT: Ns = 60_000_000_000_000_000;
 
-/// How much longer than an interval its interrupt time can be (ns).
+/// The interrupt time of an interval may be longer than the interval by this time (ns).
 const LONGEST_IRQ: Ns = 1_000_000_000;
 
 /// The index of the interrupt time among the times of a processor.
 const IRQ: usize = TIMES - 1;
 
-/// Whether a group's times of creation and removal are at most `LAST_MOMENT`.
+/// Returns whether a group's times of creation and removal are at most `LAST_MOMENT`.
 fn is_life(life: &GroupLife) -> bool
     ensures { result ≡ true → IsLifeWithin last_moment life.now }
 {
@@ -31,7 +32,7 @@ fn is_life(life: &GroupLife) -> bool
     life.made <= LAST_MOMENT && goes_early
 }
 
-/// Whether all groups' times of creation and removal are at most `LAST_MOMENT`.
+/// Returns whether all groups' times of creation and removal are at most `LAST_MOMENT`.
 pub fn are_lives(lives: &[GroupLife]) -> bool
     ensures { result ≡ true → All (λ life. IsLifeWithin last_moment life) lives.now }
 {
@@ -43,7 +44,7 @@ pub fn are_lives(lives: &[GroupLife]) -> bool
     true
 }
 
-/// Whether a trigger is in range for a trace with `slots` groups.
+/// Returns whether a trigger is in range for a trace with `slots` groups.
 fn is_trigger(trigger: &TriggerSpec, slots: usize) -> bool
     ensures { result ≡ true → IsTriggerWithin last_moment slots trigger.now }
 {
@@ -53,7 +54,7 @@ fn is_trigger(trigger: &TriggerSpec, slots: usize) -> bool
     trigger.at <= LAST_MOMENT && (trigger.slot.0 as usize) < slots && in_range
 }
 
-/// Whether all triggers are in range for a trace with `slots` groups.
+/// Returns whether all triggers are in range for a trace with `slots` groups.
 pub fn are_triggers(triggers: &[TriggerSpec], slots: usize) -> bool
     ensures { result ≡ true →
         All (λ trigger. IsTriggerWithin last_moment slots trigger) triggers.now }
@@ -66,9 +67,9 @@ pub fn are_triggers(triggers: &[TriggerSpec], slots: usize) -> bool
     true
 }
 
-/// Checks the growth of one processor's times: no time decreased, no state's time grew by more than
-/// `most` (ns), interrupt time grew by at most a second more, and interrupt time is at most `at`
-/// (ns).
+/// Returns whether one processor's times grew within the bounds: no time decreased, no state's time
+/// grew by more than `most` (ns), interrupt time grew by at most a second more than `most`, and
+/// interrupt time is at most `at` (ns).
 fn grew_within(most: Ns, at: Ns, before: &Times, now: &Times) -> bool
     ensures { result ≡ true → GrewWithin most at before.now now.now }
 {
@@ -80,7 +81,8 @@ fn grew_within(most: Ns, at: Ns, before: &Times, now: &Times) -> bool
     now[IRQ] - before[IRQ] <= most.saturating_add(LONGEST_IRQ) && now[IRQ] <= at
 }
 
-/// Checks the same bounds for the times of one group on each processor.
+/// Returns whether the times of one group on each processor grew within the bounds of
+/// `grew_within`.
 fn row_grew_within(most: Ns, at: Ns, before: &[Times], now: &[Times]) -> bool
     requires { length before.now ≡ length now.now }
     ensures { result ≡ true → RowGrewWithin most at before.now now.now }
@@ -93,7 +95,8 @@ fn row_grew_within(most: Ns, at: Ns, before: &[Times], now: &[Times]) -> bool
     true
 }
 
-/// Checks the same bounds for a table of `slots` groups on each processor.
+/// Returns whether the times of `slots` groups on each processor grew within the bounds of
+/// `grew_within`.
 pub fn table_grew_within(most: Ns, at: Ns, slots: u32, before: &Rows, now: &Rows) -> bool
     requires slots { length before.now ≡ slots }
     requires slots_now { length now.now ≡ slots }

@@ -1,9 +1,10 @@
-//! Comparisons of a machine's results with expected texts.
+//! Helpers for the tests: compare the totals, the averages and the triggers of a machine with
+//! expected texts of numbers.
 use crate::engine::machine::Machine;
 use pressure_spec::AverageRows;
 use std::process::Abort;
 
-/// Whether `text` has exactly these numbers, separated by spaces.
+/// Returns whether `text` has exactly these numbers, separated by spaces.
 fn are(numbers: &[u64], text: &str) -> bool {
     let mut words = text.split(' ');
     for number in numbers {
@@ -17,7 +18,7 @@ fn are(numbers: &[u64], text: &str) -> bool {
     words.next().is_none()
 }
 
-/// Checks the totals of the group in `slot` against `text`.
+/// Checks that the totals of the group in `slot` are the numbers in `text`.
 pub fn has_totals(rt: &impl Abort, machine: &Machine, slot: u32, text: &str) {
     let totals = machine.totals(rt, slot);
     let at = machine.at();
@@ -27,7 +28,7 @@ pub fn has_totals(rt: &impl Abort, machine: &Machine, slot: u32, text: &str) {
     );
 }
 
-/// Whether `text` has exactly these averages: one part per quantity, separated by commas.
+/// Returns whether `text` has exactly these averages: one part per quantity, separated by commas.
 fn are_averages(averages: &AverageRows, text: &str) -> bool {
     let mut parts = text.split(", ");
     for numbers in averages {
@@ -41,7 +42,7 @@ fn are_averages(averages: &AverageRows, text: &str) -> bool {
     parts.next().is_none()
 }
 
-/// Checks the averages of the group in `slot` against `text`.
+/// Checks that the averages of the group in `slot` are the numbers in `text`.
 pub fn has_averages(rt: &impl Abort, machine: &Machine, slot: u32, text: &str) {
     let averages = machine.averages(rt, slot);
     let at = machine.at();
@@ -52,7 +53,7 @@ pub fn has_averages(rt: &impl Abort, machine: &Machine, slot: u32, text: &str) {
     );
 }
 
-/// Whether the numbers are exactly the digits of `digits`.
+/// Returns whether the numbers are exactly the digits of `digits`.
 fn are_digits(numbers: &[u32], digits: &str) -> bool {
     for (number, digit) in numbers.iter().zip(digits.bytes()) {
         if *number != u32::from(digit.wrapping_sub(b'0')) {

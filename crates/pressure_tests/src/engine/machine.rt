@@ -1,4 +1,5 @@
-//! A simulated machine for the tests: an engine of ticks, whose table of times is set by a test.
+//! A simulated machine for the tests: an engine of ticks, and a table of times that a test sets
+//! before each tick.
 ghost use Rattle.std.specs.Prelude.{◌≡◌, length};
 ghost use Rattle.aggregate.specs.Table.{HaveSameSizes};
 
@@ -16,7 +17,7 @@ use tick_engine::Engine;
 /// The longest tick (ns).
 const LONGEST_TICK: Ns = 60_000_000_000;
 
-/// An engine, the table of times of its last tick, and the table for the next tick.
+/// An engine, the table of times of its last tick, and the table that is set for the next tick.
 #[derive(Drop)]
 pub struct Machine {
     cpus: u32,
@@ -38,7 +39,7 @@ impl Model for Machine {
     ghost invariant = { λ m. IsMachine m.cpus m.slots m.at m.last m.next m.engine };
 }
 
-// Copies the times of a table of `slots` groups to one of the same sizes.
+// Copies the times of a table of `slots` groups to another table of the same size.
 fn copy_table(slots: u32, from: &Rows, into: &mut Rows)
     requires slots { length from.now ≡ slots }
     requires sizes { HaveSameSizes into.old from.now }
@@ -74,14 +75,14 @@ impl Machine {
         }
     }
 
-    /// Sets the times (ns) of a group on a processor, up to the next tick.
+    /// Sets the times (ns) of a group on a processor, for the next tick.
     pub fn set(&mut self, rt: &impl Abort, cpu: u32, slot: u32, times: Times) {
         holds(rt, cpu < self.cpus, "such a processor");
         holds(rt, slot < self.slots, "such a group");
         self.next.set(Cpu(cpu), Slot(slot), times);
     }
 
-    /// Takes the next tick, at `now` (ns). Checks that the time and the growth of the table are
+    /// Makes the next tick, at `now` (ns). Checks that the time and the growth of the table are
     /// legal.
     pub fn tick(&mut self, rt: &impl Abort, now: Ns) {
         let is_soon = now > self.at && now - self.at <= LONGEST_TICK && now <= LAST_MOMENT;
@@ -93,18 +94,18 @@ impl Machine {
         self.at = now;
     }
 
-    /// The time (ns) of the last tick.
+    /// Returns the time (ns) of the last tick.
     pub fn at(&self) -> Ns {
         self.at
     }
 
-    /// The totals of a group (ns).
+    /// Returns the totals (ns) of a group.
     pub fn totals(&self, rt: &impl Abort, slot: u32) -> Amounts {
         holds(rt, slot < self.slots, "such a group");
         self.engine.totals(Slot(slot))
     }
 
-    /// The averages of a group, ordered by state, followed by the averages of interrupts.
+    /// Returns the averages of a group, ordered by state, followed by the averages of interrupts.
     pub fn averages(&self, rt: &impl Abort, slot: u32) -> AverageRows {
         holds(rt, slot < self.slots, "such a group");
         let averages = self.engine.averages(Slot(slot));
@@ -119,7 +120,7 @@ impl Machine {
         ]
     }
 
-    /// The numbers of the triggers that fired at the last tick.
+    /// Returns the numbers of the triggers that fired at the last tick.
     pub fn fired(&self) -> &[u32] {
         self.engine.fired()
     }

@@ -13,8 +13,8 @@ use std::process::Abort;
 /// One second (ns).
 const SECOND: Ns = 1_000_000_000;
 
-/// A group that is created at `made` (ns) and removed at `gone` (ns), if given. The engine doesn't
-/// read its path.
+/// Makes a group that is created at `made` (ns) and, if `gone` is given, removed at that time (ns).
+/// The engine doesn't read its path.
 fn group(rt: &impl Abort, alloc: Global, made: Ns, gone: Option<Ns>) -> GroupLife {
     GroupLife {
         path: Path::root(alloc).expect(rt, "memory"),
@@ -25,7 +25,7 @@ fn group(rt: &impl Abort, alloc: Global, made: Ns, gone: Option<Ns>) -> GroupLif
     }
 }
 
-/// A trigger on a group, set at `at` (ns), with its threshold and window (us).
+/// Makes a trigger on a group, set at `at` (ns), with its threshold and window (us).
 fn trigger(
     at: Ns,
     slot: u32,
@@ -44,7 +44,7 @@ fn trigger(
     }
 }
 
-/// The growth (ns) of one time in an interval: a pseudo-random part of the interval.
+/// Returns how much (ns) one time grows in an interval: a pseudo-random part of the interval.
 fn growth(tick: u64, slot: u64, cpu: u64, place: u64, interval: Ns) -> Ns {
     let mixed = tick
         .wrapping_mul(5)
@@ -54,7 +54,7 @@ fn growth(tick: u64, slot: u64, cpu: u64, place: u64, interval: Ns) -> Ns {
     interval.wrapping_mul(mixed % 11) / 10
 }
 
-/// The groups of `groups_that_come_and_go`.
+/// Makes the groups of the test `groups_that_come_and_go`.
 fn groups(rt: &impl Abort, alloc: Global) -> [GroupLife; 4] {
     [
         group(rt, alloc, 0, None),
@@ -64,7 +64,7 @@ fn groups(rt: &impl Abort, alloc: Global) -> [GroupLife; 4] {
     ]
 }
 
-/// The triggers of `groups_that_come_and_go`.
+/// Makes the triggers of the test `groups_that_come_and_go`.
 fn triggers() -> [TriggerSpec; 6] {
     let some = Level::SomeStalled;
     let full = Level::FullStalled;
@@ -78,12 +78,12 @@ fn triggers() -> [TriggerSpec; 6] {
     ]
 }
 
-/// The machine of `groups_that_come_and_go`.
+/// Makes the machine of the test `groups_that_come_and_go`.
 fn large_machine(rt: &impl Abort, alloc: Global) -> Machine {
     Machine::make(rt, alloc, 3, &groups(rt, alloc), &triggers())
 }
 
-/// The time (ns) of tick `tick`; 0 for the start.
+/// Returns the time (ns) of tick number `tick`, or 0 for the start.
 fn moment(tick: u64) -> Ns {
     match tick {
         0 => 0,
@@ -97,7 +97,7 @@ fn moment(tick: u64) -> Ns {
     }
 }
 
-/// The time (ns) at index `place` of a group on a processor, up to tick `tick`.
+/// Returns the time (ns) at index `place` of a group on a processor, up to tick number `tick`.
 fn time(tick: u64, slot: u32, cpu: u32, place: u64) -> Ns {
     let mut time = 0u64;
     for past in 1..=tick {
@@ -108,7 +108,7 @@ fn time(tick: u64, slot: u32, cpu: u32, place: u64) -> Ns {
     time
 }
 
-/// All times (ns) of a group on a processor, up to tick `tick`.
+/// Returns all times (ns) of a group on a processor, up to tick number `tick`.
 fn times(tick: u64, slot: u32, cpu: u32) -> Times {
     [
         time(tick, slot, cpu, 0),
@@ -122,7 +122,7 @@ fn times(tick: u64, slot: u32, cpu: u32) -> Times {
     ]
 }
 
-/// Sets the times of four groups on three processors, and takes the tick.
+/// Sets the times of four groups on three processors, and makes the tick.
 fn play(rt: &impl Abort, machine: &mut Machine, tick: u64) {
     for place in 0..12u32 {
         let slot = place / 3;
@@ -132,7 +132,8 @@ fn play(rt: &impl Abort, machine: &mut Machine, tick: u64) {
     machine.tick(rt, moment(tick));
 }
 
-/// Checks the totals of the four groups against `text`, in which `|` separates the groups.
+/// Checks that the totals of the four groups are the numbers in `text`, in which `|` separates the
+/// groups.
 fn have_totals(rt: &impl Abort, machine: &Machine, text: &str) {
     let mut slot = 0u32;
     for totals in text.split('|') {
@@ -142,7 +143,7 @@ fn have_totals(rt: &impl Abort, machine: &Machine, text: &str) {
     is(rt, slot, 4, "groups of a row");
 }
 
-/// Takes a tick, and checks the triggers and the totals in the row.
+/// Makes a tick, and checks the triggers and the totals in the row.
 fn play_row(rt: &impl Abort, machine: &mut Machine, tick: u64, row: &str) {
     let (digits, totals) = row
         .split_once('|')
@@ -152,7 +153,8 @@ fn play_row(rt: &impl Abort, machine: &mut Machine, tick: u64, row: &str) {
     have_totals(rt, machine, totals);
 }
 
-/// For each tick: the numbers of the triggers that fire, followed by the totals of each group.
+/// One row per tick: the numbers of the triggers that fire, followed by the totals (ns) of each
+/// group.
 const TICKS: &str = "04|\
     611764705 811764705 429411764 241176470 441176470 511764705 329411764|\
     613333333 813333333 353333333 553333333 386666666 586666666 253333333|\
@@ -196,7 +198,7 @@ const AVERAGES: &str =
     77486 16699 3608, 63912 14735 3223, 81155 17990 3908, 49316 11085 2411, 70754 15285 3303, 75985 16172 3486, 80522 18276 3986;\
     92356 19450 4172, 92356 19450 4172, 58387 13127 2844, 85307 18177 3906, 71951 15765 3402, 92356 19450 4172, 73527 15652 3364";
 
-/// Checks the averages of the four groups against `AVERAGES`.
+/// Checks that the averages of the four groups are the numbers in `AVERAGES`.
 fn have_averages(rt: &impl Abort, machine: &Machine) {
     let mut slot = 0u32;
     for row in AVERAGES.split(';') {
@@ -209,8 +211,8 @@ fn have_averages(rt: &impl Abort, machine: &Machine) {
 // The machine has three processors and four groups. The second group is removed at the fourth tick,
 // the third group is created between the second and third tick, and the last group at the third
 // tick. Times also grow while a group isn't live; no total includes that growth. The second trigger
-// is set exactly at the time of a tick, the third exactly when its group is created, the fourth a
-// nanosecond later, and the fifth is on the removed group. At some ticks periods were missed.
+// is set exactly at the time of a tick, the third when its group is created, the fourth a
+// nanosecond later, and the fifth is on the removed group. Some ticks miss periods.
 #[test]
 fn groups_that_come_and_go(rt: HostRuntime) {
     let mut machine = large_machine(&rt, rt.alloc());
@@ -229,8 +231,8 @@ fn small_machine(rt: &impl Abort, alloc: Global, triggers: &[TriggerSpec]) -> Ma
     Machine::make(rt, alloc, 1, &lives, triggers)
 }
 
-/// Takes a tick at `now` (ns) if all time up to it was IO some and full, without memory or CPU
-/// waits. Checks the group's totals and averages, and that no trigger fired.
+/// Makes a tick at `now` (ns), where all time up to `now` was IO some and full, without memory or
+/// CPU waits. Checks the group's totals and averages, and that no trigger fired.
 fn waits(rt: &impl Abort, machine: &mut Machine, now: Ns, totals: &str, averages: &str) {
     machine.set(rt, 0, 0, [now, now, 0, 0, 0, 0, now, 0]);
     machine.tick(rt, now);
@@ -239,7 +241,7 @@ fn waits(rt: &impl Abort, machine: &mut Machine, now: Ns, totals: &str, averages
     have_signalled(rt, machine, "");
 }
 
-// All tasks of the only processor wait for IO all the time; ticks are two seconds long.
+// All tasks of the only processor wait for IO all the time. The ticks are two seconds apart.
 #[test]
 fn waits_without_end(rt: HostRuntime) {
     let mut machine = small_machine(&rt, rt.alloc(), &[]);
@@ -251,7 +253,7 @@ fn waits_without_end(rt: HostRuntime) {
     waits(&rt, &mut machine, 4 * SECOND, totals, averages);
 }
 
-/// Takes a tick at `now` (ns) of a group that is never idle, in no other state, with `irq` ns of
+/// Makes a tick at `now` (ns) of a group that is never idle and in no other state, with `irq` ns of
 /// interrupts. Checks that its only total is `irq`, and its averages.
 fn interrupt(rt: &impl Abort, machine: &mut Machine, now: Ns, irq: Ns, averages: &str) {
     machine.set(rt, 0, 0, [0, 0, 0, 0, 0, 0, now, irq]);
@@ -260,8 +262,8 @@ fn interrupt(rt: &impl Abort, machine: &mut Machine, now: Ns, irq: Ns, averages:
     has_averages(rt, machine, 0, averages);
 }
 
-/// Takes one tick per row, as `interrupt` does: the time (ns), the interrupt time (ns) up to it,
-/// and the averages.
+/// Makes one tick per row with `interrupt`. A row has the time (ns), the interrupt time (ns) up to
+/// it, and the averages.
 fn interrupts(rt: &impl Abort, alloc: Global, rows: &[(Ns, Ns, &str)]) {
     let mut machine = small_machine(rt, alloc, &[]);
     for (now, irq, averages) in rows {
@@ -278,8 +280,8 @@ fn interrupts_of_half_a_period(rt: HostRuntime) {
     interrupts(&rt, rt.alloc(), &rows);
 }
 
-// A trace reports an interrupt after its end. So a share may be a second longer than its interval,
-// which is half a second here.
+// A trace reports an interrupt after the interrupt's end. Therefore the interrupt time of an
+// interval (half a second here) may be up to a second longer than the interval.
 #[test]
 fn interrupts_known_late(rt: HostRuntime) {
     let none = "0 0 0, 0 0 0, 0 0 0, 0 0 0, 0 0 0, 0 0 0, 0 0 0";
@@ -305,7 +307,7 @@ fn many_triggers(rt: &impl Abort, alloc: Global) -> Vec<TriggerSpec> {
     triggers
 }
 
-/// Whether the numbers are `from` to `to`, excluding `to`.
+/// Returns whether the numbers are `from`, `from + 1` and so on up to `to`, excluding `to`.
 fn is_range(numbers: &[u32], from: u32, to: u32) -> bool {
     let mut next = from;
     for number in numbers {
@@ -317,8 +319,8 @@ fn is_range(numbers: &[u32], from: u32, to: u32) -> bool {
     next == to
 }
 
-/// The range of the triggers that are due after `second` seconds: the first trigger, and the one
-/// after the last.
+/// Returns the range of the triggers that are due after `second` seconds: the first trigger, and
+/// the trigger after the last.
 fn owed(second: u64) -> (u32, u32) {
     match second {
         1 | 11 => (0, 100),
@@ -328,7 +330,7 @@ fn owed(second: u64) -> (u32, u32) {
     }
 }
 
-/// Adds a second of stall, and checks that exactly the triggers that are due fire.
+/// Adds one second of stall time, and checks that exactly the triggers that are due fire.
 fn stall(rt: &impl Abort, machine: &mut Machine, second: u64) {
     let now = second.wrapping_mul(SECOND);
     let (from, to) = owed(second);
@@ -341,7 +343,7 @@ fn stall(rt: &impl Abort, machine: &mut Machine, second: u64) {
     );
 }
 
-// The total grows by one second per second.
+// The stall total grows by one second per second.
 #[test]
 fn many_triggers_on_one_group(rt: HostRuntime) {
     let mut machine = small_machine(&rt, rt.alloc(), &many_triggers(&rt, rt.alloc()));

@@ -1,10 +1,11 @@
-//! Tests of parsing pressure files, with values at their limits.
+//! Tests of parsing pressure files: valid files with values at their limits, and malformed files.
+//! Both kinds of files are tested.
 use crate::check::is;
 use pressure_text::{PressureFile, PressureLine, read_file, read_irq};
 use std::alloc::Global;
 use std::process::Abort;
 
-/// A `full` line of zeros.
+/// A `full` line in which all values are zero.
 const FULL: &str = "full avg10=0.00 avg60=0.00 avg300=0.00 total=0\n";
 
 /// The values of `FULL`.
@@ -52,7 +53,7 @@ const WRONG_LINES: [&str; 17] = [
     "some avg10=0.00 avg60=0.00 avg300=0.00 total=0",
 ];
 
-/// Malformed files; the first line may be valid or missing.
+/// Malformed files, in some of which the first line is valid.
 const WRONG_FILES: [&str; 6] = [
     "some avg10=0.00 avg60=0.00 avg300=0.00 total=0\n",
     "some avg10=0.00 avg60=0.00 avg300=0.00 total=0\nfull avg10=0.00 avg60=0.00 avg300=0.00 total=0",
@@ -62,7 +63,7 @@ const WRONG_FILES: [&str; 6] = [
     "",
 ];
 
-/// Checks the result of parsing a file that consists of `line` and the line `FULL`.
+/// Checks the result of parsing a file with two lines, `line` and `FULL`.
 fn reads(rt: &impl Abort, alloc: Global, line: &str, wanted: Option<PressureFile>) {
     let text = format!(in alloc; "{line}{}", FULL).expect(rt, "memory");
     is(rt, read_file(text.as_bytes()), wanted, text.as_str());

@@ -1,4 +1,5 @@
-//! Tests of writing: each line with its exact text.
+//! Tests of writing: the exact text of each kind of output line, pressure files and reports, and a
+//! write that fails.
 use crate::check::is;
 use fixed_average::Averages;
 use outside::WriteFailed;
@@ -16,8 +17,8 @@ use std::process::Abort;
 /// Two seconds (ns).
 const TICK: u64 = 2_000_000_000;
 
-// The averages of a group that was in all states, and interrupted, from the start to the first
-// update.
+// Returns the averages after one update of a group that was in all states, and interrupted, from
+// the start to the update.
 fn stalled_averages() -> Averages {
     let mut averages = Averages::new(0);
     averages.update(TICK, [TICK; 7]);
@@ -29,7 +30,7 @@ fn sink(rt: &impl Abort, alloc: Global, room: usize) -> HonestSink {
     HonestSink::new(alloc, room).expect(rt, "memory")
 }
 
-/// The path of the root.
+/// Returns the path of the root.
 fn root(rt: &impl Abort, alloc: Global) -> Path {
     Path::root(alloc).expect(rt, "memory")
 }
@@ -83,7 +84,7 @@ fn lines(rt: HostRuntime) {
 /// The totals of a group (ns).
 const TOTALS: Amounts = [1_000, 2_000, 3_999, 4_000, TICK, 999, 5_000];
 
-/// Checks the pressure file of a group with the totals `TOTALS`.
+/// Checks that the pressure file of a group with the totals `TOTALS` is `text`.
 fn is_file(rt: &impl Abort, alloc: Global, res: Res, root: bool, text: &[u8]) {
     let mut out = sink(rt, alloc, 256);
     write_file(&mut out, res, root, TOTALS, &stalled_averages()).expect(rt, "a file");
@@ -110,7 +111,7 @@ full avg10=0.00 avg60=0.00 avg300=0.00 total=0
     is_file(&rt, rt.alloc(), Res::Cpu, true, machine);
 }
 
-/// Returns a report on IO of the root.
+/// Returns a report on the IO pressure of the root.
 fn report(rt: &impl Abort, alloc: Global) -> Vec<u8> {
     let root = root(rt, alloc);
     let mut out = sink(rt, alloc, 256);
@@ -143,7 +144,7 @@ fn reports_are_read_again(rt: HostRuntime) {
     is(&rt, read_file(bytes), Some(file), "a report");
 }
 
-/// Returns a report on interrupts, which took half of the first interval.
+/// Returns a report on the interrupts of the root, which took half of the first interval.
 fn irq_report(rt: &impl Abort, alloc: Global) -> Vec<u8> {
     let mut averages = Averages::new(0);
     averages.update(TICK, [0, 0, 0, 0, 0, 0, TICK / 2]);

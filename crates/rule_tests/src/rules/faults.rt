@@ -1,4 +1,4 @@
-//! Tests of faulty rules files: each place with each possible cause, and which of two faults is
+//! Tests of faulty rules files: each place in a file with each cause, and which of two errors is
 //! reported.
 use crate::rules::shown::reads_rows;
 
@@ -100,10 +100,10 @@ const AS_ACTIONS: &str = "{'name':'exists','args':{'cgroup':'g0'}}!UnknownPlugin
 {'name':'kill_by_pg_scan','args':{'cgroup':'s/?'}}!BadArg
 {'name':'kill_by_pg_scan','args':{'cgroup':'x,x,x,x,x,x,x,x,x,x,x,x,x,x,x,x,x'}}!TooMany";
 
-// The message for a fault of the second detector of the only group.
+// The message for an error in the second detector of the only group.
 const AT_DETECTOR: &str = "rules ruleset 0 group 0 item 1: @";
 
-// The message for a fault of the second action.
+// The message for an error in the second action.
 const AT_ACTION: &str = "rules ruleset 0 action 1: @";
 
 #[test]
@@ -170,10 +170,10 @@ fn arguments_in_order(rt: HostRuntime) {
     reads_rows(&rt, rt.alloc(), OF_ACTION, "@", AT_ACTION, ACTION_ARGUMENTS);
 }
 
-// A ruleset with two faults, followed by a faulty ruleset. Each part is checked with its children
-// before the next part: in a ruleset the name, the delay, the detectors, the actions. A list is
-// checked before its items, a group's name before its detectors, a plugin's name before its
-// arguments.
+// A ruleset with two errors, followed by another faulty ruleset. Each part is checked with its
+// children before the next part. The order in a ruleset is the name, the delay, the detectors, the
+// actions. A list is checked before its items, a group's name before its detectors, a plugin's name
+// before its arguments.
 const OF_TWO: &str = "{'rulesets':[{@},5]}";
 
 const TWO: &str = "'post_action_delay':'x'!: MissingKey

@@ -1,10 +1,11 @@
-//! Tests of plugin arguments: each syntactic form at its limits, and each default.
+//! Tests of the arguments of plugins in rules files: each syntactic form with values at its limits,
+//! and each default.
 use crate::rules::shown::reads_rows;
 
-/// The message for a fault of the only detector.
+/// The message for an error in the only detector.
 const AT_ITEM: &str = "rules ruleset 0 group 0 item 0: @";
 
-/// The message for a fault of the only action.
+/// The message for an error in the only action.
 const AT_ACTION: &str = "rules ruleset 0 action 0: @";
 
 const OF_NUMBER: &str =
@@ -238,14 +239,14 @@ fn resources(rt: HostRuntime) {
     reads_rows(&rt, rt.alloc(), OF_RESOURCE, rules, AT_ITEM, RESOURCES);
 }
 
-// The defaults of each detector.
+// The rows show the defaults of each detector.
 const OF_DETECTOR: &str =
     "{'rulesets':[{'name':'r','detectors':[['g',{'name':@}}]],'actions':[]}]}";
 
 const DETECTORS: &str = "'exists','args':{'cgroup':'g0'~exists /g0 false
 'pressure_rising_beyond','args':{'cgroup':'g0','resource':'memory','threshold':1,'duration':2~pressure_rising_beyond /g0 Memory 1 2 850";
 
-// The defaults of each action, and each argument.
+// The rows show the defaults of each action, and each argument.
 const OF_ACTION: &str = "{'rulesets':[{'name':'r','detectors':[],'actions':[{'name':@}}]}]}";
 
 const ACTIONS: &str =

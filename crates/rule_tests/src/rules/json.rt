@@ -1,4 +1,5 @@
-//! Tests of the JSON syntax of rules files, and of their length limit.
+//! Tests of the JSON syntax of rules files, of their nesting, and of their length limit. The rules
+//! in the files are trivial.
 use crate::rules::shown::{reads, reads_bytes, reads_rows};
 use std::alloc::Global;
 use std::process::Abort;

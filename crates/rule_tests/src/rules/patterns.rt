@@ -1,11 +1,12 @@
-//! Tests of path patterns: which paths they match, and which texts are malformed.
+//! Tests of path patterns: which paths they match, which texts are malformed, and texts and paths
+//! at their limits.
 use crate::readings;
 use path_match::{PatternFault, Patterns};
 use psi_base::Fault;
 use std::alloc::Global;
 use std::process::Abort;
 
-// Checks whether the patterns of a text match a path, and that a copy of the patterns gives the
+// Checks whether the patterns in a text match a path, and that a copy of the patterns gives the
 // same result.
 fn is_so(rt: &impl Abort, alloc: Global, text: &str, path: &str, wanted: bool) {
     let patterns = Patterns::read(alloc, text).expect(rt, text);
@@ -15,7 +16,7 @@ fn is_so(rt: &impl Abort, alloc: Global, text: &str, path: &str, wanted: bool) {
     assert!(rt; found == (wanted, wanted), "{text} {path}: {found:?}");
 }
 
-// Checks each row, which is a text of patterns, a space, and a path.
+// Checks each row, which has the text of patterns, a space, and a path.
 fn are_so(rt: &impl Abort, alloc: Global, rows: &str, wanted: bool) {
     for row in rows.split('\n') {
         let (text, path) = row.split_once(' ').expect(rt, row);
@@ -87,7 +88,7 @@ fn patterns_match(rt: HostRuntime) {
     are_so(&rt, rt.alloc(), OTHERS, false);
 }
 
-// Returns why a text is rejected; `None` if it is accepted.
+// Returns the reason why a text is rejected, or `None` if it is accepted.
 fn fault_of(rt: &impl Abort, alloc: Global, text: &str) -> Option<PatternFault> {
     match Patterns::read(alloc, text) {
         Ok(_) => None,
@@ -96,12 +97,13 @@ fn fault_of(rt: &impl Abort, alloc: Global, text: &str) -> Option<PatternFault> 
     }
 }
 
-// Checks that a text is rejected with this fault, or accepted if `fault` is `None`.
+// Checks that a text is rejected for this reason, or accepted if `fault` is `None`.
 fn is_read(rt: &impl Abort, alloc: Global, text: &str, fault: Option<PatternFault>) {
     assert_eq!(rt; fault_of(rt, alloc, text), fault, "at {text}");
 }
 
-// Checks `prefix` followed by each of the ends, which are separated by `|`, as `is_read` does.
+// Checks `prefix` followed by each of the ends, which are separated by `|`, in the same way as
+// `is_read`.
 fn are_read(rt: &impl Abort, alloc: Global, prefix: &str, ends: &str, fault: Option<PatternFault>) {
     for end in ends.split('|') {
         let text = [prefix, end].concat(alloc).expect(rt, "memory");

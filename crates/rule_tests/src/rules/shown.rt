@@ -1,5 +1,5 @@
-//! Formats the result of reading a rules file as one text, for comparison: the rules, or the
-//! printed fault.
+//! Helpers for the tests: format the result of reading a rules file as one text, for comparison.
+//! The text is the rules, or the printed error.
 use crate::checks::is_text;
 use crate::readings::path;
 use path_match::Patterns;
@@ -11,7 +11,7 @@ use std::alloc::Global;
 use std::fmt::Display;
 use std::process::Abort;
 
-// Paths that are tried on each pattern: those that match are in the formatted text.
+// The paths that are matched with each pattern. The formatted text lists those that match.
 const SAMPLE: [&str; 7] = ["/", "/g0", "/g1", "/g2", "/5", "/true", "/s/a"];
 
 /// Appends a value to a text.
@@ -97,7 +97,7 @@ fn put_after(rt: &impl Abort, to: &mut String, after: &After) {
     );
 }
 
-// An action prints as its own fields, followed by the fields that all actions share.
+// Appends the fields of an action, followed by the fields that all actions share.
 fn put_action(rt: &impl Abort, alloc: Global, to: &mut String, action: &Action) {
     let after = match action {
         Action::SizeOrGrowth {
@@ -165,8 +165,8 @@ fn put_actions(rt: &impl Abort, alloc: Global, to: &mut String, actions: &[Actio
     }
 }
 
-// A ruleset prints as its name and a colon, each group in brackets with a semicolon before each
-// detector, and then each action with a semicolon after it.
+// Appends a ruleset: its name and a colon, each group in brackets with a semicolon before each
+// detector, and each action with a semicolon after it.
 fn put_rule(rt: &impl Abort, alloc: Global, to: &mut String, rule: &Rule) {
     put_name(rt, to, &rule.name);
     put(rt, to, ":");
@@ -187,7 +187,7 @@ fn put_number(rt: &impl Abort, to: &mut String, word: &str, number: u32) {
     put(rt, to, format_args!(" {word} {number}"));
 }
 
-// Appends the place of a fault, with a space before each word.
+// Appends the place of an error, with a space before each word.
 fn put_place(rt: &impl Abort, to: &mut String, place: Place) {
     match place {
         Place::Whole => {}
@@ -222,14 +222,14 @@ fn put_read(rt: &impl Abort, alloc: Global, to: &mut String, bytes: &[u8]) {
     }
 }
 
-// Checks the result of reading bytes. `file` names the case in the message.
+// Checks the result of reading a rules file. `file` names the case in the message.
 fn reads_file(rt: &impl Abort, alloc: Global, bytes: &[u8], text: &str, file: &str) {
     let mut shown = String::new(alloc);
     put_read(rt, alloc, &mut shown, bytes);
     is_text(rt, &shown, text, file);
 }
 
-/// Checks the result of reading bytes.
+/// Checks that reading these bytes as a rules file gives the result `text`.
 pub fn reads_bytes(rt: &impl Abort, alloc: Global, bytes: &[u8], text: &str) {
     reads_file(rt, alloc, bytes, text, "bytes");
 }
@@ -239,19 +239,19 @@ pub fn quoted(rt: &impl Abort, alloc: Global, text: &str) -> String {
     text.replace(alloc, "'", "\"").expect(rt, "memory")
 }
 
-/// Checks the result of reading a file, in which `'` replaces each double quote.
+/// Checks the result of reading a rules file, in which `'` replaces each double quote.
 pub fn reads(rt: &impl Abort, alloc: Global, file: &str, text: &str) {
     let quoted = quoted(rt, alloc, file);
     reads_file(rt, alloc, quoted.as_bytes(), text, file);
 }
 
-/// Replaces the first `@` of a text, if any, by `value`.
+/// Replaces the first `@` of a text by `value`. A text without `@` is unchanged.
 pub fn with(rt: &impl Abort, alloc: Global, text: &str, value: &str) -> String {
     text.replacen(alloc, "@", value, 1).expect(rt, "memory")
 }
 
-// Checks the result of reading a file. Both the file and the expected text have a value in place of
-// their `@`.
+// Checks the result of reading a rules file. Both the file and the expected text have a value in
+// place of their `@`.
 fn reads_with(
     rt: &impl Abort,
     alloc: Global,
@@ -263,8 +263,8 @@ fn reads_with(
     reads(rt, alloc, &file, &text);
 }
 
-// Splits a row into the replacement for the file, and the expected text with its replacement:
-// `rules` after a `~`, `fault` after a `!`.
+// Splits a row into the replacement for the file, and the expected text with its replacement. The
+// expected text is `rules` after a `~`, and `fault` after a `!`.
 fn parted<'a>(
     rt: &impl Abort,
     row: &'a str,
@@ -278,9 +278,9 @@ fn parted<'a>(
     (value, fault, cause)
 }
 
-/// Checks the results of reading files, one per row. A row has the replacement for the `@` of the
-/// file, followed by `~` and the replacement in the formatted rules, or by `!` and the replacement
-/// in the fault.
+/// Checks the results of reading rules files, one per row. A row has the replacement for the `@` of
+/// the file, followed by `~` and the replacement in the formatted rules, or by `!` and the
+/// replacement in the error.
 pub fn reads_rows(
     rt: &impl Abort,
     alloc: Global,

@@ -1,4 +1,5 @@
-//! Tests of whole rules files: a usual one, field by field, and lists at their limits.
+//! Tests of whole rules files: a usual file, field by field, and files whose lists have the largest
+//! allowed length, or one item more.
 use crate::rules::shown::{reads, reads_rows, with};
 use ruleset_json::{ActionList, GroupList, Rule, RuleList, Rules, read};
 use std::alloc::Global;
@@ -29,7 +30,7 @@ fn usual_file(rt: HostRuntime) {
     reads(&rt, rt.alloc(), USUAL, SHOWN);
 }
 
-// A file with one ruleset; its action's pattern is `s/`, followed by the replacement for `@`.
+// A file with one ruleset. The pattern of its action is `s/`, followed by the replacement for `@`.
 const ONE: &str =
     "{'rulesets':[{'name':'r','detectors':[['g',{'name':'exists','args':{'cgroup':'s/*'}}]],'actions':[{'name':'kill_by_memory_size_or_growth','args':{'cgroup':'s/@'}}]}]}";
 
@@ -40,7 +41,8 @@ fn file_of_one(rt: HostRuntime) {
     reads_rows(&rt, rt.alloc(), ONE, rules, fault, "*~\n?!");
 }
 
-// A list in a file: its repeated piece, and how the pieces print.
+// A list in a file: the file with `@` in place of the list, the repeated piece and the separator,
+// the largest number of pieces, and the expected texts.
 struct Lists {
     file: &'static str,
     piece: &'static str,
@@ -58,7 +60,8 @@ fn reads_listed(rt: &impl Abort, alloc: Global, lists: &Lists, times: usize, tex
     reads(rt, alloc, &with(rt, alloc, lists.file, &pieces), text);
 }
 
-// Checks that a file with the most pieces is accepted, and that one more piece gives the fault.
+// Checks that a file with the largest number of pieces is accepted, and that one more piece is an
+// error.
 fn are_limited(rt: &impl Abort, alloc: Global, lists: &Lists) {
     let shown = lists.shown.repeat(alloc, lists.most).expect(rt, "memory");
     let rules = with(rt, alloc, lists.rules, &shown);
@@ -117,8 +120,8 @@ fn lists_at_their_limits(rt: HostRuntime) {
 const ALL: &[u8] =
     b"{\"rulesets\":[{\"name\":\"r\",\"detectors\":[[\"g\"],[\"h\"]],\"actions\":[{\"name\":\"kill_by_pg_scan\",\"args\":{\"cgroup\":\"g0\"}}]}]}";
 
-// Whether the rule has the name `r`, one action and two groups, and one group is left if another is
-// removed.
+// Returns whether the rule has the name `r`, one action and two groups, and still has one group
+// after the other is removed.
 fn is_the_rule(rule: Rule) -> bool {
     let Rule {
         name,
@@ -134,7 +137,7 @@ fn is_the_rule(rule: Rule) -> bool {
     is_taken && lengths == (2, 1, 1) && name.bytes() == b"r".as_slice()
 }
 
-// Lists give up their members, and are built from them again.
+// The items of each list are taken out, and a list is built from them again.
 #[test]
 fn lists_again(rt: HostRuntime) {
     let Rules { rules } = read(rt.alloc(), ALL).expect(&rt, "rules");

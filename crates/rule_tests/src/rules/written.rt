@@ -6,7 +6,7 @@ use ruleset_json::read;
 use std::alloc::Global;
 use std::process::Abort;
 
-// Returns the printed text of the rules that are read from bytes, after a mark `>`.
+// Returns the printed text of the rules in `bytes`, with the mark `>` before it.
 fn written(rt: &impl Abort, alloc: Global, bytes: &[u8]) -> Vec<u8> {
     let rules = read(alloc, bytes).expect(rt, "rules");
     let mut text = Vec::from_slice(alloc, b">".as_slice()).expect(rt, "memory");
@@ -14,21 +14,23 @@ fn written(rt: &impl Abort, alloc: Global, bytes: &[u8]) -> Vec<u8> {
     text
 }
 
-// Checks that the rules in `bytes` print as `text`, appended to what is already there.
+// Checks that the rules in `bytes` are printed as `text`, and that `text` is appended to the
+// previous content of the vector.
 fn writes_once(rt: &impl Abort, alloc: Global, bytes: &[u8], text: &[u8]) {
     let written = written(rt, alloc, bytes);
     let suffix = written.strip_prefix(b">").expect(rt, "no mark");
     assert_eq!(rt; str::from_utf8(suffix), str::from_utf8(text));
 }
 
-// Like `writes_once`, and also checks that `text` is stable: reading and printing it gives `text`
-// again.
+// Checks the printed text in the same way as `writes_once`, and that reading and printing `text`
+// gives `text` again.
 fn writes_bytes(rt: &impl Abort, alloc: Global, bytes: &[u8], text: &[u8]) {
     writes_once(rt, alloc, bytes, text);
     writes_once(rt, alloc, text, text);
 }
 
-// Like `writes_bytes`, for texts in which `'` replaces each double quote.
+// Checks the printed text in the same way as `writes_bytes`, for texts in which `'` replaces each
+// double quote.
 fn writes(rt: &impl Abort, alloc: Global, file: &str, text: &str) {
     let (file, text) = (quoted(rt, alloc, file), quoted(rt, alloc, text));
     writes_bytes(rt, alloc, file.as_bytes(), text.as_bytes());
@@ -55,7 +57,7 @@ fn with_both(rt: &impl Abort, alloc: Global, text: &str, first: &str, next: &str
     with(rt, alloc, &with(rt, alloc, text, first), next)
 }
 
-// Checks how a plugin with this name and these arguments prints.
+// Checks the printed text of a plugin with this name and these arguments.
 fn writes_plugin(
     rt: &impl Abort,
     alloc: Global,
@@ -68,8 +70,8 @@ fn writes_plugin(
     writes(rt, alloc, &file, &text);
 }
 
-// Checks how plugins print, one per row: a name, `|`, its arguments, `~`, and the printed
-// arguments.
+// Checks the printed texts of plugins, one per row: a name, `|`, its arguments, `~`, and the
+// printed arguments.
 fn writes_rows(rt: &impl Abort, alloc: Global, file: &str, text: &str, rows: &str) {
     for row in rows.split('\n') {
         let (name, args) = halves(rt, row, '|');
@@ -123,7 +125,7 @@ fn actions(rt: HostRuntime) {
     writes_rows(&rt, rt.alloc(), OF_ACTION, ACTION, ACTIONS);
 }
 
-// Names of a ruleset and a group, and how they print.
+// Names of a ruleset and a group in a file, each with its printed text.
 const NAMES: [(&str, &str); 7] = [
     ("", ""),
     ("a\\\"b\\\\c\\/d", "a\\\"b\\\\c/d"),

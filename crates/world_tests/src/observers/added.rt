@@ -1,4 +1,5 @@
-//! Tests of the entries that a journal accepts, and of the order in which it returns them.
+//! Tests of the journal of observers: which entries it accepts, and in which order it returns them.
+//! The entries are samples of a trace with one task.
 
 ghost use Rattle.std.specs.Prelude.{◌≡◌, length};
 
@@ -21,7 +22,8 @@ fn counts_never_fall(rt: HostRuntime) {
     falls(&rt, rt.alloc(), &plans);
 }
 
-// Whether an entry was rejected because the last entry's count `last` is greater.
+// Returns whether an entry was rejected because the last entry has a greater count, and this count
+// is `last`.
 fn is_fall_from(added: Result<(), AddFault>, last: u64) -> bool {
     match added {
         Err(AddFault::Falls(fall)) => fall.last() == last,
@@ -46,8 +48,8 @@ fn falls(rt: &impl Abort, alloc: Global, plans: &Plans)
     is(rt, added.entries, 1, "entries");
 }
 
-// Counts are compared for each observer alone: an entry with fewer changes than the last entry of
-// another observer is accepted.
+// Counts are compared for each observer separately: an entry with fewer changes than the last entry
+// of another observer is accepted.
 #[test]
 fn counts_are_each_observers_own(rt: HostRuntime) {
     let plans = plans_of(&rt, rt.alloc(), 1, 2_000_000_000, &WAITS);
@@ -68,8 +70,8 @@ fn both_added(rt: &impl Abort, alloc: Global, plans: &Plans)
     is(rt, added.entries, 2, "entries");
 }
 
-// If a journal's entries don't match the lists, the lists are returned one after another; if they
-// match, the entries are returned in the journal's order.
+// If the entries of the journal match the observers' lists, the entries are returned in the
+// journal's order. Otherwise the lists are returned one after another.
 #[test]
 fn entries_in_the_order_of_the_journal(rt: HostRuntime) {
     let plans = plans_of(&rt, rt.alloc(), 1, 2_000_000_000, &WAITS);

@@ -1,4 +1,5 @@
-//! A board that is written and read by two threads, for the tests.
+//! Helpers for tests of the tick board: a driver publishes ticks in one thread while an observer
+//! reads the board in another.
 
 ghost use Rattle.std.specs.Prelude.{◌≡◌, ◌+◌, length};
 ghost use Rattle.std.specs.Thread.{IsSync};
@@ -9,10 +10,10 @@ use std::process::Abort;
 use std::sync::Wait;
 use std::thread::{Threads, join, yield_now};
 
-/// The most reads of the observer, so that the test ends.
+/// The largest number of reads of the observer, so that the test ends.
 const READS: u64 = 20_000_000;
 
-/// The number of signals that each tick adds.
+/// The number of events that each tick adds.
 const EVENTS_OF_A_TICK: u64 = 3;
 
 /// What an observer read: the distinct states while the driver was running, and the last state.

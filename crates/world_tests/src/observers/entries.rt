@@ -1,4 +1,5 @@
-//! Entries and lists of observers, for the tests: samples of the root of a trace of one processor.
+//! Helpers for tests of journals: entries and lists of observers, all with samples of the root
+//! group of a trace with one processor.
 
 ghost use Rattle.std.specs.Prelude.{◌≡◌, ◌≤◌, length, IfOk};
 ghost use Rattle.observer_log.specs.Entries.{AreBy};
@@ -56,7 +57,7 @@ fn first_sample(rt: &impl Abort, alloc: Global, plan: &Plan) -> (ClockReader, Sa
 }
 
 /// Returns the list of an observer that sampled the root once, before its first change. The gate is
-/// called before the sample. `Err` if memory ran out.
+/// called before the sample. Returns `Err` if memory runs out.
 pub fn look_at_gate<'a, G: Gate>(
     rt: &impl Abort,
     alloc: Global,

@@ -1,4 +1,5 @@
-//! Tests of the gate that is called before each sample of an observer.
+//! Tests that an observer calls its gate (a hook for tests) once before each sample. The samples
+//! are taken from a trace with one task.
 
 ghost use Rattle.std.specs.Prelude.{◌≡◌, length};
 
@@ -12,7 +13,7 @@ use std::process::Abort;
 use std::sync::atomic::AtomicU64;
 use std::sync::atomic::Ordering::SeqCst;
 
-/// A task that runs to the end.
+/// A trace with one task, which runs until the end.
 const RUNS: [&[u8]; 3] = [b"0 fork 1 / 0", b"0 switch 0 1 idle", b"2000000000 end"];
 
 /// The observer whose samples are counted.
@@ -53,7 +54,7 @@ fn a_look_calls_its_gate_once(rt: HostRuntime) {
     called_once(&rt, rt.alloc(), &plans);
 }
 
-// Returns the number of entries after one sample. `None` if memory ran out.
+// Returns the number of entries after one sample, or `None` if memory ran out.
 fn entries_of(
     rt: &impl Abort,
     alloc: Global,

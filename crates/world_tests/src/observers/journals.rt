@@ -1,4 +1,5 @@
-//! Journals of one or two entries, for the tests.
+//! Helpers for tests of journals: they add one or two entries to a new journal, and return what it
+//! has accepted.
 
 ghost use Rattle.std.specs.Prelude.{◌≡◌};
 ghost use Rattle.observer_log.specs.Entries.{AreBy};
@@ -16,7 +17,7 @@ pub struct Added {
     pub entries: usize,
 }
 
-/// Adds two entries to a new journal.
+/// Adds two entries to a new journal, and returns the results.
 pub fn add_both<L: Ledger>(
     alloc: Global,
     blank: Blank,

@@ -1,4 +1,5 @@
-//! A test that reads a board while its driver is running.
+//! Tests what an observer reads from the tick board in one thread while the driver publishes 10,000
+//! ticks in another.
 
 use crate::events::is;
 use crate::observers::boards::beside;

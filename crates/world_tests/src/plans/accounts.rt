@@ -1,4 +1,5 @@
-//! Tests of groups whose accounting is switched, in the plans of processors and in their clocks.
+//! Tests of groups whose accounting is switched off and on: how the switches appear in the plans of
+//! processors, and how the clocks follow.
 
 ghost use Rattle.std.specs.Prelude.{◌≡◌, length};
 
@@ -11,7 +12,7 @@ use psi_counts::Change;
 use std::alloc::Global;
 use std::process::Abort;
 
-/// A task of /a waits for IO; for half a second the accounting of /a is off.
+/// A trace in which a task of /a waits for IO; the accounting of /a is off for half a second.
 const LINES: [&[u8]; 7] = [
     b"0 group /a",
     b"0 fork 1 /a 0",
@@ -22,7 +23,7 @@ const LINES: [&[u8]; 7] = [
     b"2000000000 end",
 ];
 
-/// The change by which the accounting of slot 1 is switched on a processor on which no task runs.
+/// Returns the change that switches the accounting of slot 1 on a processor on which no task runs.
 fn account(at: Ns, on: bool) -> Change {
     Change {
         at,
@@ -56,8 +57,8 @@ fn each_has_accounts(rt: &impl Abort, plans: &Plans)
     is(rt, nth(rt, second, 2), on, "on on 1");
 }
 
-/// The first processor's clocks after `changes` changes, for the group in `slot`: its interrupt
-/// time (ns), and the words of its clock.
+/// A row of a test: the expected interrupt time (ns) of the group in `slot` on the first processor
+/// after `changes` changes, and the words of the group's clock.
 struct Row {
     changes: u64,
     slot: u32,
@@ -97,8 +98,8 @@ const SECOND: Ns = 1_000_000_000;
 /// The time (ns) at which accounting is switched on again.
 const AGAIN: Ns = 1_500_000_000;
 
-/// While accounting is off, no state of the group holds and its times don't change. The root's
-/// clock continues.
+/// The expected clocks of the first trace. While accounting is off, no state of the group holds and
+/// its times don't change. The root's clock continues.
 const OFF_AND_ON: [Row; 4] = [
     Row {
         changes: 4,
@@ -132,8 +133,8 @@ fn clocks_of_a_group_off(rt: HostRuntime) {
     shows(&rt, rt.alloc(), &plans, (2, 5), &OFF_AND_ON);
 }
 
-/// A task of /a/b runs, waits for IO and is ready, while the accounting of /a and later of /a/b is
-/// off. At one time, one of them is switched off and the other on.
+/// A trace in which a task of /a/b runs, waits for IO and is ready, while the accounting of /a and
+/// later of /a/b is off. At one time, one of them is switched off and the other on.
 const NESTED: [&[u8]; 12] = [
     b"0 group /a",
     b"0 group /a/b",
@@ -149,8 +150,9 @@ const NESTED: [&[u8]; 12] = [
     b"5000 end",
 ];
 
-/// Accounting is switched for one group only: its ancestors and descendants continue. Changes of
-/// the tasks while a group is off are reflected when it is switched on again.
+/// The expected clocks of `NESTED`. Accounting is switched for one group only: its ancestors and
+/// descendants continue. Changes of the tasks while a group is off have an effect when it is
+/// switched on again.
 const OF_NESTED: [Row; 3] = [
     Row {
         changes: 9,

@@ -1,4 +1,5 @@
-//! Tests of the changes in plans, for a trace with a wakeup on another processor.
+//! Tests of the changes in plans, on a trace of two processors in which a task sleeps on one
+//! processor and wakes on the other.
 
 use crate::events::{is, plans_of};
 use proc_plan::{Plan, Side, SideAct};
@@ -34,8 +35,8 @@ const WAITS: Counts = Counts {
     stalled_running: 0,
 };
 
-/// A change of the root's counts: `minus` is subtracted, `plus` is added, and afterwards the task
-/// runs if `runs`.
+/// Makes a change of the root's counts: `minus` is subtracted and `plus` is added. Afterwards the
+/// task runs if `runs` is true.
 fn change(at: Ns, minus: Option<Counts>, plus: Option<Counts>, runs: bool) -> Change {
     let root = Slot(0);
     Change {
@@ -54,7 +55,7 @@ pub fn nth(rt: &impl Abort, plan: &Plan, k: u64) -> Change {
     plan.change(k)
 }
 
-/// Checks the changes of a plan.
+/// Checks that a plan has exactly the changes `want`, in order.
 fn has_changes(rt: &impl Abort, plan: &Plan, want: &[Change]) {
     assert!(rt; plan.len() == want.len() as u64);
     for k in 1..=plan.len() {
@@ -98,7 +99,7 @@ fn changes_up_to_a_moment(rt: HostRuntime) {
     }
 }
 
-// The parts of the plans that belong to no single processor.
+// The parts of the plans that don't belong to a single processor.
 #[test]
 fn what_all_processors_share(rt: HostRuntime) {
     let plans = plans_of(&rt, rt.alloc(), 2, 4_000_000_000, &LINES);

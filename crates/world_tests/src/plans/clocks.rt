@@ -1,4 +1,5 @@
-//! A test of clocks that follow a plan.
+//! Tests that the clock of the root group has the expected words after all changes of a plan. The
+//! plan is that of a trace with one task.
 
 ghost use Rattle.std.specs.Prelude.{◌≡◌, length};
 

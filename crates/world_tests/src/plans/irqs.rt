@@ -1,4 +1,5 @@
-//! Tests of the interrupt times of groups, in the clocks of plans.
+//! Tests of the interrupt times of groups, in clocks that follow the plans of two processors, and
+//! of the root alone.
 
 ghost use Rattle.std.specs.Prelude.{◌≡◌, length};
 
@@ -36,8 +37,8 @@ const LINES: [&[u8]; 21] = [
     b"8000 end",
 ];
 
-/// A processor, a number of changes, and the interrupt times (ns) of the root, /a, /a/b and /c
-/// after these changes.
+/// Each row has a processor, a number of changes, and the interrupt times (ns) of the root, /a,
+/// /a/b and /c after these changes.
 const ROWS: [(u32, u64, [u64; 4]); 16] = [
     // The task is created and starts to run.
     (0, 0, [0, 0, 0, 0]),

@@ -1,4 +1,5 @@
-//! Tests of traces that are rejected: the first rejected line, and the cause.
+//! Tests of illegal traces, for which no plans are built: the first rejected line, and the cause.
+//! The traces have one processor and at most a few lines.
 
 use crate::events::{events_of, is};
 use proc_plan::Plans;
@@ -6,8 +7,8 @@ use psi_base::{Cause, Fault, Refusal};
 use std::alloc::Global;
 use std::process::Abort;
 
-/// Traces of one processor up to 1,000 ns, as the lines after the header. Each row has the number
-/// of the first rejected line, and the cause.
+/// Illegal traces of one processor up to 1,000 ns, as the lines after the header. Each row has the
+/// lines, the number of the first rejected line, and the cause.
 const ROWS: [(&[&[u8]], u32, Cause); 12] = [
     (&[b"1 fork 1 /a 0", b"2 end"], 2, Cause::UnknownGroup),
     (&[b"1 fork 1 / 1", b"2 end"], 2, Cause::BadCpu),
@@ -43,7 +44,7 @@ const ROWS: [(&[&[u8]], u32, Cause); 12] = [
     (&[], 2, Cause::NoEnd),
 ];
 
-/// Returns why no plans can be built from these lines; `None` if they can.
+/// Returns the reason why no plans can be built from the lines, or `None` if plans can be built.
 fn fault_of(rt: &impl Abort, alloc: Global, lines: &[&[u8]]) -> Option<Fault<Refusal>> {
     let events = events_of(alloc, lines).expect(rt, "events");
     Plans::build(alloc, 1, 1000, &events).err()

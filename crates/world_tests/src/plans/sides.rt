@@ -1,4 +1,5 @@
-//! Tests of the parts of a trace that aren't changes of processors.
+//! Tests of the side events in the plans: memory samples, preferences, triggers and task counts,
+//! which are no changes of processors.
 
 use crate::events::{is, plans_of};
 use proc_plan::{Side, SideAct};
@@ -14,7 +15,7 @@ const LINES: [&[u8]; 19] = [
     b"4 prefer /a none",
     b"5 host 100 50 25",
     b"6 trigger /a io some 150000 1000000",
-    // The task moves to another group, and then to the group that it is already in.
+    // The task moves to another group, and then to the same group again.
     b"7 move 1 /a/b",
     b"8 move 1 /a/b",
     b"9 switch 0 1 idle",
@@ -33,7 +34,7 @@ fn side(at: Ns, what: SideAct) -> Side {
     Side { at, what }
 }
 
-/// The side event of a task that enters a group (`added` is 1) or leaves it (-1).
+/// Makes the side event of a task that enters a group (`added` is 1) or leaves it (`added` is -1).
 fn task(at: Ns, slot: u32, added: i8) -> Side {
     let slot = Slot(slot);
     side(at, SideAct::Tasks { slot, added })

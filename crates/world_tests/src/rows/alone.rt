@@ -1,4 +1,5 @@
-//! Tests of clock rows whose reader and writer are in one thread.
+//! Tests of clock rows whose reader and writer are in one thread. The clocks follow the plans of
+//! traces with one or two tasks.
 
 ghost use Rattle.std.specs.Prelude.{◌≡◌, ◌≤◌, length};
 
@@ -15,8 +16,8 @@ const ROOT: Slot = Slot(0);
 /// The root's clock after three changes: a task waits for IO, and no task runs.
 const WAITING: [u64; 9] = [0, 0, 0, 0, 0, 0, 500_000_000, 0b100_0011, 500_000_000];
 
-// Shows the root's clock after three changes, to a reader created before them and to a reader
-// created after them.
+// Returns the values of the root's clock after three changes, for a reader that was created before
+// them and for a reader that was created after them.
 fn shown_early_and_late(rt: &impl Abort, alloc: Global, plan: &Plan) -> [Shown; 2]
     requires root { length plan.now.parents ≡ 1 }
     requires changes { 3 ≤ length plan.now.changes }
@@ -26,7 +27,8 @@ fn shown_early_and_late(rt: &impl Abort, alloc: Global, plan: &Plan) -> [Shown; 
     [early, show_late(rt, &mut writer, ROOT)]
 }
 
-// The expected values of the root after three changes, for a reader that had seen `seen` of them.
+// Returns the expected values of the root's clock after three changes, for a reader that had seen
+// `seen` of them.
 fn waiting(seen: u64) -> Shown {
     Shown {
         made: 3,
@@ -37,8 +39,9 @@ fn waiting(seen: u64) -> Shown {
     }
 }
 
-// Each reader samples the writer's own clock. A reader that was created after the changes has seen
-// them; a reader that was created before them gets the same sample, even without a `meet`.
+// Each reader samples the clock that the writer has. A reader that was created after the changes
+// has seen them. A reader that was created before them gets the same sample, even without a call of
+// `meet`.
 #[test]
 fn one_slot_after_three_changes(rt: HostRuntime) {
     let plans = plans_of(&rt, rt.alloc(), 1, 2_000_000_000, &WAITS);
@@ -56,7 +59,7 @@ fn both_sample_the_same(rt: &impl Abort, alloc: Global, plans: &Plans)
     is(rt, late, waiting(3), "by the reader from after");
 }
 
-/// Two tasks, one of them in a group, that run alternately on a processor.
+/// A trace with two tasks, one of them in a group, which run alternately on one processor.
 const TURNS: [&[u8]; 6] = [
     b"0 group /a",
     b"0 fork 1 /a 0",
@@ -66,8 +69,8 @@ const TURNS: [&[u8]; 6] = [
     b"2000000000 end",
 ];
 
-// Returns the clocks of both slots after four changes and a `meet`; the reader samples both clocks
-// at one count.
+// Returns the clocks of both slots after four changes and a call of `meet`. The reader samples both
+// clocks after the same number of changes.
 fn all_after_four(rt: &impl Abort, alloc: Global, plan: &Plan) -> [Clock; 2]
     requires slots { length plan.now.parents ≡ 2 }
     requires changes { 4 ≤ length plan.now.changes }
@@ -79,8 +82,7 @@ fn all_after_four(rt: &impl Abort, alloc: Global, plan: &Plan) -> [Clock; 2]
     clocks
 }
 
-// The last switch doesn't change the root's states, so the root's clock isn't restarted; the
-// group's clock is.
+// The last switch doesn't change the root's states, so only the group's clock is restarted.
 #[test]
 fn all_slots_at_one_count(rt: HostRuntime) {
     let plans = plans_of(&rt, rt.alloc(), 1, 2_000_000_000, &TURNS);

@@ -1,4 +1,5 @@
-//! Tests of the interrupt time that a writer stores next to its row.
+//! Tests of the interrupt times that a writer keeps next to its clock row. The traces have
+//! interrupts during tasks and on an idle processor.
 
 ghost use Rattle.std.specs.Prelude.{◌≡◌, ◌≤◌, length};
 
@@ -15,7 +16,7 @@ const ROOT: Slot = Slot(0);
 const RUNNING: [u64; 9] = [0, 0, 0, 0, 0, 0, 0, 0b100_0000, 0];
 
 // Returns the root's interrupt time (ns) after `changes` changes of a plan with only the root, and
-// the root's values at both ends of the row.
+// the values of the root's clock at the writer and at the reader.
 fn shown_after(rt: &impl Abort, alloc: Global, plan: &Plan, changes: u64) -> (u64, Shown)
     requires root { 1 ≡ length plan.now.parents }
     requires changes { changes ≤ length plan.now.changes }
@@ -52,8 +53,8 @@ fn beside_a_task_alone(rt: &impl Abort, alloc: Global, plans: &Plans)
     is(rt, third, (250_000_000, want), "after the third change");
 }
 
-/// Interrupts while a task in a nested group runs, while a task runs that has moved to the root,
-/// and while the processor is idle.
+/// A trace with interrupts while a task in a nested group runs, while a task runs that has moved to
+/// the root, and while the processor is idle.
 const GROUPS: [&[u8]; 14] = [
     b"0 group /a",
     b"0 group /a/b",
@@ -71,7 +72,8 @@ const GROUPS: [&[u8]; 14] = [
     b"60 end",
 ];
 
-/// Checks a writer's interrupt times (ns) of four slots after `changes` changes.
+/// Checks that the interrupt times (ns) of four slots at the writer are `wanted` after `changes`
+/// changes.
 fn has_irqs(rt: &impl Abort, alloc: Global, plan: &Plan, changes: u64, wanted: [u64; 4])
     requires slots { 4 ≡ length plan.now.parents }
     requires changes { changes ≤ length plan.now.changes }
@@ -86,8 +88,8 @@ fn has_irqs(rt: &impl Abort, alloc: Global, plan: &Plan, changes: u64, wanted: [
     is(rt, (changes, found), (changes, wanted), "by changes");
 }
 
-// A group counts the interrupts during tasks of the group and its descendants. The time stays with
-// the group when a task leaves.
+// A group counts the interrupts during tasks of the group and of its descendants. When a task
+// leaves the group, the time that it has counted remains.
 #[test]
 fn interrupts_of_groups(rt: HostRuntime) {
     let plans = plans_of(&rt, rt.alloc(), 1, 2_000_000_000, &GROUPS);

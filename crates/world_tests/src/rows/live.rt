@@ -1,4 +1,5 @@
-//! A test of samples that are taken while a writer is running.
+//! Tests of samples that a reader takes in one thread while a writer makes 100,002 changes in
+//! another.
 
 ghost use Rattle.std.specs.Prelude.{◌≡◌, ◌≤◌, ◌^◌, length};
 
@@ -11,8 +12,8 @@ use std::alloc::Global;
 use std::process::Abort;
 use std::thread::Threads;
 
-/// The number of rounds in which two tasks, one of them in a group, alternate. Each round has three
-/// changes.
+/// The number of rounds in which two tasks, one of them in a group, run alternately. Each round has
+/// three changes.
 const ROUNDS: u64 = 33_333;
 
 // Appends the lines of one round, which begins at `at` (ns).

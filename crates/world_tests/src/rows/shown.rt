@@ -1,4 +1,5 @@
-//! The values of a slot at both ends of a clock row, for the tests.
+//! Helpers for tests of clock rows: the values of one slot at the two ends of a row, the writer and
+//! the reader.
 
 ghost use Rattle.std.specs.Prelude.{◌≡◌, ◌≤◌, ◌<◌, length};
 
@@ -8,7 +9,7 @@ use psi_base::Slot;
 use std::alloc::Global;
 use std::process::Abort;
 
-/// The values of a slot at the two ends of a row.
+/// The values of one slot at the writer and at a reader of a clock row.
 #[derive(Clone, Copy, Debug, PartialEq, Eq)]
 pub struct Shown {
     /// The number of changes that the writer has made.
@@ -17,14 +18,14 @@ pub struct Shown {
     pub own: [u64; 9],
     /// The number of changes that the reader had seen before it tried to sample.
     pub seen: u64,
-    /// The reader's sample: the number of changes, and the words of the clock. `None` if a change
-    /// interfered.
+    /// The reader's sample: the number of changes, and the words of the clock. It is `None` if a
+    /// change interfered with the read.
     pub sampled: Option<(u64, [u64; 9])>,
     /// The number of changes that the reader has seen after the sample.
     pub seen_then: u64,
 }
 
-/// Makes changes until `changes` have been made in total.
+/// Makes changes until the writer has made `changes` in total.
 fn make_changes(writer: &mut ClockWriter<'_>, changes: u64)
     requires all { changes ≤ length writer.old.knows.plan.changes }
     requires within { writer.old.knows.count ≤ changes }
@@ -37,7 +38,7 @@ fn make_changes(writer: &mut ClockWriter<'_>, changes: u64)
 }
 
 /// Returns a writer that has made `changes` changes of a plan, and a reader that was created before
-/// them.
+/// these changes.
 pub fn writer_after<'a>(
     rt: &impl Abort,
     alloc: Global,
@@ -57,7 +58,7 @@ pub fn writer_after<'a>(
     (writer, reader)
 }
 
-/// Returns the reader's sample of a slot. `None` if a change interfered.
+/// Returns the reader's sample of a slot, or `None` if a change interfered with the read.
 fn sample_of(reader: &mut ClockReader, slot: Slot) -> Option<(u64, [u64; 9])>
     requires { slot.0 < length reader.old.knows.plan.parents }
 {
@@ -67,7 +68,7 @@ fn sample_of(reader: &mut ClockReader, slot: Slot) -> Option<(u64, [u64; 9])>
     }
 }
 
-/// Returns the values of a slot at the writer and at `reader`.
+/// Returns the values of `slot` at the writer and at `reader`.
 pub fn show(writer: &mut ClockWriter<'_>, reader: &mut ClockReader, slot: Slot) -> Shown
     requires writer { slot.0 < length writer.old.knows.plan.parents }
     requires reader { slot.0 < length reader.old.knows.plan.parents }
@@ -84,7 +85,8 @@ pub fn show(writer: &mut ClockWriter<'_>, reader: &mut ClockReader, slot: Slot) 
     }
 }
 
-/// Returns the values of a slot at the writer and at a new reader, after `meet` and `settle`.
+/// Returns the values of `slot` at the writer and at a new reader, after the calls `meet` and
+/// `settle`.
 pub fn show_late(rt: &impl Abort, writer: &mut ClockWriter<'_>, slot: Slot) -> Shown
     requires { slot.0 < length writer.old.knows.plan.parents }
 {

@@ -1,4 +1,5 @@
-//! A writer and a reader of a clock row in two threads, for the tests.
+//! Helpers for tests of clock rows: a writer makes changes in one thread while a reader samples a
+//! slot in another.
 
 ghost use Rattle.std.specs.Prelude.{◌≡◌, ◌≤◌, ◌<◌, length};
 
@@ -13,10 +14,10 @@ use std::thread::{Threads, join, yield_now};
 /// single processor.
 const CHANGES_IN_A_TURN: u64 = 512;
 
-/// The most tries of the reader, so that the test ends.
+/// The largest number of tries of the reader, so that the test ends.
 const TRIES: u64 = 20_000_000;
 
-/// Makes changes of a plan until `changes` have been made in total.
+/// Makes changes of a plan until the writer has made `changes` in total.
 fn written<'a>(mut writer: ClockWriter<'a>, changes: u64) -> ClockWriter<'a>
     requires all { changes ≤ length writer.knows.plan.changes }
     requires within { writer.knows.count ≤ changes }
@@ -30,8 +31,8 @@ fn written<'a>(mut writer: ClockWriter<'a>, changes: u64) -> ClockWriter<'a>
     writer
 }
 
-/// Appends a sample if its count differs from the count of the last sample. Does nothing if memory
-/// runs out.
+/// Appends a sample if its number of changes differs from that of the last sample. Does nothing if
+/// memory runs out.
 fn keep(samples: &mut Vec<Sample>, sample: Sample) {
     if samples.last().is_none_or(|last| last.count != sample.count) {
         let _ = samples.push(sample);
@@ -84,8 +85,8 @@ pub fn beside<R: Abort + Threads + Sync>(
     (writer.count(), samples)
 }
 
-/// Whether the counts of the samples never decrease, and each clock equals the plain clock after
-/// the same number of changes.
+/// Returns whether the counts of the samples never decrease, and each clock equals the clock of a
+/// single thread after the same number of changes.
 pub fn are_plain(
     alloc: Global,
     plan: &Plan,

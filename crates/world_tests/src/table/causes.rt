@@ -1,4 +1,5 @@
-//! Tests of lines that are rejected, and of the causes.
+//! Tests of lines that the table of tasks rejects, and of the causes: single lines in a row, and
+//! lines at the limits of the table.
 
 ghost use Rattle.std.specs.Prelude.{◌≤◌};
 
@@ -141,7 +142,7 @@ fn event(rt: &impl Abort, alloc: Global, line: &str) -> Event {
     read_event(alloc, 2, line.as_bytes()).expect(rt, line)
 }
 
-/// Whether the cause has this name, or is absent if the name is `ok`.
+/// Returns whether the cause has this name, or is absent if the name is `ok`.
 fn is_named(rt: &impl Abort, alloc: Global, cause: Option<Cause>, name: &str) -> bool {
     match cause {
         Some(cause) => format!(in alloc; "{cause:?}").expect(rt, "memory").as_str() == name,
@@ -149,7 +150,7 @@ fn is_named(rt: &impl Abort, alloc: Global, cause: Option<Cause>, name: &str) ->
     }
 }
 
-/// Plays an event, and returns the cause that rejects it, if any.
+/// Plays an event, and returns the cause for which it is rejected, or `None` if it is accepted.
 fn played(rt: &impl Abort, table: &mut Table, event: &Event) -> Option<Cause> {
     match table.step(event) {
         Ok(_) => None,
@@ -158,7 +159,7 @@ fn played(rt: &impl Abort, table: &mut Table, event: &Event) -> Option<Cause> {
     }
 }
 
-/// Checks that the table predicts and gives the cause in the row.
+/// Checks that `check` predicts, and `step` returns, the cause in the row.
 fn plays_row(rt: &impl Abort, alloc: Global, table: &mut Table, row: &str) {
     let (line, want) = row.split_once(" | ").expect(rt, row);
     let event = event(rt, alloc, line);
@@ -175,7 +176,7 @@ fn plays(rt: &impl Abort, alloc: Global, table: &mut Table, rows: &str) {
     }
 }
 
-/// Returns the live group with this path, if any.
+/// Returns the slot of the live group with this path, or `None` if there is no such group.
 fn found(rt: &impl Abort, alloc: Global, table: &Table, path: &str) -> Option<Slot> {
     let read = Path::read(alloc, path.as_bytes()).expect(rt, "memory");
     table.groups().find(&read.expect(rt, path))
@@ -214,7 +215,7 @@ fn takes(rt: &impl Abort, alloc: Global, table: &mut Table, line: &str, times: u
     }
 }
 
-/// Checks that the line is rejected with this cause.
+/// Checks that the line is rejected for this cause.
 fn refuses(rt: &impl Abort, alloc: Global, table: &mut Table, line: &str, cause: Cause) {
     let event = event(rt, alloc, line);
     is(rt, table.play(&event), Err(Fault::Refused(cause)), line);

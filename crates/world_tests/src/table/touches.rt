@@ -1,4 +1,5 @@
-//! Tests of the changes that each line makes on processors.
+//! Tests of the changes that each accepted line makes on processors: one trace with stalls,
+//! migrations, moves and interrupts.
 
 use crate::events::is;
 use psi_base::{Cpu, Ns, Slot};
@@ -50,7 +51,7 @@ fn number(digit: u8) -> u32 {
     u32::from(digit.wrapping_sub(b'0'))
 }
 
-/// Returns the counts of one task and its group; `None` if there is no task.
+/// Returns the counts of one task and its group, or `None` if there is no task.
 fn part(kind: u8, slot: u8) -> Option<(Slot, Counts)> {
     let (io, stalled, running, stalled_running) = match kind {
         b'a' => (0, 0, 0, 0),
@@ -69,7 +70,7 @@ fn part(kind: u8, slot: u8) -> Option<(Slot, Counts)> {
     Some((Slot(number(slot)), counts))
 }
 
-/// Returns a processor and its change at `at` (ns); `None` if no processor changes.
+/// Returns a processor and its change at `at` (ns), or `None` if no processor changes.
 fn change(at: Ns, known: &str) -> Option<(Cpu, Change)> {
     let (known, irq) = known.split_once(" +").unwrap_or((known, "0"));
     let [cpu, _, from, minus, _, to, plus, _, slot, current] = known.as_bytes() else {
@@ -90,8 +91,8 @@ fn change(at: Ns, known: &str) -> Option<(Cpu, Change)> {
     Some((Cpu(number(*cpu)), change))
 }
 
-/// Returns the group whose accounting is switched and whether it is switched on; `None` if there is
-/// no switch.
+/// Returns the group whose accounting is switched and whether it is switched on, or `None` if there
+/// is no switch.
 fn account(known: &str) -> Option<(Slot, bool)> {
     match known.as_bytes() {
         [slot, b' ', b'o', b'n'] => Some((Slot(number(*slot)), true)),
@@ -110,7 +111,7 @@ fn touch(at: Ns, known: &str) -> Touch {
     }
 }
 
-/// Checks that the line of a row makes the changes in the row.
+/// Checks that the line of a row makes exactly the changes in the row.
 fn plays_row(rt: &impl Abort, alloc: Global, table: &mut Table, row: &str) {
     let (line, known) = row.split_once(" | ").unwrap_or((row, ""));
     let event = read_event(alloc, 2, line.as_bytes()).expect(rt, line);
