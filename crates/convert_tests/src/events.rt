@@ -1,4 +1,5 @@
-//! The events of pages: their fields, times and losses, what is no event, and rejected pages.
+//! Tests of the events in pages: their fields and times, lost events, bytes that are no events, and
+//! invalid pages. The pages are made by hand.
 
 use crate::pages::{
     EXTENDS, LOST, PADDING, STAMP, STORED, head, page_of, page_with, put, put_note,
@@ -9,17 +10,17 @@ use crate::runs::{
 use convert_core::Status;
 use page_spec::PageCause;
 
-/// The lines of a page at 1,000 ns with one note.
+/// The output for a page at 1,000 ns with one note.
 const ONE_NOTE: &str = "1005 0 note -1 ab\n";
 
-/// The records of that page.
+/// Makes the records of a page with one note.
 fn one_note(rt: &impl Host) -> Vec<u8> {
     let mut records = Vec::new(rt.alloc());
     put_note(rt, &mut records, 5, 0xffff_ffff, b"ab\0c");
     records
 }
 
-/// Checks the lines of a page at 1,000 ns with these records.
+/// Checks the output for a page at 1,000 ns with these records.
 fn assert_records(rt: &impl Host, records: &[u8], output: &str) {
     assert_prints(rt, &page_of(rt, 1000, records), output);
 }
@@ -36,7 +37,8 @@ fn numbers_and_texts(rt: HostRuntime) {
     assert_records(&rt, &records, lines);
 }
 
-/// Adds the record of an event `state`: one byte, a state of two bytes, and a number of eight.
+/// Appends the record of an event `state`: one byte, a state of two bytes, and a number of eight
+/// bytes.
 fn put_state(rt: &impl Host, bytes: &mut Vec<u8>, byte: u64, state: u64, number: u64) {
     put(rt, bytes, head(4, 1), 4);
     put(rt, bytes, 9, 2);
@@ -48,7 +50,7 @@ fn put_state(rt: &impl Host, bytes: &mut Vec<u8>, byte: u64, state: u64, number:
 
 #[test]
 fn states(rt: HostRuntime) {
-    // The first letter that a state has counts.
+    // If a state has several letters, the first one is printed.
     for row in &[(0, "R"), (1, "S"), (3, "S"), (2, "D"), (258, "R"), (4, "R")] {
         let (state, letter) = *row;
         let mut records = Vec::new(rt.alloc());
@@ -63,7 +65,8 @@ fn states(rt: HostRuntime) {
 
 #[test]
 fn located_texts(rt: HostRuntime) {
-    // The offset and the length of the text, which ends at the record's end at the latest.
+    // Each row has the offset and the length of a text, and the text that is printed. A text ends
+    // at the end of its record.
     for row in &[
         (8, 4, "/abc"),
         (8, 6, "/abcde"),
@@ -87,13 +90,14 @@ fn located_texts(rt: HostRuntime) {
 
 #[test]
 fn times(rt: HostRuntime) {
-    // An extension adds to the time: its second word counts units of 2^27 ns.
+    // A time extension is added to the time. Its second word counts units of 2^27 ns.
     let mut records = Vec::new(rt.alloc());
     put(&rt, &mut records, head(EXTENDS, 3), 4);
     put(&rt, &mut records, 2, 4);
     put_note(&rt, &mut records, 1, 1, b"x\0\0\0");
     assert_records(&rt, &records, "268436460 0 note 1 x\n");
-    // A time of 59 bits is absolute, with the higher bits of the time before it.
+    // A time stamp has the lower 59 bits of an absolute time. The higher bits are those of the
+    // previous time.
     let mut records = Vec::new(rt.alloc());
     put(&rt, &mut records, head(STAMP, 7), 4);
     put(&rt, &mut records, 1, 4);
@@ -101,7 +105,7 @@ fn times(rt: HostRuntime) {
     assert_records(&rt, &records, "134217736 0 note 1 x\n");
     let page = page_of(&rt, (1 << 59) + 1000, &records);
     assert_prints(&rt, &page, "576460752437641224 0 note 1 x\n");
-    // Times wrap at 2^64 ns.
+    // Times wrap around at 2^64 ns.
     let mut records = Vec::new(rt.alloc());
     put_note(&rt, &mut records, 3, 1, b"x\0\0\0");
     assert_prints(&rt, &page_of(&rt, u64::MAX, &records), "2 0 note 1 x\n");
@@ -109,7 +113,7 @@ fn times(rt: HostRuntime) {
 
 #[test]
 fn paddings(rt: HostRuntime) {
-    // Padding with a time is skipped: its second word is its length in bytes.
+    // Padding with a time is skipped. Its second word is its length in bytes.
     let mut records = Vec::new(rt.alloc());
     put(&rt, &mut records, head(PADDING, 9), 4);
     put(&rt, &mut records, 12, 4);
@@ -122,7 +126,7 @@ fn paddings(rt: HostRuntime) {
     put(&rt, &mut records, 4, 4);
     put_note(&rt, &mut records, 1, 1, b"x\0\0\0");
     assert_records(&rt, &records, ONE_NOTE);
-    // Fewer than four bytes at the end are no record.
+    // Fewer than four bytes at the end of the records are ignored.
     let mut records = one_note(&rt);
     put(&rt, &mut records, 3, 3);
     assert_records(&rt, &records, ONE_NOTE);
@@ -130,7 +134,7 @@ fn paddings(rt: HostRuntime) {
 
 #[test]
 fn long_records(rt: HostRuntime) {
-    // The second word is the length in bytes, with the word itself.
+    // The second word of a long record is its length in bytes, including the word itself.
     let mut records = Vec::new(rt.alloc());
     put(&rt, &mut records, head(0, 5), 4);
     put(&rt, &mut records, 16, 4);
@@ -167,7 +171,7 @@ fn losses(rt: HostRuntime) {
         let page = page_with(&rt, 1000, flags, &records, u64::MAX);
         assert_prints(&rt, &page, lines);
     }
-    // The number has no room after records that fill the page: it is unknown.
+    // The records fill the page, so the number of lost events doesn't fit into it and is unknown.
     let mut records = Vec::new(rt.alloc());
     put(&rt, &mut records, head(PADDING, 0), 48);
     let page = page_with(&rt, 1000, LOST + STORED, &records, 9);
@@ -181,14 +185,14 @@ fn files(rt: HostRuntime) {
     let mut two = page_of(&rt, 1000, &one_note(&rt));
     two.extend_from_slice(&page_of(&rt, 500, &one_note(&rt)))
         .expect(&rt, "memory");
-    // A file without pages, and bytes after the last whole page.
+    // The file has no pages, or bytes after its last whole page.
     assert_prints(&rt, b"", "");
     let cut = page.get(..63).expect(&rt, "a page");
     assert_prints(&rt, cut, "");
     let cut = two.get(..127).expect(&rt, "two pages");
     assert_prints(&rt, cut, ONE_NOTE);
     assert_prints(&rt, &two, "1005 0 note -1 ab\n505 0 note -1 ab\n");
-    // One processor after another.
+    // The events of the first processor are printed before those of the second.
     let files = Files {
         table: TABLE.as_bytes(),
         first: two.get(..64).expect(&rt, "two pages"),
@@ -203,8 +207,8 @@ fn files(rt: HostRuntime) {
     assert_files(&rt, TWO, files, Status::Done, "1005 1 note -1 ab\n", "");
 }
 
-/// Checks that the second page of a file is rejected for this cause, after one note and these
-/// lines.
+/// Checks that the second page of a file is invalid for this cause, and that one note and `lines`
+/// are printed before.
 fn assert_refused(rt: &impl Host, page: &[u8], cause: PageCause, name: &str, lines: &str) {
     let mut pages = page_of(rt, 1000, &one_note(rt));
     pages.extend_from_slice(page).expect(rt, "memory");
@@ -216,7 +220,8 @@ fn assert_refused(rt: &impl Host, page: &[u8], cause: PageCause, name: &str, lin
     let lines = format!(in rt.alloc(); "{ONE_NOTE}{lines}").expect(rt, "memory");
     let note = format!(in rt.alloc(); "a page 1: {name}\n").expect(rt, "memory");
     assert_files(rt, ONE, pages_alone(&pages), refused(0), &lines, &note);
-    // The file after it isn't read, and the note names the file.
+    // The second file isn't read after an error in the first one, and the note names the first
+    // file.
     let files = Files {
         table: TABLE.as_bytes(),
         first: &pages,
@@ -238,24 +243,24 @@ fn rejected_pages(rt: HostRuntime) {
     let note = one_note(&rt);
     let lines = "505 0 note -1 ab\n";
     let short = PageCause::ShortRecord;
-    // A page with more bytes of records than it has room for. Nothing of it is printed.
+    // The page claims more bytes of records than it has room for. None of its events is printed.
     let page = page_with(&rt, 500, LOST + 49 - 16, &note, 0);
     assert_refused(&rt, &page, PageCause::TooLong, "TooLong", "");
     let page = page_with(&rt, 500, STORED - 1, &[], 0);
     assert_refused(&rt, &page, PageCause::TooLong, "TooLong", "");
-    // A record that is too short for its fields, after another record.
+    // After a valid record, a record is too short for its fields.
     let mut records = one_note(&rt);
     put(&rt, &mut records, head(1, 1), 4);
     put(&rt, &mut records, 7, 4);
     let page = page_of(&rt, 500, &records);
     assert_refused(&rt, &page, short, "ShortRecord", lines);
-    // A record that the end of the records cuts off.
+    // The records end in the middle of a record.
     let mut records = one_note(&rt);
     put(&rt, &mut records, head(3, 1), 4);
     put(&rt, &mut records, 7, 7);
     let page = page_of(&rt, 500, &records);
     assert_refused(&rt, &page, short, "ShortRecord", lines);
-    // A record without the number of an event, after a loss.
+    // After lost events, a record is too short for the number of its kind.
     let mut records = Vec::new(rt.alloc());
     put(&rt, &mut records, head(0, 1), 4);
     put(&rt, &mut records, 4, 4);

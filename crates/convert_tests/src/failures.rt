@@ -1,13 +1,14 @@
-//! Reads and writes that fail.
+//! Tests of reads and writes that fail: the status, the note and the printed prefix. The run has
+//! one table and one page with two notes.
 
 use crate::pages::{page_of, put_note};
 use crate::runs::{ANY, Calls, Host, ONE, Ran, assert_run, pages_alone, run_calls};
 use convert_core::Status;
 
-/// The lines of the page.
+/// The output for the page.
 const LINES: &str = "1005 0 note -1 ab\n1006 0 note 7 c\n";
 
-/// Runs the usual words for a page with two notes.
+/// Runs the usual command line for a page with two notes, with these failing calls.
 fn run_page(rt: &impl Host, calls: Calls) -> Ran {
     let mut records = Vec::new(rt.alloc());
     put_note(rt, &mut records, 5, 0xffff_ffff, b"ab\0c");
@@ -17,7 +18,8 @@ fn run_page(rt: &impl Host, calls: Calls) -> Ran {
 
 #[test]
 fn reads_that_fail(rt: HostRuntime) {
-    // The table's reads are 0 and 1; those of the pages are 2, and 3 at the end.
+    // Reads 0 and 1 are those of the table. Read 2 returns the page, and read 3 returns the end of
+    // its file.
     for read in &[0, 1, 2, 3] {
         let ran = run_page(&rt, Calls { read: *read, ..ANY });
         let is_fault = ran.status == Status::ReadFault
@@ -44,7 +46,7 @@ fn writes_that_fail(rt: HostRuntime) {
             && ran.note.as_slice() == b"write fault\n".as_slice();
         assert!(&rt; is_fault, "write {write}, {ran}");
     }
-    // A failed write of a note changes no status.
+    // A failed write to the note doesn't change the status.
     let calls = Calls {
         read: 0,
         note: 1,

@@ -1,5 +1,5 @@
-//! Tests of psi_convert's run with files and sinks in memory: the events of small pages, tables,
-//! command words, faults at each place, and reads and writes that fail.
+//! Tests of the entry point of psi_convert with files and sinks in memory: the events of small
+//! pages, tables, command words, and reads and writes that fail.
 //!
 //! Recordings of kernels aren't used here: they are tested with the built program.
 #![tactic(auto)]

@@ -1,24 +1,25 @@
-//! Makes pages of ring buffers: 64 bytes with a header of 16, as the table of `runs` has them. A
-//! test ends if memory runs out.
+//! Helpers for the tests: make pages of ring buffers. A page has 64 bytes with a header of 16
+//! bytes, as the table in `runs` says. A test aborts if memory runs out.
 
 use crate::runs::Host;
 
 /// The size of a page in bytes.
 const SIZE: usize = 64;
 
-/// The bits of a page's second word if events were lost before it, and if their number is stored.
+/// The flags in the third word of a page: events were lost before the page, and the number of lost
+/// events is stored after the records.
 pub const LOST: u32 = 1 << 31;
 
 pub const STORED: u32 = 1 << 30;
 
-/// The kinds of records that are no events, as the lower bits of their first word.
+/// The kinds of records that are no events: the lower 5 bits of the first word.
 pub const PADDING: u32 = 29;
 
 pub const EXTENDS: u32 = 30;
 
 pub const STAMP: u32 = 31;
 
-/// Adds a number of this many bytes, least byte first.
+/// Appends a number as `count` bytes in little-endian order.
 pub fn put(rt: &impl Host, bytes: &mut Vec<u8>, number: u64, count: usize) {
     let mut rest = number;
     for _ in 0..count {
@@ -27,13 +28,12 @@ pub fn put(rt: &impl Host, bytes: &mut Vec<u8>, number: u64, count: usize) {
     }
 }
 
-/// The first word of a record: its kind, and the time since the previous one in ns.
+/// Returns the first word of a record: its kind, and the time (ns) since the previous record.
 pub fn head(kind: u32, delta: u32) -> u64 {
     u64::from(delta) * 32 + u64::from(kind)
 }
 
-/// Adds the record of an event `note` (number 7) with a task, a signed number and a text of four
-/// bytes.
+/// Appends the record of an event `note` (kind 7) with a signed number and a text of four bytes.
 pub fn put_note(rt: &impl Host, bytes: &mut Vec<u8>, delta: u32, number: u64, text: &[u8; 4]) {
     put(rt, bytes, head(3, delta), 4);
     put(rt, bytes, 7, 4);
@@ -41,7 +41,8 @@ pub fn put_note(rt: &impl Host, bytes: &mut Vec<u8>, delta: u32, number: u64, te
     bytes.extend_from_slice(text).expect(rt, "memory");
 }
 
-/// A page with this time (ns), these flags, the bytes of its records, and this number after them.
+/// Makes a page with this time (ns), these flags and the bytes of its records. `lost` is the number
+/// that is stored after the records.
 pub fn page_with(rt: &impl Host, time: u64, flags: u32, records: &[u8], lost: u64) -> Vec<u8> {
     let mut page = Vec::new(rt.alloc());
     put(rt, &mut page, time, 8);
@@ -55,7 +56,7 @@ pub fn page_with(rt: &impl Host, time: u64, flags: u32, records: &[u8], lost: u6
     page
 }
 
-/// A page without losses.
+/// Makes a page without lost events.
 pub fn page_of(rt: &impl Host, time: u64, records: &[u8]) -> Vec<u8> {
     page_with(rt, time, 0, records, 0)
 }

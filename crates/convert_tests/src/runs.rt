@@ -1,5 +1,5 @@
-//! Runs words with one table and up to two files of pages, in memory, with assertions about a run.
-//! A test ends if memory runs out.
+//! Helpers for the tests: run a command line with one table and up to two files of pages, in
+//! memory, and check the run. A test aborts if memory runs out.
 
 use convert_core::{Status, run};
 use outside_fakes::{MemShelf, MemSink};
@@ -7,7 +7,7 @@ use psi_base::Text;
 use std::fmt;
 use std::process::Abort;
 
-/// A call that isn't made.
+/// The number of a call that no test reaches.
 pub const NONE: u64 = 1_000_000;
 
 /// The capacity (bytes) of each sink.
@@ -24,17 +24,17 @@ pub const TABLE: &str = "psi_layout 1\n\
     kind 11 path located:4:4\n\
     end\n";
 
-/// The usual words, for one file of pages and for two.
+/// The usual command lines, for one file of pages and for two.
 pub const ONE: &str = "events t a";
 
 pub const TWO: &str = "events t a b";
 
-/// What a test needs: memory, and a way to abort.
+/// What a test needs from its runtime: memory, and a way to abort.
 pub trait Host: AllocGlobal + Abort {}
 
 impl<R: AllocGlobal + Abort> Host for R {}
 
-/// The files of the shelf: a table with the name `t`, and pages with the names `a` and `b`.
+/// The files on the shelf: a table named `t`, and files of pages named `a` and `b`.
 #[derive(Clone, Copy)]
 pub struct Files<'a> {
     pub table: &'a [u8],
@@ -42,7 +42,7 @@ pub struct Files<'a> {
     pub second: &'a [u8],
 }
 
-/// The usual table, and one file of pages.
+/// Returns the usual table and one file of pages.
 pub fn pages_alone(first: &[u8]) -> Files<'_> {
     Files {
         table: TABLE.as_bytes(),
@@ -51,8 +51,8 @@ pub fn pages_alone(first: &[u8]) -> Files<'_> {
     }
 }
 
-/// Which call of the shelf, the output and the note fails, counted from 0, and how many bytes a
-/// call moves at most.
+/// The numbers of the read, of the write and of the write to the note that fail, each counted from
+/// 0, and the largest number of bytes per call.
 #[derive(Clone, Copy, Debug)]
 pub struct Calls {
     pub read: u64,
@@ -61,7 +61,7 @@ pub struct Calls {
     pub most: usize,
 }
 
-/// No call fails, and each moves any number of bytes.
+/// No call fails, and a call may transfer any number of bytes.
 pub const ANY: Calls = Calls {
     read: NONE,
     write: NONE,
@@ -78,7 +78,7 @@ pub struct Ran {
     calls: Calls,
 }
 
-/// Bytes as they are shown in a message.
+/// Returns bytes as text, for a message.
 fn shown(bytes: &[u8]) -> &str {
     str::from_utf8(bytes).unwrap_or("no text")
 }
@@ -91,7 +91,7 @@ impl fmt::Display for Ran {
     }
 }
 
-/// The words of a command line, split at spaces.
+/// Splits a command line into words at spaces.
 fn words_of(rt: &impl Host, line: &str) -> Vec<String> {
     let mut words = Vec::new(rt.alloc());
     for word in line.split(' ') {
@@ -101,25 +101,25 @@ fn words_of(rt: &impl Host, line: &str) -> Vec<String> {
     words
 }
 
-/// A file of the shelf.
+/// Makes a file of the shelf from a name and bytes.
 fn file_of(rt: &impl Host, name: &str, bytes: &[u8]) -> (Text, Text) {
     let name = Text::make(rt.alloc(), name.as_bytes()).expect(rt, "memory");
     let bytes = Text::make(rt.alloc(), bytes).expect(rt, "memory");
     (name, bytes)
 }
 
-/// The number of the one call that fails.
+/// Makes the list of failing calls, which has only the number `call`.
 fn call_of(rt: &impl Host, call: u64) -> Vec<u64> {
     vec![in rt.alloc(); call].expect(rt, "memory")
 }
 
-/// A sink, one call of which fails.
+/// Makes a sink that accepts at most `most` bytes per write, and fails at write number `call`.
 fn sink_of(rt: &impl Host, most: usize, call: u64) -> MemSink {
     let sink = MemSink::new(rt.alloc(), ROOM, most.max(1), call_of(rt, call));
     sink.expect(rt, "memory")
 }
 
-/// Runs a command line with these files and some failing calls.
+/// Runs a command line with these files and failing calls.
 pub fn run_calls(rt: &impl Host, line: &str, files: Files, calls: Calls) -> Ran {
     let words = words_of(rt, line);
     let held = vec![in rt.alloc();
@@ -158,7 +158,8 @@ pub fn assert_run(
     );
 }
 
-/// Checks how a command line ends for these files, however many bytes a call moves.
+/// Checks the status, output and note of a command line for these files, with several numbers of
+/// bytes per call.
 pub fn assert_files(
     rt: &impl Host,
     line: &str,
@@ -173,7 +174,7 @@ pub fn assert_files(
     }
 }
 
-/// Checks that all events of one file of pages are printed as these lines.
+/// Checks that the events of one file of pages are printed as `output`.
 pub fn assert_prints(rt: &impl Host, pages: &[u8], output: &str) {
     assert_files(rt, ONE, pages_alone(pages), Status::Done, output, "");
 }

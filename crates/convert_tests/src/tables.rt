@@ -1,4 +1,5 @@
-//! Tables: the forms of their lines, and the first fault of each.
+//! Tests of tables, which describe the layout of pages: the forms of their lines, and the first
+//! error of each faulty table. The page has one note.
 
 use crate::pages::{page_of, put_note};
 use crate::runs::{Files, Host, ONE, assert_files};
@@ -8,7 +9,7 @@ use convert_table::{TableCause, TableFault};
 /// The first two lines of a table.
 const START: &str = "psi_layout 1\npage 64 16\n";
 
-/// Checks how the words end for this table and a page with one note.
+/// Checks the status, output and note of a run with this table and a page with one note.
 fn assert_table(rt: &impl Host, table: &[u8], status: Status, output: &str, note: &str) {
     let mut records = Vec::new(rt.alloc());
     put_note(rt, &mut records, 5, 0xffff_ffff, b"ab\0c");
@@ -21,7 +22,7 @@ fn assert_table(rt: &impl Host, table: &[u8], status: Status, output: &str, note
     assert_files(rt, ONE, files, status, output, note);
 }
 
-/// Checks that a table is rejected at this line, and that nothing is printed.
+/// Checks that a table is rejected at this line for this cause, and that nothing is printed.
 fn assert_refused(rt: &impl Host, table: &[u8], line: u32, cause: TableCause, name: &str) {
     let note = format!(in rt.alloc(); "table line {line}: {name}\n").expect(rt, "memory");
     let fault = TableFault { line, cause };
@@ -40,7 +41,7 @@ fn kinds(rt: HostRuntime) {
         ("kind 7 n state:4:1\n", "1005 0 n R\n"),
         ("letter 8 T\nkind 7 n state:4:1\n", "1005 0 n T\n"),
         ("kind 7 n state:4:1\nletter 8 T\n", "1005 0 n T\n"),
-        // The first of two kinds with one number counts.
+        // If two kinds have the same number, the first one is used.
         ("kind 7 n\nkind 7 m\n", "1005 0 n\n"),
         ("kind 8 n\nkind 65535 m\n", ""),
     ] {
@@ -112,7 +113,7 @@ fn bad_rows(rt: HostRuntime) {
 
 #[test]
 fn ends(rt: HostRuntime) {
-    // The end's newline is needed, and nothing follows it.
+    // The line `end` must end with a newline, and nothing may follow it.
     for rest in &["end", "end\n\n", "end\nend\n"] {
         let table = format!(in rt.alloc(); "{START}{rest}").expect(&rt, "memory");
         let cause = TableCause::AfterEnd;
@@ -124,7 +125,7 @@ fn ends(rt: HostRuntime) {
 
 #[test]
 fn long_tables(rt: HostRuntime) {
-    // A table of 65,536 bytes is read, one of 65,537 isn't.
+    // A table of 65,536 bytes is accepted, a table of 65,537 bytes isn't.
     let mut table = String::new(rt.alloc());
     table.push_str(START).expect(&rt, "memory");
     table.push_str("kind 7 ").expect(&rt, "memory");

@@ -1,9 +1,10 @@
-//! Command words, names of files, and files that are missing.
+//! Tests of command lines that aren't a command or that name missing files, and of the largest
+//! number of files. The files are in memory.
 
 use crate::runs::{ANY, Calls, Host, assert_run, pages_alone, run_calls};
 use convert_core::Status;
 
-/// The note for words that aren't a command.
+/// The note for a command line that isn't a command.
 const USAGE: &str = "usage: psi_convert events TABLE PAGES..\n";
 
 #[test]
@@ -21,14 +22,14 @@ fn words(rt: HostRuntime) {
         "events -t a",
         "--help",
     ] {
-        // Nothing is read: the first read would fail.
+        // No file is read: the first read would fail.
         let calls = Calls { read: 0, ..ANY };
         let ran = run_calls(&rt, line, pages_alone(b""), calls);
         assert_run(&rt, line, &ran, Status::Usage, "", USAGE);
     }
 }
 
-/// Checks that these words name a missing file, by its number.
+/// Checks that file number `file` of the command line is reported as missing.
 fn assert_missing(rt: &impl Host, line: &str, file: u32, note: &str) {
     let ran = run_calls(rt, line, pages_alone(b""), ANY);
     assert_run(rt, line, &ran, Status::NoFile { file }, "", note);
@@ -47,7 +48,7 @@ fn missing_files(rt: HostRuntime) {
 
 #[test]
 fn many_files(rt: HostRuntime) {
-    // At most 4,096 files of pages.
+    // A command has at most 4,096 files of pages.
     let mut line = String::from_str(rt.alloc(), "events t").expect(&rt, "memory");
     for _ in 0..4096 {
         line.push_str(" a").expect(&rt, "memory");

@@ -1,4 +1,5 @@
-//! Tests of traces that are rejected, and of failing calls of the shelf and the sinks.
+//! Tests of rejected traces, and of reads and writes that fail: the status, the note and the
+//! printed prefix. The traces have no task or few lines.
 
 use crate::runs::{Failing, Host, NO_FAULT, NONE, assert_prints_nothing, assert_run, run_failing};
 use observe_core::ObserveStatus;
@@ -7,7 +8,8 @@ use psi_base::Cause;
 /// A trace with two ticks and no task, so that no processor changes.
 const TWO_TICKS: &str = "psitrace 1 cpus=1\n2500000000 group /a\n4000000000 end\n";
 
-/// The output of two observers of a group of `TWO_TICKS` that is never live: no samples.
+/// The output of two observers of a group that doesn't exist at any tick of `TWO_TICKS`: there are
+/// no samples.
 const PRINTED: &str = "board observer=0 tick=2 events=0 kills=0\n\
     board observer=1 tick=2 events=0 kills=0\n\
     end 4000000000 samples=0\n";
@@ -18,7 +20,7 @@ const READS: u64 = 54;
 /// The number of bytes of the output.
 const WRITES: u64 = 107;
 
-/// Checks that a trace is rejected at the second line with this cause, and that the note names the
+/// Checks that a trace is rejected at the second line for this cause, and that the note names the
 /// cause.
 fn assert_refused(rt: &impl Host, line: &str, trace: &str, cause: Cause, note: &str) {
     let status = ObserveStatus::Trace { line: 2, cause };
@@ -36,8 +38,8 @@ fn traces_that_are_refused(rt: HostRuntime) {
     assert_refused(&rt, "t 8 /", trace, cause, "trace line 2: TimeTooLate\n");
 }
 
-/// Runs two observers with injected failures, one byte per call. Checks the status and note, and
-/// that the first `length` bytes of `PRINTED` are printed.
+/// Runs two observers with failing calls, one byte per call. Checks the status and note, and that
+/// the first `length` bytes of `PRINTED` are printed.
 fn assert_prefix(rt: &impl Host, failing: Failing, status: ObserveStatus, length: u64, note: &str) {
     let ran = run_failing(rt, "t 2 /a/b", TWO_TICKS, 1, failing);
     let prefix = PRINTED

@@ -1,5 +1,5 @@
-//! Tests of observers and replay threads that run at the same time: a gate blocks each thread until
-//! another one has arrived.
+//! Tests that observers and the threads of a replay run at the same time: a gate blocks each thread
+//! until another thread has arrived.
 
 use crate::runs::{Host, assert_ends, assert_run, line_of, run_gated};
 use observe_core::ObserveStatus;
@@ -8,7 +8,7 @@ use psi_base::Cpu;
 use std::sync::atomic::Ordering::SeqCst;
 use std::sync::atomic::{AtomicBool, AtomicU64};
 
-/// How often a thread checks for another thread before it gives up.
+/// The number of times that a thread checks for another thread before it gives up.
 const TURNS: u32 = 200_000_000;
 
 /// A trace of one processor. Its task runs, waits for IO for a second, and is ready until the end.
@@ -45,7 +45,7 @@ const BOTH_LIVES: &str = "sample observer=0 cpu=0 count=3 at=500000000 0 0 0 0 0
     board observer=0 tick=4 events=0 kills=0\n\
     end 8000000000 samples=3\n";
 
-/// Waits until another thread has arrived. Sets `is_missed` if none arrives.
+/// Waits until another thread has set `other`. Sets `is_missed` if no thread does.
 fn wait_for(other: &AtomicBool, is_missed: &AtomicBool) {
     for _ in 0..TURNS {
         if other.load(SeqCst) {
@@ -73,7 +73,7 @@ impl AfterThird {
         }
     }
 
-    /// Whether the change and the sample both happened, and no thread gave up waiting.
+    /// Returns whether the change and the sample both happened, and no thread gave up waiting.
     fn is_met(&self) -> bool {
         self.is_moved.load(SeqCst) && self.is_sampled.load(SeqCst) && !self.is_missed.load(SeqCst)
     }
@@ -98,7 +98,8 @@ impl Gate for AfterThird {
     }
 }
 
-/// Checks the output for a trace if the first sample is taken after the third change.
+/// Checks the output for a trace if the gate forces the first sample between the third and the
+/// fourth change.
 fn assert_after_third(rt: &impl Host, line: &str, trace: &str, output: &str) {
     let gate = AfterThird::new();
     let ran = run_gated(rt, line, trace, &gate);
@@ -155,7 +156,7 @@ fn observers_in_the_order_of_the_journal(rt: HostRuntime) {
     assert_ends(&rt, "t 2 /", &ran, end);
 }
 
-/// The most observers of a run.
+/// The largest number of observers in a run.
 const OBSERVERS: u64 = 8;
 
 /// A gate at which each observer waits, before its only sample, until all observers have arrived.

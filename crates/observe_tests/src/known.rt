@@ -1,4 +1,5 @@
-//! Tests of the calls of a gate: one for each change, with its number, and two for each sample.
+//! Tests of the calls that a run makes of its gate: one for each change of a processor, and two for
+//! each sample of an observer.
 
 use crate::runs::{Host, Ran, assert_ends, run_gated};
 use outside::Gate;
@@ -6,8 +7,8 @@ use psi_base::{Cpu, read_number};
 use std::sync::atomic::Ordering::SeqCst;
 use std::sync::atomic::{AtomicBool, AtomicU64};
 
-/// A trace of two processors and three ticks. The root is live at each tick, and in the second
-/// interval nothing changes.
+/// A trace of two processors and three ticks. The root group is live at each tick, and nothing
+/// changes in the second interval.
 const THREE_TICKS: &str = "psitrace 1 cpus=2\n\
     0 fork 1 / 0\n\
     0 fork 2 / 1\n\
@@ -32,7 +33,7 @@ const ROOM: u64 = 8;
 /// The number of observers.
 const OBSERVERS: u64 = 3;
 
-/// Returns `many` counters that are 0.
+/// Returns `many` counters, all of them 0.
 fn counters(rt: &impl Host, many: u64) -> Vec<AtomicU64> {
     let mut counters = Vec::new(rt.alloc());
     for _ in 0..many {
@@ -41,12 +42,12 @@ fn counters(rt: &impl Host, many: u64) -> Vec<AtomicU64> {
     counters
 }
 
-/// The gate's calls for one processor.
+/// The calls of the gate for one processor.
 #[derive(Drop)]
 struct Notice {
     /// The number of calls for a change.
     moved: AtomicU64,
-    /// The number of samples, by the number of changes that they include.
+    /// The number of samples that include a number of changes, which is the index.
     after: Vec<AtomicU64>,
 }
 
@@ -59,12 +60,12 @@ impl Notice {
     }
 }
 
-/// A gate that counts its calls, and records whether a call has an unexpected number.
+/// A gate that counts its calls, and records whether a call was unexpected.
 #[derive(Drop)]
 struct Counting {
     /// The calls for each processor.
     known: Vec<Notice>,
-    /// The number of calls before a sample, by observer.
+    /// The number of calls before a sample, for each observer.
     requested: Vec<AtomicU64>,
     is_wrong: AtomicBool,
 }
@@ -79,21 +80,21 @@ impl Counting {
         }
     }
 
-    /// Records that a call was unexpected, unless `is_right` is true.
+    /// Records an unexpected call, unless `is_right` is true.
     fn note(&self, is_right: Option<bool>) {
         if is_right != Some(true) {
             self.is_wrong.store(true, SeqCst);
         }
     }
 
-    /// Whether change number `count` of a processor follows the previous one.
+    /// Returns whether change number `count` of a processor follows the previous change.
     fn is_next_change(&self, cpu: Cpu, count: u64) -> Option<bool> {
         let known = self.known.get(cpu.0 as usize)?;
         let before = known.moved.fetch_add(1, SeqCst);
         Some(before < count && count - before == 1)
     }
 
-    /// Whether `cpu` is the next processor in the observer's order.
+    /// Returns whether `cpu` is the next processor in the observer's order.
     fn is_next_cpu(&self, cpu: Cpu, observer: u32) -> Option<bool> {
         let before = self.requested.get(observer as usize)?.fetch_add(1, SeqCst);
         Some(before % CPUS == u64::from(cpu.0))
@@ -121,7 +122,8 @@ impl Gate for Counting {
     }
 }
 
-/// Returns the processor and the number of changes in a sample's line. `None` for any other line.
+/// Returns the processor and the number of changes in the line of a sample, or `None` for any other
+/// line.
 fn sample_of(line: &[u8]) -> Option<(u64, u64)> {
     let rest = line.strip_prefix(b"sample observer=")?;
     let mut words = rest.split(|byte| *byte == b' ').skip(1);
@@ -130,7 +132,8 @@ fn sample_of(line: &[u8]) -> Option<(u64, u64)> {
     Some((cpu, count))
 }
 
-/// Whether the printed samples of a processor are exactly those that the gate was called for.
+/// Returns whether the printed samples of a processor are exactly those that the gate was called
+/// for.
 fn are_lines(ran: &Ran, cpu: u64, known: &Notice) -> bool {
     known.after.iter().enumerate().all(|(count, known)| {
         let lines = ran.output.split(|byte| *byte == b'\n');
@@ -142,7 +145,8 @@ fn are_lines(ran: &Ran, cpu: u64, known: &Notice) -> bool {
     })
 }
 
-/// Whether the gate was called for each change of a processor, and for exactly the printed samples.
+/// Returns whether the gate was called for each change of a processor, and for exactly the printed
+/// samples.
 fn is_reported(ran: &Ran, cpu: usize, known: &Notice) -> bool {
     CHANGES.get(cpu) == Some(&known.moved.load(SeqCst)) && are_lines(ran, cpu as u64, known)
 }

@@ -1,6 +1,6 @@
-//! Tests of the top call of psi_observe with shelves and sinks in memory: observers whose threads
-//! are blocked at gates, gates that count, groups that are created and removed, words, faults at
-//! each call, and the limit of samples.
+//! Tests of the entry point of psi_observe with files and sinks in memory: observers whose threads
+//! are blocked at gates, gates that count calls, groups that are created and removed, command
+//! words, failures of each call, and the limit of samples.
 //!
 //! The board and the journal alone are tested in world_tests.
 #![tactic(auto)]

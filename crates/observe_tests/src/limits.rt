@@ -1,9 +1,11 @@
-//! Tests of the limit on the number of samples.
+//! Tests of the limit on the number of samples of a run: traces that reach a million samples, or
+//! that would exceed it.
 
 use crate::runs::{Host, assert_ends, assert_prints_nothing, run_open};
 use observe_core::ObserveStatus;
 
-/// A trace with the most ticks for eight observers of 50 processors, and one with another tick.
+/// A trace with the largest number of ticks that eight observers of 50 processors may sample, and a
+/// trace with one more tick.
 const MOST_TICKS: &str = "psitrace 1 cpus=50\n5000000000000 end\n";
 
 const ONE_TICK_MORE: &str = "psitrace 1 cpus=50\n5002000000000 end\n";
@@ -23,13 +25,13 @@ fn as_many_as_may_be(rt: HostRuntime) {
     assert_ends(&rt, "t 8 /nope", &ran, "\nend 5000000000000 samples=0\n");
 }
 
-/// Checks that a run is rejected because it would have `samples` samples, which are too many.
+/// Checks that a run is rejected because it would take `samples` samples, more than the limit.
 fn assert_too_many(rt: &impl Host, line: &str, trace: &str, samples: u64) {
     let status = ObserveStatus::TooManySamples { samples };
     assert_prints_nothing(rt, line, trace, status, "too many samples\n");
 }
 
-// The number of requested samples counts, whether or not the group is ever live.
+// The limit applies to the number of requested samples, whether or not the group is ever live.
 #[test]
 fn too_many(rt: HostRuntime) {
     assert_too_many(&rt, "t 8 /", ONE_TICK_MORE, 1_000_400);
@@ -41,7 +43,7 @@ fn too_many(rt: HostRuntime) {
 fn ten_thousand(rt: HostRuntime) {
     let ran = run_open(&rt, "t 8 /", SOME_TICKS);
     assert_ends(&rt, "t 8 /", &ran, "\nend 50000000000 samples=10000\n");
-    // A newline ends each sample, each of the eight board states and the last line.
+    // Each sample, each of the eight board states and the last line end with a newline.
     let ends = ran.output.iter().filter(|byte| **byte == b'\n').count();
     assert_eq!(rt; ends, 10_009);
 }

@@ -1,4 +1,5 @@
-//! Tests of groups that are live at no tick, and of traces without ticks.
+//! Tests of runs without samples: the observed group isn't live at any tick, or the trace has no
+//! tick. Only board states are printed.
 
 use crate::runs::assert_prints;
 
@@ -12,8 +13,8 @@ const BETWEEN_TICKS: &str = "psitrace 1 cpus=2\n\
     3500000000 rmgroup /a\n\
     4100000000 end\n";
 
-/// A trace in which a task of a group waits for IO for three seconds, so that the group's trigger
-/// fires at both ticks.
+/// A trace in which a task of a group waits for IO for three seconds. The group's trigger fires at
+/// both ticks.
 const SIGNALS: &str = "psitrace 1 cpus=1\n\
     0 group /web\n\
     0 fork 1 /web 0\n\
@@ -44,7 +45,7 @@ fn live_at_no_tick(rt: HostRuntime) {
     assert_prints(&rt, "t 2 /nope", BETWEEN_TICKS, none);
 }
 
-// The board's states count the signals of all groups.
+// The board counts the trigger events of all groups, not only of the observed group.
 #[test]
 fn signals_up_to_the_last_tick(rt: HostRuntime) {
     let both = "board observer=0 tick=2 events=2 kills=0\nend 5000000000 samples=0\n";

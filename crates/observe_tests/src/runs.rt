@@ -1,5 +1,5 @@
-//! Runs a command line with one trace in memory, and checks the run. A test aborts if memory runs
-//! out.
+//! Helpers for the tests: run a command line of psi_observe with one trace in memory, and check the
+//! run. A test aborts if memory runs out.
 
 use observe_core::{ObserveStatus, observe};
 use outside::{Gate, OpenGate};
@@ -23,7 +23,7 @@ pub struct Ran {
     pub note: Vec<u8>,
 }
 
-/// Returns bytes as text for a message.
+/// Returns bytes as text, for a message.
 fn shown(bytes: &[u8]) -> &str {
     str::from_utf8(bytes).unwrap_or("no text")
 }
@@ -35,8 +35,8 @@ impl fmt::Display for Ran {
     }
 }
 
-/// The number of the read, of the write and of the note's write that fails, each counted from 0.
-/// `NONE` means that none fails.
+/// The numbers of the read, of the write and of the write to the note that fail, each counted from
+/// 0. `NONE` means that no such call fails.
 #[derive(Clone, Copy, Debug)]
 pub struct Failing {
     pub read: u64,
@@ -47,7 +47,7 @@ pub struct Failing {
 /// The number of a call that no test reaches.
 pub const NONE: u64 = 1_000_000;
 
-/// No call fails.
+/// No call of a run fails.
 pub const NO_FAULT: Failing = Failing {
     read: NONE,
     write: NONE,
@@ -71,25 +71,25 @@ fn text_of(rt: &impl Host, text: &str) -> Text {
     Text::make(rt.alloc(), text.as_bytes()).expect(rt, "memory")
 }
 
-/// Makes the list of failing calls, which has one number.
+/// Makes the list of failing calls, which has only the number `call`.
 fn call_of(rt: &impl Host, call: u64) -> Vec<u64> {
     vec![in rt.alloc(); call].expect(rt, "memory")
 }
 
-/// Makes a shelf that returns at most `most` bytes per call, and fails at call `call`.
+/// Makes a shelf that returns at most `most` bytes per read, and fails at read number `call`.
 fn shelf_of(rt: &impl Host, trace: &str, most: usize, call: u64) -> MemShelf {
     let files = vec![in rt.alloc(); (text_of(rt, "t"), text_of(rt, trace))];
     MemShelf::new(files.expect(rt, "memory"), most.max(1), call_of(rt, call))
 }
 
-/// Makes a sink that accepts at most `most` bytes per call, and fails at call `call`.
+/// Makes a sink that accepts at most `most` bytes per write, and fails at write number `call`.
 fn sink_of(rt: &impl Host, most: usize, call: u64) -> MemSink {
     let sink = MemSink::new(rt.alloc(), ROOM, most.max(1), call_of(rt, call));
     sink.expect(rt, "memory")
 }
 
-/// Runs a command line with this trace as the file `t`, with injected failures and a gate that may
-/// block threads. The shelf and both sinks move at most `most` bytes per call.
+/// Runs a command line with this trace as the file `t`, with failing calls and a gate that may
+/// block threads. The shelf and both sinks transfer at most `most` bytes per call.
 fn run_over(
     rt: &impl Host,
     line: &str,
@@ -123,7 +123,7 @@ pub fn run_gated(rt: &impl Host, line: &str, trace: &str, gate: &impl Gate) -> R
     run_over(rt, line, trace, 65536, NO_FAULT, gate)
 }
 
-/// Runs a command line with this trace and injected failures.
+/// Runs a command line with this trace and failing calls.
 pub fn run_failing(rt: &impl Host, line: &str, trace: &str, most: usize, failing: Failing) -> Ran {
     run_over(rt, line, trace, most, failing, &OpenGate)
 }

@@ -1,10 +1,11 @@
-//! Tests that each observer takes a sample of each processor at each tick.
+//! Tests that each observer takes one sample on each processor at each tick. The samples of several
+//! observers are found by their numbers.
 
 use crate::gates::ONE_PROCESSOR;
 use crate::runs::{Ran, assert_ends, line_of, run_open};
 
-/// The possible texts after the observer's number in a sample of `ONE_PROCESSOR`, by the number of
-/// changes made.
+/// The possible texts of a sample of `ONE_PROCESSOR` after the observer's number, in the order of
+/// the number of changes.
 const LOOKS: [&str; 5] = [
     " cpu=0 count=0 at=0 0 0 0 0 0 0 0",
     " cpu=0 count=1 at=0 0 0 0 0 0 0 0",
@@ -21,8 +22,8 @@ const THREE_TICKS: &str = "psitrace 1 cpus=2\n\
     1500000000 wake 1 1\n\
     6000000000 end\n";
 
-/// The texts after the observer's number in the samples of `THREE_TICKS` at the second and third
-/// tick, by processor.
+/// The texts of the samples of `THREE_TICKS` at the second and third tick, after the observer's
+/// number, one for each processor.
 const SETTLED: [&str; 2] = [
     " cpu=0 count=4 at=1500000000 0 0 0 0 0 0 500000000",
     " cpu=1 count=1 at=1500000000 0 0 0 0 0 0 0",
@@ -31,8 +32,8 @@ const SETTLED: [&str; 2] = [
 /// The number of observers.
 const OBSERVERS: usize = 8;
 
-/// Returns the text after the observer's number in a sample of this observer. `None` for any other
-/// line.
+/// Returns the text of a sample of this observer after the observer's number, or `None` for any
+/// other line.
 fn look_of(line: &[u8], observer: u8) -> Option<&[u8]> {
     let rest = line.strip_prefix(b"sample observer=")?;
     let (digit, look) = rest.split_first()?;
@@ -52,7 +53,7 @@ fn looks_among(output: &[u8], observer: u8, looks: &[&str]) -> usize {
         .count()
 }
 
-/// Whether each observer has exactly one sample, after any number of changes.
+/// Returns whether each observer has exactly one sample, after any number of changes.
 fn is_shared(ran: &Ran) -> bool {
     (0..8u8).all(|observer| looks_among(&ran.output, observer, &LOOKS) == 1)
         && line_of(&ran.output, OBSERVERS) == b"board observer=0 tick=1 events=0 kills=0".as_slice()
@@ -65,8 +66,8 @@ fn a_sample_of_each_observer(rt: HostRuntime) {
     assert!(rt; is_shared(&ran), "{ran}");
 }
 
-/// Whether an observer has one sample per processor and tick, of three ticks, and the last four
-/// samples include all changes.
+/// Returns whether an observer has one sample per processor and tick, for three ticks, and its last
+/// four samples include all changes.
 fn is_settled(output: &[u8], observer: u8) -> bool {
     let lines = output.split(|byte| *byte == b'\n');
     let count = lines.filter_map(|line| look_of(line, observer)).count();

@@ -1,4 +1,5 @@
-//! Tests of words that aren't a request, and of the exit codes of statuses.
+//! Tests of command lines that aren't a request or that name a missing file, and of the exit codes
+//! of all statuses.
 
 use crate::gates::ONE_PROCESSOR;
 use crate::runs::{Host, assert_prints_nothing};
@@ -7,7 +8,7 @@ use psi_base::{Cause, NoMemory};
 use std::alloc::Global;
 use std::process::Abort;
 
-/// Command lines that aren't a name, a number from 1 to 8 and a path.
+/// Command lines that aren't the name of a trace, a number from 1 to 8 and a path.
 const NOTHING_REQUESTED: [&str; 14] = [
     "t 9 /",
     "t 0 /",
@@ -38,7 +39,7 @@ fn words_that_ask_for_nothing(rt: HostRuntime) {
     }
 }
 
-// The shelf has only the file `t`.
+// The shelf in memory has only the file `t`.
 #[test]
 fn names_that_are_not_held(rt: HostRuntime) {
     assert_reported(&rt, "u 1 /", ObserveStatus::NoFile, "no file: u\n");

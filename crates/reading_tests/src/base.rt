@@ -1,5 +1,5 @@
-//! Tests of calls with enough memory, of the fake files and sinks in memory, and of values at their
-//! limits.
+//! Tests of basic calls: buffered sinks, the fake files and sinks in memory, lines of files, and
+//! numbers and paths at their limits.
 mod buffered;
 mod fakes;
 mod lines;

@@ -1,4 +1,5 @@
-//! Assertions for the tests. They are functions because each use of `assert_eq!` is proved again.
+//! Assertions for the tests. They are functions because each use of `assert_eq!` must be proved
+//! again, which takes time.
 use std::fmt::Debug;
 use std::process::Abort;
 

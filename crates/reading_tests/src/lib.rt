@@ -1,4 +1,4 @@
-//! Tests of reading: texts and lines, the lines of a trace, and command words.
+//! Tests of reading: texts and lines of files, the lines of a trace, and command words.
 //!
 //! Rules files are tested in rule_tests, and whole traces in replay_tests.
 #![tactic(auto)]

@@ -1,4 +1,5 @@
-//! Tests of the lines of a trace, parsed and written.
+//! Tests of the lines of a trace: header lines and event lines, which are parsed, written again, or
+//! played in place.
 mod events;
 mod headers;
 mod prefixes;

@@ -51,7 +51,7 @@ fn shape_shown(rt: &impl Abort, alloc: Global, shape: &Shape) -> String {
     shown.expect(rt, "memory")
 }
 
-// Formats a command with all its fields.
+// Formats a command as text, with all its fields.
 fn command_shown(rt: &impl Abort, alloc: Global, command: &Command) -> String {
     let text = match command {
         Command::Stall { trace } => format!(in alloc; "stall {}", shown(trace.bytes())),
@@ -97,7 +97,7 @@ fn words_of(rt: &impl Abort, alloc: Global, line: &str) -> Vec<String> {
     words
 }
 
-// Formats the command that a line's words spell, or the error if they don't spell a command.
+// Formats the command that the words of a line form, or the error if they form none.
 fn answer(rt: &impl Abort, alloc: Global, line: &str) -> String {
     let words = words_of(rt, alloc, line);
     match read_words(alloc, words.as_slice()) {

@@ -231,8 +231,8 @@ fn small_machine(rt: &impl Abort, alloc: Global, triggers: &[TriggerSpec]) -> Ma
     Machine::make(rt, alloc, 1, &lives, triggers)
 }
 
-/// Makes a tick at `now` (ns), where all time up to `now` was IO some and full, without memory or
-/// CPU waits. Checks the group's totals and averages, and that no trigger fired.
+/// Makes a tick at `now` (ns). All time up to it was IO some and full, without memory or CPU waits.
+/// Checks the group's totals and averages, and that no trigger fired.
 fn waits(rt: &impl Abort, machine: &mut Machine, now: Ns, totals: &str, averages: &str) {
     machine.set(rt, 0, 0, [now, now, 0, 0, 0, 0, now, 0]);
     machine.tick(rt, now);

@@ -1,4 +1,6 @@
-//! Tests of a buffered sink, with inner sinks that accept few bytes per call or fail.
+//! Tests of a buffered sink: what reaches an inner sink that accepts few bytes per call, or that
+//! fails.
+//! The tests check the result, the bytes and the number of calls.
 ghost use Rattle.std.specs.Prelude.{◌≡◌, ◌++◌, ◌<◌, decimal, []};
 ghost use Rattle.outside.specs.Outside.{HasCause};
 ghost use Rattle.outside.specs.Calls.{PutsAll};
@@ -31,7 +33,7 @@ fn put_buffered<K: Sink>(
 type Taken = (Result<(), WriteFailed>, usize, u64);
 
 // Writes bytes and the number 12 through a buffer to a sink that accepts at most `most` bytes per
-// call and fails at one call; checks the result.
+// call and fails at one call. Checks the result.
 fn goes_through(
     rt: &impl Abort,
     alloc: Global,
@@ -57,7 +59,7 @@ fn buffers_send_on_in_large_writes(rt: HostRuntime) {
     goes_through(&rt, alloc, b"abc", 1, u64::MAX, (Ok(()), 5, 5));
     goes_through(&rt, alloc, b"abc", 9, u64::MAX, (Ok(()), 5, 1));
     goes_through(&rt, alloc, b"abc", 1, 2, (Err(WriteFailed), 2, 3));
-    // More bytes than the capacity of a buffer.
+    // The bytes exceed the capacity of the buffer.
     let long = vec![in alloc; b'x'; 65537].expect(&rt, "memory");
     goes_through(&rt, alloc, &long, 65536, u64::MAX, (Ok(()), 65539, 2));
     goes_through(&rt, alloc, &long, 65536, 0, (Err(WriteFailed), 0, 1));

@@ -1,4 +1,5 @@
-//! Tests of the shelves and sinks in memory: the result and the counts of each call.
+//! Tests of the fake shelves and sinks in memory, which other tests use: the result of each call,
+//! and the counts of calls and failures.
 ghost use Rattle.std.specs.Prelude.{◌<◌};
 
 use crate::checks::is;
@@ -15,8 +16,8 @@ pub fn one_file(rt: &impl Abort, alloc: Global, bytes: &[u8]) -> Vec<(Text, Text
     vec![in alloc; (name, text)].expect(rt, "memory")
 }
 
-/// For each read: the file and position, the result, and the numbers of calls, faults and absent
-/// files after the read.
+/// Each row has the file and position of a read, its result, and the numbers of calls, failures and
+/// absent files after it.
 const READS: [(&str, u64, Result<usize, ShelfFault>, u64, u64, u64); 6] = [
     ("f", 0, Ok(2), 1, 0, 0),
     ("f", 0, Err(ShelfFault::Failed), 2, 1, 0),
@@ -65,7 +66,7 @@ fn failing_sink(rt: &impl Abort, alloc: Global, most: usize) -> MemSink
     MemSink::new(alloc, 9, most, fails).expect(rt, "memory")
 }
 
-// Checks the bytes of the sink, and its numbers of calls and faults.
+// Checks the bytes that the sink has accepted, and its numbers of calls and failures.
 fn took(rt: &impl Abort, sink: &MemSink, bytes: &[u8], calls: u64, faults: u64) {
     is(rt, sink.bytes.as_slice(), bytes, "what the sink took");
     let counts = (sink.calls, sink.faults);

@@ -1,4 +1,5 @@
-//! Tests of reading lines from shelves that split them anywhere, and that fail.
+//! Tests of reading lines from fake shelves, which split the lines at any byte or fail. The tests
+//! use owned and borrowed lines.
 ghost use Rattle.std.specs.Prelude.{◌+◌, ◌<◌, ◌≤◌, ◌^◌};
 
 use crate::base::fakes::one_file;
@@ -24,7 +25,7 @@ fn lines_of(rt: &impl Abort, alloc: Global, name: &str) -> Lines
     Lines::new(alloc, name).expect(rt, "memory")
 }
 
-// Formats a result as a line: the number and the bytes, or the end, or the fault.
+// Formats a result as a line: the number and the bytes of the line read, or the end, or the error.
 fn known(
     rt: &impl Abort,
     alloc: Global,
@@ -82,8 +83,8 @@ fn answers(
     text
 }
 
-// Checks the results of `calls` calls, with owned and with borrowed lines. The shelf returns at
-// most `most` bytes per call.
+// Checks the results of `calls` calls, once with owned and once with borrowed lines. The shelf
+// returns at most `most` bytes per read.
 fn agrees_by(rt: &impl Abort, alloc: Global, bytes: &str, most: usize, calls: u32, wanted: &str)
     requires { 0 < most }
 {
@@ -101,7 +102,7 @@ fn agrees(rt: &impl Abort, alloc: Global, bytes: &str, calls: u32, wanted: &str)
     agrees_by(rt, alloc, bytes, 65536, calls, wanted);
 }
 
-/// Bytes, a number of calls, and the results of these calls.
+/// Each row has the bytes of a file, a number of calls, and the results of these calls.
 const LINES: [(&str, u32, &str); 5] = [
     ("", 2, "end\nend\n"),
     ("\n", 2, "1:\nend\n"),
@@ -142,7 +143,7 @@ fn lines_have_no_513_bytes(rt: HostRuntime) {
     }
 }
 
-// Checks the results of four calls with reads of two bytes, if read `fails` fails.
+// Checks the results of four calls with reads of two bytes if read number `fails` fails.
 fn fails_once(rt: &impl Abort, alloc: Global, fails: u64, wanted: &str) {
     for lends in &[false, true] {
         let mut shelf = shelf_of(rt, alloc, "abc\nde\n", 2, fails);
@@ -170,8 +171,8 @@ fn absent_names_have_no_lines(rt: HostRuntime) {
     }
 }
 
-// Checks three calls of `is_at_end` after one line: the first fails because the second read does,
-// the next reads once, and the last reads again only if no byte is buffered.
+// Checks three calls of `is_at_end` after one line. The first call fails because the second read
+// does. The next call reads once. The last call reads again only if no byte is buffered.
 fn end_after_line(rt: &impl Abort, alloc: Global, bytes: &str, is_end: bool, calls: u64) {
     let mut shelf = shelf_of(rt, alloc, bytes, 3, 1);
     let mut lines = lines_of(rt, alloc, "f");

@@ -1,10 +1,11 @@
-//! Tests of parsing numbers and paths at their limits.
+//! Tests of parsing numbers and paths: values and lengths at their limits, and malformed texts.
+//! Nothing is read from a file.
 use crate::checks::is;
 use psi_base::{Parts, Path, Text, read_number};
 use std::alloc::Global;
 use std::process::Abort;
 
-/// Texts, each with the number that it spells, `None` if it isn't a number.
+/// Each row has a text, and the number that it spells, or `None` if it isn't a number.
 const NUMBERS: [(&str, Option<u64>); 11] = [
     ("0", Some(0)),
     ("7", Some(7)),
@@ -26,7 +27,7 @@ fn numbers(rt: HostRuntime) {
     }
 }
 
-// Checks that a text is parsed unchanged as a path, or rejected if it isn't one.
+// Checks that a text is parsed unchanged if it is a path, and rejected if it isn't.
 fn reads_path(rt: &impl Abort, alloc: Global, text: &str, is_path: bool) {
     let path = Path::read(alloc, text.as_bytes()).expect(rt, "memory");
     let kept = match &path {
@@ -36,7 +37,7 @@ fn reads_path(rt: &impl Abort, alloc: Global, text: &str, is_path: bool) {
     is(rt, kept, is_path.then_some(text.as_bytes()), text);
 }
 
-/// Texts, and whether they are valid paths.
+/// Each row has a text, and whether it is a valid path.
 const PATHS: [(&str, bool); 17] = [
     ("/", true),
     ("/a", true),

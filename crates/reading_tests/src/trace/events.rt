@@ -27,7 +27,7 @@ fn rewrites(rt: &impl Abort, alloc: Global, version: u32, lines: &[&str])
     }
 }
 
-/// Checks that a line of a trace of this version is rejected with this cause.
+/// Checks that a line of a trace of this version is rejected for this cause.
 fn is_refused(rt: &impl Abort, alloc: Global, version: u32, line: &str, cause: Cause)
     requires { IsVersion version }
 {
@@ -145,7 +145,8 @@ const INTERRUPTS: [(&str, Cause); 12] = [
     ("5 irq 0 1 1", Cause::BadField(3)),
 ];
 
-/// Malformed lines: without a time or a verb, or with words after a verb that takes none.
+/// Malformed lines, each with its cause: lines without a time or a verb, or with words after a verb
+/// that takes none.
 const TIMES_AND_VERBS: [(&str, Cause); 24] = [
     ("", Cause::BadTime),
     (" ", Cause::BadTime),
@@ -270,7 +271,7 @@ const GROUPS: [(&str, Cause); 36] = [
     ("5 trigger / io some 1 1 1", Cause::BadField(6)),
 ];
 
-/// Checks that each line is rejected with the cause next to it, in a trace of either version.
+/// Checks that each line is rejected for the cause next to it, in a trace of either version.
 fn refuses_in_both(rt: &impl Abort, alloc: Global, rows: &[(&str, Cause)]) {
     refuses(rt, alloc, 1, rows);
     refuses(rt, alloc, 2, rows);

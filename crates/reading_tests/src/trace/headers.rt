@@ -1,9 +1,10 @@
-//! Tests of header lines: versions, numbers of processors, and malformed headers.
+//! Tests of the header line of a trace: valid headers with their versions and numbers of
+//! processors, and malformed headers.
 use crate::checks::is;
 use psi_base::Cause;
 use psi_trace::{Header, read_header};
 
-/// Headers, each with its version and its number of processors.
+/// Valid headers, each with its version and its number of processors.
 const HEADERS: [(&str, u32, u32); 6] = [
     ("psitrace 1 cpus=1", 1, 1),
     ("psitrace 1 cpus=9", 1, 9),

@@ -1,5 +1,5 @@
-//! Tests of lines that are played in place, while further lines follow, in comparison with the
-//! general reader.
+//! Tests of lines that are parsed and applied in place, without a copy, while further lines follow.
+//! The results are compared with those of the general reader.
 use crate::checks::is;
 use psi_base::{Cpu, Ns, Pid};
 use psi_trace::{read_event, take_prefix};
@@ -10,7 +10,7 @@ use task_table::Table;
 /// Lines after which task 1 sleeps, task 2 runs on processor 0, and task 3 is ready on processor 1.
 const FIRST: &str = "0 fork 1 / 0;0 fork 2 / 0;0 fork 3 / 1;0 switch 0 1 idle;1 switch 0 2 sleep";
 
-/// Plays a line through the general reader. Returns whether it is accepted.
+/// Plays a line that the general reader parses. Returns whether the line is accepted.
 fn is_taken(alloc: Global, table: &mut Table, line: &str) -> bool {
     match read_event(alloc, 1, line.as_bytes()) {
         Ok(event) => table.play(&event).is_ok(),
@@ -18,7 +18,7 @@ fn is_taken(alloc: Global, table: &mut Table, line: &str) -> bool {
     }
 }
 
-/// Returns a table after the lines `FIRST`.
+/// Returns a table of tasks after the lines `FIRST`.
 fn started(rt: &impl Abort, alloc: Global) -> Table {
     let mut table = Table::new(alloc, 2, Ns::MAX).expect(rt, "memory");
     for line in FIRST.split(';') {
@@ -27,7 +27,7 @@ fn started(rt: &impl Abort, alloc: Global) -> Table {
     table
 }
 
-/// Whether two tables have the same numbers of lines, last times, tasks and running tasks.
+/// Returns whether two tables have the same numbers of lines, last times, tasks and running tasks.
 fn are_same(one: &Table, other: &Table) -> bool {
     one.lines() == other.lines()
         && one.last() == other.last()
@@ -35,7 +35,8 @@ fn are_same(one: &Table, other: &Table) -> bool {
         && (0..2).all(|cpu| one.running(Cpu(cpu)) == other.running(Cpu(cpu)))
 }
 
-/// Whether no prefix of a line is played: a line without its newline is incomplete.
+/// Returns whether no proper beginning of a line is played: a line without its newline is
+/// incomplete.
 fn leaves_prefixes(table: &mut Table, line: &[u8]) -> bool {
     let mut leaves = true;
     for held in 0..=line.len() {
@@ -52,8 +53,8 @@ fn prefix(rt: &impl Abort, alloc: Global, table: &mut Table, line: &str) -> (usi
     (played.count, played.answer.is_ok())
 }
 
-/// Checks that a line is played in place exactly as by the general reader, and that no prefix of
-/// the line is played.
+/// Checks that a line is played in place with the same result as by the general reader, and that no
+/// prefix of the line is played.
 fn plays_as_read(rt: &impl Abort, alloc: Global, line: &str) {
     let mut table = started(rt, alloc);
     let leaves = leaves_prefixes(&mut table, line.as_bytes());

@@ -1,4 +1,5 @@
-//! Words, split at `|`, one row for each list of them.
+//! The rows of the tests of command words: one list of words per row, separated by `|`. The tests
+//! themselves are in the parent module.
 
 /// Words, and after `=>` the command:
 ///
@@ -81,7 +82,7 @@ replay|X|--rules|R|--drop-in|D => replay X R+D 2000 5 10 64 none 1
 replay|--drop-in=D|X|--rules=R => replay X R+D 2000 5 10 64 none 1
 replay|X|--rules|R|--drop-in|R|--tick-ms|5 => replay X R+R 5 5 10 64 none 1";
 
-/// Words that don't spell a command. The first row has no words.
+/// Words that aren't a command. The first row has no words.
 pub const REFUSED: &str = "(none)
 
 |X
