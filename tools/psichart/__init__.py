@@ -1,1 +1,1 @@
-"""Draws the output of `psi_oomd replay` as one SVG."""
+"""Draws the output of `psi_oomd replay` as an SVG picture."""

@@ -1,4 +1,4 @@
-"""The numbers on the axes: round steps of percentages, bytes and time."""
+"""The numbers on the axes of a chart: round steps of percentages, bytes and time."""
 from __future__ import annotations
 
 import itertools
@@ -27,7 +27,7 @@ CLOCK_STEPS = [
 ]  # fmt: skip
 UNITS = (("days", DAY), ("hours", HOUR), ("minutes", MINUTE), ("seconds", SECOND))
 SIZES = ("bytes", "KiB", "MiB", "GiB", "TiB", "PiB", "EiB")
-# The most steps of a time axis, and the least pixels between two of its labels.
+# The largest number of steps on a time axis, and the smallest gap (pixels) between two labels.
 MOST_STEPS = 10
 GAP = 12
 
@@ -40,19 +40,19 @@ class Mark(NamedTuple):
 
 
 def round_steps() -> Iterator[int]:
-    """Returns the round numbers: 1, 2 and 5 times each power of ten."""
+    """Yields the round numbers in ascending order: 1, 2 and 5 times each power of ten."""
     return (digit * int(10**power) for power in itertools.count() for digit in (1, 2, 5))
 
 
 def share_step(most: int) -> int:
-    """Returns the least round step, in hundredths of a percent, such that five steps reach
+    """Returns the smallest round step, in hundredths of a percent, with which five steps reach
     `most`.
     """
     return next(step for step in round_steps() if 5 * step >= most)
 
 
 def byte_step(most: int) -> int:
-    """Returns the least round number of bytes, KiB, MiB and so on such that five of them reach
+    """Returns the smallest round number of bytes, KiB, MiB and so on with which five steps reach
     `most`.
     """
     counts = (1, 2, 5, 10, 20, 50, 100, 200, 500)
@@ -61,13 +61,13 @@ def byte_step(most: int) -> int:
 
 
 def told_bytes(number: int, step: int) -> str:
-    """Returns a number of bytes, in the unit in which the step is a whole number."""
+    """Returns a number of bytes as text, in the largest unit that isn't greater than the step."""
     size = next(it for it in reversed(range(len(SIZES))) if step >= 1024**it)
     return f"{number // 1024**size} {SIZES[size]}"
 
 
 def time_steps() -> Iterator[int]:
-    """Round steps of time in ns, ascending."""
+    """Yields the round steps of time (ns) in ascending order."""
     yield from itertools.takewhile(lambda step: step < 10 * SECOND, round_steps())
     yield from CLOCK_STEPS
     yield from (step * DAY for step in round_steps())
@@ -84,8 +84,8 @@ class TimeAxis:
         )
 
     def x(self, moment: int) -> float:
-        """Returns the x coordinate (pixels) of a time: rounded as it is written, so that it is in
-        the pixel column in which it is counted.
+        """Returns the x coordinate (pixels) of a time. It is rounded to two decimals as in the
+        picture, so that the time is counted in the pixel column in which it is drawn.
         """
         return round(LEFT + (moment - self.start) * (RIGHT - LEFT) / (self.end - self.start), 2)
 
@@ -107,7 +107,7 @@ class TimeAxis:
 
 
 class WallAxis(TimeAxis):
-    """An axis with the time of day, which was `wall` when the trace began."""
+    """A time axis with the time of day, which was `wall` at the start of the trace."""
 
     def __init__(self, start: int, end: int, wall: WallTime) -> None:
         super().__init__(start, end)
@@ -121,7 +121,7 @@ class WallAxis(TimeAxis):
         return steps <= MOST_STEPS and steps * width <= RIGHT - LEFT
 
     def text(self, local: int, step: int) -> str:
-        """Returns the label of a time of day: the beginning of a day has its date."""
+        """Returns the label of a time of day. The start of a day is labelled with its date."""
         at = clock_time(local)
         if step >= DAY or (local % DAY == 0 and self.has_days()):
             return f"{at.date.tm_mday} {MONTHS[at.date.tm_mon - 1][:3]}"

@@ -36,16 +36,17 @@ NAMES = {
     "irq": "interrupt pressure", "use": "memory in use"
 }  # fmt: skip
 MARKS_TOP = 74
-# The room for the first panel's name, below the labels of vertical lines.
+# The room (pixels) for the first panel's name, below the labels of vertical lines.
 NAME_ROOM = 18
 LEGEND = 50
-# The gap between two panels, and the height of a panel without stalls.
+# The gap between two panels, and the height of a panel without stalls (pixels).
 PANEL_GAP = 48
 FLAT_HEIGHT = 30
-# The height of a second row of the legend, if two replays are drawn.
+# The height (pixels) of a second row of the legend, if two replays are drawn.
 LEGEND_ROW = 20
 AVERAGES = ("10 s", "60 s", "300 s")
-# The most groups in a title; the most characters of their paths together, and of the whole title.
+# The largest number of groups in a title, of characters in all their paths, and of characters in
+# the whole title.
 TITLED = 3
 PATHS_ROOM = 60
 TITLE_ROOM = int((WIDTH - 32) / TITLE_LETTER)
@@ -66,8 +67,8 @@ NO_NAMES = GroupNames({})
 
 
 class Wanted(NamedTuple):
-    """What to draw, and its input. `recorded` is a replay of the original trace, to be drawn next
-    to a replay without the killed groups.
+    """What to draw. `recorded` is a replay of the original trace, which is drawn next to a replay
+    without the killed groups.
     """
 
     replay: Replay
@@ -80,7 +81,7 @@ class Wanted(NamedTuple):
 
 
 class Chart:
-    """The picture."""
+    """A chart, which computes the positions of its parts and draws them."""
 
     def __init__(self, wanted: Wanted) -> None:
         self.wanted, self.replay, self.axis = wanted, wanted.replay, wanted.axis
@@ -106,8 +107,8 @@ class Chart:
     # ------------------------------------------------------------ what is drawn
 
     def panels_of(self, resource: str) -> list[Panel]:
-        """Returns a panel of the resource for each group; for `use` a memory panel, if there are
-        samples.
+        """Returns a panel of the resource for each group. For `use` the result is a memory panel,
+        if there are samples.
         """
         return [panel for path in self.replay.groups for panel in self.panel(resource, path)]
 
@@ -126,7 +127,7 @@ class Chart:
         return [MemoryPanel(name, self.axis, thresholds, samples.lives[path])]
 
     def places_of(self) -> list[Place]:
-        """Returns the positions of the panels, one below the other; those without pressure are
+        """Returns the positions of the panels, one below the other. Panels without pressure are
         low.
         """
         full = [it for it in self.panels if not it.is_flat()]
@@ -138,7 +139,7 @@ class Chart:
         return places
 
     def moments(self) -> list[Moment]:
-        """Returns the kills, and the removals of groups."""
+        """Returns the kills and the removals of groups, as vertical lines."""
         return [self.kill(it) for it in self.replay.kills] + [
             self.end(it) for it in self.replay.gone()
         ]
@@ -155,8 +156,8 @@ class Chart:
                 f"{would} at {at} by ruleset {kill.ruleset} {who}, action"
                 f" {kill.action} {killer.plugin}"
             )
-        # The name of the killer matters more than the time, which the axis shows, unless the title
-        # has the name.
+        # The label needs the killer more than the time, which the axis shows, unless the title
+        # names the killer.
         second = f"{would} at {at}" if f" by {who}" in self.heading else f"{would} by {who}"
         texts = (f"{would} at {at} by {who}", second, f"{would} at {at}", would, path)
         return Moment(kill.moment, "kill", hint, texts)
@@ -187,8 +188,8 @@ class Chart:
         return next((it for it in titles if len(it) <= TITLE_ROOM), short(titles[-1], TITLE_ROOM))
 
     def killers(self) -> str:
-        """Returns the killers: a ruleset's name, or the number of rulesets, if the rules are
-        known.
+        """Returns the name of the killing ruleset, or the number of rulesets, or nothing if no
+        rules are given.
         """
         rules = self.wanted.rules
         names = {it.ruleset: rules.killer(it).ruleset for it in self.replay.kills} if rules else {}
@@ -197,7 +198,7 @@ class Chart:
         return "".join(f" by '{name}'" for name in names.values())
 
     def has_events(self) -> bool:
-        """Returns whether there are ticks for events, so that the legend must explain them."""
+        """Returns whether any panel has ticks for events, which the legend must then explain."""
         return any(panel.has_events() for panel in self.panels)
 
     # ------------------------------------------------------------ the drawing
@@ -217,8 +218,8 @@ class Chart:
             self.draw_supposed()
         self.draw_time()
         for panel, at in zip(self.panels, self.places):
-            # Panels of one kind have the same scale, so that groups can be compared, except panels
-            # without pressure.
+            # Panels of one kind have one scale, so that groups can be compared. Panels without
+            # pressure are an exception.
             alike = [it for it in self.panels if it.kind == panel.kind]
             panel.draw(
                 self.svg,
@@ -230,7 +231,7 @@ class Chart:
         return self.svg
 
     def draw_legend(self) -> None:
-        """The styles of curves; those of events and of kills if there are any."""
+        """Draws the legend: the styles of curves and, if there are any, of events and kills."""
         legend = add(self.svg, "g", class_="legend")
         y = LEGEND
         add(legend, "text", "average over", x=16, y=y + 4)
@@ -250,7 +251,7 @@ class Chart:
             add(kill, "text", "would be killed", x=844, y=y + 4)
 
     def draw_legend_beside(self) -> None:
-        """The styles of the two replays."""
+        """Draws the legend for the two replays."""
         legend = add(self.svg, "g", class_="legend beside")
         y = LEGEND + LEGEND_ROW
         for text, classes, x in (
@@ -263,8 +264,8 @@ class Chart:
         add(legend, "text", "after the first kill: others as recorded", x=630, y=y + 4)
 
     def draw_supposed(self) -> None:
-        """A shade over all panels after the first kill, where the chart assumes that the other
-        tasks behave as recorded.
+        """Draws a shade over all panels after the first kill. In the shaded time the chart assumes
+        that the other tasks behave as recorded.
         """
         first = min((kill.moment for kill in self.replay.kills), default=self.axis.end)
         if first >= self.axis.end:
@@ -276,7 +277,9 @@ class Chart:
             height=at.height)  # fmt: skip
 
     def draw_time(self) -> None:
-        """The lines of the time axis through all panels, and their labels below the last."""
+        """Draws the lines of the time axis through all panels, and their labels below the last
+        panel.
+        """
         axis = add(self.svg, "g", class_="time")
         for mark in self.axis.marks():
             x = self.axis.x(mark.moment)
@@ -308,8 +311,8 @@ class Chart:
             )
 
     def draw_mark(self, marks: Element, mark: Mark) -> None:
-        """A line from its label down through all panels, with a triangle for a kill, and a cross
-        for a removal.
+        """Draws a vertical line from its label through all panels, with a triangle for a kill and a
+        cross for a removal.
         """
         group = add(marks, "g", class_=mark.kind)
         add(group, "title", mark.told())

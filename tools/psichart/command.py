@@ -1,4 +1,4 @@
-"""The command line, and the chart that it draws."""
+"""The command line of tools/chart, and the chart that it draws."""
 from __future__ import annotations
 
 import shutil
@@ -57,8 +57,8 @@ HELP = {
 
 
 class Given(NamedTuple):
-    """The parsed command line: the trace to replay, if any, and the trace of the replay; and all
-    options by name.
+    """The parsed command line: the trace to replay or None, the trace of the replay on standard
+    input, and all options by name.
     """
 
     replayed: Optional[str]
@@ -121,8 +121,8 @@ def read_words() -> Given:
 
 
 def resources_of(replay: Replay, given: Given) -> list[str]:
-    """Returns the resources to draw. Interrupts are included only if some drawn group has reports
-    of them.
+    """Returns the resources to draw. Interrupts are included only if a drawn group has reports on
+    them.
     """
     if given.resource:
         return [given.resource]
@@ -133,7 +133,9 @@ def resources_of(replay: Replay, given: Given) -> list[str]:
 def must_have_reports(
     replay: Replay, resources: list[str], start: int, end: int, groups: list[str]
 ) -> None:
-    """Rejects a time span without reports on these groups; the error says what to do."""
+    """Rejects a time span without reports on these groups and resources. The error suggests other
+    options.
+    """
     series = [
         it
         for (path, resource), it in replay.series.items()
@@ -151,7 +153,7 @@ def must_have_reports(
 
 
 def read_recorded(name: str, groups: list[str], replay: Replay) -> Replay:
-    """Returns the replay in a file, which must be of the same trace as the other one."""
+    """Returns the replay in the file `name`, which must be of the same trace as `replay`."""
     with opened(name) as printed:
         try:
             recorded = read_replay(printed, groups)
@@ -169,8 +171,8 @@ def read_recorded(name: str, groups: list[str], replay: Replay) -> Replay:
 
 
 def read_printed(printed: IO[bytes], given: Given, known: Known) -> tuple[list[str], Replay]:
-    """The drawn groups, and what the output has of them. If their paths aren't known yet, it is
-    read twice.
+    """Returns the drawn groups, and their reports in the output of a replay. The output is read
+    twice unless the command line has the groups' paths.
     """
     if not given.top and all(
         it.startswith("/") and known.groups.shown(it) == it for it in given.groups
@@ -197,7 +199,9 @@ def read_printed(printed: IO[bytes], given: Given, known: Known) -> tuple[list[s
 
 
 def span_of(given: Given, known: Known, replay: Replay) -> tuple[int, int]:
-    """Returns the drawn time in ns. Without options it begins where the recording does."""
+    """Returns the start and the end of the drawn time (ns). By default the start is the start of
+    the recording.
+    """
     span = span_in(given.values, known.wall, replay.end.moment, "replay")
     begins = (
         given.summary.begins if given.summary else known.companion.begins if known.companion else 0
@@ -206,7 +210,9 @@ def span_of(given: Given, known: Known, replay: Replay) -> tuple[int, int]:
 
 
 def samples_of(given: Given, groups: list[str], end: int) -> Optional[Samples]:
-    """Returns the samples of the groups' memory: of a trace that is replayed, if it has some."""
+    """Returns the memory samples of the groups, or None if the trace isn't known or, in a replay by
+    the tool, has no samples.
+    """
     if given.trace is None:
         return None
     samples = Samples(given.trace, groups, end)
@@ -215,7 +221,7 @@ def samples_of(given: Given, groups: list[str], end: int) -> Optional[Samples]:
 
 
 def chart() -> int:
-    """Draws the chart."""
+    """Draws the chart, and returns the exit status."""
     given = read_words()
     rules = Rules(given.rules) if given.rules is not None else None
     known = known_of(given.trace or STANDARD_INPUT, given.values)
@@ -253,5 +259,5 @@ def chart() -> int:
 
 
 def main() -> int:
-    """Runs the command; returns the exit status."""
+    """Runs the command, and returns the exit status."""
     return run(chart)

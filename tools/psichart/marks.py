@@ -1,4 +1,4 @@
-"""Vertical lines through all panels, with their labels: kills, and removed groups."""
+"""Vertical lines through all panels, with labels: kills, and removals of groups."""
 from __future__ import annotations
 
 import itertools
@@ -12,8 +12,8 @@ NAMED = 4
 
 
 class Moment(NamedTuple):
-    """What happens at a time (ns): its style, its full description, and labels from the longest to
-    the shortest.
+    """An event at a time (ns): its style, its full description, and labels from the longest to the
+    shortest.
     """
 
     moment: int
@@ -23,7 +23,8 @@ class Moment(NamedTuple):
 
 
 class Mark:
-    """What happens in one pixel column, and the position of its label: a row from below, or none.
+    """The events in one pixel column, and the position of their label: the number of a row, counted
+    from below, or None.
     """
 
     def __init__(self, x: float, moments: list[Moment]) -> None:
@@ -34,26 +35,26 @@ class Mark:
         self.text = ""
 
     def say(self, length: int) -> None:
-        """Takes the first event's label with this index, 0 for the longest, and adds how many more
-        events there are.
+        """Takes the first event's label with the index `length` (0 is the longest), and adds the
+        number of further events.
         """
         more = f" +{len(self.moments) - 1}" if len(self.moments) > 1 else ""
         self.text = short(self.moments[0].texts[length], 96 if length == 0 else 64) + more
 
     def told(self) -> str:
-        """Returns the description of each event, or only of the first ones if there are many."""
+        """Returns the descriptions of the events, or only the first four if there are more."""
         lines = [it.hint for it in self.moments[:NAMED]]
         return "\n".join(
             lines + ([f"and {len(self.moments) - NAMED} more"] if len(self.moments) > NAMED else [])
         )
 
     def span(self, is_left: bool) -> tuple[float, float]:
-        """Returns the left and right end of the label, beside the line."""
+        """Returns the left and right end (pixels) of the label, which is beside the line."""
         width = MONOSPACE * len(self.text)
         return (self.x - 7 - width, self.x - 7) if is_left else (self.x + 7, self.x + 7 + width)
 
     def is_free(self, row: int, is_left: bool, placed: list[Mark]) -> bool:
-        """Returns whether the label covers no other label and no line to one, and its own line
+        """Returns whether the label in this row covers no other label and no line, and its own line
         crosses no label.
         """
         left, right = self.span(is_left)
@@ -70,8 +71,8 @@ class Mark:
         return LEFT <= left and right <= WIDTH - 4
 
     def place(self, placed: list[Mark]) -> bool:
-        """Takes the lowest row that is free on the right, or the highest on the left, below which
-        there is room for others.
+        """Places the label in the lowest free row to the right of the line, or else in the highest
+        free row to its left. Returns whether there is room.
         """
         rows = range(ROWS)
         for row, is_left in itertools.chain(
@@ -97,8 +98,8 @@ def marks_of(moments: Iterable[Moment], x_of: Callable[[int], float]) -> list[Ma
 
 
 def place_all(marks: list[Mark], length: int, are_kills_first: bool) -> list[Mark]:
-    """Places the labels with this index, from the last mark to the first; returns the marks without
-    room.
+    """Places the label with the index `length` of each mark, from the last mark to the first.
+    Returns the marks without room.
     """
     for mark in marks:
         mark.row = None
@@ -111,8 +112,8 @@ def place_all(marks: list[Mark], length: int, are_kills_first: bool) -> list[Mar
 
 
 def place(marks: list[Mark]) -> list[Mark]:
-    """Places the longest labels for which all have room; or the shortest, those of kills first, if
-    some have none. Drops rows without a label. Returns the marks without room.
+    """Places the longest labels with which all marks have room. If there are none, places the
+    shortest labels, those of kills first. Removes empty rows, and returns the marks without room.
     """
     lengths = min((len(mark.moments[0].texts) for mark in marks), default=1)
     if not any(not place_all(marks, length, False) for length in range(lengths)):

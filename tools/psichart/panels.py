@@ -1,4 +1,6 @@
-"""A panel: one resource's pressure for one group, or its memory."""
+"""The panels of a chart. Each shows the pressure of one group for one resource, or the memory of
+one group.
+"""
 from __future__ import annotations
 
 import itertools
@@ -27,16 +29,15 @@ from .svg import (
 )
 from .thresholds import Threshold, draw_thresholds
 
-# The least scale of a panel is 1 %, or 1 MiB, so that tiny values don't look large.
+# A panel's scale reaches at least 1 % or 1 MiB, so that tiny values don't look large.
 LEAST_SHARE = 100
 LEAST_BYTES = 1024**2
-# An average that began at 0 is meaningful after this number of its periods.
+# An average that begins at 0 is meaningful after this number of its periods.
 SETTLED = 3
-# The left end of a panel's name, and the gap between the name and what is to the right of it
-# (pixels).
+# The left end of a panel's name, and the gap (pixels) to the right of the name.
 NAME_LEFT, NAME_GAP = 16, 12
-# The legend of a memory panel: how far it begins from the right end, and the width of each entry
-# (pixels), also if its letters are twice as large, as on a phone.
+# The legend of a memory panel: the distance of its start from the right end, and the width of each
+# entry (pixels). The entries also have room for the large letters of a phone.
 MEMORY_LEGEND, MEMORY_ENTRY = 246, 140
 # The number of characters that fit to the left of a panel.
 COUNT_ROOM = 17
@@ -59,34 +60,35 @@ class Frame(NamedTuple):
 
 
 class Panel:
-    """The common parts of panels: a name, an axis with its unit, and thresholds."""
+    """The common parts of panels: a name, an axis with its unit, and the thresholds of rules."""
 
     kind = ""
     of_what = ""
 
     def __init__(self, name: str, axis: TimeAxis, thresholds: list[Threshold]) -> None:
         self.name, self.axis, self.thresholds = name, axis, thresholds
-        # What follows the name in small letters, and the most characters of the name.
+        # The text after the name in small letters, and the largest number of characters of the
+        # name.
         self.remark, self.longest = "", 1000
 
     def most(self) -> int:
-        """The least value at its upper edge."""
+        """Returns the smallest value that the panel's upper edge may have."""
         raise NotImplementedError
 
     def is_flat(self) -> bool:
-        """Returns whether it has nothing that needs height."""
+        """Returns whether the panel shows nothing that needs height."""
         return False
 
     def has_events(self) -> bool:
-        """Returns whether it has ticks for events."""
+        """Returns whether the panel has ticks for events."""
         return False
 
     def name_end(self) -> float:
-        """Returns how far the name may extend to the right (pixels)."""
+        """Returns the right end (pixels) of the room for the name."""
         return RIGHT
 
     def draw_name(self, panel: Element, y: float) -> None:
-        """Draws the name, shortened if it doesn't fit; its tooltip has all of it."""
+        """Draws the name, which is shortened if it doesn't fit. The tooltip has the whole name."""
         room = self.name_end() - NAME_LEFT - NAME_GAP
         if self.remark:
             room -= NAME_GAP + SMALL_LETTER * len(self.remark)
@@ -101,7 +103,9 @@ class Panel:
         raise NotImplementedError
 
     def apart(self, most: int) -> int:
-        """Returns the distance between its lines: a low panel has none between its ends."""
+        """Returns the distance between the panel's horizontal lines. A low panel has lines only at
+        its ends.
+        """
         return most if self.is_flat() else self.step(most)
 
     def number(self, value: int, step: int) -> str:
@@ -111,7 +115,7 @@ class Panel:
         raise NotImplementedError
 
     def draw(self, svg: Element, top: float, height: float, most: int) -> None:
-        """Draws it with a scale up to `most`, or a little more."""
+        """Draws the panel. Its scale reaches `most`, or the next line above it."""
         step = self.apart(most)
         frame = Frame(top, height, -(-most // step) * step)
         panel = add(svg, "g", class_=f"panel {self.kind}")
@@ -131,14 +135,14 @@ class Panel:
 
 
 class Curves:
-    """The averages in a group's reports on a resource, within an axis, in a style of their own."""
+    """The averages in a group's reports on a resource, as curves in one style."""
 
     def __init__(self, series: Series, axis: TimeAxis, look: str = "") -> None:
         self.series, self.axis, self.look = series, axis, look
         self.shown = [place for place, moment in enumerate(series.moments) if axis.holds(moment)]
 
     def most(self) -> int:
-        """Returns the greatest value, in hundredths of a percent."""
+        """Returns the greatest value of the curves, in hundredths of a percent."""
         shares = (
             shares[place]
             for shares in self.series.shares.values()
@@ -160,8 +164,8 @@ class Curves:
                 add_line(lines, thinned(points), **look)
 
     def does_climb(self, average: str) -> bool:
-        """Returns whether the chart only shows an average climbing from 0, where averages begin:
-        its value on a machine that ran before isn't known then.
+        """Returns whether the chart only shows the average climbing from 0. A machine that ran
+        before the trace had another value, which isn't known.
         """
         period = int(average[len("avg") :]) * SECOND
         if self.axis.start >= period or self.axis.end >= SETTLED * period:
@@ -176,8 +180,8 @@ class Curves:
         )
 
     def unbroken(self) -> Iterator[list[int]]:
-        """Yields the places of the reports, split if the group didn't exist for two pixels or
-        more.
+        """Yields the places of the reports in unbroken runs. A run ends if the group didn't exist
+        for two pixels or more.
         """
         rounds, moments = self.series.rounds, self.series.moments
         run: list[int] = []
@@ -192,8 +196,8 @@ class Curves:
 
 
 class PressurePanel(Panel):
-    """The averages in a group's reports on a resource, and below them a tick for each event of its
-    triggers. Those of the recorded trace may be drawn with them.
+    """A panel with the averages in a group's reports on a resource. Below the curves it has a tick
+    for each event of the group's triggers. It may also show the recorded trace.
     """
 
     of_what = "share of time"
@@ -211,7 +215,7 @@ class PressurePanel(Panel):
         self.kind = resource
         found = [replay.series.get((path, resource), Series()) for replay in replays]
         self.curves = [Curves(series, axis, look) for series, look in zip(found, ("", " was"))]
-        # The times of the shown events, by replay and by level.
+        # The times (ns) of the shown events, for each replay and each level.
         self.events = [
             [
                 list(filter(axis.holds, replay.events.get((path, resource, level), [])))
@@ -226,7 +230,7 @@ class PressurePanel(Panel):
         )
 
     def is_flat(self) -> bool:
-        """Returns whether it has no pressure, no event, and no threshold of a rule."""
+        """Returns whether the panel has no pressure, no event, and no threshold of a rule."""
         return (
             not any(it.most() for it in self.curves)
             and not self.has_events()
@@ -251,7 +255,7 @@ class PressurePanel(Panel):
         self.draw_events(panel, frame.bottom + 5)
 
     def caveat(self) -> str:
-        """Returns which averages only climb from 0, to the right of the name."""
+        """Returns a note to the right of the name: which averages only climb from 0."""
         climbing = [it for it in AVERAGES if self.curves[0].does_climb(it)]
         verb = "climbs" if len(climbing) == 1 else "climb"
         averages = " and ".join(climbing)
@@ -271,7 +275,9 @@ class PressurePanel(Panel):
         add(panel, "text", self.counts(), class_="small", x=LEFT - 7, y=top + 10, text_anchor="end")
 
     def counts(self) -> str:
-        """Returns the number of events in the chart, and the recorded number if it differs."""
+        """Returns the number of events in the chart, and the number in the recorded trace if it
+        differs.
+        """
         count, *was = (sum(map(len, events)) for events in self.events)
         text = counted(count, "event")
         if was in ([], [count]):
@@ -281,8 +287,8 @@ class PressurePanel(Panel):
 
 
 class MemoryPanel(Panel):
-    """A group's memory and swap according to its samples, each valid until the next one, or until
-    the group is removed.
+    """A panel with a group's memory and swap. Each sample is valid until the next one, or until the
+    group is removed.
     """
 
     kind = "use"
@@ -296,8 +302,8 @@ class MemoryPanel(Panel):
         self.has_swap = any(it.swap for samples in self.lives for it in samples)
 
     def shown(self, life: Life) -> list[Sample]:
-        """Returns the samples in the shown time. The last sample before it is continued from its
-        start, and the last one in it up to its end.
+        """Returns the samples in the shown time. The last sample before this time is moved to its
+        start, and the last sample within it is repeated at its end.
         """
         end = self.axis.end if life.end is None else min(life.end, self.axis.end)
         inside = [it for it in life.samples if self.axis.start <= it.moment <= end]
@@ -335,7 +341,7 @@ class MemoryPanel(Panel):
             text_anchor="middle")  # fmt: skip
 
     def steps(self, samples: list[Sample], is_swap: bool, frame: Frame) -> Iterator[Point]:
-        """Yields a constant value up to the next sample, and then a step to that one's."""
+        """Yields the points of a curve with steps: each value is constant up to the next sample."""
         last: Optional[float] = None
         for sample in samples:
             x, y = (

@@ -1,4 +1,4 @@
-"""The parts of a replay that are drawn: the reports and events of some groups, all kills, and the
+"""The parts of a replay that a chart draws: reports and events of some groups, all kills, and
 removals of groups.
 """
 from __future__ import annotations
@@ -13,7 +13,7 @@ Which = tuple[str, str]
 
 class Series:
     """The averages of one resource of a group: times in ns, values in hundredths of a percent. A
-    round is a tick with reports; if a round has no report of the group, the group didn't exist.
+    round is a tick with reports. If a round has no report on the group, the group didn't exist.
     """
 
     def __init__(self) -> None:
@@ -23,7 +23,7 @@ class Series:
         }
 
     def take(self, report: Report, number: int) -> None:
-        """Takes the report in the round of this number."""
+        """Adds a report, which belongs to round number `number`."""
         self.moments.append(report.moment)
         self.rounds.append(number)
         for level, pressure in (("some", report.some), ("full", report.full)):
@@ -36,15 +36,16 @@ class Series:
 
 
 class Gone(NamedTuple):
-    """A group that had a report in the previous round, and has none in the round at this time (ns).
-    """
+    """A group with a report in the previous round, but none in the round at this time (ns)."""
 
     moment: int
     path: str
 
 
 class Rounds:
-    """The groups that have reports in each round, and when a group stops having them."""
+    """The groups with reports in each round, and the first round without reports of each removed
+    group.
+    """
 
     def __init__(self) -> None:
         self.number = 0
@@ -62,14 +63,14 @@ class Rounds:
         self.paths.add(path)
 
     def close(self) -> None:
-        """Ends the round."""
+        """Ends the round, and records which groups have no report in it."""
         if self.moment is not None:
             self.gone += [Gone(self.moment, path) for path in sorted(self.before - self.now)]
             self.before, self.now = self.now, set()
 
 
 class Replay:
-    """The output of a replay for these groups, with all kills, and the removals of groups."""
+    """The output of a replay for these groups, with all kills and removals of groups."""
 
     def __init__(self, groups: list[str]) -> None:
         self.groups = groups
@@ -92,7 +93,7 @@ class Replay:
             )
 
     def gone(self) -> list[Gone]:
-        """Returns the removals of the drawn groups, and of groups that would be killed."""
+        """Returns the removals of the drawn groups, and of the groups that would be killed."""
         named = {*self.groups, *(kill.path for kill in self.kills)}
         return [gone for gone in self.rounds.gone if gone.path in named]
 

@@ -1,4 +1,6 @@
-"""The summary of a conversion, which says when a trace began."""
+"""The summary that tools/psitrace prints of a conversion, with the time of day at which the trace
+began.
+"""
 from __future__ import annotations
 
 import re
@@ -13,8 +15,9 @@ from .replay import Replay
 
 
 class Summary(NamedTuple):
-    """The summary that tools/psitrace printed about a trace: when the trace began, if known, the
-    time (ns) at which the recording begins in it, its length (ns, rounded to ms) and its SHA-256.
+    """The summary of a conversion: the time of day at which the trace began or None, the time (ns
+    of the trace) at which the recording begins, the trace's length (ns, rounded to ms) and its
+    SHA-256.
     """
 
     name: str
@@ -24,8 +27,8 @@ class Summary(NamedTuple):
     digest: Optional[str]
 
     def must_be_of(self, replay: Replay, trace: Optional[str]) -> None:
-        """Rejects the summary of another trace, which has another time of day: by its length, and,
-        if the trace is known, by its SHA-256.
+        """Rejects the summary if it is of another trace: one with another length or, if the trace
+        is known, another SHA-256.
         """
         if self.digest and trace is not None and digest_of(pieces_of(trace))[1] != self.digest:
             raise Fault(
@@ -41,7 +44,7 @@ class Summary(NamedTuple):
 
 
 def summary_of(name: str) -> Summary:
-    """Returns the summary in a file."""
+    """Reads the summary in the file `name`."""
     with opened(name) as file:
         said = file.read().decode("utf-8", "replace")
     if not re.search("^psitrace: ", said, re.MULTILINE):

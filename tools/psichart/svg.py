@@ -1,4 +1,4 @@
-"""Elements of a picture, their positions and their styles."""
+"""The elements of a picture, their positions and their styles."""
 from __future__ import annotations
 
 import itertools
@@ -8,20 +8,20 @@ from xml.etree import ElementTree
 Element = ElementTree.Element
 Point = tuple[float, float]
 
-# Positions are pixels from the left and from the top. Time extends from LEFT to RIGHT.
+# Positions are in pixels from the left and from the top. The time axis extends from LEFT to RIGHT.
 WIDTH = 960
 LEFT = 112
 RIGHT = 936
-# The largest average width of characters: in monospace fonts of 11 pixels; in other fonts of 11
-# and 12 pixels; and in bold ones of 13 (names of panels) and 16 (titles).
+# The largest average width (pixels) of a character: in monospace fonts of 11 pixels, in other fonts
+# of 11 and 12 pixels, and in bold fonts of 13 (names of panels) and 16 pixels (titles).
 MONOSPACE = 6.7
 SMALL_LETTER = 6.6
 LETTER = 7.2
 NAME_LETTER = 7.8
 TITLE_LETTER = 9.6
 
-# The colours are those of Okabe and Ito, which colour-blind people can distinguish, some of them
-# darker or lighter to suit the background.
+# The colours are those of Okabe and Ito, which colour-blind people can distinguish. Some are darker
+# or lighter here because of the background.
 STYLE = """
 text { font: 12px sans-serif; fill: #222; }
 .title { font-size: 16px; font-weight: bold; }
@@ -67,8 +67,8 @@ text { fill: #e6e6e6; }
 }
 """
 
-# If two replays are drawn, the recorded one has thin lines, and the one without the killed groups
-# thick ones.
+# If two replays are drawn, the recorded replay has thin lines, and the replay without the killed
+# groups has thick lines.
 STYLE_BESIDE = """.series.some { stroke-width: 2.5; }
 .series.full { stroke-width: 4.5; }
 .series.some.was { stroke-width: 1; }
@@ -85,8 +85,8 @@ def decimal(value: float) -> str:
 def add(
     parent: Element, tag: str, text: Optional[str] = None, **attributes: Union[str, float]
 ) -> Element:
-    """Adds an element. In an attribute's name `_` means `-`, and a trailing `_` avoids a Python
-    keyword.
+    """Adds an element, and returns it. In an attribute's name `_` means `-`, and a trailing `_`
+    avoids a Python keyword.
     """
     names = {name.rstrip("_").replace("_", "-"): value for name, value in attributes.items()}
     element = ElementTree.SubElement(
@@ -102,8 +102,8 @@ def add(
 
 
 def add_line(parent: Element, points: Iterable[Point], **look: str) -> None:
-    """Adds a line through these points, with this style. A single point is written twice: a line of
-    no length is drawn as a dot.
+    """Adds a line through these points, with this style. A single point is written twice, so that
+    it is drawn as a dot.
     """
     places = [f"{decimal(x)},{decimal(y)}" for x, y in points]
     add(parent, "polyline", points=" ".join(places * 2 if len(places) == 1 else places), **look)
@@ -114,7 +114,8 @@ def counted(number: int, what: str) -> str:
 
 
 def short(text: str, most: int) -> str:
-    """Returns the text, or its beginning and its end if it is longer than `most`."""
+    """Returns the text. If it is longer than `most` characters, returns its beginning and its end.
+    """
     return (
         text
         if len(text) <= most
@@ -123,7 +124,7 @@ def short(text: str, most: int) -> str:
 
 
 def columns(points: Iterable[Point]) -> Iterator[list[Point]]:
-    """Yields the points of each pixel column."""
+    """Yields lists of consecutive points, one for each pixel column."""
     for _, column in itertools.groupby(points, key=lambda point: int(point[0])):
         yield list(column)
 
@@ -137,8 +138,8 @@ def thinned(points: Iterable[Point]) -> Iterator[Point]:
 
 
 def thinned_steps(points: Iterable[Point]) -> Iterator[Point]:
-    """Yields the first point, the highest, the lowest and the last of each pixel column, since a
-    step continues from the last.
+    """Yields the first, the highest, the lowest and the last point of each pixel column. A step
+    continues from the last point.
     """
     for column in columns(points):
         places = range(len(column))

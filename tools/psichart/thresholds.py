@@ -1,4 +1,4 @@
-"""The thresholds of rules for a drawn group, as lines across its panels."""
+"""The thresholds of rules for a drawn group, which are lines across its panels."""
 from __future__ import annotations
 
 from typing import Iterator, NamedTuple, Optional
@@ -7,19 +7,19 @@ from psireplay.rules import Plugin, Rules, Ruleset, size
 
 from .svg import LEFT, RIGHT, SMALL_LETTER, Element, Point, add, short
 
-# What each detector of pressure compares: the average whose colour its line has, and its
+# The average that each pressure detector compares, which gives the line its colour, and a
 # description.
 WATCHED = {
     "pressure_above": ("avg10", "full over 10 s"),
     "pressure_rising_beyond": ("avg60", "full over 60 s and over 10 s"),
 }
-# The free space around a label, and its distance from its line (pixels).
+# The free space around a label, and the label's distance from its line (pixels).
 NEXT_TO = 2.0
 ABOVE, BELOW = -5.0, 14.0
 
 
 class Threshold(NamedTuple):
-    """A line across a panel: its value in hundredths of a percent or bytes, its style, and its
+    """A line across a panel: its value (hundredths of a percent, or bytes), its style, and its
     label.
     """
 
@@ -52,7 +52,7 @@ def of_memory(ruleset: Ruleset, detector: Plugin, host: Optional[int]) -> Iterat
 
 
 def pressure_thresholds(rules: Optional[Rules], path: str, resource: str) -> list[Threshold]:
-    """Returns the thresholds of the detectors that check this group's pressure on the resource."""
+    """Returns the thresholds of the detectors that check this group's pressure for the resource."""
     return [
         of_pressure(ruleset, detector)
         for ruleset in (rules.rulesets if rules else [])
@@ -65,7 +65,7 @@ def pressure_thresholds(rules: Optional[Rules], path: str, resource: str) -> lis
 
 def memory_thresholds(rules: Optional[Rules], path: str, host: Optional[int]) -> list[Threshold]:
     """Returns the thresholds of the detectors that check this group's memory, on a host with `host`
-    bytes of it.
+    bytes of memory.
     """
     return [
         threshold
@@ -77,7 +77,7 @@ def memory_thresholds(rules: Optional[Rules], path: str, host: Optional[int]) ->
 
 
 def merged(thresholds: list[Threshold]) -> list[Threshold]:
-    """Merges thresholds of one value and style to one line, with all their labels."""
+    """Merges thresholds with equal value and style into one line, which has all their labels."""
     found: dict[tuple[int, str], list[str]] = {}
     for it in thresholds:
         texts = found.setdefault((it.level, it.look), [])
@@ -86,7 +86,7 @@ def merged(thresholds: list[Threshold]) -> list[Threshold]:
 
 
 class Box(NamedTuple):
-    """The rectangle of a label, in pixels."""
+    """The rectangle of a label (pixels)."""
 
     left: float
     right: float
@@ -102,12 +102,12 @@ class Box(NamedTuple):
         )
 
     def is_crossed(self, points: list[Point]) -> bool:
-        """Returns whether a line through these points crosses it."""
+        """Returns whether a line through these points crosses the rectangle."""
         return any(self.meets(one, other) for one, other in zip(points, points[1:] or points))
 
     def meets(self, one: Point, other: Point) -> bool:
-        """Returns whether the segment between two points crosses it: it doesn't if the part between
-        the left and right side is entirely above or below.
+        """Returns whether the segment between two points crosses the rectangle. The part of the
+        segment between the left and the right side must not be entirely above or below.
         """
         (x, y), (end, level) = sorted([one, other])
         if end < self.left or x > self.right:
@@ -122,7 +122,7 @@ class Box(NamedTuple):
 
 
 class Label(NamedTuple):
-    """A label of a threshold: the anchor is its start, middle or end."""
+    """The label of a threshold. `anchor` says whether `x` is its start, middle or end."""
 
     text: str
     x: float
@@ -138,9 +138,9 @@ class Label(NamedTuple):
 
 
 def labels_of(it: Threshold, y: float) -> Iterator[Label]:
-    """Yields the possible labels of a threshold at this height, the best first: at the right end or
-    the left, in the middle or at a quarter, above the line or below it; and the whole text rather
-    than just the part before the ruleset's name.
+    """Yields the possible labels of a threshold at the height `y`, the best first. Positions are at
+    the right end, the left end, the middle and the quarters, above or below the line. A label is
+    the whole text, or the part before the ruleset's name.
     """
     for text in dict.fromkeys((short(it.text, 100), short(it.text.partition(":")[0], 60))):
         for part, anchor in (
@@ -157,8 +157,8 @@ def labels_of(it: Threshold, y: float) -> Iterator[Label]:
 def draw_thresholds(
     panel: Element, thresholds: list[Threshold], top: float, bottom: float, scale: float
 ) -> None:
-    """Draws the thresholds from the top down. A label must not cover a curve, another label or
-    anything outside of the panel; if there is no such place, the line has only its tooltip.
+    """Draws the thresholds from the top down. A label must not cover a curve or another label, or
+    leave the panel. A line without room for its label has only a tooltip.
     """
     groups = [it for it in panel if (it.get("class") or "").startswith("series")]
     curves = [points_of(line) for group in groups for line in group]
@@ -186,7 +186,7 @@ def draw_thresholds(
 
 
 def points_of(line: Element) -> list[Point]:
-    """Returns the points of a drawn line."""
+    """Returns the points of a line that was drawn."""
     return [
         (float(x), float(y))
         for x, y in (it.split(",") for it in (line.get("points") or "").split())

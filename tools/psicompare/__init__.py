@@ -1,1 +1,1 @@
-"""Compares a trace with the pressure files of its machine: `tools/compare`."""
+"""Compares a trace with the pressure files of its machine: the package of `tools/compare`."""

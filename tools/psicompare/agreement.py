@@ -1,9 +1,10 @@
-"""Compares the totals of a trace with those of its machine, sampling each group at the times at
-which its kernel did.
+"""Compares the totals of a trace with those of its machine. Each group is sampled at the times at
+which the kernel sampled it.
 
 If a recording doesn't show these times, one number per group is fitted: the phase of the grid on
-which the kernel samples on its own, chosen so that the totals come nearest to all readings. One
-number can't hide an error of a trace: its totals grow at thirty readings of six files.
+which the kernel samples on its own. The chosen phase brings the totals nearest to all readings. One
+number can't hide an error of a trace, because the totals are compared at about thirty readings of
+six files.
 """
 from __future__ import annotations
 
@@ -19,16 +20,17 @@ from .moments import Moments, period_of
 from .sums import Sums
 from .sums import Totals as Grown
 
-# The number of phases in a period: one each 16 ms of two seconds. Every COARSE-th one is tried
-# first, then those between the best and its neighbours, halving the distance.
+# The number of phases in a period of two seconds: one each 16 ms. First every COARSE-th phase is
+# tried, then the phases between the best one and its neighbours, at half the distance each time.
 PHASES, COARSE = 128, 4
 LEVELS = 2
 MICROSECOND = 1000
 
 
 class Growth(NamedTuple):
-    """The growth of a file's totals of some and full, us: on the machine; in the trace, as the
-    machine's kernel would have added it up; and as it would have in 64 bits.
+    """The growth (us) of a file's totals of some and full. `machine` is the growth on the machine,
+    `told` the growth in the trace as the machine's kernel would add it up, and `true` the growth in
+    the trace in 64 bits.
     """
 
     file: File
@@ -38,8 +40,9 @@ class Growth(NamedTuple):
 
 
 class Asked(NamedTuple):
-    """A group to compare: its path, its number in the trace, and for each resource the start and
-    end (ns of the trace), and the growth of the machine's totals in between, us.
+    """A group to compare: its path, and its number in the trace. For each resource, `spans` has the
+    start and the end (ns of the trace), and `machine` the growth (us) of the machine's totals in
+    between.
     """
 
     path: str
@@ -48,15 +51,15 @@ class Asked(NamedTuple):
     machine: dict[str, tuple[int, int]]
 
     def ends(self) -> tuple[int, int]:
-        """Returns the earliest start and the latest end."""
+        """Returns the earliest start and the latest end (ns of the trace) of all resources."""
         return min(begin for begin, _ in self.spans.values()), max(
             end for _, end in self.spans.values()
         )
 
 
 class Sampling(NamedTuple):
-    """The times at which a group was sampled, ns of the trace; and if they are unknown, the phase
-    of its grid, in ns after the first of them.
+    """The times (ns of the trace) at which a group was sampled. If they are unknown, `phase` is the
+    fitted phase of the grid, in ns after the first time, otherwise None.
     """
 
     moments: list[int]
@@ -64,10 +67,9 @@ class Sampling(NamedTuple):
 
 
 def asked_of(readings: Sequence[dict[File, Totals]], clocks: Clocks, start: int) -> list[Asked]:
-    """Returns the groups that have files at the last of these readings and are in the trace, which
-    begins at `start` (ns of the recording's clock). Growth is counted from the first reading; for a
-    group that wasn't accounted then, from the first that has its files; and for a group that was
-    created later, from 0 at its creation.
+    """Returns the groups that have files at the last of these readings and are in the trace. The
+    trace begins at `start` (ns of the recording's clock). Growth is counted from the first reading
+    that has the group's files, or from 0 at the creation of a group that was created later.
     """
     began = max(it.moment for it in readings[0].values()) - start
     found = []
@@ -93,7 +95,9 @@ def asked_of(readings: Sequence[dict[File, Totals]], clocks: Clocks, start: int)
 
 
 def growths_of(asked: Asked, clocks: Clocks, sampling: Sampling, hertz: int) -> list[Growth]:
-    """Returns the growth according to the clocks, if the group is sampled at these times."""
+    """Returns the growth of a group's totals according to the clocks, with the group sampled at
+    these times.
+    """
     totals = Sums(clocks, asked.number, sampling.moments, hertz).at(sampling.moments)
     found = []
     for resource, (begin, end) in asked.spans.items():
@@ -104,8 +108,7 @@ def growths_of(asked: Asked, clocks: Clocks, sampling: Sampling, hertz: int) -> 
 
 
 def grown(before: Sequence[int], after: Sequence[int], resource: str, path: str) -> tuple[int, int]:
-    """Returns the growth of some and full of a resource, us. The root's full line of cpu has
-    zeros.
+    """Returns the growth (us) of some and full of a resource. The root's full of cpu is always 0.
     """
     place = LEVELS * RESOURCES.index(resource)
     some, full = (
@@ -115,7 +118,7 @@ def grown(before: Sequence[int], after: Sequence[int], resource: str, path: str)
 
 
 def has_no_full(path: str, resource: str) -> bool:
-    """Returns whether the kernel shows zeros in this file's full line."""
+    """Returns whether the kernel shows zeros in the full line of this file."""
     return path == "/" and resource == "cpu"
 
 
@@ -125,8 +128,8 @@ def has_no_full(path: str, resource: str) -> bool:
 def sampling_of(
     asked: Asked, clocks: Clocks, told: Moments, inside: Sequence[int], start: int, hertz: int
 ) -> Sampling:
-    """Returns when the group was sampled: according to the recording, or fitted. `inside` has the
-    numbers of the readings that are compared.
+    """Returns the times at which the group was sampled: those of the recording, or fitted ones.
+    `inside` has the numbers of the compared readings.
     """
     begin, end = asked.ends()
     own = {moment for span in asked.spans.values() for moment in span}
@@ -146,7 +149,7 @@ def sampling_of(
 
 
 def shifted(files: dict[File, Totals], path: str, start: int) -> dict[str, Totals]:
-    """Returns a group's totals in a reading, by resource, at times of the trace."""
+    """Returns a group's totals in a reading by resource, with their times in ns of the trace."""
     return {
         file.resource: it._replace(moment=it.moment - start)
         for file, it in files.items()
@@ -157,9 +160,9 @@ def shifted(files: dict[File, Totals], path: str, start: int) -> dict[str, Total
 def fitted_phase(
     asked: Asked, clocks: Clocks, files: Sequence[dict[str, Totals]], own: Sequence[int], hertz: int
 ) -> int:
-    """Returns the phase for which the totals of a group come nearest to those of its files, by the
-    squared differences of growth from reading to reading. The readings are samplings too, at the
-    times `own`.
+    """Returns the phase (ns) that brings a group's totals nearest to those of its files: the sum of
+    the squared differences of growth between consecutive readings is smallest. The group is also
+    sampled at the times `own` of the readings.
     """
     (begin, end), period = asked.ends(), period_of(hertz)
     grids = [range(begin + period * place // PHASES, end, period) for place in range(PHASES)]
@@ -169,7 +172,7 @@ def fitted_phase(
 
     @lru_cache(maxsize=None)
     def distance(place: int) -> int:
-        """Returns the error of the totals for the grid with this phase."""
+        """Returns the distance between the totals and the files for the grid number `place`."""
         return distance_of(asked.path, files, sums.at(sorted({*own, *grids[place]})))
 
     best, step = min(range(0, PHASES, COARSE), key=distance), COARSE
@@ -181,7 +184,7 @@ def fitted_phase(
 
 def distance_of(path: str, files: Sequence[dict[str, Totals]], totals: dict[int, Grown]) -> int:
     """Returns the sum of the squared differences (us^2) between the growth of the totals and of the
-    files, from reading to reading.
+    files, over all pairs of consecutive readings.
     """
     whole = 0
     for before, after in zip(files, files[1:]):

@@ -1,8 +1,8 @@
 """The kernel's clocks over a trace: the states of each group on each processor over time.
 
-The states are those of `kernel/sched/psi.c` (`test_state`), as listed in docs/TRACES.md. They are
+The states are those of `kernel/sched/psi.c` (`test_state`), which docs/TRACES.md lists. They are
 stored as changes of a mask, nine bytes each, so that the time in each state between any two times
-can be computed later: a kernel samples each group at times of its own, which are fitted if they are
+can be computed later. The kernel samples each group at its own times, which are fitted if they are
 unknown.
 """
 from __future__ import annotations
@@ -16,16 +16,16 @@ from psireplay.groups import Group
 from psireplay.world import ASLEEP, IOWAIT, READY, RUNNING, World, Task
 from psireplay.trace import event_in
 
-# The states, by their bits.
+# The bit of each state in a mask.
 IO_SOME, IO_FULL, MEMORY_SOME, MEMORY_FULL, CPU_SOME, CPU_FULL, NONIDLE = (
     1 << place for place in range(7)
 )
 STATES = 7
-# The states that hold, by mask.
+# The numbers of the states in each mask.
 HELD = [tuple(state for state in range(STATES) if mask >> state & 1) for mask in range(1 << STATES)]
-# The counts of a group's tasks on a processor: those that wait for IO, are in a memory stall, are
-# ready (including the running one), and are both. A task is counted in these, by what it does and
-# whether it is in a memory stall.
+# A group has four counts of its tasks on a processor: tasks that wait for IO, that are in a memory
+# stall, that are ready (including the running one), and that are both stalled and ready. PLACES has
+# the counts to which a task belongs, by its state and by whether it is in a memory stall.
 COUNTS = 4
 PLACES: dict[tuple[int, bool], tuple[int, ...]] = {
     (ASLEEP, False): (), (ASLEEP, True): (1,), (IOWAIT, False): (0,), (IOWAIT, True): (0, 1),
@@ -35,9 +35,8 @@ PLACES: dict[tuple[int, bool], tuple[int, ...]] = {
 
 
 class Clock:
-    """A group's clock on one processor: the number of its tasks that wait, are stalled, and are
-    ready (including the running one), and the masks of its states, each with the time (ns) from
-    which it holds.
+    """A group's clock on one processor: the four counts of its tasks, and the masks of its states,
+    each with the time (ns) from which on it holds.
     """
 
     __slots__ = ("counts", "moments", "masks")
@@ -48,7 +47,7 @@ class Clock:
         self.masks = bytearray(1)
 
     def put(self, moment: int, mask: int) -> None:
-        """From `moment` (ns) these states hold."""
+        """Stores that the states of `mask` hold from the time `moment` (ns) on."""
         if mask == self.masks[-1]:
             return
         if self.moments[-1] == moment:
@@ -59,8 +58,8 @@ class Clock:
 
 
 def mask_of(counts: Sequence[int], runs: bool, stalls: bool) -> int:
-    """The states of a group with these counts on a processor; `runs` says whether one of its tasks
-    runs there, and `stalls` whether that task is in a memory stall.
+    """Returns the mask of the states of a group with these counts on a processor. `runs` says
+    whether one of its tasks runs there, and `stalls` whether this task is in a memory stall.
     """
     waiting, stalled, ready, ready_stalled = counts
     mask = NONIDLE if waiting or stalled or ready else 0
@@ -78,13 +77,14 @@ def mask_of(counts: Sequence[int], runs: bool, stalls: bool) -> int:
 
 
 class Clocks(World[Task]):
-    """The clocks of a whole trace, computed from its lines. A group's clocks are those with its
-    number.
+    """The clocks of all groups of a trace, computed from its lines. A group's clocks are at the
+    index of its number.
     """
 
     def __init__(self, lines: Iterable[str]) -> None:
         super().__init__(Task)
-        # The clocks of each group, by processor, and those that change at the present time.
+        # The clocks of each group, by processor, and the groups whose clocks change at the current
+        # time, by processor.
         self.clocks: list[dict[int, Clock]] = [{}]
         self.changed = defaultdict[int, set[int]](set)
         for line in lines:
@@ -95,7 +95,9 @@ class Clocks(World[Task]):
         self.clocks.append({})
 
     def number_at(self, path: str, moment: int) -> int | None:
-        """Returns the number of the group that has this path at a time (ns), if any."""
+        """Returns the number of the group that has this path at a time (ns), or None if there is no
+        such group.
+        """
         for group in reversed([it for it in self.all if it.path == path]):
             if group.made <= moment:
                 is_live = group.removed is None or moment <= group.removed
@@ -103,14 +105,15 @@ class Clocks(World[Task]):
         return None
 
     def clock(self, group: int, processor: int) -> Clock:
-        """Returns the group's clock on this processor."""
+        """Returns the group's clock on this processor, and creates the clock if it doesn't exist.
+        """
         clocks = self.clocks[group]
         if processor not in clocks:
             clocks[processor] = Clock(self.all[group].made)
         return clocks[processor]
 
     def count(self, task: Task, step: int) -> None:
-        """Counts the task (1), or stops counting it (-1), in its groups."""
+        """Adds the task to the counts of its groups (`step` is 1), or subtracts it (-1)."""
         processor, groups = task.cpu, task.group.counted
         places = PLACES[task.state, task.is_stalled]
         for group in groups:
@@ -127,7 +130,7 @@ class Clocks(World[Task]):
         self.count(task, 1)
 
     def pass_to(self, moment: int) -> None:
-        """Stores the states that hold from `now` on, if they changed."""
+        """Stores the states that hold from the current time on, if they changed."""
         for processor, groups in self.changed.items():
             running = self.running.get(processor)
             above = running.group.counted if running else ()
@@ -140,15 +143,16 @@ class Clocks(World[Task]):
     # ------------------------------------------------------------ what the clocks say
 
     def times(self, group: int, moments: Sequence[int]) -> list[list[tuple[int, ...]]]:
-        """For each processor that the group was on: the ns in each state between each two
-        consecutive times. For a group that was on none they are all 0.
+        """Returns, for each processor that the group was on, the time (ns) in each state between
+        each two consecutive times. If the group was on no processor, the times of one idle
+        processor are returned.
         """
         idle: list[tuple[int, ...]] = [(0,) * STATES] * (len(moments) - 1)
         return [times_of(clock, moments) for clock in self.clocks[group].values()] or [idle]
 
 
 def times_of(clock: Clock, moments: Sequence[int]) -> list[tuple[int, ...]]:
-    """Returns the ns in each state between these times."""
+    """Returns the time (ns) in each state between each two consecutive times."""
     changes, masks = clock.moments, clock.masks
     place = bisect_right(changes, moments[0])
     mask, found = masks[place - 1] if place else 0, []

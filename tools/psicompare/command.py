@@ -48,15 +48,15 @@ from .moments import COMMON_RATE, Moments, period_of
 from .origin import must_be_in_order, must_be_of, must_have_switches_of
 from .table import LEVELS, MICROSECONDS, Limits, Row, Shown, Span, cell_of, report
 
-# The allowed errors of totals, in percent, at the root and in groups: with the kernel's sampling
-# times, and with a replay.
+# The allowed errors (percent) of totals at the root and in other groups: first for the kernel's
+# sampling times, then for a replay.
 LIMITS, REPLAY_LIMITS = (1.5, 2.5), (2.5, 4.0)
 TOO_FEW = "less than two readings of the machine's pressure files lie in the trace"
 
 
 class Options(NamedTuple):
-    """The parsed command line: times in ns and us, limits in percent. `tick_ms` is None for the
-    kernel's sampling times, and `hertz` is None if it comes from the recording.
+    """The parsed command line. Times are in ns and us, limits in percent. `tick_ms` is None if the
+    kernel's sampling times are used, and `hertz` is None if the recording has the rate.
     """
 
     folder: str
@@ -120,13 +120,15 @@ def options_of() -> Options:
 
 
 def start_of(options: Options, source: Source) -> int:
-    """Returns the start of the trace, in ns of the recording's clock."""
+    """Returns the start of the trace (ns of the recording's clock)."""
     must_be_in("--from", options.start, source.stop - source.start, "recording")
     return source.start + options.start - options.lead_in
 
 
 def span_line(first: int, last: int, length: int) -> str:
-    """Returns the readings that are compared, and the time between them (ns)."""
+    """Returns the line with the numbers of the first and last compared reading, and the time
+    between them (ns).
+    """
     return f"from reading {first} to {last} of the machine's files, {length / SECOND:.3f} s, in us"
 
 
@@ -134,8 +136,8 @@ def span_line(first: int, last: int, length: int) -> str:
 
 
 def end_of(trace: str) -> int:
-    """Returns the length of a trace in ns, from its last line. A trace made from samples is
-    rejected: it can't be compared with the events of a recording.
+    """Returns the length of a trace (ns), from its last line. Rejects a trace that was made from
+    samples, because it can't be compared with the events of a recording.
     """
     found = sampled(trace)
     if found:
@@ -160,7 +162,7 @@ def end_of(trace: str) -> int:
 
 
 def replayed(trace: str, tick_ms: int) -> str:
-    """Returns the output of psi_oomd for the trace, with a report each second."""
+    """Returns the output of psi_oomd for the trace, with one report per second."""
     program = named_program()
     words = [program, "replay", trace, "--tick-ms", str(tick_ms), "--report-s", "1"]
     try:
@@ -173,7 +175,7 @@ def replayed(trace: str, tick_ms: int) -> str:
 
 
 def by_replay(options: Options, tick_ms: int) -> tuple[list[Row], Shown]:
-    """Compares using a replay of the trace."""
+    """Compares the machine's files with a replay of the trace."""
     source = read_recording(options.folder, True)
     start, end = start_of(options, source), end_of(options.trace)
     must_be_of(source, options.trace, start, end, options.lead_in)
@@ -193,8 +195,8 @@ def by_replay(options: Options, tick_ms: int) -> tuple[list[Row], Shown]:
 
 
 def clocks_of(trace: str, edited: Callable[[Iterable[str]], Iterable[str]] = iter) -> Clocks:
-    """Returns the clocks of a trace whose lines were edited. psi_oomd checks that the trace is
-    valid; lines that can't be followed are errors here too.
+    """Returns the clocks of a trace whose lines `edited` may change. psi_oomd checks that the trace
+    is valid. Lines that can't be followed are errors here, too.
     """
     number = 1
 
@@ -222,8 +224,8 @@ def clocks_of(trace: str, edited: Callable[[Iterable[str]], Iterable[str]] = ite
 
 
 def extremes_of(options: Options, source: Source) -> list[Clocks]:
-    """Returns the clocks of the trace with each wakeup as late as it may have been counted, and as
-    early; none if that is unknown.
+    """Returns the clocks of the trace with each wakeup at the latest time at which the kernel may
+    have counted it, and with each at the earliest. Returns nothing if these times are unknown.
     """
     if not source.has_ready_probe and options.lag is None:
         return []
@@ -242,8 +244,8 @@ def extremes_of(options: Options, source: Source) -> list[Clocks]:
 
 
 def row_of(growth: Growth, phase: int | None, extremes: Sequence[Growth] = ()) -> Row:
-    """Returns a file's row; `phase` (ns) is None if the sampling times are known, and `extremes`
-    are the bounds of the trace's growth.
+    """Returns the row of a file. `phase` (ns) is None if the sampling times are known, and
+    `extremes` are the bounds of the trace's growth.
     """
     right = growth.true if growth.true != growth.told else None
     note = "" if phase is None else f"{phase // 10**6} ms"
@@ -253,12 +255,13 @@ def row_of(growth: Growth, phase: int | None, extremes: Sequence[Growth] = ()) -
 
 
 def is_shown(machine: dict[str, tuple[int, int]], options: Options) -> bool:
-    """Returns whether a group's files grew enough for a fit to be worthwhile."""
+    """Returns whether a group's files grew enough to fit its sampling times."""
     return max(max(it) for it in machine.values()) >= min(options.shown, options.limits.least)
 
 
 def by_moments(options: Options) -> tuple[list[Row], Shown]:
-    """Compares with each group sampled at the times at which the kernel did."""
+    """Compares the machine's files with the trace, each group sampled at the times of the kernel.
+    """
     source = read_recording(options.folder, True)
     start, clocks = start_of(options, source), clocks_of(options.trace)
     must_be_of(source, options.trace, start, clocks.now, options.lead_in)
@@ -288,7 +291,7 @@ def by_moments(options: Options) -> tuple[list[Row], Shown]:
 
 
 def bar_lines(options: Options, source: Source) -> list[str]:
-    """Explains the error bars."""
+    """Returns the lines that explain the ranges of growth."""
     if source.has_ready_probe:
         return [
             "from .. to: with wakeups at their events, and when psi counted them; what lies between"
@@ -303,7 +306,7 @@ def bar_lines(options: Options, source: Source) -> list[str]:
 
 
 def sampling_lines(told: Moments, fitted: bool, hertz: int, options: Options) -> list[str]:
-    """Explains how the sampling times were found."""
+    """Returns the lines that explain how the sampling times were found."""
     if told.is_known:
         line = "each group is sampled when the kernel did, as the recording says"
         return [
@@ -326,7 +329,7 @@ def sampling_lines(told: Moments, fitted: bool, hertz: int, options: Options) ->
 
 
 def cause_lines(rows: Sequence[Row], limits: Limits) -> list[str]:
-    """Returns the known causes of totals that exceed their limits."""
+    """Returns lines with the known causes of totals that exceed their limits."""
     cells = [(row, cell_of(row, level, limits)) for row in rows for level in range(len(LEVELS))]
     beyond = [(row, cell) for row, cell in cells if cell.is_beyond]
     short = [
@@ -353,7 +356,7 @@ def cause_lines(rows: Sequence[Row], limits: Limits) -> list[str]:
 
 
 def compare() -> int:
-    """Compares, and prints the table; returns the exit status."""
+    """Compares, prints the table, and returns the exit status."""
     options = options_of()
     must_be_in_order(options.folder, options.trace)
     show_containers([options.trace], options.values)
@@ -369,5 +372,5 @@ def compare() -> int:
 
 
 def main() -> int:
-    """Runs the command; returns the exit status."""
+    """Runs the command, and returns the exit status."""
     return run(compare)

@@ -1,7 +1,7 @@
-"""When the kernel sampled a recording's groups: at each reading of one of a group's files, and on
-its own some two seconds after the last time, as two probes of the recorder show. A probe identifies
-a group by the address of its accounts. Which address belongs to which group follows from the
-recorder's own readings, which read the files in a known order.
+"""Finds the times at which the kernel sampled the groups of a recording: at each reading of one of
+a group's files, and on its own about two seconds after the last sampling. Two probes of the
+recorder show these times. A probe identifies a group by the address of its accounts. The address of
+each group follows from the recorder's own readings, which read the files in a known order.
 """
 from __future__ import annotations
 
@@ -16,25 +16,27 @@ from psiread.pressure import Readings, recorder_of, spans_of
 from psiread.source import Source
 from psirec.layout import RESOURCES
 
-# The work is within a group's accounts, which have at most this many bytes.
+# A group's accounts have at most this number of bytes. The work item that samples the group is
+# within them.
 MOST_ACCOUNTS = 4096
-# The rates of kernels' timers; the commonest is the default. The periods at 300 Hz can't be
-# distinguished from those at 250, since each is up to 20 ms late; this makes no difference.
+# The rates (Hz) of kernels' timers. The most common rate is the default. The periods at 300 Hz
+# can't be distinguished from those at 250 Hz, since each is up to 20 ms late; this makes no
+# difference.
 RATES = (100, 250, 1000)
 COMMON_RATE = 250
-# Two samplings by the kernel itself are consecutive if the time between them is in this range, ns.
+# Two samplings by the kernel itself are consecutive if the time (ns) between them is in this range.
 LEAST_PERIOD, MOST_PERIOD = 1_950_000_000, 2_050_000_000
 
 
 def period_of(hertz: int) -> int:
-    """Returns the ns after which the kernel samples a group on its own (`PSI_FREQ`), if its timer
-    has this rate.
+    """Returns the time (ns) after which the kernel samples a group on its own (`PSI_FREQ`), for
+    this rate of the kernel's timer.
     """
     return (2 * hertz + 1) * SECOND // hertz
 
 
 class Moments:
-    """The sampling times in a recording. In `readings` each file has the time that the probe
+    """The sampling times in a recording. In `readings` each file has the time (ns) that the probe
     reported.
     """
 
@@ -48,7 +50,9 @@ class Moments:
             self.learn(source)
 
     def learn(self, source: Source) -> None:
-        """Takes the events of the probes."""
+        """Reads the events of the probes: the addresses of the groups, the sampling times and the
+        rate of the timer.
+        """
         shows = [it for it in source.events if isinstance(it, ShowProbe)]
         works: dict[int, list[int]] = defaultdict(list)
         for event in source.events:
@@ -65,9 +69,9 @@ class Moments:
             moments.sort()
 
     def match(self, source: Source, shows: list[ShowProbe]) -> None:
-        """Finds the addresses in the recorder's own readings, file by file. If a reading has a
-        different number of files, since some were removed or couldn't be read, it shows no
-        addresses; those of the previous one are used.
+        """Finds the addresses of the groups in the recorder's own readings, file by file. If a
+        reading has a different number of files, because some were removed or couldn't be read, the
+        addresses of the previous reading are used.
         """
         known: dict[str, int] = {}
         recorder, begins = recorder_of(source), [it.moment for it in shows]
@@ -95,15 +99,14 @@ class Moments:
             }
 
     def knows(self, path: str, number: int) -> bool:
-        """Returns whether the sampling times are known for the group that has this path at the
-        reading of this number.
+        """Returns whether the sampling times are known for the group that has this path at reading
+        number `number`.
         """
         return self.addresses.get(number, {}).get(path, 0) in self.sampled
 
     def between(self, path: str, number: int, begin: int, end: int) -> list[int]:
-        """Returns the times from `begin` to `end` at which the group was sampled that has this path
-        at the reading of this number; the ends of the stretch are included; ns of the recording's
-        clock.
+        """Returns the times (ns of the recording's clock) from `begin` to `end` at which the group
+        was sampled, including both ends. The group has this path at reading number `number`.
         """
         moments = self.sampled.get(self.addresses.get(number, {}).get(path, 0), [])
         return sorted(
@@ -112,8 +115,8 @@ class Moments:
 
 
 def offset_of(groups: dict[int, list[int]], works: dict[int, list[int]]) -> int:
-    """Returns the offset of the work in a group's accounts: the commonest difference among all
-    pairs.
+    """Returns the offset (bytes) of the work item in a group's accounts: the most common difference
+    among all pairs of addresses.
     """
     found = Counter(
         work - group for work in works for group in groups if 0 <= work - group < MOST_ACCOUNTS
@@ -122,8 +125,8 @@ def offset_of(groups: dict[int, list[int]], works: dict[int, list[int]]) -> int:
 
 
 def rate_of(works: dict[int, list[int]]) -> int | None:
-    """Returns the rate of the kernel's timer, from the length of the periods in each group's
-    longest run of them; None if there is no run.
+    """Returns the rate (Hz) of the kernel's timer, from the length of the periods in each group's
+    longest run of periods. Returns None if there is no run.
     """
     runs = [run for run in map(longest_run, works.values()) if run[0]]
     if not runs:
@@ -134,7 +137,7 @@ def rate_of(works: dict[int, list[int]]) -> int | None:
 
 
 def longest_run(moments: Sequence[int]) -> tuple[int, float]:
-    """Returns the largest number of consecutive periods, and their mean length, ns."""
+    """Returns the largest number of consecutive periods, and their mean length (ns)."""
     best, length, run = 0, 0.0, 0
     for place, moment in enumerate(moments):
         is_next = place > 0 and LEAST_PERIOD <= moment - moments[place - 1] <= MOST_PERIOD

@@ -1,6 +1,6 @@
-"""Checks that a trace was made from a recording: a comparison with another machine means nothing.
-The trace's processors, groups and length must be those of the recording, and its switches be at the
-times of the recording's.
+"""Checks that a trace was made from a recording, since a comparison with another machine means
+nothing. The processors, groups and length of the trace must be those of the recording, and its
+switches must be at the times of the recording's switches.
 """
 from __future__ import annotations
 
@@ -14,12 +14,12 @@ from psireplay.trace import cpus_in, events_of, groups_of
 from psirec.layout import escaped_path
 from psiworld.groups import ROOT, prefixes_of
 
-# The time (ns) by which a trace may exceed the rest of its recording: --to doesn't round, so this
-# is hardly ever used.
+# The time (ns) by which a trace may exceed the rest of its recording. It is rarely needed, because
+# --to doesn't round.
 SLACK = 10**9
-# The least share of a trace's switches that must be at times of the recording's switches. Some
-# aren't events of the recording: a task that begins to sleep or to wait, or exits, is switched to
-# for no time, and so is a task that the converter puts to sleep.
+# The smallest share of a trace's switches that must be at times of the recording's switches. Some
+# switches aren't events of the recording: the converter may switch to a task for no time, so that
+# the task can begin to sleep or to wait, or exit.
 LEAST_SHARE = 0.5
 
 
@@ -30,7 +30,7 @@ def must_be_in_order(folder: str, trace: str) -> None:
 
 
 def processors_of(trace: str) -> int:
-    """Returns the number of a trace's processors; 0 if it has no header."""
+    """Returns the number of a trace's processors, or 0 if the trace has no header."""
     try:
         with open(trace, "rb") as file:
             return cpus_in(file) or 0
@@ -40,7 +40,7 @@ def processors_of(trace: str) -> int:
 
 def must_be_of(source: Source, trace: str, start: int, length: int, lead_in: int) -> None:
     """Rejects a trace with a different number of processors, with groups that the recording doesn't
-    have, or that is longer than the rest of the recording from `start`. Times are ns.
+    have, or with a greater length than the rest of the recording from `start` on. Times are in ns.
     """
     processors = processors_of(trace)
     if processors < source.processors or (processors > source.processors and not lead_in):
@@ -64,7 +64,7 @@ def must_be_of(source: Source, trace: str, start: int, length: int, lead_in: int
 
 
 def groups_in(source: Source) -> set[str]:
-    """Returns all groups that a recording names, and their ancestors."""
+    """Returns the paths of all groups that a recording names, and of their ancestors."""
     made = {
         escaped_path(event.path)
         for event in source.events
@@ -79,8 +79,8 @@ def groups_in(source: Source) -> set[str]:
 
 
 def must_have_switches_of(source: Source, trace: str, start: int, lead_in: int) -> None:
-    """Rejects a trace if most of its switches, after the warm-up, aren't at times of the
-    recording's. Times are ns.
+    """Rejects a trace if too few of its switches after the warm-up are at times of the recording's
+    switches. Times are in ns.
     """
     moments = {event.moment - start for event in source.events if isinstance(event, Switch)}
     found = count = 0
@@ -99,5 +99,5 @@ def must_have_switches_of(source: Source, trace: str, start: int, lead_in: int) 
 
 
 def other(trace: str, why: str) -> str:
-    """Returns the message that rejects a trace."""
+    """Returns the message for a trace that isn't of this recording."""
     return f"{trace}: this trace isn't of this recording: {why}"

@@ -1,8 +1,8 @@
-"""A group's totals as the kernel adds them up (`collect_percpu_times` of `kernel/sched/psi.c`): at
-each sampling time each state's total grows by the mean of its growth on the processors, weighted by
-the ticks of the timer for which the group was not idle there.
+"""A group's totals as the kernel adds them up (`collect_percpu_times` of `kernel/sched/psi.c`). At
+each sampling, a state's total grows by the mean of its growth on the processors. The weight of a
+processor is the number of timer ticks for which the group was not idle on it.
 
-The kernel stores these growths in 32 bits: if a state held for 4.295 s or longer between two
+The kernel stores these growths in 32 bits. If a state held for 4.295 s or longer between two
 samplings, only the remainder is counted.
 """
 from __future__ import annotations
@@ -18,13 +18,13 @@ from .clocks import STATES, Clocks
 
 WIDTH = 2**32
 NONIDLE = STATES - 1
-# The growth of each state of one processor in one interval, ns.
+# The growth (ns) of each state on one processor in one interval.
 Times = Sequence[int]
 
 
 class Step(NamedTuple):
-    """The growth of the totals of the states at a sampling, ns: as the kernel computes it, in 32
-    bits, and as it would in 64.
+    """The growth (ns) of the totals of the states at one sampling: `told` as the kernel computes it
+    in 32 bits, `true` in 64 bits.
     """
 
     told: list[int]
@@ -32,8 +32,8 @@ class Step(NamedTuple):
 
 
 def shares(processors: Sequence[Times], hertz: int) -> list[int]:
-    """Returns the growth of each state but `nonidle` in an interval, ns; `hertz` is the rate of the
-    kernel's timer.
+    """Returns the growth (ns) of each state except `nonidle` in an interval. `hertz` is the rate of
+    the kernel's timer.
     """
     weights = [times[NONIDLE] * hertz // SECOND for times in processors]
     whole = max(1, sum(weights))
@@ -44,7 +44,7 @@ def shares(processors: Sequence[Times], hertz: int) -> list[int]:
 
 
 def step_of(processors: Sequence[Times], hertz: int) -> Step:
-    """Returns the growth in an interval."""
+    """Returns the growth of the totals in an interval, in 32 and in 64 bits."""
     true = shares(processors, hertz)
     if all(times[NONIDLE] < WIDTH for times in processors):
         return Step(true, true)
@@ -52,7 +52,7 @@ def step_of(processors: Sequence[Times], hertz: int) -> Step:
 
 
 class Totals(NamedTuple):
-    """The growth of the totals of the states since the first sampling, ns: in 32 and 64 bits, as in
+    """The growth (ns) of the totals of the states since the first sampling, in 32 and 64 bits as in
     `Step`.
     """
 
@@ -61,8 +61,8 @@ class Totals(NamedTuple):
 
 
 class Sums:
-    """A group's totals for any selection of the times (ns of the trace, ascending) as sampling
-    times.
+    """A group's totals, for any selection of the given times (ns of the trace, ascending) as
+    sampling times.
     """
 
     def __init__(self, clocks: Clocks, group: int, moments: Sequence[int], hertz: int) -> None:
@@ -75,7 +75,9 @@ class Sums:
         self.steps: dict[tuple[int, int], Step] = {}
 
     def step(self, first: int, last: int) -> Step:
-        """Returns the growth between the times with these indexes, which is computed once."""
+        """Returns the growth between the times with these indexes. Each growth is computed only
+        once.
+        """
         if (first, last) not in self.steps:
             grown = [
                 [after - before for before, after in zip(times[first], times[last])]
@@ -85,7 +87,7 @@ class Sums:
         return self.steps[first, last]
 
     def at(self, chosen: Sequence[int]) -> dict[int, Totals]:
-        """Returns the totals at each chosen time, in order, counted from the first."""
+        """Returns the totals at each chosen time, in order. The totals at the first time are 0."""
         told = true = [0] * NONIDLE
         found = {chosen[0]: Totals(told, true)}
         for before, after in zip(chosen, chosen[1:]):

@@ -1,4 +1,5 @@
-"""The table of tools/compare: which totals of each file are shown, and which exceed their limits.
+"""The table of tools/compare: the totals of each file on the machine and in the trace, and the
+totals that exceed their limits.
 """
 from __future__ import annotations
 
@@ -12,8 +13,8 @@ MICROSECONDS = 10**6
 
 
 class Limits(NamedTuple):
-    """The allowed errors of a total, in percent, at the root and in other groups; and the growth
-    (us) from which they apply.
+    """The allowed errors (percent) of a total at the root and in other groups, and the growth (us)
+    from which on they apply.
     """
 
     root: float
@@ -21,21 +22,21 @@ class Limits(NamedTuple):
     least: int
 
     def most(self, file: File) -> float:
-        """Returns the allowed error of this file's totals, in percent."""
+        """Returns the allowed error (percent) of this file's totals."""
         return self.root if file.path == "/" else self.groups
 
 
 class Span(NamedTuple):
-    """The range of a total's growth, in us, if the recording doesn't determine it exactly."""
+    """The range (us) of a total's growth, if the recording doesn't determine the growth exactly."""
 
     low: int
     high: int
 
 
 class Row(NamedTuple):
-    """The comparison for a file: the growth of its totals of some and full, us. `bars` has the
-    ranges of the trace's growth. If the machine's sums have lost something, `right` has what they
-    should have been; and `note` is in a column of its own.
+    """The comparison for a file: the growth (us) of its totals of some and full. `bars` has the
+    ranges of the trace's growth. `right` is the correct growth if the kernel's 32-bit sums lost a
+    part. `note` is shown in the last column.
     """
 
     file: File
@@ -47,7 +48,7 @@ class Row(NamedTuple):
 
 
 class Cell(NamedTuple):
-    """One number of a row: the least and the greatest error of the trace in percent, whether the
+    """One number of a row: the smallest and the largest error of the trace (percent), whether the
     limit applies, and whether it is exceeded.
     """
 
@@ -57,12 +58,14 @@ class Cell(NamedTuple):
 
 
 def bar_of(row: Row, level: int) -> Span:
-    """Returns the range of the trace's some (0) or full (1)."""
+    """Returns the range of the trace's growth of some (`level` is 0) or full (1)."""
     return row.bars[level] if row.bars else Span(row.trace[level], row.trace[level])
 
 
 def cell_of(row: Row, level: int, limits: Limits) -> Cell:
-    """Returns the result for a row's some (0) or full (1)."""
+    """Returns the error of a row's some (`level` is 0) or full (1), and how it compares with the
+    limit.
+    """
     machine, bar, most = row.machine[level], bar_of(row, level), limits.most(row.file)
     is_asked = max(machine, bar.high) >= limits.least
     if not machine:
@@ -72,8 +75,8 @@ def cell_of(row: Row, level: int, limits: Limits) -> Cell:
 
 
 def words_of(row: Row, level: int, cell: Cell) -> list[str]:
-    """Returns the three cells of a table's row: the machine's growth, the trace's, and the
-    error.
+    """Returns the three cells for one level of a row: the machine's growth, the trace's growth, and
+    the error.
     """
     words = "-"
     if cell.off:
@@ -88,7 +91,9 @@ def words_of(row: Row, level: int, cell: Cell) -> list[str]:
 
 
 def table_of(rows: Sequence[Sequence[str]]) -> str:
-    """Returns a table in Markdown with aligned columns; the first two are aligned left."""
+    """Returns a table in Markdown with aligned columns. The first two columns are aligned to the
+    left.
+    """
     widths = [max(len(row[place]) for row in rows) for place in range(len(rows[0]))]
     columns = list(enumerate(widths))
     lines = [
@@ -109,7 +114,9 @@ def table_of(rows: Sequence[Sequence[str]]) -> str:
 
 
 def wrap_lines(rows: Sequence[Row]) -> list[str]:
-    """Returns what the machine's files should have contained if its sums have lost something."""
+    """Returns lines with the correct values of the machine's files, if the kernel's sums lost a
+    part.
+    """
     lines = [
         f"  {row.file.path} {row.file.resource}: some {row.right[0]}, full {row.right[1]}"
         for row in rows
@@ -123,7 +130,7 @@ def wrap_lines(rows: Sequence[Row]) -> list[str]:
 
 
 def verdict_of(cells: Sequence[Cell], limits: Limits, has_bars: bool) -> str:
-    """Returns the number of totals that are within their limits."""
+    """Returns the line with the number of totals that are within their limits."""
     asked, beyond = sum(it.is_asked for it in cells), sum(it.is_beyond for it in cells)
     least, said = (
         f"{limits.least / MICROSECONDS:g} s",
@@ -140,8 +147,9 @@ def verdict_of(cells: Sequence[Cell], limits: Limits, has_bars: bool) -> str:
 
 
 class Shown(NamedTuple):
-    """How a table is shown: the lines above it, the name of its second numbers, the head of its
-    notes (empty if it has none), and the growth (us) from which a file is shown.
+    """How a table is shown: the lines above it, the name of the trace's numbers, the head of the
+    column of notes (empty if there are no notes), and the growth (us) from which on a file is
+    shown.
     """
 
     head: list[str]

@@ -1,1 +1,1 @@
-"""An incident on one page: an HTML file that needs nothing beside it."""
+"""Writes a report on an incident: one HTML file that needs no other file and no network."""

@@ -1,4 +1,6 @@
-"""What oomd 0.5.0 would have done, by its own configuration: a part of the page."""
+"""The section of the page on oomd 0.5.0: the kills that it would have made with a given
+configuration.
+"""
 from __future__ import annotations
 
 import json
@@ -16,7 +18,7 @@ SHOWN = 8
 
 
 def section(page: Element, facts: Facts, runs: Runs) -> None:
-    """Whom tools/oomd says that oomd would have killed, if a configuration is given."""
+    """Adds the section with the kills that tools/oomd computes, if a configuration is given."""
     given = facts.given
     if given.oomd is None:
         return

@@ -1,4 +1,4 @@
-"""The command: its words, and the page that they ask for."""
+"""The command line of tools/report, and the page that it writes."""
 from __future__ import annotations
 
 import os
@@ -77,7 +77,7 @@ def read_words() -> Given:
 
 
 def write_page(page: bytes, name: str | None) -> None:
-    """Writes the page; a file whole or not at all."""
+    """Writes the page to standard output or to a file. After an error the file is unchanged."""
     if name is None:
         write(page)
         return
@@ -93,7 +93,7 @@ def write_page(page: bytes, name: str | None) -> None:
 
 
 def report() -> int:
-    """Writes the page that the arguments ask for."""
+    """Parses the command line, and writes the page."""
     given = read_words()
     if given.output is not None:
         must_be_writable(given.output)
@@ -107,5 +107,5 @@ def report() -> int:
 
 
 def main() -> int:
-    """Runs the command; returns the exit status."""
+    """Runs the command, and returns the exit status."""
     return run(report)

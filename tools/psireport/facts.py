@@ -1,4 +1,4 @@
-"""Everything that the page shows, as the commands say it."""
+"""Collects everything that the page shows, from the output of psi_oomd and the other tools."""
 from __future__ import annotations
 
 import hashlib
@@ -31,12 +31,13 @@ from .reading import Peaks, read_peaks, thin
 from .story import After, Stretch, Subject, after, greater_than, stretch_of, subject_of
 
 BEGAN = re.compile(r"psitrace: 0 is (\d{4}-\d\d-\d\d \d\d:\d\d:\d\d)\.(\d{3}) UTC")
-# compare's status where a total is beyond its limit, and psitrace's where something was lost.
+# The exit status of tools/compare if a total exceeds its limit, and of tools/psitrace if events
+# were lost.
 BEYOND, LOST = 1, 3
 
 
 class Given(NamedTuple):
-    """What the words say."""
+    """The parsed command line. Times are in ms or s, as in the names of the options."""
 
     trace: str
     rules: Optional[str]
@@ -70,8 +71,8 @@ class Given(NamedTuple):
 
 
 class Recorded(NamedTuple):
-    """What is known about the recording that the trace was made from. `is_same` says whether
-    psitrace makes exactly this trace.
+    """What is known about the recording from which the trace was made: the results of tools/compare
+    and tools/psitrace. `is_same` says whether psitrace makes exactly this trace.
     """
 
     compared: Done
@@ -80,7 +81,9 @@ class Recorded(NamedTuple):
 
 
 class Supposed(NamedTuple):
-    """What `whatif` says, and what blame says of who waited while the first victim ran."""
+    """The output of `whatif`, and what tools/blame says about the groups that waited while the
+    first victim ran.
+    """
 
     run: Done
     replay: Replay
@@ -90,7 +93,9 @@ class Supposed(NamedTuple):
 
 
 class Blamed(NamedTuple):
-    """What blame says of the whole trace, and of the subject in the worst stretch."""
+    """What tools/blame says about the whole trace, and about the subject in its worst stretch of
+    time.
+    """
 
     run: Done
     all: dict[str, Any]
@@ -99,8 +104,9 @@ class Blamed(NamedTuple):
 
 
 class Facts(NamedTuple):
-    """All that the page has. The replay has series of the drawn groups; `greatest` is what stalled
-    more than the subject, which the rules watch. `unmatched` are patterns that match no group.
+    """Everything that the page shows. The replay has the series of the drawn groups. `greatest` is
+    what stalled more than the subject, which the rules check. `unmatched` are patterns that match
+    no group.
     """
 
     given: Given
@@ -114,10 +120,10 @@ class Facts(NamedTuple):
     drawn: list[tuple[str, str]]
     samples: Optional[Samples]
     wall: Optional[WallTime]
-    # None of a trace that was made of samples, which doesn't say who ran when.
+    # None for a trace that was made from samples, which don't show which tasks ran.
     blamed: Optional[Blamed]
     judged: Optional[Judged]
-    # Why each ruleset fired or didn't.
+    # The explanation of why each ruleset fired or didn't.
     parts: list[Part]
     supposed: Optional[Supposed]
     recorded: Optional[Recorded]
@@ -126,7 +132,7 @@ class Facts(NamedTuple):
 
 
 def sum_of(path: str) -> str:
-    """Returns the SHA-256 of a file."""
+    """Returns the SHA-256 of a file, in hexadecimal."""
     found = hashlib.sha256()
     with open(path, "rb") as file:
         while piece := file.read(1 << 20):
@@ -135,7 +141,7 @@ def sum_of(path: str) -> str:
 
 
 def sums(facts_of: Given) -> Iterator[tuple[str, str]]:
-    """Yields the files that were read, with their sums."""
+    """Yields the name and the SHA-256 of each file that was read."""
     for name in (facts_of.trace, facts_of.rules, facts_of.drop_in):
         if name is not None:
             yield name, sum_of(name)
@@ -146,8 +152,8 @@ def sums(facts_of: Given) -> Iterator[tuple[str, str]]:
 
 
 def began(summary: str) -> Optional[WallTime]:
-    """Returns the time of day at which the trace began, from psitrace's summary; None if it isn't
-    known.
+    """Returns the time of day at which the trace began, from the summary of psitrace, or None if
+    the summary doesn't have it.
     """
     found = BEGAN.search(summary)
     if not found:
@@ -172,7 +178,7 @@ def recorded(runs: Runs, given: Given) -> Optional[Recorded]:
 
 
 def judge(runs: Runs, given: Given, run: Done) -> Optional[Judged]:
-    """Returns how the rules evaluated; None if no rules are given."""
+    """Returns the evaluations of the rules, or None if no rules are given."""
     if given.rules is None:
         return None
     return judged_of(
@@ -181,7 +187,7 @@ def judge(runs: Runs, given: Given, run: Done) -> Optional[Judged]:
 
 
 def suppose(runs: Runs, given: Given, replay: Replay, subject: Subject) -> Optional[Supposed]:
-    """Returns the results of a replay without the killed groups; None if nothing is killed."""
+    """Returns the results of a replay without the killed groups, or None if no group is killed."""
     if not replay.kills:
         return None
     run = runs.program(
@@ -201,8 +207,8 @@ def suppose(runs: Runs, given: Given, replay: Replay, subject: Subject) -> Optio
 def drawn_of(
     peaks: Peaks, subject: Subject, greatest: Optional[Subject], given: Given
 ) -> list[tuple[str, str]]:
-    """Returns which groups and resources are drawn, the subject's first: of each resource the
-    subject's group, and those that stalled most, or those that the words name.
+    """Returns the groups and resources that are drawn, the subject's first. Each resource has the
+    subject's group, and the groups of the command line or else those that stalled most.
     """
     resources = [it for it in RESOURCES if it in peaks.resources]
     resources.sort(key=lambda it: it != subject.resource)
@@ -219,7 +225,7 @@ def drawn_of(
 
 
 def stretch_in(replay: Replay, subject: Subject) -> Stretch:
-    """Returns the stretch of time with the highest pressure of the subject."""
+    """Returns the stretch of time in which the subject's pressure was highest."""
     return (
         stretch_of(replay.series[subject], subject.level)
         if subject in replay.series
@@ -233,8 +239,8 @@ def blamed(runs: Runs, given: Given, *words: str) -> tuple[Done, dict[str, Any]]
 
 
 def blamed_of(runs: Runs, given: Given, subject: Subject, stretch: Stretch) -> Blamed:
-    """Returns the output of tools/blame for all groups in the whole trace, and for the subject in
-    its stretch.
+    """Returns the output of tools/blame for the whole trace, and for the subject in its worst
+    stretch of time.
     """
     whole = blamed(runs, given)
     words = [f"--group={subject.path}"]
@@ -244,7 +250,7 @@ def blamed_of(runs: Runs, given: Given, subject: Subject, stretch: Stretch) -> B
 
 
 def samples_of(given: Given, groups: list[str], end: int) -> Optional[Samples]:
-    """Returns the samples of memory of drawn groups, where the trace has some."""
+    """Returns the memory samples of the drawn groups, or None if the trace has none."""
     samples = Samples(given.trace, groups, end)
     return (
         samples if any(life.samples for lives in samples.lives.values() for life in lives) else None
@@ -252,7 +258,9 @@ def samples_of(given: Given, groups: list[str], end: int) -> Optional[Samples]:
 
 
 def must_be_files(given: Given) -> None:
-    """Each file is there and is no folder; else the fault says which one."""
+    """Checks that each input exists and isn't a folder. Otherwise raises a fault that names the
+    input.
+    """
     for what, name in (
         ("trace", given.trace),
         ("rules file", given.rules),
@@ -270,18 +278,18 @@ def must_be_files(given: Given) -> None:
 
 
 def zoned(wall: Optional[WallTime], given: Given) -> Optional[WallTime]:
-    """Returns the time in the requested zone."""
+    """Returns the time in the time zone of the command line."""
     return in_zone(wall, given.values["tz"]) if wall else None
 
 
 def with_paths(words: list[str], peaks: Peaks, names: GroupNames) -> list[str]:
-    """Returns the paths of the groups that the words name."""
+    """Returns the paths of the groups that the command line names."""
     paths = sorted({path for path, _, _ in peaks.found})
     return list(dict.fromkeys(names.find(word, paths, "in the replay") for word in words))
 
 
 def collect(runs: Runs, given: Given) -> Facts:
-    """Runs all commands."""
+    """Runs all commands, and returns what the page shows."""
     must_be_files(given)
     known = recorded(runs, given)
     run = runs.program(

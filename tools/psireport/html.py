@@ -1,4 +1,5 @@
-"""Elements of the page. All text goes through them, so that none of it can be taken for markup."""
+"""Makes HTML elements. All text goes through these functions, so that no text is taken for markup.
+"""
 from __future__ import annotations
 
 import json
@@ -14,7 +15,7 @@ Words = Union[str, Element]
 
 
 def say(parent: Element, tag: str, *words: Words, **attributes: str) -> Element:
-    """Returns a new element with text and elements in it, in this order."""
+    """Adds an element that contains these words and elements, in this order, and returns it."""
     element = add(parent, tag, None, **attributes)
     for word in words:
         if isinstance(word, ElementTree.Element):
@@ -42,8 +43,8 @@ def table(
     rows: Iterable[Iterable[str]],
     named: int = 1,
 ) -> Element:
-    """Returns a table whose first cells are texts, and the others numbers; in a box of its own,
-    which can be moved where it is too wide.
+    """Adds a table in a scrollable box, and returns it. The first cells of each row are text, the
+    others are numbers.
     """
     box = add(parent, "div", class_="wide", tabindex="0", role="region", aria_label=caption)
     found = add(box, "table")
@@ -62,14 +63,14 @@ def table(
 
 
 def folded(parent: Element, summary: str) -> Element:
-    """Adds a collapsed block with this summary, and returns it."""
+    """Adds a collapsed block with this summary, and returns the block."""
     found = add(parent, "details")
     say(found, "summary", summary)
     return found
 
 
 def name_groups(page: Element, names: GroupNames) -> None:
-    """Shows containers by their names, except in commands."""
+    """Replaces the identifiers of containers by their names in all text except commands."""
     for element in page.iter():
         if element.tag != "code":
             element.text = element.text and names.in_text(element.text)
@@ -82,8 +83,8 @@ CONTROLS = re.compile(r"[\x00-\x08\x0b-\x1f\x7f-\x9f]")
 
 
 def escape_controls(page: Element) -> None:
-    """Writes each control character of a name as its escape, as `\\x1b`: no browser shows it, and
-    HTML has none.
+    """Replaces each control character by an escape such as `\x1b`, since HTML can't contain control
+    characters.
     """
 
     def escaped(text: str) -> str:
@@ -96,5 +97,6 @@ def escape_controls(page: Element) -> None:
 
 
 def data_of(value: Any) -> str:
-    """Returns a value for the script, in which nothing ends the element that has it."""
+    """Returns a value as JSON for a script element. No character of the JSON can end the element.
+    """
     return json.dumps(value, separators=(",", ":")).replace("<", "\\u003c")

@@ -1,4 +1,6 @@
-"""The part of the page on rules: when their detectors were true, how near they came, and what came of it."""
+"""The section of the page on rules: when the detectors were true, and what the kills would have
+changed.
+"""
 from __future__ import annotations
 
 from typing import Any, Optional
@@ -39,7 +41,9 @@ def rules(page: Element, facts: Facts) -> Optional[Picture]:
 
 
 def ruleset(section: Element, facts: Facts, judged: Judged, number_: int) -> None:
-    """When its detectors were true, and how near each came."""
+    """Adds the part on one ruleset: when its detectors were true, and how near each came to its
+    threshold.
+    """
     axis = time_axis(0, facts.replay.end.moment, None)
     name = judged.rules.rulesets[number_].name
     kills = [it for it in facts.replay.kills if it.ruleset == number_]
@@ -87,8 +91,7 @@ def truth_text(judged: Judged, place: Place) -> str:
 
 
 def supposed_kills(section: Element, facts: Facts) -> Picture:
-    """Adds the part of the page on the time after the kills, from the output of `whatif`. Returns
-    its picture.
+    """Adds the part on the time after the kills, from the output of `whatif`. Returns its picture.
     """
     supposed = facts.supposed
     assert supposed

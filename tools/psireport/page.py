@@ -1,4 +1,4 @@
-"""The whole page: its parts, its style and its script, in one file."""
+"""The whole page in one file: its sections, its style and its script."""
 from __future__ import annotations
 
 import os
@@ -20,13 +20,15 @@ FOLDER = os.path.dirname(os.path.abspath(__file__))
 
 
 def file_of(name: str) -> str:
-    """Returns the contents of a file of this package."""
+    """Returns the text of a file in the folder of this package."""
     with open(os.path.join(FOLDER, name), encoding="utf-8") as file:
         return file.read()
 
 
 def when(facts: Facts) -> str:
-    """Returns the sentence with the trace's name, its length, and its time of day if known."""
+    """Returns the line with the trace's name, its length, and the time of day of its start if
+    known.
+    """
     length = f"{os.path.basename(facts.given.trace)}, {rounded(facts.replay.end.moment)}"
     if not facts.wall:
         return length
@@ -35,7 +37,9 @@ def when(facts: Facts) -> str:
 
 
 def made(page: Element, facts: Facts, runs: Runs) -> None:
-    """The commands, the commit and the sums."""
+    """Adds the section on how the page was made: the commands, the program and the sums of the
+    files.
+    """
     section = add(page, "section", id="made")
     say(section, "h2", "How it was made")
     words = shlex.join(["tools/report", *sys.argv[1:]])
@@ -76,8 +80,8 @@ def made(page: Element, facts: Facts, runs: Runs) -> None:
 
 
 def report_line(facts: Facts) -> str:
-    """Returns a grep command that finds, in the output of its command, the report with the highest
-    share, which the first sentence quotes.
+    """Returns a grep command that finds the quoted report in the output of its command: the report
+    with the highest share.
     """
     head = f"report {facts.stretch.at} {facts.subject.path} {facts.subject.resource}"
     return f"grep -A2 '^{head}$'"

@@ -1,5 +1,5 @@
-"""The pictures of the page, drawn by the charts' own modules: a time line for each group and
-resource, and a strip for each detector.
+"""The pictures of the page: a time line for each group and resource, and a strip for each detector.
+The time lines are drawn by psichart.
 """
 from __future__ import annotations
 
@@ -21,21 +21,22 @@ from psiwhy.truths import spans
 MS = 10**6
 USE = "use"
 HEIGHT = 132
-# All of the time, in hundredths of a percent.
+# The whole time, in hundredths of a percent.
 WHOLE = 10_000
-# Room above a picture's name for texts of kills, and below it for the numbers of the time.
+# The room (pixels) above a picture's name for the labels of kills, and below the panel for the
+# times.
 TOP, BOTTOM = 8, 22
-# The most characters of a picture's name that fit on a phone, whose letters are twice as large; a
-# memory picture has a legend to the right of its name.
+# The largest number of characters in a picture's name, so that it fits on a phone, whose letters
+# are twice as large. A memory picture has a legend to the right of its name.
 LONGEST, LONGEST_OF_MEMORY = 60, 42
-# Below a picture's values stand the ticks of events.
+# The height (pixels) of the ticks for events, below the curves of a picture.
 EVENTS = 16
-# A strip is so wide and high, whatever it is stretched to.
+# The width and the height of a strip in its own units. The page stretches the strip.
 STRIP, STRIP_HEIGHT = 1000, 12
 
 
 class Picture(NamedTuple):
-    """A picture with what it shows, and what the script draws it from."""
+    """A picture, the group and resource that it shows, and the values for the script."""
 
     path: str
     resource: str
@@ -45,10 +46,10 @@ class Picture(NamedTuple):
 
 
 class Figure(Chart):
-    """A chart of one group and one resource, without a title and a legend of its own."""
+    """A chart of one group and one resource, without a title and without a legend."""
 
     def __init__(self, wanted: Wanted, has_labels: bool = True) -> None:
-        """Without labels the upright lines have their tooltips alone."""
+        """Makes the chart. Without labels, the vertical lines have only tooltips."""
         super().__init__(wanted)
         for mark in [] if has_labels else self.marks:
             mark.row = None
@@ -62,7 +63,7 @@ class Figure(Chart):
         self.bottom = self.top + self.height + EVENTS
 
     def most(self) -> int:
-        """Returns the value at the upper edge of its panel."""
+        """Returns the value at the upper edge of the chart's panel."""
         panel = self.panels[0]
         most = panel.most()
         step = panel.apart(most)
@@ -88,19 +89,19 @@ class Figure(Chart):
         return self.svg
 
     def scale_remark(self, panel: Panel) -> str:
-        """Says that the scale ends below 100 percent, since the picture beside it may end
-        elsewhere.
+        """Returns a note if the scale ends below 100 percent, since other pictures may have another
+        scale.
         """
         if panel.kind == USE or panel.is_flat() or self.most() >= WHOLE:
             return ""
         return f"scale to {decimal(self.most() / 100)} %"
 
     def has_events(self) -> bool:
-        """Returns whether any picture has some: the legend is that of all."""
+        """Returns whether any picture has events, since all pictures share one legend."""
         return any(self.replay.events.values())
 
     def legend(self) -> Element:
-        """Returns the legend of all pictures."""
+        """Returns the legend that all pictures share."""
         self.svg = ElementTree.Element(
             "svg", {"viewBox": f"0 38 {WIDTH} {46 if self.wanted.recorded else 26}", "role": "img"}
         )
@@ -140,7 +141,7 @@ def pressure_data(replay: Replay, path: str, resource: str) -> dict[str, Any]:
 
 
 def memory_data(panel: MemoryPanel) -> dict[str, Any]:
-    """Returns the samples of a group: moments in ms, and bytes."""
+    """Returns the memory samples of a group for the script: times in ms, and sizes in bytes."""
     rows: list[tuple[Optional[int], Optional[int], Optional[int]]] = []
     for life in panel.lives:
         rows += [(None, None, None)] if rows else []
@@ -154,7 +155,7 @@ def memory_data(panel: MemoryPanel) -> dict[str, Any]:
 
 
 def picture(wanted: Wanted, has_labels: bool) -> Picture:
-    """Returns the picture of a group's pressure, or of its memory, as `wanted` requests."""
+    """Returns the picture of a group's pressure, or of its memory, as `wanted` describes."""
     figure = Figure(wanted, has_labels)
     panel, path = figure.panels[0], wanted.replay.groups[0]
     if isinstance(panel, PressurePanel):
@@ -181,8 +182,8 @@ def of_group(replay: Replay, path: str) -> Replay:
 
 
 class Album:
-    """Draws pictures of one replay on one axis. The first one has labels beside upright lines,
-    which go through all.
+    """Draws the pictures of one replay with one time axis. Only the first picture has labels at its
+    vertical lines, which go through all pictures.
     """
 
     def __init__(
@@ -219,8 +220,9 @@ class Album:
 def strip(
     what: str, axis: TimeAxis, evaluations: list[int], kinds: dict[str, list[int]], marks: list[int]
 ) -> Element:
-    """Returns when something was true: a rectangle of each kind's look from its first evaluation to
-    the one after its last, and upright lines.
+    """Returns a strip that shows when conditions were true. Each kind has rectangles from the first
+    evaluation at which it was true to the one after the last. `marks` are times (ns) of vertical
+    lines.
     """
     said = "; ".join(
         told_spans(spans(moments, evaluations)) for moments in list(kinds.values())[-1:]
@@ -246,7 +248,7 @@ def strip(
 
 
 def told_spans(found: list[tuple[int, int]]) -> str:
-    """From when to when, in words; of many the first ones."""
+    """Returns the periods (ns) as text, at most the first six of them."""
     texts = [
         f"from {seconds(start)} to {seconds(end)} s" if end > start else f"at {seconds(start)} s"
         for start, end in found

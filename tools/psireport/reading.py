@@ -1,4 +1,6 @@
-"""What a replay says of all groups, read in one go: who stalled most; and what of it is drawn."""
+"""Reads the pressure of all groups from a replay in one pass, and reduces series to what a picture
+can show.
+"""
 from __future__ import annotations
 
 import collections
@@ -7,16 +9,17 @@ from typing import Iterable, NamedTuple
 from psichart.replay import Replay, Series
 from psireplay.lines import AVERAGES, LEVELS, Kill, Report, read
 
-# A share below this, in hundredths of a percent, is next to nothing.
+# A share below this value, in hundredths of a percent, counts as no stall.
 LEAST = 100
-# Groups that are drawn of each resource, and stretches of which the highest values are kept.
+# The number of groups that are drawn for each resource, and the number of parts into which the time
+# is divided. Each part keeps its highest values.
 DRAWN = 3
 STRETCHES = 300
 
 
 class Peak(NamedTuple):
-    """The highest share over 10 s, in hundredths of a percent, and the moment (ns) when it was
-    reached first.
+    """The highest share over 10 s, in hundredths of a percent, and the first time (ns) at which it
+    was reached.
     """
 
     share: int
@@ -24,7 +27,7 @@ class Peak(NamedTuple):
 
 
 class Peaks:
-    """The highest `some` and `full` of each group and resource, and all kills."""
+    """The highest `some` and `full` shares of each group and resource, and all kills."""
 
     def __init__(self) -> None:
         self.found: dict[tuple[str, str, str], Peak] = {}
@@ -42,8 +45,8 @@ class Peaks:
         return self.found.get((path, resource, level), Peak(0, 0))
 
     def worst(self, resource: str) -> list[str]:
-        """Returns the groups that stalled most for a resource, the worst first; some that stalled
-        next to nothing only if all did.
+        """Returns the groups that stalled most for a resource, the worst first. Groups that hardly
+        stalled are included only if all hardly stalled.
         """
         level = "full" if resource == "irq" else "some"
         peaks = {
@@ -66,8 +69,8 @@ def read_peaks(printed: Iterable[bytes]) -> Peaks:
 
 
 def kept_rows(series: Series, start: int, end: int) -> list[int]:
-    """Of each stretch of the time the first report and, of each average, that with the highest
-    value: no peak vanishes.
+    """Returns the places of the reports that are kept: in each part of the time the first report
+    and, for each average, the one with the highest value. So no peak is lost.
     """
     stretches: dict[int, list[int]] = collections.defaultdict(list)
     for place, moment in enumerate(series.moments):
@@ -81,8 +84,8 @@ def kept_rows(series: Series, start: int, end: int) -> list[int]:
 
 
 def thinned(series: Series, start: int, end: int) -> Series:
-    """Returns the series of those rows. Its rounds go on by one from row to row, and by more where
-    the group wasn't there between.
+    """Returns the series with only the kept reports. Rounds are numbered anew: a number is skipped
+    only if the group didn't exist in between.
     """
     found, last, number = Series(), -1, 0
     for place in kept_rows(series, start, end):
@@ -100,6 +103,6 @@ def thinned(series: Series, start: int, end: int) -> Series:
 
 
 def thin(replay: Replay) -> None:
-    """Thins all series of a replay to what a screen shows."""
+    """Reduces all series of a replay to the reports that a picture can show."""
     for which, series in replay.series.items():
         replay.series[which] = thinned(series, 0, replay.end.moment)

@@ -1,4 +1,4 @@
-"""The parts of the page, each from the facts that its commands gave."""
+"""The sections of the page. Each is made from the output of one or several commands."""
 from __future__ import annotations
 
 from operator import itemgetter
@@ -22,17 +22,17 @@ from .pictures import Album, Picture
 from .story import After, caveat, early, machine_sentence, percent
 
 SHOWN = 8
-# So many figures of each resource are printed.
+# The number of pictures of each resource that are printed on paper.
 PRINTED = 2
-# So many rows has the table of a picture.
+# The number of rows in the table of a picture.
 ROWS = 12
 NOBODY = "no task"
 NO_TASK = (
     "“No task” is the time in which a task was ready on a processor and none ran there: the processor was just waking up, or ran what "
     "a trace doesn’t have, as interrupts and a hypervisor’s other guests."
 )
-# What is shown of a group's times: the parts and the whole, by their names in blame's JSON, and
-# what it is.
+# The tables of a group's times. Each row has the keys of the parts and of the whole in blame's
+# JSON, and the caption.
 MEANWHILE = (
     ("while_ran", "waited_ns", "{group} waited {time} s for a processor: while there ran"),
     ("io_at_the_same_time", "io_ns", "{group} waited {time} s for IO: tasks of these groups did at the same time"),
@@ -43,7 +43,7 @@ PRESSURES = {"io": "IO pressure", "memory": "memory pressure", "cpu": "CPU press
 
 
 def source(run: Done) -> Element:
-    """Returns the reference to the command that a statement comes from."""
+    """Returns a link to the command whose output supports a statement."""
     number_ = run.number
     return word("a", f"[{number_}]", href=f"#command-{number_}", class_="from", aria_label=f"by command {number_}")
 
@@ -53,7 +53,7 @@ def in_seconds(ns: int) -> str:
 
 
 def killer(facts: Facts, kill: Kill) -> str:
-    """Whose kill it is."""
+    """Returns the ruleset that made a kill, as text."""
     name = f" ‘{facts.judged.rules.killer(kill).ruleset}’" if facts.judged else ""
     return f"Ruleset {kill.ruleset}{name}"
 
@@ -62,8 +62,8 @@ def killer(facts: Facts, kill: Kill) -> str:
 
 
 def sampling(mark: Sampled) -> str:
-    """Returns the beginning of the first sentence for a trace that was made from samples, which
-    says what such a trace can't show.
+    """Returns the start of the first sentence for a trace that was made from samples, with what
+    such a trace can't show.
     """
     return f"By {mark.interval()}, so that short stalls may be missed and nobody knows who ran when: "
 
@@ -96,7 +96,7 @@ def lead(facts: Facts) -> list[Words]:
 
 
 def outcome(path: str, later: After) -> str:
-    """Returns the words on the effect of the first kill on a group's pressure."""
+    """Returns a sentence on how the first kill would have changed a group's pressure."""
     was, most, at = percent(later.was), percent(later.most), f"at {seconds(later.moment)} s"
     if was != most:
         return f"without it {path} would have had at most {most} percent in place of {was} {at}"
@@ -106,8 +106,8 @@ def outcome(path: str, later: After) -> str:
 
 
 def title(facts: Facts) -> str:
-    """Returns what the page is about: the group that stalled most, and the one that the rules
-    watch.
+    """Returns the title of the page: the group that stalled most, and the group that the rules
+    check.
     """
     subjects = [facts.greatest[0], facts.subject] if facts.greatest else [facts.subject]
     kinds = [PRESSURES[it.resource] for it in subjects]
@@ -117,14 +117,14 @@ def title(facts: Facts) -> str:
 
 
 def notes(page: Element, facts: Facts) -> None:
-    """What is to be known before the rest: rules that can do nothing in this trace."""
+    """Adds a warning for each pattern of the rules that matches no group of the trace."""
     for what in facts.unmatched:
         say(page, "p", f"No group of the trace matches {what}: there the rules can do nothing.", class_="note")
 
 
 class Near(NamedTuple):
-    """How near a ruleset came to firing: at most so many of a group's detectors were true at once,
-    of how many, and when (ns) first.
+    """How near a ruleset came to firing: the largest number of a group's detectors that were true
+    at once, the number of its detectors, and the first time (ns) at which this happened.
     """
 
     true: int
@@ -137,8 +137,8 @@ class Near(NamedTuple):
 
 
 def nearness(judged: Judged, number_: int) -> Near:
-    """Returns how near a ruleset came. A group without detectors always holds, so of a ruleset that
-    never fired each has some.
+    """Returns how near a ruleset came to firing. If the ruleset never fired, each of its groups has
+    detectors, since a group without detectors always holds.
     """
     best = Near(0, 0, 0)
     for place, (_, *detectors) in enumerate(judged.json[number_]["detectors"]):
@@ -152,7 +152,7 @@ def nearness(judged: Judged, number_: int) -> Near:
 
 
 def stretches_of(picture: Picture) -> list[list[str]]:
-    """Returns the rows of the table of a picture: the highest values of equal stretches of time."""
+    """Returns the rows of a picture's table: the highest values in equal parts of the time."""
     moments = [it for it in picture.data["t"] if it is not None]
     if not moments:
         return []
@@ -172,7 +172,7 @@ def number(value: int, picture: Picture) -> str:
 
 
 def figure(parent: Element, picture: Picture, number_: int, is_printed: bool) -> None:
-    """A picture, with what the script says of a moment below it, and a table."""
+    """Adds a picture, a line for the values at a time that the script shows, and a table."""
     found = add(parent, "figure", class_="" if is_printed else "more", data_panel=str(number_))
     found.attrib.update({"data-group": picture.path, "data-resource": picture.resource})
     box = add(found, "div", class_="scroll")
@@ -184,7 +184,8 @@ def figure(parent: Element, picture: Picture, number_: int, is_printed: bool) ->
 
 
 def controls(parent: Element, pictures: list[Picture], first: set[str]) -> None:
-    """What is shown of the pictures: at first these groups. The script makes it work, and shows it.
+    """Adds the controls that select the groups and resources of the pictures. The script shows
+    them.
     """
     box = add(parent, "div", class_="controls")
     for legend, name, values in (
@@ -206,8 +207,8 @@ def controls(parent: Element, pictures: list[Picture], first: set[str]) -> None:
 
 
 def time_lines(page: Element, facts: Facts) -> list[Picture]:
-    """Returns a picture for each group that stalled most, resource by resource, and of its
-    memory.
+    """Returns the pictures: one for each group that stalled most, resource by resource, and one for
+    its memory.
     """
     axis = time_axis(0, facts.replay.end.moment, facts.wall)
     album = Album(facts.replay, axis, facts.judged.rules if facts.judged else None, facts.samples)
@@ -236,14 +237,14 @@ def time_lines(page: Element, facts: Facts) -> list[Picture]:
 # ---------------------------------------------------------------- 3. blame
 
 
-# What blame says of a group in all of the trace; a group whose only child has the same is the same
-# row.
+# The keys of a group's values in blame's JSON. If a group's only child has equal values, the
+# group's row is omitted.
 MEASURED = ("ran_ns", "waited_ns", "io_ns", "memory_ns", "memory_grown_bytes", "scanned_pages", "while_ran")
 
 
 def without_same(rows: list[dict[str, Any]], keys: tuple[str, ...]) -> list[dict[str, Any]]:
-    """Returns the rows without those of groups that have what a group right below them has: all
-    that they have is of that one.
+    """Returns the rows without those of groups that have a child with equal values, since all of
+    their values come from this child.
     """
     found = []
     for it in rows:
@@ -254,7 +255,9 @@ def without_same(rows: list[dict[str, Any]], keys: tuple[str, ...]) -> list[dict
 
 
 def longest_wait(group: dict[str, Any]) -> int:
-    """Returns the longest of a group's times of waiting (ns)."""
+    """Returns the longest time (ns) that a group waited for a processor, for IO or in memory
+    stalls.
+    """
     return max(int(group[key]) for key in ("waited_ns", "io_ns", "memory_ns"))
 
 
@@ -284,13 +287,14 @@ def part_name(group: Optional[str], of: str) -> str:
 
 
 def with_processes(name: str, it: dict[str, Any]) -> str:
-    """Returns a group's name, and the processes of it that ran, if they have names."""
+    """Returns a group's name, followed by the processes of the group that ran, if they have names.
+    """
     shares = [Share(part["name"], tuple(part["pids"]), part["ns"]) for part in it.get("processes", [])]
     return f"{name}: {shares_text(shares)}" if shares else name
 
 
 def parts_table(section: Element, it: dict[str, Any], parts: list[dict[str, Any]], whole: int, caption: str) -> None:
-    """Parts of a group's time, where it has some."""
+    """Adds a table of the parts of a group's time, if there are any."""
     rows = [
         [with_processes(part_name(part["group"], it["group"]), part), in_seconds(part["ns"]), f"{100 * part['ns'] / whole:.1f} %"]
         for part in parts[:SHOWN]
@@ -300,7 +304,7 @@ def parts_table(section: Element, it: dict[str, Any], parts: list[dict[str, Any]
 
 
 def matrix(section: Element, blamed: Blamed) -> None:
-    """Who waited for whom."""
+    """Adds the section on which groups waited while other groups ran."""
     waiting = [it for it in without_same(blamed.all["groups"], ("while_ran",)) if it["waited_ns"]]
     waiting.sort(key=itemgetter("waited_ns"), reverse=True)
     totals: dict[Optional[str], int] = {}

@@ -1,4 +1,6 @@
-"""What the page says on top: what the machine went through, and what the rules would have done."""
+"""The first sentences of the page: what happened on the machine, and the choice of the group and
+resource that the page is about.
+"""
 from __future__ import annotations
 
 from typing import NamedTuple, Optional
@@ -11,28 +13,31 @@ from psiwhy.nearness import share
 
 from .reading import LEAST, Peaks
 
-# So long (ns) after a kill the page looks at what became of others.
+# The time (ns) after a kill at which the page looks at its effect on other groups.
 LATER = 30 * SECOND
-# Averages begin at 0: those over 10 s, and over 60 and 300 s, mean little before these times (ns).
+# Averages begin at 0. Averages over 10 s mean little before the first of these times (ns), averages
+# over 60 and 300 s before the second.
 SETTLED, ALL_SETTLED = 30 * SECOND, 180 * SECOND
 NAMES = {"io": "IO", "memory": "memory", "cpu": "a processor", "irq": "interrupts"}
 
 
 class Subject(NamedTuple):
-    """The group and the resource which the page shows first."""
+    """The group and the resource that the page shows first."""
 
     path: str
     resource: str
 
     @property
     def level(self) -> str:
-        """Of interrupts there is `full` alone, and the root's `full` of cpu says nothing."""
+        """Returns the level of the pressure: `full` for interrupts, which have no `some`, and
+        `some` otherwise, since the root's `full` of cpu is always 0.
+        """
         return "full" if self.resource == "irq" else "some"
 
 
 class Stretch(NamedTuple):
-    """The worst stretch, in ns: the longest in which the share over 10 s was at least half of the
-    highest one.
+    """The worst stretch of time (ns): the longest in which the share over 10 s was at least half of
+    its highest value.
     """
 
     start: int
@@ -42,8 +47,9 @@ class Stretch(NamedTuple):
 
 
 class After(NamedTuple):
-    """What the subject had some time after a kill (ns), and would have had at most, in hundredths
-    of a percent; and whether its share only fell from the kill on, so that the stall was over.
+    """The subject's pressure some time after a kill: the time (ns), the recorded share, and the
+    highest possible share without the victim (hundredths of a percent). `was_over` says that the
+    share only fell after the kill.
     """
 
     moment: int
@@ -53,9 +59,9 @@ class After(NamedTuple):
 
 
 def watched(rules: Rules, kill: Kill, peaks: Peaks) -> Optional[Subject]:
-    """Returns what the ruleset that kills looks at: of the groups and resources of its detectors of
-    pressure the group that stalled most. Where that is the victim, or below it, nothing of it would
-    be left: then it is the group above the victim.
+    """Returns the group and resource with the highest pressure among those that the killing ruleset
+    checks. If the group is the victim or below it, the result is the group above the victim, since
+    nothing of the group is left after the kill.
     """
     found = [
         (
@@ -83,9 +89,9 @@ def subject_of(peaks: Peaks, rules: Optional[Rules], kills: list[Kill]) -> Subje
 
 
 def worst_of(peaks: Peaks) -> Subject:
-    """Returns the group all of whose work stood still most. If next to nothing of any group did, it
-    is the root, for what some of its work waited for, since its `full` of cpu says nothing; or else
-    who was held up by interrupts.
+    """Returns the group with the highest `full` pressure below the root. If all groups hardly
+    stalled, returns the root with its `some` pressure, or else the group that interrupts delayed
+    most.
     """
     best: Optional[tuple[int, Subject]] = None
     for found in (ranked(peaks, False), ranked(peaks, True), interrupted(peaks)):
@@ -97,8 +103,8 @@ def worst_of(peaks: Peaks) -> Subject:
 
 
 def ranked(peaks: Peaks, is_root: bool) -> Optional[tuple[int, Subject]]:
-    """Returns the worst of the groups below the root, or the root: its highest share, in hundredths
-    of a percent, and what it is.
+    """Returns the highest share, in hundredths of a percent, and its group and resource: of the
+    root, or of the groups below it.
     """
     levels = ("some", "full") if is_root else ("full", "some")
     order = [
@@ -111,7 +117,9 @@ def ranked(peaks: Peaks, is_root: bool) -> Optional[tuple[int, Subject]]:
 
 
 def interrupted(peaks: Peaks) -> Optional[tuple[int, Subject]]:
-    """Who was held up by interrupts for the greatest share, the root first."""
+    """Returns the group that interrupts delayed for the greatest share of time, and this share. The
+    root comes first.
+    """
     order = [
         (peaks.highest(path, "irq", "full").share, path == "/", path)
         for path, resource, _ in peaks.found
@@ -122,8 +130,8 @@ def interrupted(peaks: Peaks) -> Optional[tuple[int, Subject]]:
 
 
 def greater_than(subject: Subject, peaks: Peaks) -> Optional[Subject]:
-    """Returns what stalled most, if that is another stall than the subject's: of another resource,
-    or of a group neither above nor below.
+    """Returns what stalled most, unless it is the subject's stall: the same resource, and the same
+    group or one above or below it.
     """
     worst = worst_of(peaks)
     paths = [f"{it.path.rstrip('/')}/" for it in (worst, subject)]
@@ -153,8 +161,8 @@ def stretch_of(series: Series, level: str) -> Stretch:
 
 
 def value_at(series: Series, level: str, moment: int) -> tuple[int, int]:
-    """Returns the first report from a moment on, or the last one: its moment, and its share over 10
-    s.
+    """Returns the time (ns) and the share over 10 s of the first report from a time on, or of the
+    last report.
     """
     place = next(
         (place for place, it in enumerate(series.moments) if it >= moment), len(series.moments) - 1
@@ -164,7 +172,7 @@ def value_at(series: Series, level: str, moment: int) -> tuple[int, int]:
 
 def after(subject: Subject, kill: Kill, recorded: Replay, supposed: Replay) -> Optional[After]:
     """Returns the subject's pressure some time after a kill, as recorded and without the killed
-    group. None unless the subject has reports after the kill in both replays.
+    group. Returns None unless the subject has reports after the kill in both replays.
     """
     one, other = (it.series.get(subject) for it in (recorded, supposed))
     if not one or not other or one.moments[-1] <= kill.moment or other.moments[-1] <= kill.moment:
@@ -181,27 +189,29 @@ def after(subject: Subject, kill: Kill, recorded: Replay, supposed: Replay) -> O
 
 
 def percent(hundredths: int) -> str:
-    """With one decimal, cut off as the files cut theirs."""
+    """Returns a percentage with one decimal, which is cut off and not rounded, as in pressure
+    files.
+    """
     return f"{hundredths // 100}.{hundredths % 100 // 10}"
 
 
 def caveat(end: int) -> str:
-    """Returns what a short trace can't say of averages, to follow the first sentence."""
+    """Returns the end of the first sentence for a short trace: which averages mean little."""
     if end < SETTLED:
         return "; averages mean little before 30 s, those over 60 and 300 s before 3 min"
     return "; averages over 60 and 300 s mean little before 3 min" if end < ALL_SETTLED else ""
 
 
 def early(moment: int) -> str:
-    """That a kill, or none, says little so early."""
+    """Returns a clause for a kill, or no kill, early in a trace: the averages mean little."""
     return ", which says little before 30 s" if moment < SETTLED else ""
 
 
 def machine_sentence(
     subject: Subject, stretch: Stretch, end: int, caveat_: str = "", aside: str = ""
 ) -> str:
-    """Returns what the machine went through; times in ns. What is said aside follows the group's
-    name.
+    """Returns the sentence on the worst stall of a group or of the machine; times are in ns.
+    `aside` follows the group's name.
     """
     if not stretch.highest:
         return f"No group stalled in the {seconds(end)} s of this trace{caveat_}."

@@ -1,4 +1,6 @@
-"""The part of the page on the recording: how near the trace is to the machine's own files, and what weakens it."""
+"""The section of the page on the recording: how near the trace is to the machine's own files, and
+what makes it less reliable.
+"""
 from __future__ import annotations
 
 import re
@@ -9,7 +11,7 @@ from .facts import Facts
 from .html import Element, folded, say, table
 from .sections import source
 
-# What weakens a trace, by the word before it in the converter's summary.
+# What makes a trace less reliable, by the first word of a line in the converter's summary.
 WEAK = {
     "lost": "Events were lost. What happened then is unknown, and so is the pressure that came of it:",
     "mended": "Events didn’t fit together, and something was put in or taken to be so, as often as is told here. The more there is of it "
@@ -18,8 +20,8 @@ WEAK = {
 }
 
 
-# What compare says of all totals, among what it says of single ones and of how it came to them.
-# Repairs that make nothing wrong: the kernel does the same, or the event has a number of its own for a task.
+# HARMLESS lists repairs that cause no error: the kernel does the same, or the event itself names
+# the changed number of the task. VERDICT finds the line of tools/compare about all totals.
 HARMLESS = ("wait for IO ended at a migration", "number changed by exec")
 VERDICT = re.compile(r"(all \d+|\d+ of \d+) totals |no total ")
 
@@ -29,7 +31,7 @@ def cells_of(line: str) -> list[str]:
 
 
 def recording(page: Element, facts: Facts) -> None:
-    """How near the trace is to the machine's own files, and what weakens it."""
+    """Adds the section on the recording."""
     known = facts.recorded
     if not known:
         return
