@@ -37,9 +37,7 @@ def when(facts: Facts) -> str:
 
 
 def made(page: Element, facts: Facts, runs: Runs) -> None:
-    """Adds the section on how the page was made: the commands, the program and the sums of the
-    files.
-    """
+    """Adds the section on the commands, the program and the sums of the files."""
     section = add(page, "section", id="made")
     say(section, "h2", "How it was made")
     words = shlex.join(["tools/report", *sys.argv[1:]])

@@ -1,4 +1,5 @@
--- The runs of the commands for generated traces.
+-- Laws of the commands `gen` and `stress`: the events of a generated trace, its replay, and the
+-- status of a run.
 use Rattle.std.proofs.Common.{◌≡◌, ◌⊎◌, inl, inr, ℕ, ◌<◌, ◌-◌, List, [], ◌∷◌, ◌++◌, refl, sym, ap, ◌∙◌, subst, arith, true≢false}
 use Rattle.std.proofs.Common.{append_assoc, Option, None, Bool, true, false, ◌==◌, if◌then◌else◌}
 use Rattle.std.specs.Prelude.{IsSome}
@@ -34,45 +35,45 @@ use Rattle.run_outcomes.proofs.RunLaws.{counts_written, is_named, no_events, sta
 
 -- ---- the events of a generated trace, one by one
 
--- the next event can be spelled
+-- Each event of a trace whose events all have a text has a text.
 pub next_fits : (played : List Event) (event : Event) (left : List Event)
     → AllFit (played ++ event ∷ left) → Fits event
 next_fits [] event left fit = fit.0
 next_fits (first ∷ played) event left fit = next_fits played event left fit.1
 
--- and is legal
+-- Each event of a legal trace is legal after the events before it.
 pub next_legal : (limits : Limits) (w : World) (played : List Event) (event : Event) (left : List Event)
     → AreLegal limits w (played ++ event ∷ left) → cause_of limits (after_from w played) event ≡ None
 next_legal limits w [] event left legal = legal.0
 next_legal limits w (first ∷ played) event left legal =
     next_legal limits (after_event w first) played event left legal.1
 
--- one more is played
+-- Moving an event from the remaining events to the played events doesn't change the whole list.
 pub one_more : (played left rest all : List Event) (event : Event) → played ++ left ≡ all
     → left ≡ event ∷ rest → (played ++ event ∷ []) ++ rest ≡ all
 one_more played left rest all event split is =
     append_assoc played (event ∷ []) rest ∙ ap (λ xs. played ++ xs) (sym is) ∙ split
 
--- A planner has taken the events of a generated trace but those that are left.
+-- The planner has taken the events of the generated trace except `left`, the remaining events.
 pub record HasPlayed (shape : Shape) (planner : PlannerView) (left : List Event) : Type 0 where
   pub played : List Event
   pub taken : HasTaken planner (limits_of (of_seconds 2) shape.cpus) played
   pub split : played ++ left ≡ (generated shape).events
 
--- the events of a generated trace are those that were played, the next one and the rest
+-- The events of a generated trace are the played events, the next event and the rest.
 whole : (shape : Shape) (planner : PlannerView) (left rest : List Event) (event : Event)
     → (so : HasPlayed shape planner left) → left ≡ event ∷ rest
     → (generated shape).events ≡ so.played ++ event ∷ rest
 whole shape planner left rest event so split = sym so.split ∙ ap (λ xs. so.played ++ xs) split
 
--- the next event can be spelled
+-- The next event of a generated trace has a text.
 pub next_can : (shape : Shape) (planner : PlannerView) (left rest : List Event) (event : Event)
     → IsShape shape → HasPlayed shape planner left → left ≡ event ∷ rest → Fits event
 next_can shape planner left rest event is so split =
     next_fits so.played event rest
     (subst AllFit (whole shape planner left rest event so split) (generated_is_trace shape is).accepted.fit)
 
--- and is legal after those that were taken
+-- The next event of a generated trace is legal after the events that the planner has taken.
 pub next_may : (shape : Shape) (planner : PlannerView) (left rest : List Event) (event : Event)
     → IsShape shape → HasPlayed shape planner left → left ≡ event ∷ rest
     → (limits : Limits) × (events : List Event) × HasTaken planner limits events
@@ -87,7 +88,7 @@ next_may shape planner left rest event is so split =
           (generated_is_trace shape is).accepted.legal),
     )
 
--- and then it is taken
+-- After the planner takes the next event, it has taken all events except the rest.
 pub next_taken : (shape : Shape) (old new : PlannerView) (left rest : List Event) (event : Event)
     → HasPlayed shape old left → left ≡ event ∷ rest
     → ((limits : Limits) (events : List Event) → HasTaken old limits events
@@ -101,13 +102,13 @@ next_taken shape old new left rest event played split takes = record {
 
 -- ---- a replay that writes only its end
 
--- A replay without rules has made some ticks, and it is known whether there was one.
+-- A replay without rules has made some ticks. `ticked` says whether it has made at least one.
 pub record HasPassed (replay : ReplayView) (trace : Trace) (timing : Timing) (ticked : Bool) : Type 0 where
   pub is : IsReplay replay trace timing [] replay.made
   pub some : ticked ≡ true → 0 < replay.made
   pub none : ticked ≡ false → replay.made ≡ 0
 
--- before its first tick there was none
+-- A replay before its first tick has made no tick.
 pub none_passed : (replay : ReplayView) (trace : Trace) (timing : Timing)
     → IsReplay replay trace timing [] 0 → HasPassed replay trace timing false
 none_passed replay trace timing is = record {
@@ -116,7 +117,7 @@ none_passed replay trace timing is = record {
   none = λ _. is.made;
 }
 
--- one tick more
+-- After one more tick, the replay has made at least one tick.
 pub passed_more : (old new : ReplayView) (trace : Trace) (timing : Timing) (ticked : Bool)
     → HasPassed old trace timing ticked → Passes trace timing [] old.made old new true
     → HasPassed new trace timing true
@@ -126,7 +127,7 @@ passed_more old new trace timing ticked so maybe_rules = record {
   none = λ other. absurd (true≢false other);
 }
 
--- fewer ticks are left then
+-- After one more tick, fewer ticks remain.
 pub fewer_to_pass : (old new : ReplayView) (trace : Trace) (timing : Timing) (ticked : Bool)
     → HasPassed old trace timing ticked → Passes trace timing [] old.made old new true
     → new.run_timing.last - new.made < old.run_timing.last - old.made
@@ -141,7 +142,8 @@ if_some n x y some =
 if_none : {A : Type 0} (n : ℕ) (x y : A) → n ≡ 0 → (if n == 0 then x else y) ≡ x
 if_none n x y none = rw none refl
 
--- the text if there is a tick
+-- If the trace has a tick, the output of `stress` is the report on the root at the last tick and
+-- the last line.
 pub stress_some : (trace : Trace) (timing : Timing) → 0 < tick_count trace timing
     → stress_text trace timing
     ≡ group_report trace timing (tick_count trace timing) root_group ++ last_line trace timing (with_rules [])
@@ -149,14 +151,14 @@ stress_some trace timing some =
     ap (λ xs. xs ++ last_line trace timing (with_rules []))
     (if_some (tick_count trace timing) [] (group_report trace timing (tick_count trace timing) root_group) some)
 
--- and if there is none
+-- If the trace has no tick, the output of `stress` is the last line.
 pub stress_none : (trace : Trace) (timing : Timing) → tick_count trace timing ≡ 0
     → stress_text trace timing ≡ last_line trace timing (with_rules [])
 stress_none trace timing none =
     ap (λ xs. xs ++ last_line trace timing (with_rules []))
     (if_none (tick_count trace timing) [] (group_report trace timing (tick_count trace timing) root_group) none)
 
--- if no tick remains, all were made
+-- If no tick remains, the replay has made all ticks.
 pub all_passed : (old new : ReplayView) (trace : Trace) (timing : Timing) (ticked : Bool)
     → HasPassed old trace timing ticked → Passes trace timing [] old.made old new false
     → IsReplay new trace timing [] (tick_count trace timing) × (new.made ≡ tick_count trace timing)
@@ -166,7 +168,8 @@ all_passed old new trace timing ticked so maybe_rules = (
   ap (λ (r : ReplayView). r.made) maybe_rules.1 ∙ maybe_rules.0,
 )
 
--- if none remains and there was one, all were made
+-- If no tick remains and at least one was made, the replay has made all ticks, and the trace has a
+-- tick.
 pub end_made : (old new : ReplayView) (trace : Trace) (timing : Timing) (ticked left : Bool)
     → HasPassed old trace timing ticked → ticked ≡ true → left ≡ false
     → Passes trace timing [] old.made old new left
@@ -177,7 +180,7 @@ end_made old new trace timing true false so some over maybe_rules =
     let all = all_passed old new trace timing true so maybe_rules in
     (all.0, omega (arith, so.some refl, maybe_rules.0))
 
--- if none remains and there was none, the trace has none
+-- If no tick remains and none was made, the trace has no tick.
 pub none_made : (old new : ReplayView) (trace : Trace) (timing : Timing) (ticked left : Bool)
     → HasPassed old trace timing ticked → ticked ≡ false → left ≡ false
     → Passes trace timing [] old.made old new left
@@ -188,7 +191,7 @@ none_made old new trace timing false false so none over maybe_rules =
     let all = all_passed old new trace timing false so maybe_rules in
     (all.0, sym maybe_rules.0 ∙ so.none refl)
 
--- plans of a generated trace may be replayed as `stress` does
+-- The plans of a generated trace may be replayed with the options of `stress`.
 pub planned_generated : (planner : PlannerView) (plans : PlansView) (shape : Shape) (workers : ℕ)
     → IsShape shape → IsWithin 1 64 workers
     → HasTaken planner (limits_of (of_seconds 2) shape.cpus) (generated shape).events
@@ -210,7 +213,7 @@ planned_generated planner plans shape workers is within taken represents =
 
 -- ---- a command that reads no file
 
--- it takes the trace that is generated
+-- A command that reads no trace takes the trace that is generated.
 pub takes_generated : (command : Command) (shape : Shape) (files : Option Files)
     → source_name command ≡ None → versions_of command ≡ One ∷ [] → tick_length command ≡ of_seconds 2 → IsShape shape
     → TakesTrace command files (generated shape)
@@ -223,11 +226,11 @@ takes_generated command shape files unnamed first tick is =
       read = λ bytes known. absurd (let no : ⊥ = cc (unnamed, known.1) in no);
     }
 
--- a file that it doesn't name isn't known to be missing
+-- A file that the command doesn't name isn't known to be missing.
 not_named : (command : Command) (files : Option Files) (which : Which) → file_of command which ≡ None → IsThere command files which
 not_named command files which none = λ name is lacks. cc (none, is)
 
--- a text that was written of a generated trace
+-- The run of a command that wrote the text of a generated trace keeps the general contract.
 pub runs_generated : (command : Command) (files : Option Files) (before now : RunCounts)
     (had has : Option (List ℕ)) (trace : Trace) (text : List ℕ) (result : Status)
     → source_name command ≡ None → rules_name command ≡ None → drop_in_name command ≡ None
@@ -267,7 +270,7 @@ runs_generated command files before now had has trace text (status.NoMemory _) u
 }
 runs_generated command files before now had has trace text _ unnamed unruled alone takes output shelf wrote = absurd wrote
 
--- a command that grows too large reads a trace
+-- A command with the status TooLarge reads a trace.
 pub outgrown_reads : (command : Command) (trace : Trace) (rules : List Rule) (events : ℕ) → outcome_of command trace rules ≡ status.TooLarge events → IsSome (file_of command TraceFile)
 outgrown_reads (words.Whatif name options) trace rules events is = refl
 outgrown_reads (words.Stall name) trace rules events is = absurd (let no : ⊥ = cc is in no)
@@ -278,7 +281,7 @@ outgrown_reads (words.Stress shape workers) trace rules events is = absurd (let 
 outgrown_reads (words.Import file cpus) trace rules events is = absurd (let no : ⊥ = cc is in no)
 outgrown_reads (words.Rules file drop_in) trace rules events is = absurd (let no : ⊥ = cc is in no)
 
--- such a run is done, if no write failed and memory didn't run out
+-- A run that reads no files ends with Done, unless a write failed or memory ran out.
 pub makes : (command : Command) (files : Option Files) (before now : RunCounts)
     (had has : Option (List ℕ)) (result : Status) → Runs command files before now had has result
     → (ReadsFiles command → ⊥)

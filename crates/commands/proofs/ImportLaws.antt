@@ -1,4 +1,5 @@
--- The run of an import.
+-- Laws of the command `import`: its trace, the status of a run whose text is rejected, and the
+-- reads.
 use Rattle.std.proofs.Common.{◌≡◌, ℕ, ◌+◌, ◌-◌, List, [], arith, refl, sym, ap, subst, inl, Option, Some, None, Ok, Err}
 use Rattle.std.specs.Prelude.{IsErrOf, Result}
 use Rattle.outside.specs.Outside.{Files, IsAbsent, content_of}
@@ -24,7 +25,7 @@ use Rattle.commands.specs.Import.{IsStatusOfImport}
 use Rattle.run_outcomes.proofs.RunLaws.{counts_written, file_there, is_named, keeps_same, out_of_memory_at, missed_counts, no_events, read_failed, rules_there, same_name, stays, takes_events}
 use Rattle.run_outcomes.proofs.RunStops.{fewer_read}
 
--- an import takes the trace of the events that its text gives
+-- The command `import` takes the trace of the events that its text gives.
 pub takes_import : (name : List ℕ) (cpus : ℕ) (files : Option Files) (events : List Event) → IsCpuCount cpus → Ends cpus first_world events
     → ((bytes : List ℕ) → content_of files name ≡ Some bytes → import_of cpus bytes ≡ Ok events)
     → TakesTrace (Import name cpus) files (import_trace cpus events)
@@ -36,7 +37,7 @@ takes_import name cpus files events counted ends read = record {
   read = λ bytes known. ap (or_not_imported cpus) (read bytes (subst (λ n. content_of files n ≡ Some bytes) (same_name (Import name cpus) ImportFile name known.0 refl known.1) known.2));
 }
 
--- a text that can't be imported
+-- The status of a run whose text can't be imported keeps the general contract.
 pub not_imported : {T : Type 0} → (name : List ℕ) (cpus : ℕ) (files : Option Files) (before now : RunCounts) (had : Option (List ℕ)) (found : ImportFault) (result : Status)
     → ((bytes : List ℕ) → content_of files name ≡ Some bytes → RefusalOf found (import_of cpus bytes)) → (IsAbsent files name → ShowsNothing {A = Unit {0}} (Err found))
     → (IsErrOf {T = T} (Err found) fault.NoFile → content_of files name ≡ None)
@@ -62,14 +63,15 @@ not_imported name cpus files before now had (fault.NoMemory _) result refused la
 
 -- ---- where reading a text stops
 
--- the line at which a text was rejected
+-- If the status of a run reports a rejected text, the text has a rejected line, which the status
+-- names.
 import_refused_at : (cpus : ℕ) (read : Result (List Event) Refused) (why : Status) → or_not_imported cpus read ≡ Err why → (refusal : Refused) × (read ≡ Err refusal) × (refused_line why ≡ refusal.line)
 import_refused_at cpus (Ok events) why is = absurd (let no : ⊥ = cc is in no)
 import_refused_at cpus (Err refusal) why is =
     let same : status.Import refusal.line refusal.cause ≡ why = cc is in
     (refusal, refl, ap refused_line (sym same))
 
--- no file of rules is read before it
+-- The reads of an import stop at the first rejected line. No rules file is read before the text.
 pub import_stops : (name : List ℕ) (cpus : ℕ) (files : Option Files) (bytes_read read_now : ℕ) (found : ImportFault) (result : Status) → TextStops {A = Unit {0}} (import_of cpus) (content_of files name) bytes_read read_now (Err found)
     → IsStatusOfImport found result → StopsAtRefusal (Import name cpus) files bytes_read read_now result
 import_stops name cpus files bytes_read read_now (fault.Refused line why) result stops is = subst (StopsAtRefusal (Import name cpus) files bytes_read read_now) (sym is) (omega (arith, stops))
@@ -84,7 +86,7 @@ import_stops name cpus files bytes_read read_now (fault.NoMemory none) result st
 
 -- ---- the order of reads
 
--- a text was read up to a fault
+-- An import whose text is rejected or can't be read has read its file in order.
 pub import_order : (name : List ℕ) (cpus : ℕ) (files : Option Files) (before now : List ReadCall) (found : ImportFault) (result : Status) → ReadsFile name 0 before now (shelf_fault found)
     → IsStatusOfImport found result → ReadsInOrder (Import name cpus) files before now result
 import_order name cpus files before now (fault.Refused line why) result reads is = subst (ReadsInOrder (Import name cpus) files before now) (sym is) (file_stops name [] before now reads)

@@ -1,4 +1,4 @@
--- The lines of all processors by their plans are the text of a trace.
+-- The output of `stall` that is computed from plans is the specified text of the trace.
 use Rattle.std.proofs.Common.{◌≡◌, ℕ, zero, suc, ◌+◌, ◌≤◌, ◌<◌, List, [], ◌∷◌, ◌++◌, length, map, refl, sym, ap, ◌∙◌, arith, append_assoc, Bool, true, false, is_eq}
 use Rattle.std.specs.Prelude.{if◌then◌else◌}
 use Rattle.std.specs.List.{All, flat_map, range_with_len}
@@ -44,7 +44,7 @@ use Rattle.commands.specs.Lines.{all_lines, plan_line, plan_lines, plan_times, p
 
 -- ---- the slots of live groups
 
--- each pair of a path and a slot is of a group in a list
+-- Each pair has the path of a group in the list, and the slot of this group.
 abbrev AreOf : List GroupLife → List (List ℕ × ℕ) → Type 0
 AreOf groups [] = Unit {0}
 AreOf groups (pair ∷ pairs) = (pair.1 < length groups) × (path_at groups pair.1 ≡ pair.0) × AreOf groups pairs
@@ -57,7 +57,7 @@ ordered Greater a b c = c
 same_path : (one other : List ℕ) → slice_cmp nat_cmp one other ≡ Equal → one ≡ other
 same_path one other is = same_bytes one other (sym (is_eq-slice_cmp one other) ∙ ap is_eq is)
 
--- a pair more, in its place
+-- Inserting a pair into an ordered list preserves `AreOf`, if the pair has a group's path and slot.
 put_of : (groups : List GroupLife) (path : List ℕ) (slot : ℕ) (pairs : List (List ℕ × ℕ)) → slot < length groups → path_at groups slot ≡ path → AreOf groups pairs → AreOf groups (entries.put (slice_cmp nat_cmp) path slot pairs)
 put_of groups path slot [] room is each = (room, is, tt)
 put_of groups path slot (pair ∷ pairs) room is each =
@@ -76,7 +76,7 @@ if_live : (groups : List GroupLife) (live : Bool) (pair : List ℕ × ℕ) (pair
 if_live groups true pair pairs room is each = (room, is, each)
 if_live groups false pair pairs room is each = each
 
--- the group after some others
+-- The group after `prefix` has the slot `length prefix`.
 path_after : (prefix rest : List GroupLife) (group : GroupLife) → path_at (prefix ++ group ∷ rest) (length prefix) ≡ group.path
 path_after [] rest group = refl
 path_after (first ∷ prefix) rest group = path_after prefix rest group
@@ -89,7 +89,7 @@ live_of groups prefix (group ∷ rest) slot are is =
     let next = live_of groups (prefix ++ group ∷ []) rest (slot + 1) (are ∙ sym (append_assoc prefix (group ∷ []) rest)) (omega (arith, is, length-append prefix (group ∷ []))) in
     if_live groups (is_live group) (group.path, slot) (live_from (slot + 1) rest) room path next
 
--- the live groups in their order have their own paths
+-- The ordered list of live groups has the path and the slot of each group.
 live_groups_of : (groups : List GroupLife) → AreOf groups (live_groups groups)
 live_groups_of groups = in_order_of groups (live_from 0 groups) (live_of groups [] groups 0 refl refl)
 
@@ -97,17 +97,17 @@ slots_below : (groups : List GroupLife) (pairs : List (List ℕ × ℕ)) → Are
 slots_below groups [] each = λ k d below. absurd (omega (arith, below))
 slots_below groups (pair ∷ pairs) each = All-cons (λ (slot : Slot). slot.0 < length groups) (slot_at pair.1) (map (λ (p : List ℕ × ℕ). slot_at p.1) pairs) each.0 (slots_below groups pairs each.2)
 
--- the slots of live groups are those of existing groups
+-- The slots of live groups are slots of existing groups.
 pub live_below : (groups : List GroupLife) → All (λ (slot : Slot). slot.0 < length groups) (live_slots groups)
 live_below groups = slots_below groups (live_groups groups) (live_groups_of groups)
 
 -- ---- lines by plans
 
--- the last change isn't after the end
+-- The time of a plan's last change is at most the end time of the trace.
 pub last_within : (limits : Limits) (events : List Event) (cpu : ℕ) → AreLegal limits first_world events → last_change (plan_of cpu events) (length (plan_of cpu events).changes) ≤ end_of events
 last_within limits events cpu legal = (stalls.in_order limits cpu events legal).end
 
--- planned times by all changes are the stall times at the end
+-- The times of a plan after all changes are the stall times at the end of the trace.
 times_are : (limits : Limits) (events : List Event) (cpu slot : ℕ) → AreLegal limits first_world events → plan_times (plan_of cpu events) slot (end_of events) ≡ stall_times cpu slot events
 times_are limits events cpu slot legal =
     let many = as_many cpu events in
@@ -117,14 +117,15 @@ times_are limits events cpu slot legal =
     ∙ ap (λ k. stall state cpu slot (until_change cpu events k) (end_of events)) many
     ∙ sym (stall_by_own_changes limits events legal state cpu slot (end_of events) (omega arith)))
 
--- planned interrupt time by all changes is the interrupt time at the end
+-- The interrupt time of a plan after all changes is the interrupt time at the end of the trace.
 irq_is : (limits : Limits) (events : List Event) (cpu slot : ℕ) → AreLegal limits first_world events → planned_irq (plan_of cpu events) slot (length (plan_of cpu events).changes) ≡ irq_time cpu slot events
 irq_is limits events cpu slot legal =
     let plan = plan_of cpu events in
     let all = place_of_moment plan (plan_is_in_order limits events legal cpu) (length plan.changes) (end_of events) (omega arith) (last_within limits events cpu legal) (λ more. absurd (omega (arith, more))) in
     ap (planned_irq plan slot) (sym all) ∙ planned_irq_until limits events legal cpu slot (end_of events) ∙ ap (irq_time cpu slot) (up_to_all limits events legal (end_of events) (omega arith))
 
--- so a version's values from a plan are those from the events
+-- The numbers in an output line are equal, whether they are computed from a plan or from the
+-- events.
 known_are : (limits : Limits) (version : Version) (events : List Event) (cpu slot : ℕ) → AreLegal limits first_world events → plan_known version (plan_of cpu events) slot (end_of events) ≡ stall_times_of version cpu slot events
 known_are limits One events cpu slot legal = times_are limits events cpu slot legal
 known_are limits Two events cpu slot legal =
@@ -143,7 +144,8 @@ lines_of_pairs limits version events cpu groups (pair ∷ pairs) legal each =
     let rest = lines_of_pairs limits version events cpu groups pairs legal each.2 in
     joined_same line rest
 
--- the lines of a processor by its plan are those of its stall times
+-- The lines of a processor are equal, whether they are computed from its plan or from its stall
+-- times.
 lines_are : (limits : Limits) (version : Version) (events : List Event) (cpu : ℕ) → AreLegal limits first_world events → plan_lines version (after events).groups (live_slots (after events).groups) (end_of events) (plan_of cpu events) cpu ≡ stall_lines version cpu events
 lines_are limits version events cpu legal =
     flat_map-map (plan_line version cpu (after events).groups (plan_of cpu events) (end_of events)) (λ (pair : List ℕ × ℕ). slot_at pair.1) (live_groups (after events).groups)
@@ -156,7 +158,8 @@ flat_same f g from (suc n) same =
     let rest = flat_same f g (from + 1) n (λ i low high. same i (omega (arith, low)) (omega (arith, high))) in
     flat_map-cons f from (range_with_len (from + 1) n) ∙ ap (λ xs. xs ++ flat_map f (range_with_len (from + 1) n)) here ∙ ap (λ ys. g from ++ ys) rest ∙ sym (flat_map-cons g from (range_with_len (from + 1) n))
 
--- the lines of all processors from plans that represent events are the text of the trace
+-- The lines of all processors, computed from plans that represent the events, are the specified
+-- text of the trace.
 pub printed_text : (limits : Limits) (version : Version) (plans : PlansView) (events : List Event) (order : List Slot) (last : ℕ) → AreLegal limits first_world events → Represent plans limits.cpus events → order ≡ live_slots plans.lives → last ≡ plans.finish
     → all_lines version plans.lives order last plans.plans ≡ stall_text (record { version = version; cpus = limits.cpus; events = events })
 unfolding stall_text
@@ -172,13 +175,14 @@ printed_text limits version plans events order last legal represents ordered end
 
 -- ---- times by clocks
 
--- a clock that represents a slot after all changes opens to the planned times
+-- If a clock represents a slot after all changes, its times at `at` (ns) are the planned times.
 pub times_at_end : (clock : ClockView) (plan : PlanView) (slot k at : ℕ) → IsClock clock plan slot k → k ≡ length plan.changes → last_change plan k ≤ at → opened clock at ≡ plan_times plan slot at
 times_at_end clock plan slot k at is all later = clock_shows_planned clock plan slot k at is later ∙ ap (λ n. planned plan slot n at) all
 
 -- ---- before the lines
 
--- no change of a plan is after the end, and the end is in time
+-- The time of each plan's last change is at most the end time of the trace, which is within the
+-- limit of clocks.
 pub ends_later : (limits : Limits) (plans : PlansView) (events : List Event) (cpu : ℕ) → AreLegal limits first_world events → Represent plans limits.cpus events → cpu < limits.cpus → last_change (plan_at plans cpu) (length (plan_at plans cpu).changes) ≤ plans.finish
 ends_later limits plans events cpu legal represents below =
     let moment : last_change (plan_at plans cpu) (length (plan_at plans cpu).changes) ≡ last_change (plan_of cpu events) (length (plan_of cpu events).changes) = ap (λ (plan : PlanView). last_change plan (length plan.changes)) (standing_plans plans limits.cpus events represents cpu below) in

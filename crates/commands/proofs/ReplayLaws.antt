@@ -1,4 +1,5 @@
--- The output of a replay, tick by tick.
+-- Laws of the output of `replay`, tick by tick: what was written after each tick, and after a
+-- failed write.
 use Rattle.std.proofs.Common.{◌≡◌, ℕ, ◌+◌, ◌-◌, ◌<◌, List, [], ◌++◌, refl, sym, ◌∙◌, subst, arith, append_assoc, true, false}
 use Rattle.std.specs.Prelude.{Option, None, Some, Result, Ok, Err}
 use Rattle.std.specs.Io.KnownBytes.{Appends, Keeps}
@@ -24,14 +25,14 @@ use Rattle.trace_file.specs.Reads.{trace_with}
 use Rattle.run_outcomes.specs.Writes.{IsToReplay, PutsSome}
 use Rattle.replay_ticks.proofs.Pieces.{puts_then}
 
--- a replay has made some ticks, whose lines were written
+-- The replay has made some ticks, and exactly the lines of these ticks were written.
 pub record TickedTo (replay : ReplayView) (trace : Trace) (timing : Timing) (rules : List Rule) (had has : Option (List ℕ)) : Type 0 where
   pub is : IsReplay replay trace timing rules replay.made
   pub text : List ℕ
   pub lines : AreTickTexts trace timing rules replay.made text
   pub sent : Appends had has text
 
--- before its first tick nothing was written
+-- Before the first tick, nothing was written.
 pub none_ticked : (replay : ReplayView) (trace : Trace) (timing : Timing) (rules : List Rule) (had : Option (List ℕ)) → IsReplay replay trace timing rules 0 → TickedTo replay trace timing rules had had
 none_ticked replay trace timing rules had is = record {
   is = subst (IsReplay replay trace timing rules) (sym is.made) is;
@@ -40,14 +41,15 @@ none_ticked replay trace timing rules had is = record {
   sent = Appends-none had;
 }
 
--- the lines of a replay's ticks, and those of the next tick
+-- The lines of the ticks made so far, followed by the lines of the next tick, are the lines of one
+-- more tick.
 more_lines : (old new : ReplayView) (trace : Trace) (timing : Timing) (rules : List Rule) (had mid has : Option (List ℕ)) → (so : TickedTo old trace timing rules had mid) → TickGives trace timing rules old.made old new mid has (Ok true)
     → AreTickTexts trace timing rules (old.made + 1) (so.text ++ tick_lines trace timing rules (old.made + 1) (watches_text (tick_moment timing.length (old.made + 1)) trace.cpus new.crew.watches))
 more_lines old new trace timing rules had mid has so maybe_rules =
     let live = watches_text (tick_moment timing.length (old.made + 1)) trace.cpus new.crew.watches in
     one_text_more trace timing rules old.made so.text (tick_lines trace timing rules (old.made + 1) live) so.lines (live, maybe_rules.2.text, refl)
 
--- one tick more
+-- After one more tick, the lines of this tick were also written.
 pub tick_more : (old new : ReplayView) (trace : Trace) (timing : Timing) (rules : List Rule) (had mid has : Option (List ℕ)) → TickedTo old trace timing rules had mid → TickGives trace timing rules old.made old new mid has (Ok true) → TickedTo new trace timing rules had has
 tick_more old new trace timing rules had mid has so maybe_rules =
     let made : old.made + 1 ≡ new.made = sym maybe_rules.1.made in
@@ -59,7 +61,7 @@ tick_more old new trace timing rules had mid has so maybe_rules =
       sent = Appends-then had mid has so.text line so.sent maybe_rules.3;
     }
 
--- fewer ticks are left then
+-- After one more tick, fewer ticks remain.
 pub fewer_left : (old new : ReplayView) (trace : Trace) (timing : Timing) (rules : List Rule) (had mid has : Option (List ℕ)) → TickedTo old trace timing rules had mid → TickGives trace timing rules old.made old new mid has (Ok true) → new.run_timing.last - new.made < old.run_timing.last - old.made
 fewer_left old new trace timing rules had mid has so maybe_rules = omega (arith, maybe_rules.0, maybe_rules.1.made, maybe_rules.1.paced.last, so.is.paced.last)
 
@@ -69,7 +71,7 @@ appends_kept (Some had) None has bytes sent kept = absurd sent
 appends_kept (Some had) (Some mid) None bytes sent kept = absurd kept
 appends_kept (Some had) (Some mid) (Some has) bytes sent kept = kept ∙ sent
 
--- if no tick remains, the last line ends the text
+-- If no tick remains, the text with the last line appended is an output of the replay.
 pub last_ticked : {T E : Type 0} → (old new : ReplayView) (trace : Trace) (timing : Timing) (rules : List Rule) (had mid has now : Option (List ℕ)) (result : Result T E) → TickedTo old trace timing rules had mid → TickGives trace timing rules old.made old new mid has (Ok false)
     → PutsAll has now result (last_line trace timing (with_rules rules)) → PutsSome (IsReplayText trace timing rules) had now result
 last_ticked old new trace timing rules had mid has now result so maybe_rules last = (
@@ -78,11 +80,11 @@ last_ticked old new trace timing rules had mid has now result so maybe_rules las
   puts_then had has now result so.text (last_line trace timing (with_rules rules)) (appends_kept had mid has so.text so.sent maybe_rules.1) last,
 )
 
--- the whole replay after the last tick
+-- After the last tick, the replay has made all ticks.
 pub whole_ticked : (old new : ReplayView) (trace : Trace) (timing : Timing) (rules : List Rule) (i : ℕ) (mid has : Option (List ℕ)) → TickGives trace timing rules i old new mid has (Ok false) → IsReplay new trace timing rules (tick_count trace timing)
 whole_ticked old new trace timing rules i mid has maybe_rules = subst (IsReplay new trace timing rules) maybe_rules.0 maybe_rules.2
 
--- if writing a tick's lines failed, a prefix of some text was written
+-- If writing the lines of a tick failed, a prefix of an output of the replay was written.
 pub tick_failed : (old new : ReplayView) (trace : Trace) (timing : Timing) (rules : List Rule) (had mid has : Option (List ℕ)) (fault : TickFault) → TickedTo old trace timing rules had mid → TickGives trace timing rules old.made old new mid has (Err fault)
     → (text : List ℕ) × IsReplayText trace timing rules text × AppendsPrefix had has text
 tick_failed old new trace timing rules had mid has fault so maybe_rules =
@@ -96,13 +98,13 @@ tick_failed old new trace timing rules had mid has fault so maybe_rules =
       subst (AppendsPrefix had has) (sym (append_assoc so.text line rest.0)) (AppendsPrefix-then had mid has so.text line rest.0 so.sent live.2),
     )
 
--- a trace of plans has some text
+-- The replay of a planned trace has at least one output.
 pub planned_text : (plans : PlansView) (trace : Trace) (timing : Timing) (rules : List Rule) → IsPlanned plans trace timing → (text : List ℕ) × IsReplayText trace timing rules text
 planned_text plans trace timing rules is =
     let rest = texts_go_on (limits_of timing.length trace.cpus) trace timing rules 0 [] is.accepted.legal (omega arith) (no_text_at_first trace timing rules) in
     ([] ++ rest.0, rest.1)
 
--- a trace that is to be replayed has some text
+-- The replay of a trace that satisfies `IsToReplay` has at least one output.
 pub some_text : (version : Version) (planner : PlannerView) (options : Options) (limits : Limits) (events : List Event) (rules : List Rule) → IsToReplay planner options limits events → (text : List ℕ) × IsReplayText (trace_with version limits.cpus events) (timing_of options) rules text
 some_text version planner options limits events rules is =
     let trace = trace_with version limits.cpus events in

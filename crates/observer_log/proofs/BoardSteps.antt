@@ -1,4 +1,5 @@
--- Each step preserves the invariant of the board.
+-- Each step on the board preserves the board's invariant: the swap, the two loads, the splits and
+-- the joins.
 use Rattle.std.proofs.Common.{◌≡◌, ℕ, zero, suc, ◌+◌, ◌-◌, ◌<◌, ◌≤◌, ◌≢◌, max, List, [], ◌∷◌, ◌++◌, length, set, sym, refl, ap, ◌∙◌, subst, ⊎_elim, arith, Some, length-append}
 use Rattle.std.specs.Prelude.{slice_get}
 use mathlib.Core.Option.{some, some-injective, some-ne-none}
@@ -49,7 +50,7 @@ views_stay : (K : ℕ → View → Type 0) (views : List View) (me : ℕ) (view 
 views_stay K views me view mine others j v e = ⊎_elim (λ (t : (j ≡ me) × (view ≡ v)). subst (λ (x : ℕ × View). K x.0 x.1) (λ i. (sym t.0 i, t.1 i)) mine)
     (λ (t : (j ≢ me) × (get_elem? views j ≡ some v)). others j v t.0 t.1) (at_set views me j view v e)
 
--- the pass with the driver's view is the driver's
+-- If the view of a pass is a driver's, the pass is the driver's pass.
 mine : (value : BoardState) (views : List View) (id : ℕ) (v : View) (d : Publishing) → v ≡ Driver d → HoldsBoard value views → get_elem? views id ≡ some v → IsBoard id d value views
 mine value views id v d is b at =
     let known = subst (Knows b.0 b.1.states id) is (b.2.each id v at) in
@@ -59,11 +60,11 @@ mine value views id v d is b at =
     let own : b.1 ≡ d = cc in
     subst (λ (z : ℕ × Publishing). IsBoard z.0 z.1 value views) (λ i. (same i, own i)) b.2
 
--- an observer's isn't
+-- If the view of a pass is an observer's, the pass isn't the driver's pass.
 guest : (value : BoardState) (views : List View) (b : HoldsBoard value views) (id : ℕ) (v : View) (o : Watching) → v ≡ Observer o → get_elem? views id ≡ some v → id ≢ b.0
 guest value views b id v o is at e = let here : get_elem? views b.0 ≡ some (Driver b.1) = b.2.here in cc
 
--- what the others know after one more state
+-- The views of all passes except the driver's are still correct after one more state was published.
 others_know : (seat : ℕ) (states rest : List BoardState) (other : ℕ) → other ≢ seat → (v : View) → Knows seat states other v → Knows seat (states ++ rest) other v
 others_know seat states rest other apart Spent k = tt
 others_know seat states rest other apart (Shown shown) k = still_begins states rest shown k
@@ -140,7 +141,8 @@ compares id v d is x views b at =
 
 -- ---- 3: the splits
 
--- a view is split in two, the first of which is unchanged
+-- Splitting a view preserves the invariant if the first part is the old view and the second part,
+-- `new`, is correct.
 cuts : (id : ℕ) (v new : View) → ((x : BoardState) (views : List View) (b : HoldsBoard x views) → (j : ℕ) → Knows b.0 b.1.states id v → Knows b.0 b.1.states j new) → Forks HoldsBoard id v v new
 cuts id v new knows x views b at = let same = set_again views id v at in subst (λ (l : List View). HoldsBoard x (l ++ new ∷ [])) (sym same) (
   b.0,
@@ -236,7 +238,8 @@ observer_heard v u w o states made is note = made ∙ (ap (λ z. with_note z u) 
 
 -- ---- the last read
 
--- a state that was read after all were notified, and is a published one, was published last
+-- If an observer was notified of all states and then read a published state, this state is the last
+-- published one.
 pub last_read : LastReadIsLast
 last_read states state before later published =
     let short : state.tick < length states = slice_get_within states state.tick state published.0 in

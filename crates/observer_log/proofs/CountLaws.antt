@@ -1,4 +1,5 @@
--- Laws of lists of entries.
+-- Laws of lists of entries: the last entry of an observer on a processor, and appending an entry to
+-- a good list.
 use Rattle.std.proofs.Common.{◌≡◌, ℕ, zero, suc, ◌+◌, ◌-◌, ◌<◌, ◌≤◌, Bool, true, false, ◌&&◌, List, [], ◌∷◌, ◌++◌, length, map, take, drop, get_or, sym, refl, ap, ◌∙◌, subst, arith, nat_eq, Option, None, Some, zero-le}
 use Rattle.std.specs.Prelude.{filter}
 use Rattle.std.proofs.Math.Seq.{drop-cons}
@@ -38,7 +39,8 @@ left_out p e is = rw is refl
 counts_push : (o cpu : ℕ) (entries : List Entry) (e : Entry) → counts_of o cpu (entries ++ e ∷ []) ≡ counts_of o cpu entries ++ counts_of o cpu (e ∷ [])
 counts_push o cpu entries e = ap (map (λ (x : Entry). x.count)) (filter-append (is_of o cpu) entries (e ∷ [])) ∙ map-append (λ (x : Entry). x.count) (filter (is_of o cpu) entries) (filter (is_of o cpu) (e ∷ []))
 
--- the last entry of its observer and processor, if no such entry follows it
+-- If no later entry has the same observer and processor, an entry has the last count of its
+-- observer and processor.
 pub last_here : (entries : List Entry) (i : ℕ) (e : Entry) (o cpu : ℕ) → i < length entries → e ≡ get_or entries i e → is_of o cpu e ≡ true → filter (is_of o cpu) (drop (suc i) entries) ≡ []
     → last_of (counts_of o cpu entries) ≡ Some e.count
 last_here entries i e o cpu inside at is none =
@@ -49,7 +51,8 @@ last_here entries i e o cpu inside at is none =
     let counts : counts_of o cpu entries ≡ map (λ (x : Entry). x.count) (filter p (take i entries)) ++ e.count ∷ [] = ap (map (λ (x : Entry). x.count)) all ∙ map-append (λ (x : Entry). x.count) (filter p (take i entries)) (e ∷ []) in
     ap last_of counts ∙ last_push (map (λ (x : Entry). x.count) (filter p (take i entries))) e.count
 
--- one more entry that doesn't fall
+-- Appending an entry preserves the invariant of the journal if the entry has at least the last
+-- count of its observer and processor.
 pub good_push : (entries : List Entry) (e : Entry) → IsGood entries → IsNotBefore entries e → IsGood (entries ++ e ∷ [])
 good_push entries e good later o cpu = go (is_of o cpu e) refl
   where

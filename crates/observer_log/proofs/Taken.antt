@@ -1,4 +1,4 @@
--- Laws of the entries that are taken from the lists in the order of the journal.
+-- Laws of merging: entries are taken from the observers' lists in the order of the journal.
 use Rattle.std.proofs.Common.{◌≡◌, ◌≢◌, ◌⊎◌, ⊎_elim, inl, inr, ℕ, zero, suc, ◌+◌, ◌-◌, ◌<◌, ◌≤◌, Bool, true, false, List, [], ◌∷◌, ◌++◌, length, map, take, drop, get_or, set, sym, refl, ap, ◌∙◌, subst, arith, nat_eq, eqb, ne_eqb, add-one, zero-le, length-append, rules}
 use Rattle.std.specs.Prelude.{filter}
 use Rattle.std.proofs.Math.Seq.{drop-cons, get_or-append_seam, take-length}
@@ -11,11 +11,12 @@ use Rattle.observer_log.specs.declared.entry.Entry.{Entry}
 
 -- ---- an observer's entries
 
--- among what entries say, those of an observer
+-- The contents, from a list of entry contents, of the entries that observer `o` took.
 abbrev contents_by : ℕ → List EntryContent → List EntryContent
 contents_by o xs = filter (λ (s : EntryContent). nat_eq s.observer o) xs
 
--- which entries are an observer's follows from their content
+-- Whether an entry is an observer's depends only on its content: selecting by observer and taking
+-- the contents commute.
 by_contents : (o : ℕ) (entries : List Entry) → map entry_content (by o entries) ≡ contents_by o (map entry_content entries)
 by_contents o [] = refl
 by_contents o (e ∷ es) = go (is_by o e) refl (by_contents o es)
@@ -98,7 +99,8 @@ own_push lists places taken o x known short next is old q true e =
 own_push lists places taken o x known short next is old q false e =
     by_push_other q o taken x is (λ z. eqb-false q o e (sym z)) ∙ (old q ∙ ap (λ (n : ℕ). take n (list_of lists q)) (sym (get_or-set_other places o q (place_of places o + 1) 0 (eqb-false q o e))))
 
--- one entry more of a list, which says what the journal's next one says
+-- Taking one more entry preserves `IsTaken` if the entry has the content of the journal's next
+-- entry.
 pub taken_push : (journal : List Entry) (lists : List (List Entry)) (places : List ℕ) (taken : List Entry) (j : ℕ) (e x : Entry) → IsTaken (take j journal) lists places taken → AreOwn lists
     → j < length journal → e ≡ get_or journal j e → e.observer < length lists → place_of places e.observer < length (list_of lists e.observer) → x ≡ get_or (list_of lists e.observer) (place_of places e.observer) x → entry_content e ≡ entry_content x
     → IsTaken (take (j + 1) journal) lists (set places e.observer (place_of places e.observer + 1)) (taken ++ x ∷ [])
@@ -114,12 +116,13 @@ taken_push journal lists places taken j e x is own inside at there short next sa
 
 -- ---- if the two agree
 
--- what the journal's entries of an observer say so far is what its list says up to its place
+-- The contents of an observer's entries in the journal so far are the contents of the taken prefix
+-- of the observer's list.
 so_far : (journal : List Entry) (lists : List (List Entry)) (places : List ℕ) (taken : List Entry) → IsTaken journal lists places taken → (o : ℕ) → map entry_content (by o journal) ≡ map entry_content (take (place_of places o) (list_of lists o))
 so_far journal lists places taken is o = by_contents o journal ∙ (ap (contents_by o) (sym is.same) ∙ (sym (by_contents o taken) ∙ ap (map entry_content) (is.own o)))
 
--- if the journal agrees with the lists, its next entry has the content of the next entry in the
--- observer's list
+-- If the journal agrees with the lists, its next entry has the content of the next entry in the
+-- observer's list.
 pub agreed_next : (journal : List Entry) (lists : List (List Entry)) (places : List ℕ) (taken : List Entry) (j : ℕ) (e : Entry) → IsTaken (take j journal) lists places taken → j < length journal → e ≡ get_or journal j e → Agrees journal lists
     → (rest : List EntryContent) × (map entry_content (list_of lists e.observer) ≡ map entry_content (take (place_of places e.observer) (list_of lists e.observer)) ++ entry_content e ∷ rest)
 agreed_next journal lists places taken j e is inside at agrees =
@@ -131,7 +134,8 @@ agreed_next journal lists places taken j e is inside at agrees =
       sym (agrees o) ∙ (ap (map entry_content) (whole ∙ ap (λ l. by o (take j journal) ++ l) mine) ∙ (map-append entry_content (by o (take j journal)) (e ∷ by o (drop (suc j) journal)) ∙ ap (λ l. l ++ entry_content e ∷ map entry_content (by o (drop (suc j) journal))) (so_far (take j journal) lists places taken is o))),
     )
 
--- so there is a next one
+-- If the journal agrees with the lists, the list of the next entry's observer has an entry that
+-- wasn't taken.
 pub next_there : (journal : List Entry) (lists : List (List Entry)) (places : List ℕ) (taken : List Entry) (j : ℕ) (e : Entry) → IsTaken (take j journal) lists places taken → j < length journal → e ≡ get_or journal j e → Agrees journal lists
     → place_of places e.observer < length (list_of lists e.observer)
 next_there journal lists places taken j e is inside at agrees =
@@ -142,7 +146,8 @@ next_there journal lists places taken j e is inside at agrees =
     let all : length list ≡ length (map entry_content (take p list)) + length (entry_content e ∷ next.0) = sym (length-map list entry_content) ∙ (ap length next.1 ∙ length-append (map entry_content (take p list)) (entry_content e ∷ next.0)) in
     omega arith
 
--- and it says the same
+-- If the journal agrees with the lists, the next entry of the observer's list has the content of
+-- the journal's next entry.
 pub next_same : (journal : List Entry) (lists : List (List Entry)) (places : List ℕ) (taken : List Entry) (j : ℕ) (e x : Entry) → IsTaken (take j journal) lists places taken → j < length journal → e ≡ get_or journal j e → Agrees journal lists
     → x ≡ get_or (list_of lists e.observer) (place_of places e.observer) x → entry_content e ≡ entry_content x
 next_same journal lists places taken j e x is inside at agrees there =
@@ -155,7 +160,8 @@ next_same journal lists places taken j e x is inside at agrees there =
     let other : get_or (map entry_content (take p list) ++ entry_content e ∷ next.0) p (entry_content x) ≡ entry_content e = ap (λ (n : ℕ). get_or (map entry_content (take p list) ++ entry_content e ∷ next.0) n (entry_content x)) (sym prefix) ∙ get_or-append_seam (map entry_content (take p list)) (entry_content e) next.0 (entry_content x) in
     sym other ∙ (ap (λ l. get_or l p (entry_content x)) (sym next.1) ∙ one)
 
--- and in the end all entries of each list were taken
+-- If the journal agrees with the lists, all entries of each list were taken at the end of the
+-- journal.
 pub all_taken : (journal : List Entry) (lists : List (List Entry)) (places : List ℕ) (taken : List Entry) (o : ℕ) → IsTaken journal lists places taken → Agrees journal lists → place_of places o ≡ length (list_of lists o)
 all_taken journal lists places taken o is agrees =
     let list = list_of lists o in
@@ -164,7 +170,8 @@ all_taken journal lists places taken o is agrees =
     let prefix : length (map entry_content (take p list)) ≡ p = length-map (take p list) entry_content ∙ length-take-le p list (is.within o) in
     sym prefix ∙ (ap length (sym same) ∙ length-map list entry_content)
 
--- if all entries of each list were taken, the two agree
+-- If all entries of each list were taken, the journal agrees with the lists, and the taken entries
+-- are in order.
 pub in_order : (journal : List Entry) (lists : List (List Entry)) (places : List ℕ) (taken : List Entry) → IsTaken journal lists places taken → ((o : ℕ) → place_of places o ≡ length (list_of lists o)) → AreInOrder journal lists taken
 in_order journal lists places taken is whole =
     let mine : (o : ℕ) → by o taken ≡ list_of lists o = λ o. is.own o ∙ (ap (λ (n : ℕ). take n (list_of lists o)) (whole o) ∙ take-length (list_of lists o)) in record {

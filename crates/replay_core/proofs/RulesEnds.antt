@@ -1,4 +1,5 @@
--- How runs with a drop-in file, of `rules` and of `whatif` end.
+-- The ends of runs with a drop-in file, of runs of `rules`, and of runs of `whatif`: each follows
+-- from the general contract.
 use Rattle.std.proofs.Common.{◌≡◌, ◌≢◌, ◌⊎◌, inl, inr, ℕ, List, ◌++◌, refl, sym, ap, subst, Option, None, Some, true, true≢false}
 use Rattle.std.specs.Prelude.{Result, Ok, Err, codes, is_some, option_map}
 use Rattle.std.specs.Io.KnownBytes.{Appends, Keeps}
@@ -32,18 +33,18 @@ use Rattle.replay_core.proofs.RunEnds.{one_known, same_rules, fault_first, no_fa
 
 -- ---- rejected drop-in files
 
--- the bytes of a drop-in file are known
+-- The content of the command's drop-in file, if the bytes of the file are known.
 over_known : (command : Command) (files : Option Files) (drop_in : List ℕ) → HasContent command DropInFile files drop_in → DropInContent command files (Some drop_in)
 over_known command files drop_in over =
     subst (λ named. content_if_named files named ≡ Some (Some drop_in)) (sym over.1) (ap (option_map (λ b. Some b)) over.2)
 
--- a command never takes rulesets from files if the drop-in file has an error
+-- A command takes no rulesets if the drop-in file has an error.
 none_joined : (command : Command) (files : Option Files) (taken : List Rule) (bytes drop_in : List ℕ) (fault : DropFault) → TakesRules command files taken → HasContent command RulesFile files bytes → HasContent command DropInFile files drop_in
     → rules_from bytes (Some drop_in) ≡ Err (status.DropIn fault) → ⊥
 none_joined command files taken bytes drop_in fault takes known over is =
     let good = takes.read bytes (Some drop_in) known (over_known command files drop_in over) in cc (good, is)
 
--- nor finds an error in the rules file there
+-- If only the drop-in file has an error, the run finds no error in the rules file.
 no_rules_fault : (command : Command) (files : Option Files) (had has : Option (List ℕ)) (bytes drop_in : List ℕ) (found : RulesFault) (fault : DropFault) → Ends command files had has (status.Rules found) → HasContent command RulesFile files bytes
     → rules_from bytes (Some drop_in) ≡ Err (status.DropIn fault) → ⊥
 no_rules_fault command files had has bytes drop_in found fault ends known is =
@@ -55,7 +56,8 @@ no_rules_fault command files had has bytes drop_in found fault ends known is =
 not_missed : (command : Command) (files : Option Files) (which : Which) (had has : Option (List ℕ)) (bytes : List ℕ) → HasContent command which files bytes → Ends command files had has (status.NoFile which) → ⊥
 not_missed command files which had has bytes known ends = one_known files known.0 ends.2.0 bytes (file_of command which) known.1 ends.2.1 known.2 ends.2.2
 
--- a read failed, of one of the two files, because no other comes before them
+-- If a read failed, it was a read of the rules file or of the drop-in file, because no other file
+-- is read before the error.
 failed_drop_in : (command : Command) (files : Option Files) (log log_now : List ReadCall) (bytes drop_in : List ℕ) (fault : DropFault) → HasContent command RulesFile files bytes → HasContent command DropInFile files drop_in → rules_from bytes (Some drop_in) ≡ Err (status.DropIn fault)
     → (which : Which) → FailsAt command log log_now which shelf.Failed → IsPassed command files which
     → FailedAt command log log_now RulesFile status.ReadFault ⊎ FailedAt command log log_now DropInFile status.ReadFault
@@ -64,8 +66,8 @@ failed_drop_in command files log log_now bytes drop_in fault known over is DropI
 failed_drop_in command files log log_now bytes drop_in fault known over is TraceFile fails passed = absurd (none_joined command files passed.0 bytes drop_in fault passed.1 known over is)
 failed_drop_in command files log log_now bytes drop_in fault known over is ImportFile fails passed = absurd (none_joined command files passed.0 bytes drop_in fault passed.1 known over is)
 
--- a rejected drop-in file gives its first error, if no read of the two files failed and memory
--- didn't run out
+-- If the drop-in file is rejected, the status reports its first error, unless a read of the two
+-- files failed or memory ran out.
 pub drop_faults : (command : Command) (files : Option Files) (before now : RunCounts) (had has : Option (List ℕ)) (log log_now : List ReadCall) (result : Status) → Runs command files before now had has result → ReadsInOrder command files log log_now result
     → RejectsDropIn command files log log_now result
 drop_faults command files before now had has log log_now status.Done runs order bytes drop_in fault known over is = absurd (none_joined command files runs.ends.1 bytes drop_in fault runs.ends.3 known over is)
@@ -85,7 +87,7 @@ drop_faults command files before now had has log log_now (status.NoFile ImportFi
 
 -- ---- `rules`
 
--- if the status is Done, the output is the text of the rules
+-- If `rules` ends with Done, the output is the text of the rules.
 pub prints : (name : List ℕ) (drop_in : Option (List ℕ)) (files : Option Files) (before now : RunCounts) (had has : Option (List ℕ)) → Runs (words.Rules name drop_in) files before now had has status.Done
     → (rules : List Rule) → RulesContent (words.Rules name drop_in) files rules → Appends had has (rules_text rules ++ codes "\n")
 prints name drop_in files before now had has runs rules shows =
@@ -93,7 +95,8 @@ prints name drop_in files before now had has runs rules shows =
     let same = same_rules (words.Rules name drop_in) files ends.1 rules ends.3 shows in
     subst (λ (r : List Rule). Appends had has (rules_text r ++ codes "\n")) same (subst (Appends had has) ends.6.1 ends.6.2)
 
--- the status is Done if the rules are accepted, nothing failed and memory didn't run out
+-- If the rules are accepted, `rules` ends with Done, unless a read or a write failed or memory ran
+-- out.
 pub prints_all : (name : List ℕ) (drop_in : Option (List ℕ)) (files : Option Files) (before now : RunCounts) (had has : Option (List ℕ)) (result : Status) → Runs (words.Rules name drop_in) files before now had has result
     → PrintsRules name drop_in files before now result
 prints_all name drop_in files before now had has status.Done runs rules bytes_read reads writes = inl refl
@@ -113,7 +116,7 @@ prints_all name drop_in files before now had has (status.NoFile ImportFile) runs
 
 -- ---- `whatif`
 
--- if the status is Done, the output is that of the last trace
+-- If `whatif` ends with Done, the output is the replay of the last trace.
 pub supposed : (name : List ℕ) (options : Options) (files : Option Files) (before now : RunCounts) (had has : Option (List ℕ)) → Runs (words.Whatif name options) files before now had has status.Done
     → (bytes : List ℕ) (rules : List Rule) → options.live ≡ None → HasContent (words.Whatif name options) TraceFile files bytes → RulesContent (words.Whatif name options) files rules
     → (trace : Trace) × (last : Trace) × (trace_of (accepts_of (words.Whatif name options)) bytes ≡ Ok trace)
@@ -130,12 +133,12 @@ supposed name options files before now had has runs bytes rules none shows rules
       subst (Appends had has) (one_text_unwatched last (timing_of options) rules ends.6.0 (ap (watch_of_path options.live_count) none) text) ends.6.2,
     )
 
--- the status contains the number of events that a round left
+-- If the status is TooLarge, its number of events is the number that a round left.
 large_events : (last : Result Trace ℕ) (events : ℕ) → status_of_last last ≡ status.TooLarge events → last ≡ Err events
 large_events (Ok trace) events is = absurd (let no : ⊥ = cc is in no)
 large_events (Err more) events is = let same : more ≡ events = cc is in ap (λ (n : ℕ). let lost : Result Trace ℕ = Err n in lost) same
 
--- if the status is TooLarge, a round left that many events
+-- If `whatif` ends with TooLarge, a round left the number of events in the status.
 pub outgrown : (name : List ℕ) (options : Options) (files : Option Files) (before now : RunCounts) (had has : Option (List ℕ)) (events : ℕ) → Runs (words.Whatif name options) files before now had has (status.TooLarge events)
     → (bytes : List ℕ) (rules : List Rule) → HasContent (words.Whatif name options) TraceFile files bytes → RulesContent (words.Whatif name options) files rules
     → (trace : Trace) × (trace_of (accepts_of (words.Whatif name options)) bytes ≡ Ok trace) × (last_trace trace (timing_of options) rules ≡ Err events) × Keeps had has
@@ -148,6 +151,6 @@ outgrown name options files before now had has events runs bytes rules shows rul
       runs.ends.0,
     )
 
--- `whatif` watches no group
+-- The command `whatif` has no group for live samples.
 pub unwatched : (bytes_read : List (List ℕ)) (name : List ℕ) (options : Options) → command_of bytes_read ≡ Some (words.Whatif name options) → options.live ≡ None
 unwatched bytes_read name options is = (command_ranges bytes_read (words.Whatif name options) is).3

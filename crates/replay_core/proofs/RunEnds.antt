@@ -1,4 +1,4 @@
--- The result of a run with a buffered sink, and what its status says about its files.
+-- The result of a run whose output is buffered, and what the status of a run says about the files.
 use Rattle.std.proofs.Common.{◌≡◌, ◌≢◌, inl, inr, ℕ, ◌≤◌, List, [], ◌++◌, length, refl, sym, ap, ◌∙◌, subst, arith, Option, None, Some, true, true≢false}
 use Rattle.std.specs.Prelude.{MatchOption, Result, Ok, Err, is_some, option_map}
 use Rattle.std.specs.Io.KnownBytes.{Appends, Keeps, append_known}
@@ -57,7 +57,7 @@ ends_below command files had below pending status.ReadFault not ends more = (kep
 ends_below command files had below pending (status.NoMemory _) not ends more = kept_below had below pending ends more
 ends_below command files had below pending status.Usage not ends more = ends
 
--- a run that isn't Done left at most its output in the inner sink
+-- A run that isn't Done has written at most its output to the inner sink.
 pub runs_below : (command : Command) (files : Option Files) (before now : RunCounts) (had below : Option (List ℕ)) (pending : List ℕ) (result : Status) → result ≢ status.Done
     → Runs command files before now (append_known had []) (append_known below pending) result → known_count had ≤ known_count below → Runs command files before now had below result
 runs_below command files before now had below pending result not runs more = record {
@@ -65,7 +65,7 @@ runs_below command files before now had below pending result not runs more = rec
   counts = runs.counts;
 }
 
--- a run is Done if everything was forwarded
+-- A run is Done if all buffered bytes were written to the inner sink.
 pub runs_sent : (command : Command) (files : Option Files) (before mid now : RunCounts) (had sent below : Option (List ℕ)) (pending left : List ℕ)
     → Runs command files before mid (append_known had []) (append_known sent pending) status.Done → Keeps (append_known sent pending) (append_known below left) → left ≡ [] → now ≡ mid → Runs command files before now had below status.Done
 runs_sent command files before mid now had sent below pending left runs kept none same = record {
@@ -73,7 +73,7 @@ runs_sent command files before mid now had sent below pending left runs kept non
   counts = subst (λ n. FailuresAreCounted before n status.Done) (sym same) runs.counts;
 }
 
--- a run whose output wasn't forwarded completely ends with WriteFault
+-- A run ends with WriteFault if not all buffered bytes were written to the inner sink.
 pub runs_unsent : (command : Command) (files : Option Files) (before mid now : RunCounts) (had sent below : Option (List ℕ)) (pending left : List ℕ)
     → Runs command files before mid (append_known had []) (append_known sent pending) status.Done → Keeps (append_known sent pending) (append_known below left) → known_count had ≤ known_count below
     → now.shelf ≡ mid.shelf → Increased mid.writes now.writes → Runs command files before now had below status.WriteFault
@@ -92,20 +92,21 @@ runs_unsent command files before mid now had sent below pending left runs kept m
 pub one_known : (files : Option Files) (name other bytes : List ℕ) (found : Option (List ℕ)) → found ≡ Some name → found ≡ Some other → content_of files name ≡ Some bytes → content_of files other ≡ None → ⊥
 one_known files name other bytes found is also shows none = cc (is, also, shows, none)
 
--- rulesets are those of a rules file with this name, and of the drop-in file, given their known
--- bytes
+-- `rules` are the rulesets of the rules file `name` with the command's drop-in file applied. The
+-- bytes of both files are known.
 abbrev pub AreReported : Command → Option Files → List Rule → List ℕ → Type 0
 AreReported command files rules name =
     (bytes : List ℕ) × (drop_in : Option (List ℕ)) × (content_of files name ≡ Some bytes) × DropInContent command files drop_in
     × (rules_from bytes drop_in ≡ Ok (record { rules = rules }))
 
--- known rulesets are those of the rules file's bytes, if one is named
+-- If the command names a rules file and the rulesets are known, they come from the bytes of this
+-- file.
 known_bytes : (command : Command) (files : Option Files) (rules : List Rule) (name : List ℕ) → rules_name command ≡ Some name → RulesContent command files rules
     → AreReported command files rules name
 known_bytes command files rules name named shows =
     subst (λ n. MatchOption n (rules ≡ []) (AreReported command files rules)) named shows
 
--- there are no rulesets if no rules file is named
+-- If the command names no rules file, it has no rulesets.
 known_none : (command : Command) (files : Option Files) (rules : List Rule) → rules_name command ≡ None → RulesContent command files rules → rules ≡ []
 known_none command files rules named shows =
     subst (λ n. MatchOption n (rules ≡ []) (AreReported command files rules)) named shows
@@ -113,7 +114,7 @@ known_none command files rules named shows =
 of_rules : (one other : List Rule) (read : Result Rules Status) → read ≡ Ok (record { rules = one }) → read ≡ Ok (record { rules = other }) → one ≡ other
 of_rules one other read is also = let same : record { rules = one } ≡ record { rules = other } = cc (is, also) in ap (λ (r : Rules). r.rules) same
 
--- a command takes the known rulesets
+-- The rulesets that a command takes are the known rulesets.
 by_name : (command : Command) (files : Option Files) (taken rules : List Rule) (named : Option (List ℕ)) → rules_name command ≡ named → TakesRules command files taken → RulesContent command files rules → taken ≡ rules
 by_name command files taken rules None is takes shows = takes.none is ∙ sym (known_none command files rules is shows)
 by_name command files taken rules (Some name) is takes shows =
@@ -123,11 +124,11 @@ by_name command files taken rules (Some name) is takes shows =
 pub same_rules : (command : Command) (files : Option Files) (taken rules : List Rule) → TakesRules command files taken → RulesContent command files rules → taken ≡ rules
 same_rules command files taken rules takes shows = by_name command files taken rules (rules_name command) refl takes shows
 
--- an error in a rules file is an error with any drop-in file
+-- An error in a rules file is reported with any drop-in file.
 pub fault_first : (bytes : List ℕ) (drop_in : Option (List ℕ)) (fault : RulesFault) → rules_of bytes ≡ Err fault → rules_from bytes drop_in ≡ Err (status.Rules fault)
 fault_first bytes drop_in fault is = ap (λ read. with_drop_in drop_in (or_rules_fault read)) is
 
--- a run never finds an error in the known rules
+-- A run finds no error in rules that are known to be accepted.
 pub no_fault : (command : Command) (files : Option Files) (rules : List Rule) (fault : RulesFault) (had has : Option (List ℕ)) → RulesContent command files rules → Ends command files had has (status.Rules fault) → ⊥
 no_fault command files rules fault had has shows ends =
     let found = known_bytes command files rules ends.2.0 ends.2.1 shows in
@@ -135,7 +136,7 @@ no_fault command files rules fault had has shows ends =
     let other = fault_first found.0 found.1 fault (ends.2.2 found.0 found.2) in
     cc (good, other)
 
--- nor that their file is missing
+-- A run doesn't report that a known rules file is missing.
 pub no_missed : (command : Command) (files : Option Files) (rules : List Rule) (had has : Option (List ℕ)) → RulesContent command files rules → Ends command files had has (status.NoFile RulesFile) → ⊥
 no_missed command files rules had has shows ends =
     let found = known_bytes command files rules ends.2.0 ends.2.1 shows in
@@ -143,12 +144,12 @@ no_missed command files rules had has shows ends =
     let none = ends.2.2 in
     cc (here, none)
 
--- a name that exists
+-- If an optional name is present, it has a value.
 pub named_some : (named : Option (List ℕ)) → is_some named ≡ true → (name : List ℕ) × (named ≡ Some name)
 named_some None is = absurd (true≢false (sym is))
 named_some (Some name) is = (name, refl)
 
--- nor finds an error in the drop-in file
+-- A run finds no error in a drop-in file that is known to be accepted.
 pub no_drop_fault : (command : Command) (files : Option Files) (rules : List Rule) (fault : DropFault) (had has : Option (List ℕ)) → RulesContent command files rules → Ends command files had has (status.DropIn fault) → ⊥
 no_drop_fault command files rules fault had has shows ends =
     let named = named_some (rules_name command) ends.2.1 in
@@ -160,7 +161,7 @@ no_drop_fault command files rules fault had has shows ends =
     let good = found.4 in
     cc (same, good, bad)
 
--- nor that it is missing
+-- A run doesn't report that a known drop-in file is missing.
 pub no_missed_drop_in : (command : Command) (files : Option Files) (rules : List Rule) (had has : Option (List ℕ)) → RulesContent command files rules → Ends command files had has (status.NoFile DropInFile) → ⊥
 no_missed_drop_in command files rules had has shows ends =
     let named = named_some (rules_name command) ends.1.1 in
@@ -170,38 +171,41 @@ no_missed_drop_in command files rules had has shows ends =
     let none = ends.2.2 in
     cc (some, none)
 
--- nor that the file of its trace is missing, if its bytes are known
+-- A run doesn't report that a file of this kind is missing, if its bytes are known.
 none_known : (command : Command) (files : Option Files) (bytes : List ℕ) (which : Which) (had has : Option (List ℕ)) → source_of command ≡ which → HasContent command (source_of command) files bytes → Ends command files had has (status.NoFile which) → ⊥
 none_known command files bytes which had has from shows ends =
     one_known files shows.0 ends.2.0 bytes (file_of command (source_of command)) shows.1 (ap (file_of command) from ∙ ends.2.1) shows.2 ends.2.2
 
--- the same for a trace
+-- A run doesn't report that the trace file is missing, if its bytes are known.
 no_trace : (command : Command) (files : Option Files) (bytes : List ℕ) (had has : Option (List ℕ)) → HasContent command (source_of command) files bytes → Ends command files had has (status.NoFile TraceFile) → ⊥
 no_trace command files bytes had has shows ends = none_known command files bytes TraceFile had has (from_trace command (ap is_some ends.2.1)) shows ends
 
--- the same for an ftrace text
+-- A run doesn't report that the ftrace file is missing, if its bytes are known.
 no_import : (command : Command) (files : Option Files) (bytes : List ℕ) (had has : Option (List ℕ)) → HasContent command (source_of command) files bytes → Ends command files had has (status.NoFile ImportFile) → ⊥
 no_import command files bytes had has shows ends = none_known command files bytes ImportFile had has (from_import command (ap is_some ends.2.1)) shows ends
 
--- the result for known bytes, if a status reports a rejected line of a file of this kind
+-- If the status reports a rejected line of a file of this kind and the file's bytes are known,
+-- parsing them gives this status.
 taken_known : (command : Command) (files : Option Files) (bytes : List ℕ) (which : Which) (had has : Option (List ℕ)) (result : Status) → source_of command ≡ which → HasContent command (source_of command) files bytes → Refuses command files had has which result
     → parse_of command bytes ≡ Err result
 taken_known command files bytes which had has result from shows refuses = refuses.4 bytes (subst (λ w. HasContent command w files bytes) from shows)
 
--- the same for a rejected line of a trace
+-- If the status reports a rejected line of a trace and the trace's bytes are known, parsing them
+-- gives this status.
 trace_known : (command : Command) (files : Option Files) (bytes : List ℕ) (had has : Option (List ℕ)) (result : Status) → HasContent command (source_of command) files bytes → Refuses command files had has TraceFile result → parse_of command bytes ≡ Err result
 trace_known command files bytes had has result shows refuses = taken_known command files bytes TraceFile had has result (from_trace command refuses.1) shows refuses
 
--- the same for a rejected line of an ftrace text
+-- If the status reports a rejected line of an ftrace text and the text's bytes are known, parsing
+-- them gives this status.
 import_known : (command : Command) (files : Option Files) (bytes : List ℕ) (had has : Option (List ℕ)) (result : Status) → HasContent command (source_of command) files bytes → Refuses command files had has ImportFile result → parse_of command bytes ≡ Err result
 import_known command files bytes had has result shows refuses = taken_known command files bytes ImportFile had has result (from_import command refuses.1) shows refuses
 
--- a command takes the trace that was parsed
+-- The trace that a command takes is the parsed trace.
 pub of_read : (read : Result Trace Refusal) (trace : Trace) → or_refused_trace read ≡ Ok trace → read ≡ Ok trace
 of_read (Ok other) trace is = let same : other ≡ trace = cc is in ap (λ (t : Trace). let read : Result Trace Refusal = Ok t in read) same
 of_read (Err refusal) trace is = absurd (let no : ⊥ = cc is in no)
 
--- if a replay is Done, its output is some output for its trace and rules
+-- If `replay` ends with Done, its output is one of the specified outputs for its trace and rules.
 pub headlined : (name : List ℕ) (options : Options) (files : Option Files) (before now : RunCounts) (had has : Option (List ℕ)) → Runs (Replay name options) files before now had has status.Done
     → (bytes : List ℕ) (rules : List Rule) → HasContent (Replay name options) TraceFile files bytes → RulesContent (Replay name options) files rules
     → (trace : Trace) × (trace_of (accepts_of (Replay name options)) bytes ≡ Ok trace)
@@ -225,7 +229,7 @@ imports name cpus files before now had has runs bytes shows =
     let found = of_import cpus (import_of cpus bytes) ends.0 ((ends.2 tt).read bytes shows) in
     (found.0, found.1, subst (λ trace. Appends had has (text_of trace)) found.2 (subst (Appends had has) ends.6.1.1 ends.6.2))
 
--- there is exactly one such output if no group is watched
+-- If `replay` has no group for live samples, there is exactly one such output.
 pub headlined_alone : (name : List ℕ) (options : Options) (files : Option Files) (before now : RunCounts) (had has : Option (List ℕ)) → Runs (Replay name options) files before now had has status.Done
     → (bytes : List ℕ) (rules : List Rule) → options.live ≡ None → HasContent (Replay name options) TraceFile files bytes → RulesContent (Replay name options) files rules
     → (trace : Trace) × (trace_of (accepts_of (Replay name options)) bytes ≡ Ok trace) × Appends had has (replay_text trace (timing_of options) (with_rules rules))
@@ -234,7 +238,7 @@ headlined_alone name options files before now had has runs bytes rules none show
     let text = found.2 in
     (found.0, found.1, subst (Appends had has) (one_text_unwatched found.0 (timing_of options) rules text.0 (ap (watch_of_path options.live_count) none) text.1) text.2)
 
--- a command that has an output for a trace and rulesets ends with Done, if nothing fails
+-- A command with an output for a trace and rulesets has the expected status Done.
 done_there : (command : Command) (trace : Trace) (rules : List Rule) (text : List ℕ) → IsOutput command trace rules text → outcome_of command trace rules ≡ status.Done
 done_there (words.Whatif name options) trace rules text output = ap status_of_last output.1
 done_there (words.Stall name) trace rules text output = refl
@@ -251,7 +255,8 @@ same_trace command files bytes taken trace takes shows is =
     let read = (takes (has_trace command shows.0 shows.1)).read bytes shows in
     cc (read, is)
 
--- the status for the trace and rules that it takes is the status for the known ones
+-- The status for the trace and rules that a command takes is the status for the known trace and
+-- rules.
 same_outcome : (command : Command) (files : Option Files) (bytes : List ℕ) (taken trace : Trace) (taken_rules rules : List Rule) (result : Status) → (HasTrace command → TakesTrace command files taken) → TakesRules command files taken_rules
     → RulesContent command files rules → (shows : HasContent command (source_of command) files bytes) → parse_of command bytes ≡ Ok trace
     → outcome_of command taken taken_rules ≡ result → result ≡ outcome_of command trace rules
@@ -259,8 +264,8 @@ same_outcome command files bytes taken trace taken_rules rules result takes take
     sym comes ∙ ap (λ t. outcome_of command t taken_rules) (same_trace command files bytes taken trace takes shows is)
     ∙ ap (outcome_of command trace) (same_rules command files taken_rules rules takes_rules bytes_read)
 
--- an accepted trace gives the expected status, if the rules are accepted, nothing failed and memory
--- didn't run out
+-- If the trace and the rules are accepted, the run has the expected status, unless a read or a
+-- write failed or memory ran out.
 pub completes : (command : Command) (files : Option Files) (before now : RunCounts) (had has : Option (List ℕ)) (result : Status) → Runs command files before now had has result
     → Completes command files before now result
 completes command files before now had has status.Done runs rules bytes trace bytes_read shows is reads writes =
@@ -282,8 +287,8 @@ completes command files before now had has (status.NoFile RulesFile) runs rules 
 completes command files before now had has (status.NoFile TraceFile) runs rules bytes trace bytes_read shows is reads writes = absurd (no_trace command files bytes had has shows runs.ends)
 completes command files before now had has (status.NoFile ImportFile) runs rules bytes trace bytes_read shows is reads writes = absurd (no_import command files bytes had has shows runs.ends)
 
--- a rejected file gives its first rejected line, if the rules are accepted, no read failed and
--- memory didn't run out
+-- If the rules are accepted and the file is rejected, the status reports its first rejected line,
+-- unless a read failed or memory ran out.
 pub refuses : (command : Command) (files : Option Files) (before now : RunCounts) (had has : Option (List ℕ)) (result : Status) → Runs command files before now had has result
     → RejectsSource command files before now result
 refuses command files before now had has status.Done runs rules bytes why bytes_read shows is reads = let other = (runs.ends.2 (has_trace command shows.0 shows.1)).read bytes shows in absurd (let no : ⊥ = cc (is, other) in no)
@@ -305,8 +310,8 @@ refuses command files before now had has (status.NoFile RulesFile) runs rules by
 refuses command files before now had has (status.NoFile TraceFile) runs rules bytes why bytes_read shows is reads = absurd (no_trace command files bytes had has shows runs.ends)
 refuses command files before now had has (status.NoFile ImportFile) runs rules bytes why bytes_read shows is reads = absurd (no_import command files bytes had has shows runs.ends)
 
--- if the rules file's bytes are known, so are those of a drop-in file that isn't missing: all of a
--- shelf's contents are known, or none
+-- If the bytes of the rules file are known, the content of the drop-in file is known, unless this
+-- file is missing. A shelf has known contents for all files or for none.
 known_drop_in : (files : Option Files) (named : Option (List ℕ)) (name bytes : List ℕ) → content_of files name ≡ Some bytes → ((other : List ℕ) → named ≡ Some other → IsAbsent files other → ⊥)
     → (found : Option (List ℕ)) × (content_if_named files named ≡ Some found)
 known_drop_in None named name bytes shows there = absurd (true≢false (sym (ap is_some shows)))
@@ -317,7 +322,7 @@ known_drop_in (Some held) (Some over) name bytes shows there = go (bytes_of held
     go None is = absurd (there over refl is)
     go (Some here) is = (Some here, ap (option_map (λ b. Some b)) is)
 
--- a command never takes rulesets from bytes that have an error
+-- A command takes no rulesets from bytes that have an error.
 none_taken : (command : Command) (files : Option Files) (taken : List Rule) (name bytes : List ℕ) (fault : RulesFault) → TakesRules command files taken → IsThere command files DropInFile → rules_name command ≡ Some name → content_of files name ≡ Some bytes → rules_of bytes ≡ Err fault → ⊥
 none_taken command files taken name bytes fault takes there named shows is =
     let over = known_drop_in files (drop_in_name command) name bytes shows there in
@@ -325,7 +330,7 @@ none_taken command files taken name bytes fault takes there named shows is =
     let bad = fault_first bytes over.0 fault is in
     cc (good, bad)
 
--- nor as the rulesets to which a drop-in file is applied
+-- A command applies no drop-in file to rulesets from bytes that have an error.
 no_base : (command : Command) (files : Option Files) (base : Rules) (name bytes : List ℕ) (fault : RulesFault) → TakesBase command files base → rules_name command ≡ Some name → content_of files name ≡ Some bytes → rules_of bytes ≡ Err fault → ⊥
 no_base command files base name bytes fault takes named shows is = let good = takes bytes (name, named, shows) in cc (good, is)
 
@@ -336,7 +341,8 @@ found_fault command files had has name bytes found fault ends named shows is =
     let other = ends.2.2 bytes (subst (λ n. content_of files n ≡ Some bytes) (sym same) shows) in
     cc (is, other)
 
--- a read failed, of that rules file, because no other file comes before it
+-- If a read failed, it was a read of the rules file, because no other file is read before the
+-- error.
 failed_rules : (command : Command) (files : Option Files) (log log_now : List ReadCall) (name bytes : List ℕ) (fault : RulesFault) → rules_name command ≡ Some name → content_of files name ≡ Some bytes → rules_of bytes ≡ Err fault
     → (which : Which) → FailsAt command log log_now which shelf.Failed → IsPassed command files which → FailedAt command log log_now RulesFile status.ReadFault
 failed_rules command files log log_now name bytes fault named shows is RulesFile fails passed = (refl, fails)
@@ -344,7 +350,8 @@ failed_rules command files log log_now name bytes fault named shows is DropInFil
 failed_rules command files log log_now name bytes fault named shows is TraceFile fails passed = absurd (none_taken command files passed.0 name bytes fault passed.1 passed.2.1 named shows is)
 failed_rules command files log log_now name bytes fault named shows is ImportFile fails passed = absurd (none_taken command files passed.0 name bytes fault passed.1 passed.2.1 named shows is)
 
--- a rejected rules file gives its first error, if no read of it failed and memory didn't run out
+-- If the rules file is rejected, the status reports its first error, unless a read of this file
+-- failed or memory ran out.
 pub faults : (command : Command) (files : Option Files) (before now : RunCounts) (had has : Option (List ℕ)) (log log_now : List ReadCall) (result : Status) → Runs command files before now had has result → ReadsInOrder command files log log_now result
     → RejectsRules command files log log_now result
 faults command files before now had has log log_now status.Done runs order name bytes fault named shows is = absurd (none_taken command files runs.ends.1 name bytes fault runs.ends.3 runs.ends.4.1 named shows is)

@@ -1,4 +1,4 @@
--- Proofs about the plans of a trace that is to be replayed.
+-- Laws of the plans of a trace that is to be replayed with given options.
 use Rattle.std.proofs.Common.{ℕ, ◌≤◌, List, arith, refl, subst}
 use Rattle.psi_base.specs.declared.event.Event.{Event}
 use Rattle.psi_spec.specs.Grammar.{Version}

@@ -1,4 +1,4 @@
--- Proofs about the status of a run, by the results of reading a trace and writing a text.
+-- Laws of the status of a run, given the results of reading a trace and writing a text.
 use Rattle.std.proofs.Common.{◌≡◌, ℕ, List, [], arith, refl, sym, ap, ◌∙◌, subst, inl, inr, Option, None, Some, Ok, Err}
 use Rattle.std.specs.Prelude.{IsErrOf, IsSome}
 use Rattle.std.specs.Io.KnownBytes.{Keeps}
@@ -32,21 +32,21 @@ keeps_same (Some bytes) = refl
 
 -- ---- counts
 
--- a count is unchanged if nothing happened that increases it
+-- A count that is unchanged satisfies `RisesWhere` if the event that increases it didn't happen.
 pub stays : (Happened : Type 0) (before now : ℕ) → (Happened → ⊥) → now ≡ before → RisesWhere Happened before now
 stays Happened before now not same = record { increased = λ happened. absurd (not happened); same = λ _. same }
 
 -- ---- a text that was written
 
--- a command has only one name for a file of a kind
+-- A command has at most one name for a file of a kind.
 pub same_name : (command : Command) (which : Which) (name other : List ℕ) → file_of command which ≡ Some name → file_of command which ≡ Some other → other ≡ name
 same_name command which name other is also = cc
 
--- a command reads its trace from its file
+-- The trace of the command comes from its trace file.
 abbrev pub Reads : Command → Type 0
 Reads command = (bytes : List ℕ) → parse_of command bytes ≡ or_refused_trace (trace_of (accepts_of command) bytes)
 
--- a command takes the trace that was played
+-- A command takes the trace whose events were played.
 pub takes_trace : (command : Command) (name : List ℕ) (files : Option Files) (version : Version) (cpus : ℕ) (events : List Event) → Reads command → source_name command ≡ Some name → IsAmong version (versions_of command) → IsCpuCount cpus
     → AreKnown (verbs_of version) events → IsAccepted (limits_of (tick_length command) cpus) events
     → ((bytes : List ℕ) → content_of files name ≡ Some bytes → trace_of (accepts_of command) bytes ≡ Ok (trace_with version cpus events))
@@ -72,8 +72,8 @@ pub takes_any : (command : Command) (name : List ℕ) (files : Option Files) (ve
 takes_any command name files version cpus events reads named all counted known accepted read =
     takes_trace command name files version cpus events reads named (subst (IsAmong version) (sym all) (every version)) counted known accepted read
 
--- the counts of a shelf are unchanged if nothing failed, and the count of writes increased if one
--- did
+-- The counts of a run that failed no read satisfy the contract: the shelf's counts are unchanged,
+-- and the count of failed writes increased exactly if the status is WriteFault.
 pub counts_written : (before now : RunCounts) (result : Status) → now.shelf.faults ≡ before.shelf.faults → now.shelf.absent ≡ before.shelf.absent
     → (result ≡ status.ReadFault → ⊥) → (((which : _) × (result ≡ status.NoFile which)) → ⊥) → RisesWhere (result ≡ status.WriteFault) before.writes now.writes → FailuresAreCounted before now result
 counts_written before now result faults absent no_read no_file writes = record {
@@ -84,7 +84,7 @@ counts_written before now result faults absent no_read no_file writes = record {
 
 -- ---- rules that were read before the trace
 
--- rulesets are those of a command that names the same files of rules
+-- The rulesets of a command that names these rules and drop-in files are the rulesets of the files.
 pub takes_events : (command : Command) (named drop_in : Option (List ℕ)) (files : Option Files) (rules : List Rule) → rules_name command ≡ named → drop_in_name command ≡ drop_in → RulesOption named drop_in files rules → TakesRules command files rules
 takes_events command named drop_in files rules is over bytes_read = record {
   fit = bytes_read.fit;
@@ -106,11 +106,11 @@ no_events files = record {
 pub empty_read : (named drop_in : Option (List ℕ)) (files : Option Files) → named ≡ None → drop_in ≡ None → RulesOption named drop_in files []
 empty_read named drop_in files none over = subst (λ n. RulesOption n drop_in files []) (sym none) (subst (λ d. RulesOption None d files []) (sym over) (no_events files))
 
--- the files of rules of a command aren't known to be missing, if its rules were read
+-- If a command's rules were read, its rules file and its drop-in file aren't known to be missing.
 pub rules_there : (command : Command) (files : Option Files) (rules : List Rule) → RulesOption (rules_name command) (drop_in_name command) files rules → RulesAreThere command files
 rules_there command files rules bytes_read = (λ other is lacks. bytes_read.held other is lacks, λ other is lacks. bytes_read.drop_in_held other is lacks)
 
--- a file of a kind isn't known to be missing, if the file with its name isn't
+-- The command's file of a kind isn't known to be missing if the file with its name isn't.
 pub file_there : (command : Command) (which : Which) (name : List ℕ) (files : Option Files) → file_of command which ≡ Some name → (IsAbsent files name → ⊥) → IsThere command files which
 file_there command which name files named held = λ other is lacks. held (subst (IsAbsent files) (same_name command which name other named is) lacks)
 
@@ -132,7 +132,7 @@ runs_written command name files before now had has trace rules text (status.NoMe
 }
 runs_written command name files before now had has trace rules text _ named takes bytes_read held output faults absent wrote = absurd wrote
 
--- the output of `whatif` for a trace
+-- The run of `whatif` that wrote the output of a trace keeps the general contract.
 pub runs_supposed : (name : List ℕ) (options : Options) (files : Option Files) (before now : RunCounts) (had has : Option (List ℕ)) (trace : Trace) (rules : List Rule) (result : Status)
     → TakesTrace (words.Whatif name options) files trace → RulesOption options.rules options.drop_in files rules → (IsAbsent files name → ⊥)
     → now.shelf.faults ≡ before.shelf.faults → now.shelf.absent ≡ before.shelf.absent
@@ -166,18 +166,18 @@ runs_supposed name options files before now had has trace rules _ takes bytes_re
 
 -- ---- a file that couldn't be read
 
--- memory ran out before anything was done
+-- A run in which memory ran out before anything was done keeps the general contract.
 pub runs_lacking : (command : Command) (files : Option Files) (counts : RunCounts) (had : Option (List ℕ)) → Runs command files counts counts had had (status.NoMemory no_memory)
 runs_lacking command files counts had = record {
   ends = keeps_same had;
   counts = counts_written counts counts (status.NoMemory no_memory) refl refl (λ is. cc is) (λ is. cc is.1) (stays _ counts.writes counts.writes (λ is. cc is) refl);
 }
 
--- a file of a kind has a name
+-- If the command's file of a kind has a name, a name exists.
 pub is_named : (command : Command) (which : Which) (name : List ℕ) → file_of command which ≡ Some name → IsSome (file_of command which)
 is_named command which name named = subst IsSome (sym named) refl
 
--- the status if a read failed
+-- A run in which a read failed keeps the general contract with the status ReadFault.
 pub read_failed : (command : Command) (files : Option Files) (before now : RunCounts) (had : Option (List ℕ)) → ReadsFiles command → Increased before.shelf.faults now.shelf.faults → now.shelf.absent ≡ before.shelf.absent → now.writes ≡ before.writes
     → Runs command files before now had had status.ReadFault
 read_failed command files before now had reads increased absent writes = record {
@@ -189,7 +189,7 @@ read_failed command files before now had reads increased absent writes = record 
   };
 }
 
--- the status if memory ran out
+-- A run in which memory ran out keeps the general contract with the status NoMemory.
 pub out_of_memory_at : (command : Command) (files : Option Files) (before now : RunCounts) (had : Option (List ℕ)) → now.shelf.faults ≡ before.shelf.faults → now.shelf.absent ≡ before.shelf.absent → now.writes ≡ before.writes
     → Runs command files before now had had (status.NoMemory no_memory)
 out_of_memory_at command files before now had faults absent writes = record {
@@ -197,7 +197,8 @@ out_of_memory_at command files before now had faults absent writes = record {
   counts = counts_written before now (status.NoMemory no_memory) faults absent (λ is. cc is) (λ is. cc is.1) (stays _ before.writes now.writes (λ is. cc is) writes);
 }
 
--- the counts if a file was missing
+-- The counts of a run that missed a file satisfy the contract: only the count of missing files
+-- increased.
 pub missed_counts : (which : Which) (before now : RunCounts) → now.shelf.faults ≡ before.shelf.faults → Increased before.shelf.absent now.shelf.absent → now.writes ≡ before.writes → FailuresAreCounted before now (status.NoFile which)
 missed_counts which before now faults increased writes = record {
   faults = stays _ before.shelf.faults now.shelf.faults (λ is. cc is) faults;
@@ -205,7 +206,7 @@ missed_counts which before now faults increased writes = record {
   writes = stays _ before.writes now.writes (λ is. cc is) writes;
 }
 
--- the status if the rules were read, but the trace couldn't be
+-- A run that read its rules, but couldn't read its trace, keeps the general contract.
 pub runs_refused : {T : Type 0} → (command : Command) (name : List ℕ) (files : Option Files) (before now : RunCounts) (had : Option (List ℕ)) (rules : List Rule) (found : TraceFault) (result : Status)
     → Reads command → trace_name command ≡ Some name → RulesOption (rules_name command) (drop_in_name command) files rules → ((bytes : List ℕ) → content_of files name ≡ Some bytes → RefusalOf found (trace_of (accepts_of command) bytes)) → (IsAbsent files name → ShowsNothing {A = Unit {0}} (Err found))
     → (IsErrOf {T = T} (Err found) fault.NoFile → content_of files name ≡ None)

@@ -1,4 +1,4 @@
--- Proofs about the order in which a run reads its files.
+-- Laws of the order in which a run reads its files.
 use Rattle.std.proofs.Common.{◌≡◌, ℕ, List, [], ◌∷◌, ◌++◌, refl, sym, subst, Option, None, Some}
 use Rattle.outside.specs.Outside.{Files}
 use Rattle.outside.specs.Reads.{ReadCall, ReadsEach, ReadsFile}
@@ -23,7 +23,7 @@ use Rattle.run_outcomes.proofs.RunLaws.{rules_there, takes_events}
 
 -- ---- a text that was written
 
--- all files were read in order
+-- If a text was written, the files were read in order.
 pub written_order : (command : Command) (files : Option Files) (log log_now : List ReadCall) (text : List ℕ) (before now : ℕ) (had has : Option (List ℕ)) (result : Status) → ReadsEach (names_in_order command) log log_now
     → WritesText text before now had has result → ReadsInOrder command files log log_now result
 written_order command files log log_now text before now had has status.Done reads wrote = reads
@@ -42,14 +42,16 @@ supposed_order command files log log_now trace timing rules before now had has _
 
 -- ---- files that were read
 
--- the files of rules were read first, and then the trace or the ftrace text
+-- If the rules files were read first and then the trace or the ftrace text, the files of the
+-- command were read in order.
 pub rules_then : (command : Command) (name : List ℕ) (before middle now : List ReadCall) → source_name command ≡ Some name
     → ReadsEach (names_of_rules (rules_name command) (drop_in_name command)) before middle → ReadsFile name 0 middle now None → ReadsEach (names_in_order command) before now
 rules_then command name before middle now named rules reads =
     let names = names_of_rules (rules_name command) (drop_in_name command) in
     subst (λ source. ReadsEach (names ++ listed source) before now) (sym named) (files_then names (name ∷ []) before middle now rules (file_stops name [] middle now reads))
 
--- the files of rules were read first, and then the trace up to a fault
+-- If the rules files were read first and then the trace up to an error, the files were read in
+-- order.
 pub trace_order : (command : Command) (name : List ℕ) (files : Option Files) (rules : List Rule) (before middle now : List ReadCall) (found : TraceFault) (result : Status) → trace_name command ≡ Some name → source_name command ≡ Some name
     → RulesOption (rules_name command) (drop_in_name command) files rules → ReadsEach (names_of_rules (rules_name command) (drop_in_name command)) before middle → ReadsFile name 0 middle now (shelf_fault found) → IsStatusOf found result
     → ReadsInOrder command files before now result
@@ -62,7 +64,7 @@ trace_order command name files rules before middle now fault.ReadFault result tr
 trace_order command name files rules before middle now (fault.NoMemory none) result traced named bytes_read read reads is =
     subst (ReadsInOrder command files before now) (sym is) (rules_then command name before middle now named read reads)
 
--- a command without a trace read its files of rules
+-- The command `rules`, which has no trace, has read its files in order.
 pub printed_order : (name : List ℕ) (drop_in : Option (List ℕ)) (files : Option Files) (before now : List ReadCall) (text : List ℕ) (writes writes_now : ℕ) (had has : Option (List ℕ)) (result : Status) → ReadsEach (names_of_rules (Some name) drop_in) before now
     → WritesText text writes writes_now had has result → ReadsInOrder (words.Rules name drop_in) files before now result
 printed_order name drop_in files before now text writes writes_now had has result reads wrote =
@@ -70,6 +72,6 @@ printed_order name drop_in files before now text writes writes_now had has resul
 
 -- ---- no read
 
--- memory ran out before any file was read
+-- If memory ran out before any file was read, the files were read in order.
 pub stopped_order : (command : Command) (files : Option Files) (log : List ReadCall) → ReadsInOrder command files log log (status.NoMemory no_memory)
 stopped_order command files log = none_read (names_in_order command) log

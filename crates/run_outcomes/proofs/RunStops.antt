@@ -1,4 +1,4 @@
--- Proofs about the place at which a run stops reading.
+-- Laws of the place at which a run stops reading: after the first rejected line of a trace.
 use Rattle.std.proofs.Common.{◌≡◌, ℕ, ◌+◌, ◌-◌, ◌≤◌, List, length, take, refl, sym, ap, ◌∙◌, subst, arith, Option, Some, Ok, Err, true≢false}
 use Rattle.std.specs.Prelude.{Result, is_some}
 use Rattle.outside.specs.Outside.{Files, content_of}
@@ -55,18 +55,19 @@ none_read line count bytes none first = subst (λ n. IsNotWhole line n bytes) (s
 
 -- ---- a trace that couldn't be read
 
--- the line at which a trace was rejected
+-- If the status of a run reports a rejected trace, the trace has a rejected line, which the status
+-- names.
 refused_at : (read : Result Trace Refusal) (why : Status) → or_refused_trace read ≡ Err why → (refusal : Refusal) × (read ≡ Err refusal) × (refused_line why ≡ refusal.line)
 refused_at (Ok trace) why is = absurd (let no : ⊥ = cc is in no)
 refused_at (Err refusal) why is =
     let same : status.Trace refusal.line refusal.cause ≡ why = cc is in
     (refusal, refl, ap refused_line (sym same))
 
--- the bound on the bytes read from the trace holds after files of rules were read, too
+-- The bound on the bytes read from the trace also holds if rules files were read before.
 suffix : (bytes_read middle read_now before line : ℕ) → middle ≤ bytes_read + before → read_now ≤ middle + furthest line → read_now ≤ bytes_read + (before + most_until line)
 suffix bytes_read middle read_now before line first then = omega (arith, first, then)
 
--- reading a trace after files of rules, within their size limits
+-- A run that reads a trace after its rules files reads at most the allowed number of bytes.
 pub trace_stops : (command : Command) (name : List ℕ) (tick : ℕ) (files : Option Files) (bytes_read middle read_now : ℕ) (found : TraceFault) (result : Status)
     → Reads command → source_name command ≡ Some name → accepts_of command ≡ accepts_with versions tick → middle ≤ bytes_read + rules_read command files
     → TraceStops {A = Unit {0}} tick (content_of files name) middle read_now (Err found) → IsStatusOf found result → StopsAtRefusal command files bytes_read read_now result
@@ -84,7 +85,7 @@ trace_stops command name tick files bytes_read middle read_now (fault.NoMemory n
 
 -- ---- files of rules that couldn't be read
 
--- lines are numbered from 1
+-- The first rejected line has a number of at least 1.
 first_refused : (read : Result Trace Refusal) (why : Status) → ((refusal : Refusal) → read ≡ Err refusal → 1 ≤ refusal.line) → or_refused_trace read ≡ Err why → 1 ≤ refused_line why
 first_refused read why later is =
     let found = refused_at read why is in

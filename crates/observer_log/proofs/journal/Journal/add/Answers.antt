@@ -8,7 +8,7 @@ use Rattle.observer_log.proofs.journal.Journal.add.Goals as goal
 pub invariant_of-self : goal.invariant_of-self
 invariant_of-self g c = (subst IsGood (sym c.in-Ok.ensures.items) (good_push c.self.inside.entries.items c.args.entry c.self.invariant.0 (search rules)), search rules)
 
--- the fall to a count
+-- The reason for a rejection, with `last` as the last count.
 abbrev fall : ℕ → Fall
 fall last = record { last = last }
 
