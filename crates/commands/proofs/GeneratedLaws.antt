@@ -35,7 +35,7 @@ use Rattle.run_outcomes.proofs.RunLaws.{counts_written, is_named, no_events, sta
 
 -- ---- the events of a generated trace, one by one
 
--- Each event of a trace whose events all have a text has a text.
+-- Each event of a list whose events can all be written as lines can be written as a line.
 pub next_fits : (played : List Event) (event : Event) (left : List Event)
     → AllFit (played ++ event ∷ left) → Fits event
 next_fits [] event left fit = fit.0
@@ -66,7 +66,7 @@ whole : (shape : Shape) (planner : PlannerView) (left rest : List Event) (event 
     → (generated shape).events ≡ so.played ++ event ∷ rest
 whole shape planner left rest event so split = sym so.split ∙ ap (λ xs. so.played ++ xs) split
 
--- The next event of a generated trace has a text.
+-- The next event of a generated trace can be written as a line.
 pub next_can : (shape : Shape) (planner : PlannerView) (left rest : List Event) (event : Event)
     → IsShape shape → HasPlayed shape planner left → left ≡ event ∷ rest → Fits event
 next_can shape planner left rest event is so split =
