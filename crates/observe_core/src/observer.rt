@@ -14,8 +14,9 @@ use std::sync::ledger::{Ledger, Share};
 use std::sync::{Mutex, Wait};
 
 /// An observer, which may be sent to another thread. Contracts see its watcher, its access to the
-/// board, the parts and the amount of its share of the journal's ledger, its last samples, whether
-/// the journal rejected an entry, and whether the observer ran out of memory.
+/// board, the number of parts in its share of the journal's ledger, the number of entries that the
+/// share has counted, its last samples, whether the journal rejected an entry, and whether the
+/// observer ran out of memory.
 #[derive(Drop)]
 pub struct Observer<'j, 'a, L: Ledger> {
     pub(crate) journal: &'j Mutex<Journal<'a, L>>,

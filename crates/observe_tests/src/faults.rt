@@ -69,7 +69,7 @@ fn each_call_fails_in_turn(rt: HostRuntime) {
     }
 }
 
-// A failed write of the note doesn't change the status.
+// A failed write to the note doesn't change the status.
 #[test]
 fn a_note_that_fails(rt: HostRuntime) {
     let failing = Failing {

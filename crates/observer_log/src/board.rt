@@ -14,7 +14,7 @@ use std::sync::Wait;
 /// The state of the replay at a tick.
 #[derive(Clone, Copy, Debug, PartialEq, Eq)]
 pub struct BoardState {
-    /// The number of the tick, from 1; 0 before the first.
+    /// The number of the tick, from 1, or 0 before the first tick.
     pub tick: u64,
     /// The number of events up to the tick.
     pub events: u64,

@@ -10,13 +10,13 @@ use page_spec::{Field, StateLetter, Width};
 /// The value of a field.
 #[derive(Clone, Copy)]
 pub enum FieldValue<'a> {
-    /// A number.
+    /// A number that isn't negative.
     Count(u64),
     /// A negative number, as its absolute value.
     Minus(u64),
     /// The letter of a task's state.
     Letter(u8),
-    /// A text.
+    /// The bytes of a text.
     Bytes(&'a [u8]),
 }
 

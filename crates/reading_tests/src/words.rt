@@ -1,5 +1,5 @@
-//! Tests of command words: those that are a command, with all its fields, and those that are
-//! rejected.
+//! Tests of parsing command lines: valid ones, with all fields of the resulting command, and
+//! invalid ones, which are rejected.
 mod rows;
 
 use crate::checks::{is, shown};
@@ -17,7 +17,7 @@ fn name_shown(name: &Option<Text>) -> &str {
     }
 }
 
-// Returns `+` and the name of a drop-in file, or empty texts if there is none.
+// Returns `+` and the name of the drop-in file, or empty texts if no drop-in file is named.
 fn over_shown(drop_in: &Option<Text>) -> (&str, &str) {
     match drop_in {
         Some(name) => ("+", shown(name.bytes())),

@@ -146,7 +146,7 @@ fn order_of_files(rt: HostRuntime) {
     }
 }
 
-/// The rules without a drop-in file.
+/// Files with the rules `KILLS`, and with a drop-in file that has no parts.
 const RULES_ALONE: Files = Files {
     trace: b"",
     rules: KILLS,

@@ -61,7 +61,7 @@ fn writes_that_fail(rt: HostRuntime) {
     for write in &[0, 1, 5] {
         assert_prints_prefix(&rt, "stall t", ONE_WAIT, 7, *write, SUMS);
     }
-    // A failed write of the note doesn't change the status.
+    // A failed write to the note doesn't change the status.
     let failing = Failing {
         read: 0,
         write: NONE,

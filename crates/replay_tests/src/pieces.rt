@@ -4,18 +4,20 @@
 use crate::runs::{Host, assert_prints};
 use std::process::Abort;
 
-/// Traces, each followed by the output of `stall` and `check`. The first have no task; a wait for
-/// IO that doesn't end; a wait that ends early; two tasks, one of them waiting. Then:
+/// Traces, each followed by the outputs of `stall` and `check`. In the order of the traces:
 ///
-/// - one of two ready or running tasks is in a stall, and it is the running one: memory is full
-///   because of it alone;
+/// - there is no task;
+/// - a task waits for IO until the end;
+/// - a task waits for IO only for a short time;
+/// - one of two tasks waits for IO while the other runs;
+/// - the running one of two tasks is in a memory stall, so memory full holds;
 /// - a task waits on one processor and wakes on another;
 /// - the running one of two tasks moves up to the root, and the ready one migrates to another
 ///   processor;
-/// - a group is removed and created again, and a waiting task moves into the new one;
-/// - two tasks of two groups on one processor: the ready one finds the processor busy, its
-///   group doesn't run, and the root's one running task keeps the root's processor from being full;
-/// - groups are printed in the byte order of their paths, and removed ones aren't.
+/// - a group is removed and created again, and a waiting task moves into the new group;
+/// - tasks of two groups compete for one processor: the group of the ready task doesn't run, so CPU
+///   full holds for it, but not for the root;
+/// - groups are printed in the byte order of their paths, and removed groups aren't printed.
 const TRACES: &str = "psitrace 1 cpus=1\n\
     5 end\n|\
     stall cpu=0 / 0 0 0 0 0 0 0\n|\
@@ -127,7 +129,7 @@ fn part_of<'a>(rt: &impl Abort, row: &'a str) -> (&'a str, &'a str) {
 }
 
 /// Checks that `stall` and `check` print the outputs in a row for its trace. The shelf and the
-/// sinks move at most `most` bytes per call.
+/// sinks transfer at most `most` bytes per call.
 fn assert_row(rt: &impl Host, row: &str, most: usize) {
     let (trace, outputs) = part_of(rt, row);
     let (sums, line) = part_of(rt, outputs);

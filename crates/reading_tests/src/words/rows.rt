@@ -1,14 +1,15 @@
 //! The rows of the tests of command words: one list of words per row, separated by `|`. The tests
 //! themselves are in the parent module.
 
-/// Words, and after `=>` the command:
+/// Each row has words and, after `=>`, the command that they form:
 ///
-/// - its trace, and for `replay` and `whatif` the rules with the drop-in file after `+`, the
-///   numbers of `--tick-ms`, `--interval-s`, `--report-s` and `--workers`, the path and the number
+/// - the name of the command and its file;
+/// - for `replay` and `whatif` the rules file with the drop-in file after `+`, the numbers of
+///   `--tick-ms`, `--interval-s`, `--report-s` and `--workers`, the path of `--live`, and the number
 ///   of `--live-count`;
 /// - for `gen` and `stress` the numbers of `--seed`, `--cpus`, `--groups` and `--events`, and for
-///   `stress` that of `--workers`;
-/// - for `import` its file and the number of `--cpus`; for `rules` its file with the drop-in file.
+///   `stress` the number of `--workers`;
+/// - for `import` the number of `--cpus`, and for `rules` the drop-in file.
 pub const ACCEPTED: &str = "whatif|X|--rules=R => whatif X R 2000 5 10 64 none 1
 whatif|-|--rules|R => whatif - R 2000 5 10 64 none 1
 whatif|--drop-in=D|--report-s=0|X|--rules=R => whatif X R+D 2000 5 0 64 none 1

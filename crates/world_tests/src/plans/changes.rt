@@ -7,7 +7,7 @@ use psi_base::{Cpu, Ns, Slot};
 use psi_counts::{Change, Counts};
 use std::process::Abort;
 
-/// A task that waits for IO on the first processor, and wakes up on the second.
+/// A trace of a task that waits for IO on the first processor, and wakes up on the second.
 const LINES: [&[u8]; 5] = [
     b"0 fork 1 / 0",
     b"0 switch 0 1 idle",

@@ -11,7 +11,7 @@ use psi_base::{Cpu, Slot};
 use std::alloc::Global;
 use std::process::Abort;
 
-/// The groups are the root, /a, /a/b and /c. A task of /a/b runs on the first processor, moves to
+/// A trace with the groups /, /a, /a/b and /c. A task of /a/b runs on the first processor, moves to
 /// /c, migrates to the second processor and exits there.
 const LINES: [&[u8]; 21] = [
     b"0 group /a",

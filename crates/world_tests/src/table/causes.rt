@@ -87,7 +87,7 @@ const LINES: &str = "5 fork 1 / 0 | ok;\
     4 fork 1 / 2 | AfterEnd";
 
 /// One trace of two processors up to 4 s with `irq` lines, in the format of `LINES`. Each `irq`
-/// line is compared with the last one of the same processor, whatever is between them.
+/// line is compared with the previous one of its processor, even if other lines are between them.
 const IRQ_LINES: &str = "5 irq 2 6 | BadCpu;\
     5 irq 2 1000000001 | BadCpu;\
     5 irq 0 6 | IrqTooLong;\
@@ -169,7 +169,7 @@ fn plays_row(rt: &impl Abort, alloc: Global, table: &mut Table, row: &str) {
     is(rt, is_named(rt, alloc, played, want), true, row);
 }
 
-/// Checks each row of `rows`, in order, as `plays_row` does.
+/// Checks each row of `rows` in order, with `plays_row`.
 fn plays(rt: &impl Abort, alloc: Global, table: &mut Table, rows: &str) {
     for row in rows.split(';') {
         plays_row(rt, alloc, table, row);

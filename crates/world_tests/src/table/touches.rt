@@ -9,17 +9,19 @@ use std::alloc::Global;
 use std::process::Abort;
 use task_table::Table;
 
-/// A task of one group is in a stall, sleeps, wakes elsewhere, migrates, moves and exits. A wake or
-/// a migration from one processor to another changes both. A wake, migration or move that stays in
-/// place is a change too. So are interrupts.
+/// A trace in which a task of one group is in a stall, sleeps, wakes on another processor,
+/// migrates, moves and exits. A wake or a migration from one processor to another changes both
+/// processors. A wake, migration or move to the same place is a change, too, and so is an
+/// interrupt.
 ///
-/// Each line is followed by the processors that it changes: the processor's number, the task that
-/// is subtracted from the chain of a slot there, the task that is added to a chain, and the slot of
-/// the running task afterwards. Each task is preceded by the slot of its group. A task is `a`
-/// blocked, `w` waiting for IO, `r` ready or running, and in a stall `A` or `R`. A running task is
-/// `!` in a stall, and `=` otherwise. A `+` is followed by the interrupt time (ns) there. If
-/// accounting is switched, only the slot of the group is given, with `on` or `off`: this applies to
-/// every processor.
+/// Each line is followed by the processors that it changes: the number of the processor, the task
+/// that is subtracted from a group and its ancestors there, the task that is added, and the slot of
+/// the running task afterwards. Each task is preceded by the slot of its group. A task is `a` if it
+/// is blocked, `w` if it waits for IO, and `r` if it is ready or running; `A` and `R` are tasks in
+/// a memory stall. The slot of the running task is followed by `!` if this task is in a stall, and
+/// by `=` otherwise. A `+` is followed by the interrupt time (ns) on the processor. A line that
+/// switches accounting is followed only by the slot of the group and `on` or `off`, because the
+/// switch applies to every processor.
 const LINES: &str = "1 group /a;\
     1 fork 1 /a 0 | 0 .. 1r ..;\
     2 switch 0 1 idle | 0 .. .. 1=;\
