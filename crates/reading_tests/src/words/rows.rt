@@ -4,9 +4,10 @@
 /// Each row has words and, after `=>`, the command that they form:
 ///
 /// - the name of the command and its file;
+/// - for `check` the number of `--tick-ms`;
 /// - for `replay` and `whatif` the rules file with the drop-in file after `+`, the numbers of
-///   `--tick-ms`, `--interval-s`, `--report-s` and `--workers`, the path of `--live`, and the number
-///   of `--live-count`;
+///   `--tick-ms`, `--interval-s`, `--report-s` and `--workers`, the path of `--live`, and the
+///   number of `--live-count`;
 /// - for `gen` and `stress` the numbers of `--seed`, `--cpus`, `--groups` and `--events`, and for
 ///   `stress` the number of `--workers`;
 /// - for `import` the number of `--cpus`, and for `rules` the drop-in file.
