@@ -210,8 +210,8 @@ def span_of(given: Given, known: Known, replay: Replay) -> tuple[int, int]:
 
 
 def samples_of(given: Given, groups: list[str], end: int) -> Optional[Samples]:
-    """Returns the memory samples of the groups, or None if the trace isn't known or, in a replay by
-    the tool, has no samples.
+    """Returns the memory samples of the groups, or None if there is no trace or if the replayed
+    trace has no samples.
     """
     if given.trace is None:
         return None

@@ -180,8 +180,8 @@ class Curves:
         )
 
     def unbroken(self) -> Iterator[list[int]]:
-        """Yields the places of the reports in unbroken runs. A run ends if the group didn't exist
-        for two pixels or more.
+        """Yields the indexes of consecutive reports. They are split if the group didn't exist for
+        two pixels or more.
         """
         rounds, moments = self.series.rounds, self.series.moments
         run: list[int] = []

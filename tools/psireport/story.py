@@ -117,8 +117,8 @@ def ranked(peaks: Peaks, is_root: bool) -> Optional[tuple[int, Subject]]:
 
 
 def interrupted(peaks: Peaks) -> Optional[tuple[int, Subject]]:
-    """Returns the group that interrupts delayed for the greatest share of time, and this share. The
-    root comes first.
+    """Returns the group that interrupts delayed for the greatest share of time, and this share. Of
+    several groups with this share the root is preferred.
     """
     order = [
         (peaks.highest(path, "irq", "full").share, path == "/", path)

@@ -10,7 +10,7 @@ RiseFrom low [] = Unit {0}
 RiseFrom low (number ∷ numbers) = (low ≤ number) × RiseFrom number numbers
 
 -- The invariant of a journal: for each observer and processor, the numbers of changes never
--- decrease. That each entry has the correct times follows from the type of entries.
+-- decrease. The type of entries ensures that each entry has the correct times.
 abbrev pub IsGood : List Entry → Type 0
 IsGood entries = (observer cpu : ℕ) → RiseFrom 0 (counts_of observer cpu entries)
 

@@ -3,7 +3,7 @@ ghost use Rattle.observer_log.specs.Board.{LastReadIsLast};
 
 /// If an observer was notified of all states and reads the board afterwards, the state that it
 /// reads is the last published one, provided that each state that it has read is a published one.
-/// The driver checks this proviso when it notifies the observer again.
+/// The driver checks this condition when it notifies the observer again.
 pub fn law_last_read()
     ensures { LastReadIsLast }
 {}
