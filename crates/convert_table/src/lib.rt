@@ -1,5 +1,4 @@
-//! Parses a table, the text of a [`page_spec::Layout`]. A table describes the kernel's pages and
-//! events.
+//! Parses a table: a text that describes the kernel's pages and events, as a [`page_spec::Layout`].
 //!
 //! The lines of a table are `psi_layout 1`; `page SIZE HEADER`; any number of `letter BITS LETTER`
 //! and `kind NUMBER NAME FIELD..`, with fields `FORM:OFFSET:SIZE`; and `end`. `specs/Table.antt`

@@ -1,6 +1,5 @@
-//! Observers of a replayed trace. The only public call is [`observe`]: it parses the words of the
-//! command line, replays the trace tick by tick while observers take samples in their own threads,
-//! and writes the samples.
+//! Runs a command line of `psi_observe`: the only public call [`observe`] parses the words, replays
+//! a trace tick by tick while observers take samples in their own threads, and writes the samples.
 //!
 //! `observe_spec` specifies the output. The board of ticks, the journal and the watchers are in
 //! `observer_log`.

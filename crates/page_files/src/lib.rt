@@ -1,4 +1,4 @@
-//! Writes the events of a file of pages as lines. Each page is read once, and only one page is in
+//! Writes the events of a file of pages as lines: each page is read once, and only one page is in
 //! memory.
 //!
 //! The crate doesn't interpret the pages: `event_lines` writes the events of each page.
