@@ -1,5 +1,5 @@
--- The value of a table (the limits and a world), the invariant of its indexes, and how a table
--- plays events.
+-- Defines the value of a table (the limits and a world), the invariant of its lists, and the effect
+-- of playing an event.
 use Rattle.std.specs.Prelude.{◌≡◌, ℕ, ◌<◌, ◌≤◌, ◌==◌, true, List, length, slice_index_or, Option, None, Some, Bool, if◌then◌else◌, refl, Result, Ok, Err}
 use Rattle.std.specs.FinMap as tasks_by
 use Rattle.std.specs.Coded.{Coded, code_by, coded×, coded_ℕ, coded_bool, coded_list}
@@ -20,39 +20,44 @@ use Rattle.task_table.specs.Causes.{IsFault, takes_memory}
 use Rattle.task_table.specs.Named.{named_group, named_task}
 use Rattle.task_table.specs.declared.finding.Finding.{Finding}
 
--- the value of a table: the limits of a trace, and the world
+-- The value of a table: the limits of a trace, and the world after the events played.
 pub record TableView : Type 0 where
   pub limits : Limits
   pub world : World
 
--- the task if it exists and passes the test, otherwise `None`
+-- `passing test task`: the task if it exists and passes the test, otherwise `None`.
 abbrev pub passing : (Task → Bool) → Option Task → Option Task
 passing test None = None
 passing test (Some task) = if test task then Some task else None
 
--- the task with this pid if it is running on processor `cpu`, otherwise `None`
+-- `task_on tasks pid cpu`: the task with this pid if it is running on processor `cpu`, otherwise
+-- `None`.
 abbrev pub task_on : Tasks → ℕ → ℕ → Option Task
 task_on tasks pid cpu = passing (is_running_on cpu) (task_of tasks pid)
 
--- the running task of an entry if it has this pid, otherwise `None`
+-- `task_with pid running`: the running task if it has this pid, otherwise `None`.
 abbrev pub task_with : ℕ → Option (ℕ × Task) → Option Task
 task_with pid None = None
 task_with pid (Some running) = if running.0 == pid then Some running.1 else None
 
--- the list has the running task of each processor, and no other task is running on a processor
+-- `IsIndex running tasks`: the list `running` has the running task of each processor, and no other
+-- task is running.
 pub record IsIndex (running : List (Option (ℕ × Task))) (tasks : Tasks) : Type 0 where
   pub each : (pid cpu : ℕ) → task_on tasks pid cpu ≡ task_with pid (slice_index_or running cpu None)
 
--- whether the task is in the group in `slot` itself, not only below it
+-- `is_of slot task`: whether the task is in the group in `slot` itself, not only in a group below
+-- it.
 abbrev pub is_of : ℕ → Task → Bool
 is_of slot task = task.slot.0 == slot
 
--- the list has the number of live tasks in each group itself, by slot
+-- `AreMembers members tasks`: the list `members` has, for each slot, the number of live tasks in
+-- the group itself.
 pub record AreMembers (members : List ℕ) (tasks : Tasks) : Type 0 where
   pub each : (slot : ℕ) → slice_index_or members slot 0 ≡ how_many (is_of slot) (tasks_by.values tasks)
 
--- The invariant of a table: the world is legal, there is an entry for each processor (at most 64)
--- and for each group, and the lists have the running tasks and the number of tasks in each group.
+-- `IsTable table running members`: the invariant of a table. The world is legal, there are at most
+-- 64 processors, `running` has their running tasks, and `members` has the number of tasks in each
+-- group.
 pub record IsTable (table : TableView) (running : List (Option (ℕ × Task))) (members : List ℕ) : Type 0 where
   pub legal : IsLegalWorld table.limits table.world
   pub index : IsIndex running table.world.tasks
@@ -60,9 +65,9 @@ pub record IsTable (table : TableView) (running : List (Option (ℕ × Task))) (
   pub cover : length table.world.groups ≤ length members
   pub cpus : length running ≤ 64
 
--- The table has played an event: the event is legal in a legal world, and the new world is the
--- world after the event. The new world is legal too and within the limit of lines, and the time of
--- its last event is neither later than the limit nor earlier than before.
+-- `HasPlayed old event new`: the table has played a legal event. The new world is the world after
+-- the event and is legal. The number of events is within its limit. The time of the last event
+-- hasn't decreased and is within its limit.
 pub record HasPlayed (old : TableView) (event : Event) (new : TableView) : Type 0 where
   pub limits : new.limits ≡ old.limits
   pub legal : cause_of old.limits old.world event ≡ None
@@ -73,19 +78,21 @@ pub record HasPlayed (old : TableView) (event : Event) (new : TableView) : Type 
   pub early : new.world.last ≤ new.limits.latest
   pub forward : old.world.last ≤ new.world.last
 
--- The table has rejected an event for the reason `why`, and nothing has changed.
+-- `HasRefused old event new why`: the table has rejected an event with the fault `why`, and is
+-- unchanged.
 pub record HasRefused (old : TableView) (event : Event) (new : TableView) (why : Fault Cause) : Type 0 where
   pub fault : IsFault (cause_of old.limits old.world event) event.act why
   pub same : new ≡ old
 
--- The table plays the event, or rejects it.
+-- `PlaysEvent old event new result`: the table plays the event if `result` is `Ok`, otherwise it
+-- rejects the event.
 abbrev pub PlaysEvent : {T : Type 0} → TableView → Event → TableView → Result T (Fault Cause) → Type 0
 PlaysEvent old event new (Ok x) = HasPlayed old event new
 PlaysEvent old event new (Err why) = HasRefused old event new why
 
--- The event is legal in the table, and `finding` has the tasks and the group that it concerns: the
--- task with the pid that its act names, the task that the act changes, and the live group with the
--- path that the act names.
+-- `IsFinding table event finding`: the event is legal, and `finding` holds its tasks and group: the
+-- task with the pid that the act names, the task that the act changes, and the live group whose
+-- path the act names.
 pub record IsFinding (table : TableView) (event : Event) (finding : Finding) : Type 0 where
   pub legal : cause_of table.limits table.world event ≡ None
   pub room : table.world.lines < most_events
@@ -95,19 +102,19 @@ pub record IsFinding (table : TableView) (event : Event) (finding : Finding) : T
   pub before_is : finding.before ≡ before table.world.tasks event.act
   pub group_is : finding.group ≡ named_group table.world.groups event.act
 
--- The result of judging an event: what it concerns if it is legal, otherwise the first cause
--- against it.
+-- `Judges table event result`: `result` holds the tasks and the group of a legal event, or the
+-- first cause why the event is illegal.
 abbrev pub Judges : TableView → Event → Result Finding Cause → Type 0
 Judges table event (Ok finding) = IsFinding table event finding
 Judges table event (Err why) = cause_of table.limits table.world event ≡ Some why
 
--- The table plays a legal event, or it runs out of memory for a new task or group and nothing has
--- changed.
+-- `PlaysLegal old event new result`: the table plays a legal event, or memory runs out for a new
+-- task or group and the table is unchanged.
 abbrev pub PlaysLegal : {T : Type 0} → TableView → Event → TableView → Result T NoMemory → Type 0
 PlaysLegal old event new (Ok x) = HasPlayed old event new
 PlaysLegal old event new (Err none) = (new ≡ old) × (takes_memory event.act ≡ true)
 
--- the value of a table with these fields
+-- Builds the value of a table from its parts.
 abbrev pub table_of : ℕ → ℕ → Tasks → List GroupLife → List ℕ → ℕ → ℕ → ℕ → ℕ → Bool → TableView
 table_of cpus latest tasks groups irqs triggers pressures lines last ended = record {
   limits = record { cpus = cpus; latest = latest };
@@ -123,7 +130,7 @@ table_of cpus latest tasks groups irqs triggers pressures lines last ended = rec
   };
 }
 
--- a world as nested pairs, by which proofs compare worlds
+-- Encodes a world as nested pairs, so that proofs can compare worlds.
 abbrev pub world_code : Coded World
 world_code =
     code_by (Tasks × (List GroupLife × (List ℕ × (ℕ × (ℕ × (ℕ × (ℕ × Bool)))))))
@@ -142,7 +149,7 @@ world_code =
       ended = p.1.1.1.1.1.1.1;
     }) (λ _. refl)
 
--- a table's value as nested pairs, by which proofs compare values
+-- Encodes the value of a table as nested pairs, so that proofs can compare values.
 abbrev pub view_code : Coded TableView
 view_code =
     code_by ((ℕ × ℕ) × World) (coded× (coded× coded_ℕ coded_ℕ) world_code)

@@ -1,5 +1,5 @@
-//! The first cause why an act is rejected, in the order of checks that psi_spec defines. An act is
-//! what an event says, such as a fork; nothing is changed here.
+//! Finds the first cause why an act is illegal, in the order of checks that psi_spec defines. An
+//! act is an event without its time. Nothing is changed here.
 ghost use Rattle.std.specs.Prelude.{◌≡◌, ℕ, List, if◌then◌else◌, nat_le, length, slice_index_or, None, Option, Some, false};
 ghost use Rattle.psi_base.specs.declared.event.Cause.TheVariants as cause;
 ghost use Rattle.psi_spec.specs.Refusal.{has_member, is_window};
@@ -25,23 +25,23 @@ const MOST_TRIGGERS: u32 = 256;
 /// The maximum number of `pressure` lines in a trace.
 const MOST_PRESSURES: u32 = 65_536;
 
-/// The shortest and the longest window of a trigger (us).
+/// The shortest window of a trigger (us).
 const SHORTEST_WINDOW: u64 = 500_000;
 
 const LONGEST_WINDOW: u64 = 10_000_000;
 
-/// The longest interrupt time of one `irq` line (ns).
+/// The longest interrupt time (ns) that one `irq` line may report.
 const LONGEST_IRQ: u64 = 1_000_000_000;
 
-/// Whether `live` tasks reach the limit of live tasks.
+/// Whether `live` tasks reach the maximum number of live tasks.
 pub(crate) fn is_full(live: usize) -> bool
     ensures { result ≡ nat_le most_tasks live }
 {
     live >= MOST_TASKS
 }
 
-/// Returns the slot of the live group with the path that an act names, or `None`. The path of a new
-/// group isn't looked up.
+/// Returns the slot of the live group whose path an act names, or `None`. The path of an act that
+/// creates a group isn't looked up.
 pub(crate) fn named_group(tree: &Tree, act: &Act) -> Option<Slot>
     ensures { result ≡ named_group tree.now act.now }
 {
@@ -130,8 +130,8 @@ pub(crate) fn wake_refused(task: Option<Task>, cpus: usize, cpu: u32) -> Option<
     }
 }
 
-/// Returns the cause why the next task can't start on processor `cpu`, or `None` if it can. Without
-/// a next task only the processor is checked.
+/// Returns the cause why the next task can't start on processor `cpu`, or `None` if the task can
+/// start. If `next` is `None`, only the processor number is checked.
 #[inline(always)]
 fn next_refused(next: Option<Pid>, task: Option<Task>, cpus: usize, cpu: u32) -> Option<Cause>
     ensures { result ≡ next_cause cpus cpu next task }
@@ -161,7 +161,7 @@ fn cpu_refused(cpus: usize, cpu: u32) -> Option<Cause>
 }
 
 /// Returns the cause why the running task can't leave its processor in the way `how`, or `None` if
-/// it can.
+/// the task can.
 #[inline(always)]
 fn how_refused(how: How, running: Running) -> Option<Cause>
     ensures { result ≡ how_cause how running }
@@ -289,8 +289,9 @@ fn account_refused(tree: &Tree, pressures: u32, path: &Path) -> Option<Cause>
     tree.pressure_cause(path)
 }
 
-/// Returns the cause why interrupts can't have taken `ns` (ns) on processor `cpu` up to the time
-/// `at` (ns), or `None` if they can. `irqs` has the time (ns) of each processor's last `irq` line.
+/// Returns the cause against an `irq` line at the time `at` (ns) which states that interrupts took
+/// `ns` (ns) on processor `cpu`, or `None` if the line is legal. `irqs` lists the time (ns) of each
+/// processor's last `irq` line.
 fn irq_refused(irqs: &[Ns], cpus: usize, at: Ns, cpu: Cpu, ns: u64) -> Option<Cause>
     ensures { result ≡ irq_cause cpus irqs.now at cpu ns }
 {
@@ -304,10 +305,10 @@ fn irq_refused(irqs: &[Ns], cpus: usize, at: Ns, cpu: Cpu, ns: u64) -> Option<Ca
     None
 }
 
-/// Returns the first cause why the act of an event isn't legal, or `None` if it is. Precondition:
-/// the act isn't a task act. `irqs` has the time (ns) of each processor's last `irq` line, `named`
-/// is the task with the pid that the act names, and `group` is the live group with the path that
-/// the act names.
+/// Returns the first cause why the act of an event is illegal, or `None` if the act is legal.
+/// Precondition: the act isn't a task act. `irqs` lists the time (ns) of each processor's last
+/// `irq` line. `named` is the task with the pid that the act names, and `group` is the slot of the
+/// live group with the path that the act names.
 #[inline(always)]
 pub(crate) fn act_refused(
     tree: &Tree,

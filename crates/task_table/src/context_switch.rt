@@ -1,5 +1,5 @@
-//! What a legal context switch does to tasks: the running task leaves its processor, and the next
-//! task starts there.
+//! Performs a legal context switch: the running task leaves its processor, and the next task starts
+//! there.
 ghost use Rattle.std.specs.Prelude.{◌≡◌, ◌≢◌, ℕ, ◌<◌, List, None, IfSome, true, false, length, slice_index_or};
 ghost use Rattle.psi_spec.specs.World.{is_ready, is_running, leave, left_by, running_on, start, task_part};
 ghost use Rattle.psi_counts.specs.Touch.{left_if};
@@ -16,7 +16,8 @@ use crate::task_update::TaskUpdate;
 use psi_base::{How, Pid};
 use psi_spec::{Mode, Task};
 
-/// Returns the task after it left its processor in the way `how`, or `None` if it exited.
+/// Returns the state of the running task after the task leaves its processor in the way `how`, or
+/// `None` if the task exits.
 #[inline(always)]
 fn left(how: How, task: Task) -> Option<Task>
     ensures task { result ≡ left_by how task }
@@ -118,7 +119,8 @@ fn switch_in(
     running[cpu as usize] = Some((pid.0, after));
 }
 
-/// Performs a legal switch. `task` is the next task, if there is one.
+/// Performs a legal switch on processor `cpu`. `next` and `task` are the pid and the state of the
+/// next task, or `None` if the processor idles after the switch.
 #[inline(always)]
 pub(crate) fn switch(
     tasks: &mut TaskMap,

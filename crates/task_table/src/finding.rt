@@ -1,19 +1,19 @@
-//! The result of the lookups for a legal event, so that performing the event needn't look up
-//! anything again.
+//! The result of checking a legal event. It keeps the tasks and the group found during the check,
+//! so that performing the event looks up nothing again.
 ghost use Rattle.std.specs.Prelude.{◌≡◌};
 ghost use Rattle.task_table.specs.Named.{slot_or_root};
 
 use psi_base::Slot;
 use psi_spec::Task;
 
-/// The tasks and the group that a legal event concerns, as they are before the event.
+/// The tasks and the group of a legal event, in their state before the event.
 #[derive(Clone, Copy)]
 pub struct Finding {
-    /// The task with the pid that the act names, also if it is the next task to run.
+    /// The task with the pid that the act names. For a switch this is the next task to run.
     pub named: Option<Task>,
-    /// The task whose counts the act changes, before the act.
+    /// The task whose counts the act changes.
     pub before: Option<Task>,
-    /// The slot of the live group with the path that the act names.
+    /// The slot of the live group whose path the act names.
     pub group: Option<Slot>,
 }
 

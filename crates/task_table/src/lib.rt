@@ -1,20 +1,21 @@
-//! The table of tasks: which events are legal, what a legal event does to tasks and groups, and
-//! what it changes on each processor.
+//! The table of tasks: decides which events are legal, performs the legal ones, and reports what
+//! each changes on each processor.
 //!
-//! It is the executable form of the world in psi_spec: live tasks with their group, processor, mode
-//! and memory stall, and the tree of groups (group_tree). An *act* is what an event says besides
-//! its time. An event is handled in two calls, so that running out of memory never hides the cause
-//! against an event:
+//! The table implements in code the model `World` of psi_spec: the live tasks, each with its group,
+//! processor, mode and memory stall, and the tree of groups (group_tree). An *act* is an event
+//! without its time. An event is handled in two calls, so that a lack of memory is never reported
+//! in place of the cause why an event is illegal:
 //!
-//!     judge      the first cause against the event, or a `Finding`: its tasks and its group
-//!     perform    the effect of a legal event, and its `Touch`: its change on each processor
+//!     judge      checks the event: returns a `Finding` (its tasks and its group), or the first cause
+//!     perform    performs a legal event: returns a `Touch` (its change on each processor)
 //!
-//! Between the two calls the caller reserves memory for the result of the event. An event looks up
-//! tasks by pid and groups by path, and iterates over no list. Events of tasks alone (`switch`,
-//! `wake`, `stall` ..) are nine tenths of a trace; their acts are values without memory of their
-//! own, *task acts* (`TaskAct`), and take a fast path, which contracts show to be equivalent.
+//! Between the two calls the caller reserves memory for the result of the event. The table looks up
+//! tasks by pid and groups by path, and never scans a list. About nine of ten events of a trace
+//! concern only tasks (`switch`, `wake`, `stall` and so on). Their acts are *task acts*
+//! (`TaskAct`): small values that own no memory. Task acts take a fast path, and the contracts
+//! state that the fast path gives the same results as the general path.
 //!
-//! The table doesn't compute times: proc_plan and slot_clocks turn touches into clocks.
+//! The table computes no stall times: proc_plan and slot_clocks compute them from touches.
 #![tactic(auto)]
 
 mod causes;

@@ -6,8 +6,8 @@ use psi_base::{NoMemory, Slot};
 use std::alloc::Global;
 use std::marker::Model;
 
-/// The number of live tasks in each group, by slot. Contracts see a list of numbers; a slot after
-/// its end has no task.
+/// The number of live tasks in each group, indexed by slot. In contracts this is a list of numbers,
+/// and the number for a slot past the end of the list is 0.
 #[derive(Drop)]
 pub(crate) struct Members {
     counts: Vec<u32>,
@@ -25,7 +25,7 @@ impl Model for Members {
 }
 
 impl Members {
-    /// Returns the numbers for one group without a task.
+    /// Creates the list for a single group (the root) without tasks.
     pub(crate) fn new(alloc: Global) -> Result<Members, NoMemory>
         ensures { IfOk result (λ members. members ≡ 0 ∷ []) }
     {
@@ -33,7 +33,8 @@ impl Members {
         Ok(Members { counts })
     }
 
-    /// Makes room for `groups` groups. New groups have no task. `NoMemory` if memory runs out.
+    /// Extends the list to `groups` groups; an added group has no task. Fails with `NoMemory` if
+    /// memory runs out.
     pub(crate) fn cover(&mut self, groups: usize) -> Result<(), NoMemory>
         requires { groups ≤ length self.old + 1 }
         ensures same { (slot : ℕ) →
@@ -47,14 +48,14 @@ impl Members {
         Ok(())
     }
 
-    /// Whether a live task is in the group itself.
+    /// Whether a live task is in the group itself, not only in a group below it.
     pub(crate) fn has(&self, slot: Slot) -> bool
         ensures { result ≡ nat_lt 0 (slice_index_or self.now slot.0 0) }
     {
         self.counts.get(slot.0 as usize).copied().unwrap_or(0) > 0
     }
 
-    /// Counts one more task in the group.
+    /// Adds one to the number of tasks in the group.
     pub(crate) fn join(&mut self, slot: Slot)
         requires room { slot.0 < length self.old }
         requires fits { slice_index_or self.old slot.0 0 + 1 < 2 ^ 32 }
@@ -63,7 +64,7 @@ impl Members {
         self.counts[slot.0 as usize] += 1;
     }
 
-    /// Counts one task fewer in the group.
+    /// Subtracts one from the number of tasks in the group.
     pub(crate) fn leave(&mut self, slot: Slot)
         requires room { slot.0 < length self.old }
         requires some { 0 < slice_index_or self.old slot.0 0 }

@@ -1,5 +1,5 @@
-//! A table as a player of traces: it plays events in order, which is enough to check a trace. No
-//! plans are made.
+//! Implements `Player` for the table, so that a trace can be checked by playing its events in
+//! order. Unlike the planner of proc_plan, a table records no plans.
 
 use crate::table::Table;
 use psi_base::{Cause, Event, Fault, NoMemory, Ns};

@@ -1,10 +1,11 @@
-//! The running task of each processor, stored so that it needn't be searched for.
+//! The running task of each processor. The table stores these tasks in a list, so that it needn't
+//! search all tasks for them.
 ghost use Rattle.std.specs.Prelude.{◌≡◌, None, Some, if◌then◌else◌, slice_index_or, slice_set, length, ◌<◌, true};
 ghost use Rattle.psi_spec.specs.World.{is_running};
 
 use psi_spec::{Mode, Task};
 
-/// The running task of a processor with its pid, or `None` if the processor idles.
+/// The pid and the state of a processor's running task, or `None` if the processor idles.
 pub(crate) type Running = Option<(u32, Task)>;
 
 /// Returns the running task of processor `cpu`, or `None` if it idles or doesn't exist.

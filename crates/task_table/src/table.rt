@@ -1,4 +1,5 @@
-//! The table of tasks: the world after the events played, and how it judges and performs events.
+//! The table of tasks. It holds the state after the events played so far, checks the next event,
+//! and performs it.
 ghost use Rattle.std.specs.Prelude.{◌≡◌, ◌<◌, ◌≤◌, IfNone, IfOk, None, false, length, nat_le};
 ghost use Rattle.std.specs.FinMap as tasks_by;
 ghost use Rattle.psi_spec.specs.World.{first_world, most_events, most_tasks, running_on, task_of, task_part};
@@ -31,7 +32,7 @@ use std::alloc::Global;
 use std::marker::Model;
 use trace_player::TaskAct;
 
-/// The world after the events played, and the limits of the trace.
+/// The state after the events played so far, and the limits of the trace.
 #[derive(Drop)]
 pub struct Table {
     /// The latest time (ns) that an event may have.
@@ -41,7 +42,7 @@ pub struct Table {
     running: Vec<Running>,
     /// The number of live tasks in each group.
     members: Members,
-    /// All groups ever created.
+    /// All groups ever created, including removed groups.
     tree: Tree,
     /// The time (ns) of each processor's last `irq` line, or 0.
     irqs: [Ns; MOST_CPUS],
@@ -72,7 +73,7 @@ impl Model for Table {
 }
 
 impl Table {
-    /// Creates the world before the first event, with `cpus` processors (1 to 64). `latest` is the
+    /// Creates a table that has played no event, with `cpus` processors (1 to 64). `latest` is the
     /// latest time (ns) that an event may have.
     pub fn new(alloc: Global, cpus: u32, latest: Ns) -> Result<Table, NoMemory>
         requires some { 1 ≤ cpus }
@@ -115,35 +116,35 @@ impl Table {
         self.lines
     }
 
-    /// Returns the time (ns) of the last event, 0 before the first.
+    /// Returns the time (ns) of the last event, or 0 before the first event.
     pub fn last(&self) -> Ns
         ensures { result ≡ self.now.world.last }
     {
         self.last
     }
 
-    /// Whether the trace has ended.
+    /// Whether the event that ends the trace has been played.
     pub fn is_ended(&self) -> bool
         ensures { result ≡ self.now.world.ended }
     {
         self.ended
     }
 
-    /// Whether the limit of live tasks is reached.
+    /// Whether the number of live tasks has reached its limit (65,536).
     pub fn is_full(&self) -> bool
         ensures { result ≡ nat_le most_tasks (tasks_by.len self.now.world.tasks) }
     {
         is_full(self.tasks.len())
     }
 
-    /// Returns all groups ever created.
+    /// Returns the tree of all groups ever created.
     pub fn groups(&self) -> &Tree
         ensures { result.now ≡ self.now.world.groups }
     {
         &self.tree
     }
 
-    /// Returns all groups ever created, and drops the rest of the table.
+    /// Returns the tree of all groups ever created, and drops the rest of the table.
     pub fn into_groups(self) -> Tree
         ensures { result ≡ self.world.groups }
     {
@@ -168,8 +169,8 @@ impl Table {
         }
     }
 
-    /// Returns the running task in the form that a change of its processor has it: the slot of its
-    /// group, and whether it is in a memory stall. `None` if the processor idles.
+    /// Returns the slot of the running task's group, and whether that task is in a memory stall, as
+    /// a `Change` of the processor stores them. Returns `None` if the processor idles.
     #[tactic(auto, using(crate::proofs::Index::running_known))]
     pub fn current(&self, cpu: Cpu) -> Option<(Slot, bool)>
         ensures { result ≡ shown (running_on self.now.world.tasks cpu.0) }
@@ -177,7 +178,8 @@ impl Table {
         current_on(&self.running, cpu)
     }
 
-    /// Returns the first cause at the time `at` (ns) that doesn't depend on the act, or `None`.
+    /// Checks only the time `at` (ns) of an event and the state of the trace. Returns the first
+    /// cause against any event at that time, or `None`.
     #[tactic(auto, using(std::proofs::lemmas::Bool::Decides::nat_tests))]
     #[inline(always)]
     fn line_refused(&self, at: Ns) -> Option<Cause>
@@ -201,9 +203,9 @@ impl Table {
         None
     }
 
-    /// Returns the first cause against an event, or `None` if it is legal. Precondition: the act
-    /// isn't a task act. `named` is the task with the pid that the act names, and `group` the live
-    /// group with the path that it names.
+    /// Returns the first cause against an event, or `None` if the event is legal. Precondition: the
+    /// act isn't a task act. `named` is the task with the pid that the act names, and `group` is
+    /// the slot of the live group with the path that the act names.
     #[inline(always)]
     fn refused(&self, event: &Event, named: Option<Task>, group: Option<Slot>) -> Option<Cause>
         requires other { is_task_act event.now.act ≡ false }
@@ -231,8 +233,9 @@ impl Table {
         )
     }
 
-    /// Returns the task whose counts `act` changes, in its state before `act`, or `None`.
-    /// Precondition: `act` isn't a task act. `named` is the task with the pid that `act` names.
+    /// Returns the state before `act` of the task whose counts `act` changes, or `None` if `act`
+    /// changes no existing task. Precondition: `act` isn't a task act. `named` is the task with the
+    /// pid that `act` names.
     #[inline(always)]
     fn before(&self, act: &Act, named: Option<Task>) -> Option<Task>
         requires other { is_task_act act.now ≡ false }
@@ -245,8 +248,8 @@ impl Table {
         }
     }
 
-    /// Judges an event: returns the tasks and the group that it concerns if it is legal, otherwise
-    /// the first cause against it.
+    /// Checks an event. Returns the tasks and the group of a legal event, or the first cause why
+    /// the event is illegal.
     #[inline(always)]
     pub fn judge(&self, event: &Event) -> Result<Finding, Cause>
         ensures { Judges self.now event.now result }
@@ -266,8 +269,8 @@ impl Table {
         })
     }
 
-    /// Returns the first cause against the event, or `None` if it is legal. The programs of this
-    /// repository don't call it.
+    /// Returns the first cause against an event, or `None` if the event is legal. Only code outside
+    /// this repository calls this function.
     pub fn check(&self, event: &Event) -> Option<Cause>
         ensures cause { result ≡ cause_of self.now.limits self.now.world event.now }
         ensures room { IfNone result (self.now.world.lines < most_events) }
@@ -277,9 +280,9 @@ impl Table {
         self.judge(event).err()
     }
 
-    /// Advances the world by the event. Fails with `Refused` and the first cause if the event isn't
-    /// legal, or with `NoMemory` for a legal fork or a legal new group. Nothing changes if it
-    /// fails.
+    /// Plays an event: checks the event and performs it. Fails with `Refused` and the first cause
+    /// if the event is illegal, or with `NoMemory` if memory runs out for a legal fork or a legal
+    /// new group. The table is unchanged on failure.
     #[inline(always)]
     pub fn play(&mut self, event: &Event) -> Result<(), Fault<Cause>>
         ensures { PlaysEvent self.old event.now self.new result }
@@ -290,8 +293,8 @@ impl Table {
         }
     }
 
-    /// The slow path of [`Table::play`]. Precondition: the act isn't a task act. The function isn't
-    /// inlined, so that the fast path is small enough to be inlined.
+    /// The general path of [`Table::play`]. Precondition: the act isn't a task act. The function
+    /// isn't inlined, which keeps the fast path small enough to be inlined.
     #[inline(never)]
     fn play_other(&mut self, event: &Event) -> Result<(), Fault<Cause>>
         requires { is_task_act event.now.act ≡ false }
@@ -302,8 +305,8 @@ impl Table {
         Ok(())
     }
 
-    /// Advances the world like [`Table::play`], and returns the changes that the event makes on
-    /// processors. The programs of this repository don't call it.
+    /// Plays an event like [`Table::play`], and returns the changes that the event makes on
+    /// processors. Only code outside this repository calls this function.
     pub fn step(&mut self, event: &Event) -> Result<Touch, Fault<Cause>>
         ensures plays { PlaysEvent self.old event.now self.new result }
         ensures touch { IfOk result (λ touch.
@@ -320,9 +323,9 @@ impl Table {
         Ok(self.perform(event, finding)?)
     }
 
-    /// Performs a legal event, and returns the changes that it makes on processors. `finding` is
-    /// what [`Table::judge`] returns for the event. Only a fork and a new group allocate; if memory
-    /// runs out, nothing changes.
+    /// Performs a legal event, and returns the changes that the event makes on processors.
+    /// `finding` is the result of [`Table::judge`] for this event. Only a fork or a new group
+    /// allocates; if memory runs out, the table is unchanged.
     #[inline(always)]
     pub fn perform(&mut self, event: &Event, finding: Finding) -> Result<Touch, NoMemory>
         requires { IsFinding self.old event.now finding }
@@ -348,8 +351,8 @@ impl Table {
         Ok(touch_of(event.at, &event.act, changed, &self.running))
     }
 
-    /// Advances the world by a legal event, and returns the task that it changes. Precondition: the
-    /// act isn't a task act. If memory runs out, nothing changes.
+    /// Performs a legal event, and returns the task that the event changes, before and after the
+    /// event. Precondition: the act isn't a task act. If memory runs out, the table is unchanged.
     #[inline(always)]
     fn advance(&mut self, event: &Event, finding: Finding) -> Result<TaskUpdate, NoMemory>
         requires other { is_task_act event.now.act ≡ false }

@@ -1,4 +1,4 @@
-//! A map from pids to tasks, which is fast for small pids.
+//! A map from pids to tasks. Lookups of small pids are fast, because these tasks are in a list.
 ghost use Rattle.std.specs.Prelude.{◌≡◌, ◌≤◌, IfOk, OnOk, OnErr, IsSome, None, length, replicate};
 ghost use Rattle.psi_spec.specs.World.{no_tasks, task_of, put, remove, most_tasks};
 ghost use Rattle.std.specs.FinMap as tasks_by;
@@ -10,11 +10,11 @@ use std::alloc::Global;
 use std::collections::HashMap;
 use std::marker::Model;
 
-/// The length of the list of tasks with small pids: the maximum number of live tasks.
+/// The length of the list of tasks with small pids. It equals the maximum number of live tasks.
 const PLACES: usize = 65_536;
 
-/// The live tasks by pid. A list finds a task with a small pid with one load, while a hash map
-/// needs three or four.
+/// The live tasks by pid. Finding a task with a small pid takes one load from a list, while a hash
+/// map needs three or four loads.
 #[derive(Drop)]
 pub(crate) struct TaskMap {
     /// The tasks with pids below `PLACES`, indexed by pid.
@@ -44,7 +44,7 @@ impl Model for TaskMap {
 }
 
 impl TaskMap {
-    /// Returns a map without tasks.
+    /// Creates a map without tasks.
     pub(crate) fn new(alloc: Global) -> Result<TaskMap, NoMemory>
         ensures { IfOk result (λ tasks. tasks ≡ no_tasks) }
     {
@@ -73,7 +73,7 @@ impl TaskMap {
         }
     }
 
-    /// Adds a task under a pid. If memory runs out, nothing changes.
+    /// Adds a task under a pid. If memory runs out, the map is unchanged.
     pub(crate) fn add(&mut self, pid: u32, task: Task) -> Result<(), NoMemory>
         requires few { tasks_by.len self.old ≤ most_tasks }
         ensures ok { OnOk result (self.new ≡ put self.old pid task) }
@@ -86,7 +86,8 @@ impl TaskMap {
         Ok(())
     }
 
-    /// Replaces the task with this pid. Precondition: there is one. Does not allocate.
+    /// Replaces the task with this pid. Precondition: the map has a task with this pid. Does not
+    /// allocate.
     #[inline(always)]
     pub(crate) fn set(&mut self, pid: u32, task: Task)
         requires { IsSome (task_of self.old pid) }
@@ -103,7 +104,7 @@ impl TaskMap {
         *other = task;
     }
 
-    /// Removes the task with this pid, if there is one.
+    /// Removes the task with this pid. Does nothing if the map has no such task.
     pub(crate) fn remove(&mut self, pid: u32)
         ensures { self.new ≡ remove self.old pid }
     {
@@ -114,15 +115,15 @@ impl TaskMap {
     }
 }
 
-/// Returns a list of `count` entries without a task.
+/// Creates a list of `count` entries, each without a task.
 fn empty_places(alloc: Global, count: usize) -> Result<Vec<Option<Task>>, NoMemory>
     ensures { IfOk result (λ places. places.items ≡ replicate count None) }
 {
     Ok(vec![in alloc; None; count]?)
 }
 
-/// Stores a task under a pid, and returns the previous task with this pid. If memory runs out,
-/// nothing changes.
+/// Stores a task under a pid, and returns the previous task with this pid or `None`. If memory runs
+/// out, both containers are unchanged.
 fn put(
     listed: &mut [Option<Task>],
     others: &mut HashMap<u32, Task>,
@@ -147,7 +148,7 @@ fn put(
     Ok(others.insert(pid, task)?)
 }
 
-/// Removes and returns the task with this pid; `None` if there is none.
+/// Removes the task with this pid and returns it, or returns `None` if there is no such task.
 fn take(listed: &mut [Option<Task>], others: &mut HashMap<u32, Task>, pid: u32) -> Option<Task>
     ensures old { result ≡ task_of (listed_tasks listed.old others.old.entries) pid }
     ensures tasks { listed_tasks listed.new others.new.entries

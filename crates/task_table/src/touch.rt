@@ -1,5 +1,5 @@
-//! The changes that an act makes on the processors that it touches, computed from the task that the
-//! act changes and the running tasks, without iterating over all tasks.
+//! Computes the changes that an act makes on processors. The inputs are the task that the act
+//! changes and the running tasks; no function here loops over all tasks.
 ghost use Rattle.std.specs.Prelude.{◌≡◌, ℕ, if◌then◌else◌, Some, None, List, [], ◌∷◌, false, slice_index_or};
 ghost use Rattle.psi_counts.specs.Counts.{counts_among};
 ghost use Rattle.psi_counts.specs.Touch.{account_of, part, shown, change_by_cpu, IsBeside};
@@ -17,18 +17,18 @@ use psi_base::{Act, Cpu, Ns, Slot};
 use psi_counts::{Change, Counts, Touch};
 use psi_spec::{Mode, Task};
 
-/// The touch of an act that changes nothing on any processor.
+/// A touch without any change.
 const NOWHERE: Touch = Touch {
     first: None,
     second: None,
     account: None,
 };
 
-/// Returns the counts of a single task.
+/// Returns the counts of a single task: 1 for each count that includes the task, otherwise 0.
 fn counts_of(task: Task) -> Counts
     ensures { result ≡ counts_among (task ∷ []) }
 {
-    // There are no branches, because the order of modes is hard for a processor to predict.
+    // Branches on the mode are avoided, because processors predict them badly.
     let active = (task.mode == Mode::Ready) | (task.mode == Mode::Running);
     Counts {
         io: u32::from(task.mode == Mode::Waiting),
@@ -48,7 +48,7 @@ fn part_on(cpu: Cpu, task: Option<Task>) -> Option<(Slot, Counts)>
     }
 }
 
-/// Returns the slot of a processor's running task, and whether the task is in a memory stall;
+/// Returns the slot of the running task's group, and whether that task is in a memory stall, or
 /// `None` if the processor idles.
 pub(crate) fn current_on(running: &[Running], cpu: Cpu) -> Option<(Slot, bool)>
     ensures { result ≡ shown (slice_index_or running.now cpu.0 None) }
@@ -59,8 +59,9 @@ pub(crate) fn current_on(running: &[Running], cpu: Cpu) -> Option<(Slot, bool)>
     }
 }
 
-/// Returns the change of processor `cpu` at a time (ns), without interrupt time. `changed` is the
-/// task that an act changes, and `running` has the running tasks after the act.
+/// Returns the change of processor `cpu` at the time `at` (ns), without interrupt time. `changed`
+/// is the task that an act changes, before and after the act. `running` lists the running tasks
+/// after the act.
 #[inline(always)]
 fn change_of(at: Ns, changed: TaskUpdate, running: &[Running], cpu: Cpu) -> Change
     ensures { result ≡ change_for at changed (slice_index_or running.now cpu.0 None) 0 cpu.0 }
@@ -75,8 +76,9 @@ fn change_of(at: Ns, changed: TaskUpdate, running: &[Running], cpu: Cpu) -> Chan
     }
 }
 
-/// Returns the slot of the group whose accounting an act switches, and whether it is on afterwards;
-/// `None` if the act switches none. `slot` is the slot of the group that the act names.
+/// Returns the slot of the group whose accounting an act switches, and whether accounting is on
+/// after the act. Returns `None` if the act switches no accounting. `slot` is the slot of the group
+/// that the act names.
 #[inline(always)]
 pub(crate) fn account_of(act: &Act, slot: Slot) -> Option<(Slot, bool)>
     ensures { (groups : List GroupLife) → slot ≡ slot_or_root (named_group groups act.now) →
@@ -88,7 +90,8 @@ pub(crate) fn account_of(act: &Act, slot: Slot) -> Option<(Slot, bool)>
     }
 }
 
-/// Returns the touch of an act that switches accounting, which affects every processor.
+/// Returns the touch of an act that switches the accounting of a group, which affects every
+/// processor.
 pub(crate) fn account_touch(account: (Slot, bool)) -> Touch
     ensures first { result.first ≡ None }
     ensures second { result.second ≡ None }
@@ -100,9 +103,9 @@ pub(crate) fn account_touch(account: (Slot, bool)) -> Touch
     }
 }
 
-/// Returns the changes that an act at a time (ns) makes on processors. Precondition: the act
-/// neither switches accounting nor is a task act. `changed` is the task that the act changes, and
-/// `running` has the running tasks after the act.
+/// Returns the changes that an act at the time `at` (ns) makes on processors. Preconditions: the
+/// act isn't a task act and switches no accounting. `changed` is the task that the act changes,
+/// before and after the act. `running` lists the running tasks after the act.
 #[inline(always)]
 pub(crate) fn touch_of(at: Ns, act: &Act, changed: TaskUpdate, running: &[Running]) -> Touch
     requires other { is_task_act act.now ≡ false }
@@ -164,8 +167,8 @@ pub(crate) fn cpu_of(task: Option<Task>) -> Option<Cpu>
     }
 }
 
-/// Returns the change of a processor together with the processor, or `None` if there is no
-/// processor.
+/// Returns the processor `cpu` with its change by an act, or `None` if `cpu` is `None`. `changed`
+/// is the task that the act changes, and `running` lists the running tasks after the act.
 #[inline(always)]
 pub(crate) fn touched_change(
     at: Ns,

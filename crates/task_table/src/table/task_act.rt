@@ -1,8 +1,9 @@
-//! The fast path of a table: task acts, passed by value.
+//! The fast path of a table, for task acts, which are passed by value.
 //!
-//! Each function corresponds to the function for events with the same name without `_task`. Its act
-//! is passed in registers, and it neither allocates nor changes groups; that saves a third of a
-//! line's time. The functions for events call these functions for task acts.
+//! Each method with the suffix `_task` does for a task act what the method without the suffix does
+//! for an event. A task act is passed in registers. The fast path neither allocates nor changes
+//! groups, which saves a third of the time for an event. The methods for events call these methods
+//! if the act is a task act.
 ghost use Rattle.std.specs.Prelude.{◌≡◌, ℕ, ◌<◌, ◌≤◌, if◌then◌else◌, IfNone, List, None, Some, length, slice_index_or};
 ghost use Rattle.std.specs.FinMap as tasks_by;
 ghost use Rattle.psi_counts.specs.Touch.{AllTouched, HasSlotsBelow, IsBeside, IsOfOne, IsTouch, change_by_cpu};
@@ -46,8 +47,8 @@ fn named_task(tasks: &TaskMap, act: TaskAct) -> Option<Task>
     }
 }
 
-/// Returns the cause why a task act isn't legal, or `None` if it is. `named` is the task with the
-/// pid that the act names.
+/// Returns the first cause why a task act is illegal, or `None` if the act is legal. `named` is the
+/// task with the pid that the act names.
 #[inline(always)]
 fn act_refused(running: &[Running], act: TaskAct, named: Option<Task>) -> Option<Cause>
     ensures { (groups : List GroupLife) (tasks : Tasks) (irqs : List ℕ)
@@ -67,8 +68,8 @@ fn act_refused(running: &[Running], act: TaskAct, named: Option<Task>) -> Option
     }
 }
 
-/// Performs the effect of a legal task act on tasks. `named` is the task with the pid that the act
-/// names.
+/// Performs a legal task act on the tasks, and returns the changed task before and after the act.
+/// `named` is the task with the pid that the act names.
 #[inline(always)]
 fn change_tasks(
     tasks: &mut TaskMap,
@@ -94,7 +95,7 @@ fn change_tasks(
     ensures cover { length members.new ≡ length members.old }
     ensures length { length running.new ≡ length running.old }
 {
-    // All acts but a switch share one replacement of their task, so that its code is inlined once.
+    // All acts except a switch share one call of `replace`, so that its code is inlined only once.
     let (pid, new) = match act {
         TaskAct::Switch { cpu, next, how } => {
             return switch(tasks, running, members, cpu.0, next, named, how);
@@ -109,8 +110,8 @@ fn change_tasks(
     replace(tasks, running, members, pid.0, named, new)
 }
 
-/// Returns the processors that a task act touches. `old` is the task that the act changes, before
-/// the act.
+/// Returns the processors that a task act affects, at most two. `old` is the state before the act
+/// of the task that the act changes.
 #[inline(always)]
 fn cpus_touched(act: TaskAct, old: Option<Task>) -> (Option<Cpu>, Option<Cpu>)
     ensures { result ≡ cpus_touched act old }
@@ -124,8 +125,9 @@ fn cpus_touched(act: TaskAct, old: Option<Task>) -> (Option<Cpu>, Option<Cpu>)
     }
 }
 
-/// Returns the changes that a task act at a time (ns) makes on processors. `changed` is the task
-/// that the act changes, and `running` has the running tasks after the act.
+/// Returns the changes that a task act at the time `at` (ns) makes on processors. `changed` is the
+/// task that the act changes, before and after the act. `running` lists the running tasks after the
+/// act.
 #[inline(always)]
 fn touch_of(at: Ns, act: TaskAct, changed: TaskUpdate, running: &[Running]) -> Touch
     ensures known { (cpu : ℕ) →
@@ -145,8 +147,8 @@ fn touch_of(at: Ns, act: TaskAct, changed: TaskUpdate, running: &[Running]) -> T
 }
 
 impl Table {
-    /// Returns the first cause against a task act at a time (ns), or `None` if it is legal. `named`
-    /// is the task with the pid that the act names.
+    /// Returns the first cause against a task act at a time (ns), or `None` if the act is legal.
+    /// `named` is the task with the pid that the act names.
     #[inline(always)]
     fn refused_task(&self, at: Ns, act: TaskAct, named: Option<Task>) -> Option<Cause>
         requires { named ≡ named_task self.now.world.tasks (as_act act) }
@@ -161,7 +163,7 @@ impl Table {
         act_refused(&self.running, act, named)
     }
 
-    /// Returns the task whose counts a task act changes, in its state before the act, or `None`.
+    /// Returns the state before a task act of the task whose counts the act changes, or `None`.
     /// `named` is the task with the pid that the act names.
     #[inline(always)]
     fn before_task(&self, act: TaskAct, named: Option<Task>) -> Option<Task>
@@ -174,7 +176,8 @@ impl Table {
         }
     }
 
-    /// Judges a task act at a time (ns), as [`Table::judge`] judges an event with this act.
+    /// Checks a task act at a time (ns). Returns the same result as [`Table::judge`] for an event
+    /// with this act.
     #[inline(always)]
     pub fn judge_task(&self, at: Ns, act: TaskAct) -> Result<Finding, Cause>
         ensures { Judges self.now (as_event at act) result }
@@ -190,7 +193,7 @@ impl Table {
         })
     }
 
-    /// Advances the world by a task act at a time (ns), as [`Table::play`] does by an event with
+    /// Plays a task act at a time (ns). Has the same effect as [`Table::play`] for an event with
     /// this act.
     #[inline(always)]
     pub fn play_task(&mut self, at: Ns, act: TaskAct) -> Result<(), Fault<Cause>>
@@ -201,8 +204,9 @@ impl Table {
         Ok(())
     }
 
-    /// Performs a legal task act at a time (ns), as [`Table::perform`] performs an event with this
-    /// act. Does not allocate.
+    /// Performs a legal task act at a time (ns), and returns the changes that the act makes on
+    /// processors. Has the same effect as [`Table::perform`] for an event with this act, but
+    /// doesn't allocate.
     #[inline(always)]
     pub fn perform_task(&mut self, at: Ns, act: TaskAct, finding: Finding) -> Touch
         requires { IsFinding self.old (as_event at act) finding }
@@ -219,8 +223,8 @@ impl Table {
         touch_of(at, act, changed, &self.running)
     }
 
-    /// Advances the world by a legal task act at a time (ns), and returns the task that the act
-    /// changes.
+    /// Performs a legal task act at a time (ns), and returns the task that the act changes, before
+    /// and after the act.
     #[inline(always)]
     pub(super) fn advance_task(&mut self, at: Ns, act: TaskAct, finding: Finding) -> TaskUpdate
         requires { IsFinding self.old (as_event at act) finding }
