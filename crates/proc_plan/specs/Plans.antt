@@ -1,4 +1,4 @@
--- The plans of all processors, and how they represent the events of a trace.
+-- Defines the plans of all processors, and states when plans represent the events of a trace.
 use Rattle.std.specs.Prelude.{◌≡◌, ◌≢◌, ◌⊎◌, ℕ, ◌+◌, ◌<◌, ◌≤◌, List, [], ◌∷◌, ◌++◌, length, map, slice_get, slice_index_or, Option, None, Some, Result, Ok, Err, ⊤, true, false, refl}
 use Rattle.std.specs.Option.{option_or}
 use Rattle.std.specs.List.{All}
@@ -36,33 +36,35 @@ use Rattle.proc_plan.specs.Sides.{IsSmall, sides_of}
 
 -- ---- plans
 
--- the plan with these changes and parents
+-- Builds a plan from changes and the parent of each slot.
 abbrev pub plan_view : List Change → List (Option Slot) → PlanView
 plan_view changes parents = record { changes = changes; parents = parent_numbers parents }
 
--- the plan with these changes and the parents of `groups`
+-- Builds a plan from changes and the parents of `groups`.
 abbrev pub plan_over : List GroupLife → List Change → PlanView
 plan_over groups changes = record { changes = changes; parents = parents_of groups }
 
--- the plan of each processor, with the processor's changes and the parents of `groups`
+-- Builds the plan of each processor from the processor's changes and the parents of `groups`.
 abbrev pub plans_over : List GroupLife → List ChangesView → List PlanView
 plans_over groups changes = map (λ (changes : ChangesView). plan_over groups changes.list) changes
 
 -- ---- slots that a change doesn't affect
 
--- The slots `starts` are those whose chains change k + 1 affects: the slot of the counts that it
--- subtracts, or the slot whose accounting it switches; the slot of the counts that it adds; and the
--- slots of the tasks that run before and after it.
+-- `AreConcerned plan k starts`: `starts` has the slots that change k + 1 affects directly: the slot
+-- of the subtracted counts or of the switched accounting, the slot of the added counts, and the
+-- slots of the tasks that run before and after the change.
 abbrev pub AreConcerned : PlanView → ℕ → List (Option Slot) → Type 0
 AreConcerned plan k starts = (change : Change) → slice_get plan.changes k ≡ Some change →
     starts ≡ option_or (slot_in change.account) (slot_in change.minus) ∷ slot_in change.plus ∷ slot_in (current_after plan k)
     ∷ slot_in change.current ∷ []
 
--- No chain of the slots in the list contains `slot`.
+-- `IsOnNone parents starts slot`: `slot` is neither in the list `starts` nor an ancestor of a slot
+-- in it.
 abbrev pub IsOnNone : List (Option ℕ) → List (Option Slot) → ℕ → Type 0
 IsOnNone parents starts slot = All (λ start. leads_to parents (number_of_slot start) slot ≡ false) starts
 
--- Change k + 1 affects only slots on the chains of the slots in the list.
+-- `OthersAreAside plan k starts`: change k + 1 affects only the slots in `starts` and their
+-- ancestors.
 abbrev pub OthersAreAside : PlanView → ℕ → List (Option Slot) → Type 0
 OthersAreAside plan k starts = (slot : ℕ) (change : Change) → slice_get plan.changes k ≡ Some change →
     IsOnNone plan.parents starts slot → IsAside plan slot k change
@@ -70,7 +72,7 @@ OthersAreAside plan k starts = (slot : ℕ) (change : Change) → slice_get plan
 -- ---- all plans
 
 -- The plans of a trace: the plan of each processor, all groups ever created, the triggers, the
--- sides, and the time (ns) of the end.
+-- sides, and the time (ns) of the trace's end.
 pub record PlansView : Type 0 where
   pub plans : List PlanView
   pub lives : List GroupLife
@@ -78,20 +80,21 @@ pub record PlansView : Type 0 where
   pub sides : List Side
   pub finish : ℕ
 
--- the plans with these parts
+-- Builds plans from their parts.
 abbrev pub plans_view : List PlanView → List GroupLife → List TriggerSpec → List Side → ℕ → PlansView
 plans_view plans lives triggers sides finish = record { plans = plans; lives = lives; triggers = triggers; sides = sides; finish = finish }
 
--- the plan of a processor
+-- `plan_at plans cpu`: the plan of processor `cpu`.
 abbrev pub plan_at : PlansView → ℕ → PlanView
 plan_at plans cpu = slice_index_or plans.plans cpu no_plan
 
--- Bytes and counts in all sides are at most 2^60.
+-- Each number of bytes or pages in a side is at most 2^60.
 abbrev pub AreSmall : List Side → Type 0
 AreSmall sides = All (λ (side : Side). IsSmall side.what) sides
 
--- The invariant of plans: there are 1 to 64 processors; each has a well-formed plan with the
--- parents of all groups; the groups are those of a legal world; and the sides are small.
+-- The invariant of plans. There are 1 to 64 processors, each with a valid plan that has the parents
+-- of all groups. The groups are possible in a legal world, and the numbers in sides are at most
+-- 2^60.
 pub record ArePlans (plans : PlansView) : Type 0 where
   pub counted : IsCpuCount (length plans.plans)
   pub whole : (cpu : ℕ) → cpu < length plans.plans → IsPlan (plan_at plans cpu)
@@ -99,9 +102,9 @@ pub record ArePlans (plans : PlansView) : Type 0 where
   pub groups : AreGroups plans.lives
   pub small : AreSmall plans.sides
 
--- Plans represent the events of a trace: each processor's plan has the changes that the events make
--- on it, in order and at the times of the events, and the parents of all groups. The plans have the
--- groups, the triggers and the sides of the events, in order, and the time of the end.
+-- `Represent plans cpus events`: the plans represent the events of a trace. Each processor's plan
+-- has the changes that the events make on the processor, in order and with the times of the events.
+-- The plans also have the groups, triggers and sides of the events, and the time of the end.
 pub record Represent (plans : PlansView) (cpus : ℕ) (events : List Event) : Type 0 where
   pub each : length plans.plans ≡ cpus
   pub changes : (cpu : ℕ) → cpu < cpus → map (λ change. Some change) (plan_at plans cpu).changes
@@ -112,7 +115,7 @@ pub record Represent (plans : PlansView) (cpus : ℕ) (events : List Event) : Ty
   pub sides : plans.sides ≡ sides_of events
   pub finish : plans.finish ≡ (after events).last
 
--- If plans represent events, each processor's plan is `plan_of` for those events.
+-- If plans represent events, the plan of each processor is `plan_of` of these events.
 abbrev pub PlansAreOfEvents : Type 0
 PlansAreOfEvents =
     (plans : PlansView) (cpus : ℕ) (events : List Event) → Represent plans cpus events → (cpu : ℕ) → cpu < cpus
@@ -120,12 +123,13 @@ PlansAreOfEvents =
 
 -- ---- rejected events
 
--- the limits of a trace with `cpus` processors, in which no event is later than `latest` (ns)
+-- The limits of a trace with `cpus` processors in which no event is later than `latest` (ns).
 abbrev pub limits_by : ℕ → ℕ → Limits
 limits_by cpus latest = record { cpus = cpus; latest = latest }
 
--- The events are rejected at one of them with its first cause: the events before it are legal. Its
--- line number is the number of events before it plus two.
+-- `IsRefusedAt limits events line why`: the trace is rejected at its first illegal event, with the
+-- first cause `why` against it. The line number is the number of events before the illegal event
+-- plus two.
 pub record IsRefusedAt (limits : Limits) (events : List Event) (line : ℕ) (why : Cause) : Type 0 where
   pub prefix : List Event
   pub event : Event
@@ -135,14 +139,16 @@ pub record IsRefusedAt (limits : Limits) (events : List Event) (line : ℕ) (why
   pub cause : cause_of limits (after prefix) event ≡ Some why
   pub line_is : line ≡ length prefix + 2
 
--- The events are rejected after the last one: all are legal, but the last one isn't the end.
+-- `LacksEnd limits events line why`: the trace is rejected after its last event, because all events
+-- are legal but the last event isn't the end.
 pub record LacksEnd (limits : Limits) (events : List Event) (line : ℕ) (why : Cause) : Type 0 where
   pub legal : AreLegal limits first_world events
   pub open_ : (after events).ended ≢ true
   pub cause : why ≡ cause.NoEnd
   pub line_is : line ≡ length events + 2
 
--- The events are rejected at a line with a cause, or memory ran out, which is always possible.
+-- `IsRefusal limits events fault`: the fault is a correct reason to reject the events. `NoMemory`
+-- is always allowed.
 abbrev pub IsRefusal : Limits → List Event → Fault Refusal → Type 0
 IsRefusal limits events (fault.Refused refusal) =
     IsRefusedAt limits events refusal.line refusal.cause ⊎ LacksEnd limits events refusal.line refusal.cause
@@ -150,19 +156,19 @@ IsRefusal limits events (fault.NoMemory _) = ⊤
 
 -- ---- a planner
 
--- A planner: the limits and the world of its table, and the changes of each processor, the triggers
--- and the sides of the events taken.
+-- The state of a planner: its table of tasks (limits and world), and the changes of each processor,
+-- the triggers and the sides of the events taken so far.
 pub record PlannerView : Type 0 where
   pub table : TableView
   pub changes : List (List Change)
   pub triggers : List TriggerSpec
   pub sides : List Side
 
--- the planner with these parts
+-- Builds the state of a planner from its parts.
 abbrev pub planner_view : TableView → List (List Change) → List TriggerSpec → List Side → PlannerView
 planner_view table changes triggers sides = record { table = table; changes = changes; triggers = triggers; sides = sides }
 
--- a planner's value as nested pairs, by which proofs compare values
+-- Encodes the state of a planner as nested pairs, so that proofs can compare states.
 abbrev pub planner_code : Coded PlannerView
 planner_code =
     code_by (TableView × (List (List Change) × (List TriggerSpec × List Side)))
@@ -170,17 +176,18 @@ planner_code =
     (coded× (coded_list trigger_row.the_row.coded) (coded_list side_row.the_row.coded))))
     (λ p. (p.table, (p.changes, (p.triggers, p.sides)))) (λ p. planner_view p.0 p.1.0 p.1.1.0 p.1.1.1) (λ _. refl)
 
--- the changes of a processor
+-- `changes_at planner cpu`: the changes of processor `cpu`.
 abbrev pub changes_at : PlannerView → ℕ → List Change
 changes_at planner cpu = slice_index_or planner.changes cpu []
 
--- The invariant of a planner: it has a list of changes for each processor, and its sides are small.
+-- The invariant of a planner: there is a list of changes for each processor, and the numbers in
+-- sides are at most 2^60.
 pub record IsPlanner (planner : PlannerView) : Type 0 where
   pub each : length planner.changes ≡ planner.table.limits.cpus
   pub small : AreSmall planner.sides
 
--- A planner has taken exactly these events of a trace with these limits. The values of each event
--- are in range, and all events are legal.
+-- `HasTaken planner limits events`: the planner has taken exactly these events of a trace with
+-- these limits. All events are legal, and their values are in range.
 pub record HasTaken (planner : PlannerView) (limits : Limits) (events : List Event) : Type 0 where
   pub limits_are : planner.table.limits ≡ limits
   pub counted : IsCpuCount limits.cpus
@@ -192,38 +199,41 @@ pub record HasTaken (planner : PlannerView) (limits : Limits) (events : List Eve
   pub triggers : planner.triggers ≡ triggers_of events
   pub sides : planner.sides ≡ sides_of events
 
--- If the planner was new, it has taken all these events, which are a complete trace.
+-- `HasTakenAll old new events`: if the planner was new, the planner has now taken all events, and
+-- the events are a complete trace.
 abbrev pub HasTakenAll : PlannerView → PlannerView → List Event → Type 0
 HasTakenAll old new events = (limits : Limits) → HasTaken old limits [] → HasTaken new limits events × IsAccepted limits events
 
--- If the planner is new, it rejects these events.
+-- `IsRefusedAll old events fault`: if the planner was new, the fault is a correct reason to reject
+-- the events.
 abbrev pub IsRefusedAll : PlannerView → List Event → Fault Refusal → Type 0
 IsRefusedAll old events fault = (limits : Limits) → HasTaken old limits [] → IsRefusal limits events fault
 
--- The second fault is the first with a line number: a cause is reported at `line`.
+-- `IsFaultAt line fault at`: the fault `at` is `fault` with the line number `line` added to its
+-- cause.
 abbrev pub IsFaultAt : ℕ → Fault Cause → Fault Refusal → Type 0
 IsFaultAt line (fault.Refused why) at = at ≡ fault.Refused (record { line = line; cause = why })
 IsFaultAt line (fault.NoMemory none) at = at ≡ fault.NoMemory none
 
--- The plans represent the events that a planner has taken.
+-- `RepresentTaken planner plans`: the plans represent the events that the planner has taken.
 abbrev pub RepresentTaken : PlannerView → PlansView → Type 0
 RepresentTaken planner plans = (limits : Limits) (events : List Event) → HasTaken planner limits events →
     Represent plans limits.cpus events
 
--- A planner has taken the events of some trace.
+-- The planner has taken the events of some trace, whose limits and events aren't specified here.
 abbrev pub HasTrace : PlannerView → Type 0
 HasTrace planner = (limits : Limits) × (events : List Event) × HasTaken planner limits events
 
--- A planner takes an event: if it succeeds, the event is legal after the events taken, and is now
--- one of them; otherwise the fault is the first cause against it. Running out of memory is possible
--- only if there is no cause.
+-- `PlannerTakes old new event result`: on success, the event is legal after the events taken so
+-- far, and the planner has taken it. Otherwise the fault is the first cause against the event, or
+-- `NoMemory` if there is no cause.
 abbrev pub PlannerTakes : PlannerView → PlannerView → Event → Result (Unit {0}) (Fault Cause) → Type 0
 PlannerTakes old new event (Ok x) = (limits : Limits) (events : List Event) → HasTaken old limits events →
     (cause_of limits (after events) event ≡ None) × HasTaken new limits (events ++ event ∷ []) × (length events < most_events)
 PlannerTakes old new event (Err fault) = (limits : Limits) (events : List Event) → HasTaken old limits events →
     IsGroupFault (cause_of limits (after events) event) fault
 
--- The events that a planner has taken are a complete trace if the last of them ended it.
+-- If the trace has ended for a planner, the events that the planner has taken are a complete trace.
 abbrev pub EndedIsAccepted : Type 0
 EndedIsAccepted = (planner : PlannerView) (limits : Limits) (events : List Event) → HasTaken planner limits events →
     planner.table.world.ended ≡ true → IsAccepted limits events

@@ -1,5 +1,5 @@
-//! The changes of one processor: a list that grows while a trace is planned, with 16 bytes for each
-//! change.
+//! The list of the changes of one processor. The list grows while a trace is planned, and each
+//! change takes 16 bytes.
 
 ghost use Rattle.std.specs.Prelude.{◌≡◌, ◌++◌, ◌<◌, ◌≤◌, [], ◌∷◌, OnOk};
 ghost use Rattle.psi_counts.specs.Touch.{HasSlotsBelow, IsOfOne};
@@ -11,7 +11,7 @@ use slot_clocks::PackedChange;
 use std::alloc::Global;
 use std::marker::Model;
 
-/// The changes of a processor, in order. Contracts see them as a list, together with the number of
+/// The changes of a processor, in order. In contracts this is a list, together with the number of
 /// changes that can be appended without allocating.
 #[derive(Drop)]
 pub(crate) struct Changes {
@@ -38,7 +38,7 @@ impl Changes {
         }
     }
 
-    /// Makes room for one more change. `NoMemory` if memory runs out.
+    /// Reserves memory for one more change. Fails with `NoMemory` if memory runs out.
     #[inline(always)]
     pub(crate) fn reserve(&mut self) -> Result<(), NoMemory>
         ensures same { self.new.list ≡ self.old.list }
@@ -49,8 +49,8 @@ impl Changes {
         Ok(())
     }
 
-    /// Appends a change. Preconditions: there is room for it, its slots are less than 1,024, and it
-    /// is of one task, of interrupt time alone or of a switch of accounting alone.
+    /// Appends a change. Preconditions: memory for the change is reserved, its slots are less than
+    /// 1,024, and it concerns either one task, only interrupt time, or only a switch of accounting.
     #[inline(always)]
     pub(crate) fn push(&mut self, change: Change)
         requires room { 0 < self.old.room }

@@ -1,5 +1,6 @@
-//! Clocks of one processor that advance by its plan: the traits, and the plain clocks for one
-//! thread. clock_row has clocks that other threads can read.
+//! Clocks of one processor that advance by the processor's plan: the traits, and an implementation
+//! for one thread (`PlainClocks`). clock_row has an implementation whose clocks other threads can
+//! read.
 
 ghost use Rattle.std.specs.Prelude.{◌≡◌, ◌+◌, ◌<◌, ℕ, length, IfOk};
 ghost use Rattle.plan_laws.specs.Plan.{IsClock, PlanView, planned_irq};
@@ -12,7 +13,7 @@ use slot_clocks::SlotClocks;
 use std::alloc::Global;
 use std::marker::Model;
 
-/// The clocks of all groups on one processor, which make the changes of the processor's plan in
+/// The clocks of all groups on one processor. They make the changes of the processor's plan in
 /// order.
 pub trait ProcClocks {
     /// The plan of the processor.
@@ -21,8 +22,8 @@ pub trait ProcClocks {
     /// The number of the plan's changes that the clocks have made.
     ghost made: { Self → ℕ };
 
-    /// The identity of these clocks, by which contracts recognize readers that share them. No call
-    /// changes it.
+    /// The identity of these clocks, which no call changes. Contracts use it to state that a reader
+    /// and a writer share the same clocks.
     ghost Home: { Type 0 };
 
     ghost home: { Self → Home };
@@ -38,8 +39,8 @@ pub trait ProcClocks {
         ensures made { made self.new ≡ made self.old + 1 }
         ensures home { home self.new ≡ home self.old };
 
-    /// Returns the clock of `slot` after the changes made. The clock may have started before the
-    /// last change, if the changes since its start left the slot's states unchanged.
+    /// Returns the clock of `slot` after the changes made so far. The clock may have started before
+    /// the last change, if the changes since its start didn't affect the slot's states.
     fn own(&mut self, slot: Slot) -> Clock
         requires made { slot.0 < length (plan self.old).parents }
         ensures plan { plan self.new ≡ plan self.old }
@@ -48,9 +49,11 @@ pub trait ProcClocks {
         ensures clock { IsClock result (plan self.old) slot.0 (made self.old) };
 }
 
-/// Clocks that also sum the time that interrupts took from each group while its accounting was on.
+/// Clocks that also sum the time that interrupts took from each group while the group's accounting
+/// was on.
 pub trait IrqClocks: ProcClocks {
-    /// Returns the time (ns) that interrupts took from the group in `slot`, by the changes made.
+    /// Returns the time (ns) that interrupts took from the group in `slot` in the changes made so
+    /// far.
     fn own_irq(&mut self, slot: Slot) -> u64
         requires made { slot.0 < length (Self.plan self.old).parents }
         ensures plan { Self.plan self.new ≡ Self.plan self.old }
@@ -59,15 +62,16 @@ pub trait IrqClocks: ProcClocks {
         ensures irq { result ≡ planned_irq (Self.plan self.old) slot.0 (Self.made self.old) };
 }
 
-/// Clocks for one thread. Contracts see the plan and the number of its changes that were made.
+/// Clocks for use by one thread. In contracts these are the plan and the number of its changes that
+/// were made.
 #[derive(Drop)]
 pub struct PlainClocks<'a> {
     plan: &'a Plan,
-    /// The parents of all slots of the plan.
+    /// The parent of each slot of the plan.
     parents: &'a [Option<Slot>],
     clocks: SlotClocks,
-    /// The time (ns) that interrupts took from each group, by slot. Changes without interrupt time
-    /// don't touch this list.
+    /// The time (ns) that interrupts took from each group, by slot. Only changes with interrupt
+    /// time access this list.
     irqs: Vec<u64>,
     count: u64,
 }
@@ -89,7 +93,7 @@ impl<'a> Model for PlainClocks<'a> {
 
 impl<'a> PlainClocks<'a> {
     /// Creates the clocks of a plan, before its first change. Precondition: the plan has `slots`
-    /// slots. Allocates all of its memory at once.
+    /// slots. No later call allocates memory.
     pub fn make(alloc: Global, plan: &'a Plan, slots: u32) -> Result<PlainClocks<'a>, NoMemory>
         requires { slots ≡ length plan.now.parents }
         ensures { IfOk result (λ clocks. clocks ≡ record { plan = plan.now; made = 0 }) }
@@ -109,7 +113,7 @@ impl<'a> ProcClocks for PlainClocks<'a> {
 
     ghost made = { λ clocks. clocks.made };
 
-    // Plain clocks share nothing, so they need no identity.
+    // Plain clocks aren't shared with other threads, so they need no identity.
     ghost Home = { Unit {0} };
 
     ghost home = { λ _. tt };

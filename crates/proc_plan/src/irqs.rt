@@ -1,4 +1,4 @@
-//! The time that interrupts took from each group on one processor.
+//! Sums the time that interrupts took from each group on one processor.
 
 ghost use Rattle.std.specs.Prelude.{◌≡◌, ◌+◌, ◌<◌, ◌^◌, ℕ, length, if◌then◌else◌, IfSome};
 ghost use Rattle.psi_spec.specs.LegalGroups.{AreOlder};
@@ -15,8 +15,9 @@ fn time_if(on: bool, irq: u64) -> u64
     if on { irq } else { 0 }
 }
 
-// Adds a time (ns) to the running task's group and its ancestors, if their accounting is on in
-// `clocks`. Changes with interrupt time are rare, so this function isn't inlined.
+// Adds a time (ns) to the running task's group and to each of its ancestors, if the group's
+// accounting is on in `clocks`. The function isn't inlined, because changes with interrupt time are
+// rare.
 #[inline(never)]
 fn climb(
     times: &mut [u64],
@@ -43,8 +44,8 @@ fn climb(
     }
 }
 
-/// Adds the interrupt time of a change, if it has any, to the running task's group and its
-/// ancestors, if their accounting is on in `clocks`.
+/// Adds the interrupt time of a change to the running task's group and to each of its ancestors, if
+/// the group's accounting is on in `clocks`.
 #[inline(always)]
 pub(crate) fn add_irq(
     times: &mut [u64],

@@ -3,13 +3,14 @@
 
 ghost use Rattle.proc_plan.specs.Plans.{EndedIsAccepted, PlansAreOfEvents};
 
-/// If plans represent a trace's events, the plan of each processor is the one that plan_laws
-/// defines (`plan_of`), so the laws of plan_laws apply to it.
+/// If plans represent a trace's events, the plan of each processor is `plan_of` (plan_laws) of
+/// these events. So the laws of plan_laws apply to that plan.
 pub fn law_standing_plans()
     ensures { PlansAreOfEvents }
 {}
 
-/// The events that a planner has taken are a complete trace if the last of them ended it.
+/// If the trace has ended for a planner, the events that the planner has taken are a complete
+/// trace.
 pub fn law_ended_traces()
     ensures { EndedIsAccepted }
 {}

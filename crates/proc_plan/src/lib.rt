@@ -1,18 +1,21 @@
-//! Splits a trace into one plan for each processor, and advances plain clocks by such a plan.
+//! Splits a trace into one plan for each processor, and advances clocks for one thread by such a
+//! plan.
 //!
-//! The `Planner` takes the events of a trace one by one. It appends each change that an event makes
-//! on a processor to the list of that processor, its *plan*: 16 bytes a change, with the task that
-//! runs afterwards. A switch of a group's accounting is appended to every plan. Memory samples,
-//! preferences, and tasks that join or leave groups are *sides*, which the planner collects in one
-//! list for the rules. At the end of the trace the lists become `Plans`.
+//! The `Planner` takes the events of a trace one by one. Each change that an event makes on a
+//! processor is appended to the *plan* of that processor, a list with 16 bytes for each change. A
+//! change includes the task that runs after it. A switch of a group's accounting is appended to
+//! every plan. Memory samples, preferences, and tasks that join or leave groups are *sides*: the
+//! planner collects them in one list, which the oomd rules read. At the end of the trace the lists
+//! become `Plans`.
 //!
-//! Plans make a replay parallel: stall time on a processor depends on that processor's changes
-//! alone, so each worker can advance the clocks of its processors independently, and a replay
-//! prints the same for any number of workers. `PlainClocks` advances the clocks of one processor by
-//! its plan; clock_row does this in words that other threads can read.
+//! Plans make a parallel replay possible. The stall time on a processor depends only on that
+//! processor's changes, so each worker thread can advance the clocks of its processors
+//! independently. The output of a replay doesn't depend on the number of workers. `PlainClocks`
+//! advances the clocks of one processor by its plan. clock_row does the same in shared words that
+//! other threads can read.
 //!
 //! A trace is rejected while it is planned, so nothing is printed for a rejected trace. The crate
-//! knows nothing of ticks or pressure: see replay_workers and tick_engine.
+//! doesn't handle ticks or pressure: see replay_workers and tick_engine.
 #![tactic(auto)]
 
 mod changes;

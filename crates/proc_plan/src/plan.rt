@@ -1,4 +1,5 @@
-//! The plan of one processor: its changes in a trace, with lookups by number and by time.
+//! The plan of one processor: the processor's changes in a trace, which can be looked up by number
+//! and by time.
 
 ghost use Rattle.std.specs.Prelude.{◌≡◌, ◌+◌, ◌-◌, ◌<◌, ◌≤◌, ◌↔◌, length, nat_le, slice_get, slice_index_or, None, Some};
 ghost use Rattle.psi_counts.specs.Touch.{IsOfOne};
@@ -14,18 +15,20 @@ use psi_counts::{Change, Counts};
 use slot_clocks::PackedChange;
 use std::marker::Model;
 
-/// The changes of one processor in a trace, and the parents of all slots. A change reaches the
-/// ancestors of the slots that it names through the parents. Contracts see both as lists.
+/// The changes of one processor in a trace, and the parent of each slot. A change also affects the
+/// ancestors of the slots in the change, which are found through the parents. In contracts both are
+/// lists.
 ///
 /// There are at most 4,000,000 changes. Their times never decrease and are at most 60,000,000 s.
-/// Each change subtracts the counts of at most one task, adds the counts of at most one task, and
-/// names existing slots. A parent has a smaller slot than its child. After each prefix of the
+/// Each change subtracts the counts of at most one task and adds the counts of at most one task.
+/// All slots in a change exist. A parent has a smaller slot than its child. After any number of the
 /// changes, each count of each slot is from 0 to 65,536, and the total interrupt time is at most
+/// the time of the last change.
 /// the time of the last change.
 #[derive(Drop)]
 pub struct Plan {
     changes: Changes,
-    /// The parent of each slot; `None` for the root.
+    /// The parent of each slot, or `None` for the root.
     parents: Vec<Option<Slot>>,
 }
 
@@ -46,8 +49,8 @@ fn part_slot(part: Option<(Slot, Counts)>) -> Option<Slot>
     part.map(|(slot, _)| slot)
 }
 
-/// Returns the slot of a pair: the running task's slot, or the slot whose accounting is switched.
-/// `None` if there is no pair.
+/// Returns the slot of a pair, which describes either the running task or a switch of accounting.
+/// Returns `None` if there is no pair.
 pub(crate) fn current_slot(current: Option<(Slot, bool)>) -> Option<Slot>
     ensures { result ≡ slot_in current }
 {
@@ -55,8 +58,8 @@ pub(crate) fn current_slot(current: Option<(Slot, bool)>) -> Option<Slot>
 }
 
 impl Plan {
-    /// Returns the plan with these changes and parents. Precondition: they satisfy the invariant of
-    /// plans.
+    /// Creates the plan with these changes and parents. Precondition: the changes and the parents
+    /// satisfy the invariant of plans (`IsPlan`).
     pub(crate) fn new(changes: Changes, parents: Vec<Option<Slot>>) -> Plan
         requires { IsPlan (plan_view changes.list parents.items) }
         ensures { result ≡ plan_view changes.list parents.items }
@@ -72,8 +75,8 @@ impl Plan {
         self.changes.all().len() as u64
     }
 
-    /// Returns change `k`, numbered from 1. It subtracts the counts of at most one task and adds
-    /// the counts of at most one task; it has no counts if it switches accounting.
+    /// Returns change `k`, numbered from 1. A change subtracts the counts of at most one task and
+    /// adds the counts of at most one task. A change that switches accounting has no counts.
     pub fn change(&self, k: u64) -> Change
         requires from { 1 ≤ k }
         requires to { k ≤ length self.now.changes }
@@ -103,10 +106,10 @@ impl Plan {
         self.packed(k).at()
     }
 
-    /// Returns the slots whose chains change `k` (numbered from 1) affects: the slot of the counts
-    /// that it subtracts, or the slot whose accounting it switches; the slot of the counts that it
-    /// adds; and the slots of the tasks that run before and after it. Slots outside these chains
-    /// aren't affected.
+    /// Returns the slots that change `k` (numbered from 1) affects directly: the slot of the
+    /// subtracted counts or of the switched accounting, the slot of the added counts, and the slots
+    /// of the tasks that run before and after the change. The change also affects the ancestors of
+    /// these slots, but no other slot.
     pub fn concerned(&self, k: u64) -> [Option<Slot>; 4]
         requires from { 1 ≤ k }
         requires to { k ≤ length self.now.changes }
@@ -123,7 +126,7 @@ impl Plan {
     }
 
     // Returns the task that runs before change `k` (numbered from 1): its slot, and whether it is
-    // in a memory stall. `None` if no task runs.
+    // in a memory stall. Returns `None` if no task runs.
     fn current_before(&self, k: u64) -> Option<(Slot, bool)>
         requires from { 1 ≤ k }
         requires to { k ≤ length self.now.changes }
@@ -135,7 +138,7 @@ impl Plan {
         self.packed(k - 1).current()
     }
 
-    /// Returns the number of changes at or before `at` (ns), by binary search.
+    /// Returns the number of changes at or before the time `at` (ns), found by binary search.
     pub fn until(&self, at: Ns) -> u64
         ensures until { result ≡ changes_up_to self.now at }
         ensures within { result ≤ length self.now.changes }

@@ -1,5 +1,5 @@
-//! The planner, which splits a trace by processor, event by event. It checks each event, and
-//! rejects a trace at the first event that isn't legal.
+//! The planner, which splits a trace by processor, one event at a time. The planner checks each
+//! event, and rejects the trace at the first illegal event.
 
 ghost use Rattle.std.specs.Prelude.{◌≡◌, ◌≤◌, ℕ, [], false, length, IfOk, OnErr};
 ghost use Rattle.std.specs.List.{All};
@@ -27,8 +27,8 @@ use std::marker::Model;
 use task_table::Table;
 use trace_player::TaskAct;
 
-/// Splits a trace by processor: the world after the events taken, and the contents of the plans.
-/// Contracts see both.
+/// Splits a trace by processor. Holds the table of tasks after the events taken so far, and the
+/// contents of the plans.
 #[derive(Drop)]
 pub struct Planner {
     table: Table,
@@ -74,7 +74,7 @@ fn parents_of(alloc: Global, groups: &Tree) -> Result<Vec<Option<Slot>>, NoMemor
     Ok(parents)
 }
 
-// Returns a plan for each list of changes, each with the parents of all groups.
+// Returns one plan for each list of changes. Each plan has the parents of all groups.
 fn make_plans(alloc: Global, changes: Vec<Changes>, groups: &Tree) -> Result<Vec<Plan>, NoMemory>
     requires { All (λ changes. IsPlan (plan_over groups.now changes.list)) changes.items }
     ensures { IfOk result (λ plans. plans.items ≡ plans_over groups.now changes.items) }
@@ -88,7 +88,7 @@ fn make_plans(alloc: Global, changes: Vec<Changes>, groups: &Tree) -> Result<Vec
 }
 
 impl Planner {
-    /// Creates the planner of a trace with `cpus` processors (1 to 64), before its first event.
+    /// Creates the planner of a trace with `cpus` processors (1 to 64), before the first event.
     /// `latest` is the latest time (ns) that an event may have.
     pub fn new(alloc: Global, cpus: u32, latest: Ns) -> Result<Planner, NoMemory>
         requires counted { IsCpuCount cpus }
@@ -103,7 +103,7 @@ impl Planner {
         })
     }
 
-    /// Returns the number of events taken, at most 4,000,000.
+    /// Returns the number of events taken so far, at most 4,000,000.
     pub fn lines(&self) -> u32
         ensures lines { result ≡ self.now.table.world.lines }
         ensures few { result ≤ most_events }
@@ -111,16 +111,16 @@ impl Planner {
         self.table.lines()
     }
 
-    /// Whether the trace has ended.
+    /// Whether the event that ends the trace has been taken.
     pub fn is_ended(&self) -> bool
         ensures { result ≡ self.now.table.world.ended }
     {
         self.table.is_ended()
     }
 
-    /// The fast path of [`Planner::take`], for a task act (an event's act that concerns tasks
-    /// alone) at a time (ns). Precondition: the act lets no task exit. Such an act adds only
-    /// changes, and neither triggers nor sides.
+    /// The fast path of [`Planner::take`] for a task act at the time `at` (ns). A task act is the
+    /// act of an event that concerns only tasks. Precondition: the act doesn't make a task exit.
+    /// Such an act adds changes to plans, but no trigger and no side.
     #[inline(always)]
     pub fn take_task(&mut self, at: Ns, act: TaskAct) -> Result<(), Fault<Cause>>
         requires fits { Fits (as_event at act) }
@@ -135,9 +135,9 @@ impl Planner {
         Ok(())
     }
 
-    /// Takes the next event: checks it, makes room for everything that it adds, and then adds it.
-    /// Fails with `Refused` and the first cause if the event isn't legal, and with `NoMemory` only
-    /// if it is. Nothing changes if it fails.
+    /// Takes the next event: checks the event, reserves memory for everything that it adds to the
+    /// plans, and adds it. Fails with `Refused` and the first cause if the event is illegal, or
+    /// with `NoMemory` if memory runs out for a legal event. The planner is unchanged on failure.
     #[inline(always)]
     pub fn take(&mut self, event: &Event) -> Result<(), Fault<Cause>>
         requires { Fits event.now }
@@ -150,8 +150,8 @@ impl Planner {
         }
     }
 
-    /// The slow path of [`Planner::take`], for all other events. The function isn't inlined, so
-    /// that the fast path is small enough to be inlined.
+    /// The general path of [`Planner::take`], for any event. The function isn't inlined, which
+    /// keeps the fast path small enough to be inlined.
     #[inline(never)]
     pub(crate) fn take_other(&mut self, event: &Event) -> Result<(), Fault<Cause>>
         requires { Fits event.now }
@@ -176,7 +176,7 @@ impl Planner {
         Ok(())
     }
 
-    /// Returns the plans of the events taken.
+    /// Returns the plans of the events taken so far.
     pub fn finish(self, alloc: Global) -> Result<Plans, NoMemory>
         requires { HasTrace self }
         ensures { IfOk result (RepresentTaken self) }

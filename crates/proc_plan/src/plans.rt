@@ -1,4 +1,5 @@
-//! The plans of all processors of a trace, with the groups, triggers and sides of the trace.
+//! The plans of all processors of a trace, together with the groups, the triggers and the sides of
+//! the trace.
 
 ghost use Rattle.std.specs.Prelude.{◌≡◌, ◌<◌, ◌≤◌, length, IfErr, IfOk, OnOk};
 ghost use Rattle.plan_laws.specs.Plan.{IsPlan};
@@ -17,8 +18,8 @@ use psi_spec::GroupLife;
 use std::alloc::Global;
 use std::marker::Model;
 
-/// A trace split by processor: the plan of each processor, all groups, the triggers, the sides, and
-/// the time of the end. Contracts see all of it.
+/// A trace split by processor: the plan of each processor, all groups ever created, the triggers,
+/// the sides, and the time of the trace's end. Contracts refer to all of these parts.
 #[derive(Drop)]
 pub struct Plans {
     /// The plan of each processor.
@@ -50,7 +51,8 @@ fn at_line(line: u32, fault: Fault<Cause>) -> Fault<Refusal>
     }
 }
 
-// Takes all events of a trace. Fails if the last event isn't the end.
+// Makes the planner take all events of a trace. Fails if an event is illegal, or if the last event
+// isn't the end of the trace.
 fn take_all(planner: &mut Planner, events: &[Event]) -> Result<(), Fault<Refusal>>
     requires fit { AllFit events.now }
     ensures taken { OnOk result (HasTakenAll planner.old planner.new events.now) }
@@ -68,7 +70,7 @@ fn take_all(planner: &mut Planner, events: &[Event]) -> Result<(), Fault<Refusal
 }
 
 impl Plans {
-    /// Returns the plans with these parts.
+    /// Creates the plans from their parts.
     pub(crate) fn new(
         plans: Vec<Plan>,
         groups: Tree,
@@ -91,9 +93,10 @@ impl Plans {
     /// Splits a trace with `cpus` processors (1 to 64). `latest` is the latest time (ns) that an
     /// event may have.
     ///
-    /// Fails with `Refused` at the first event that isn't legal, with its first cause; the event
-    /// with index `i` (from 0) is at line `i + 2`. If all events are legal and the last one isn't
-    /// the end, the cause is `NoEnd`, at the line after the last event.
+    /// Fails with `Refused` at the first illegal event, with the first cause against it. The event
+    /// with index `i` (from 0) is reported at line `i + 2`. If all events are legal but the last
+    /// event isn't the end of the trace, the cause is `NoEnd`, reported at the line after the last
+    /// event.
     pub fn build(
         alloc: Global,
         cpus: u32,
@@ -139,7 +142,7 @@ impl Plans {
         &self.plans[cpu.0 as usize]
     }
 
-    /// Returns all groups ever created, as a tree.
+    /// Returns the tree of all groups ever created.
     pub fn groups(&self) -> &Tree
         ensures lives { result.now ≡ self.now.lives }
         ensures groups { AreGroups result.now }
@@ -147,7 +150,7 @@ impl Plans {
         &self.groups
     }
 
-    /// Returns all groups ever created, by slot.
+    /// Returns all groups ever created, indexed by slot.
     pub fn lives(&self) -> &[GroupLife]
         ensures lives { result.now ≡ self.now.lives }
         ensures groups { AreGroups result.now }
@@ -162,7 +165,8 @@ impl Plans {
         &self.triggers
     }
 
-    /// Returns the sides, in the order of the trace. Bytes and counts in them are at most 2^60.
+    /// Returns the sides, in the order of the trace. Each number of bytes or pages in a side is at
+    /// most 2^60.
     pub fn sides(&self) -> &[Side]
         ensures sides { result.now ≡ self.now.sides }
         ensures small { AreSmall result.now }

@@ -1,5 +1,5 @@
-//! A planner as a player of traces, for commands that replay a trace: playing an event adds it to
-//! the plans.
+//! Implements `Player` for the planner, for commands that replay a trace. Playing an event adds the
+//! event to the plans.
 
 use crate::planner::Planner;
 use psi_base::{Cause, Event, Fault, NoMemory, Ns};

@@ -1,5 +1,5 @@
-//! How the contents of an event are added to a planner: first room is made for all of them, so that
-//! adding them can't fail.
+//! Adds the contents of an event to a planner. Memory for all contents of the event is reserved
+//! first, so that adding them can't fail.
 
 ghost use Rattle.std.specs.Prelude.{◌≡◌, ◌++◌, ◌+◌, ◌<◌, ◌≤◌, ℕ, [], ◌∷◌, length, IfSome, IsSome, None, OnOk, vec_capacity, vec_len};
 ghost use Rattle.psi_counts.specs.Legal.{with_change};
@@ -21,7 +21,7 @@ use psi_spec::Task;
 use task_table::Table;
 use trace_player::TaskAct;
 
-// Returns the number of the processor that an act names, or `None`.
+// Returns the number of the processor that an act names, or `None` if the act names no processor.
 #[inline(always)]
 fn named_cpu(act: &Act) -> Option<u32>
     ensures { result ≡ (names act.now).cpu }
@@ -35,7 +35,7 @@ fn named_cpu(act: &Act) -> Option<u32>
     }
 }
 
-// Makes room for a change of the processor with the index `place`.
+// Reserves memory for one more change in the list with the index `place`.
 #[inline(always)]
 fn reserve_place(changes: &mut [Changes], place: usize) -> Result<(), NoMemory>
     requires { place < length changes.old }
@@ -47,8 +47,8 @@ fn reserve_place(changes: &mut [Changes], place: usize) -> Result<(), NoMemory>
     changes[place].reserve()
 }
 
-// Makes room for a change of processor `cpu`, if there is a number and a processor with this
-// number.
+// Reserves memory for one more change of processor `cpu`. Does nothing if `cpu` is `None` or the
+// processor doesn't exist.
 #[inline(always)]
 fn reserve_at(changes: &mut [Changes], cpu: Option<u32>) -> Result<(), NoMemory>
     ensures same { lists_of changes.new ≡ lists_of changes.old }
@@ -94,8 +94,8 @@ fn task_cpu(task: Option<Task>) -> Option<u32>
     }
 }
 
-// Makes room for a change of the processor `named`, which an act names, and of the processor of
-// `task`, which the act changes.
+// Reserves memory for a change of processor `named`, which an act names, and for a change of the
+// processor of `task`, which the act changes.
 #[inline(always)]
 fn reserve_two(
     changes: &mut [Changes],
@@ -111,7 +111,7 @@ fn reserve_two(
     reserve_at(changes, task_cpu(task))
 }
 
-/// Makes room for the changes of a task act. `task` is the task that it changes.
+/// Reserves memory for the changes of a task act. `task` is the task that the act changes.
 #[inline(always)]
 pub(crate) fn reserve_task(
     changes: &mut [Changes],
@@ -125,8 +125,9 @@ pub(crate) fn reserve_task(
     reserve_two(changes, act.cpu(), task)
 }
 
-// Makes room for a change on each processor that an act affects: the processor that it names and
-// the processor of `task`, or all processors if it switches a group's accounting.
+// Reserves memory for a change on each processor that an act affects. These are the processor that
+// the act names and the processor of `task`, or all processors if the act switches a group's
+// accounting.
 #[inline(always)]
 fn reserve_changes(changes: &mut [Changes], act: &Act, task: Option<Task>) -> Result<(), NoMemory>
     ensures same { lists_of changes.new ≡ lists_of changes.old }
@@ -139,8 +140,8 @@ fn reserve_changes(changes: &mut [Changes], act: &Act, task: Option<Task>) -> Re
     reserve_two(changes, named_cpu(act), task)
 }
 
-/// Makes room for everything that an event adds: the changes of its act, and its trigger and sides.
-/// `task` is the task that the act changes.
+/// Reserves memory for everything that an event adds: the changes of its act, its trigger and its
+/// sides. `task` is the task that the act changes.
 #[inline(always)]
 pub(crate) fn make_room(
     changes: &mut [Changes],
@@ -167,8 +168,8 @@ pub(crate) fn make_room(
     Ok(())
 }
 
-// Returns the change at a time (ns) of a processor with the running task `current`, if accounting
-// is switched.
+// Returns the change of a processor at the time `at` (ns) that switches accounting. `current` is
+// the running task of the processor.
 fn account_change(at: Ns, current: Option<(Slot, bool)>, account: (Slot, bool)) -> Change
     ensures change { result ≡ account_change at current account }
     ensures one { IsOfOne result }
@@ -183,8 +184,8 @@ fn account_change(at: Ns, current: Option<(Slot, bool)>, account: (Slot, bool)) 
     }
 }
 
-// Appends a switch of accounting at a time (ns) to the changes of every processor. The running
-// tasks don't change.
+// Appends a switch of accounting at the time `at` (ns) to the changes of every processor. The
+// running tasks stay the same.
 fn add_account(changes: &mut [Changes], at: Ns, account: (Slot, bool), table: &Table)
     requires each { length changes.old ≡ table.now.limits.cpus }
     requires room { (cpu : ℕ) → HasRoomWithin changes.old cpu }
@@ -202,7 +203,7 @@ fn add_account(changes: &mut [Changes], at: Ns, account: (Slot, bool), table: &T
     }
 }
 
-// Appends the change of an event on a processor, if there is one.
+// Appends the change of an event to the list of the change's processor. Does nothing for `None`.
 #[inline(always)]
 fn add_change(changes: &mut [Changes], touched: Option<(Cpu, Change)>)
     requires room { IfSome touched (λ touched. HasRoom changes.old touched.0.0) }
@@ -220,8 +221,8 @@ fn add_change(changes: &mut [Changes], touched: Option<(Cpu, Change)>)
     changes[cpu.0 as usize].push(change);
 }
 
-/// Appends the changes of an event that switches no accounting. Preconditions: there is room for
-/// them, and each change is of one task or of interrupt time alone.
+/// Appends the changes of an event that switches no accounting. Preconditions: memory for the
+/// changes is reserved, and each change concerns one task or only interrupt time.
 #[inline(always)]
 pub(crate) fn add_touched(changes: &mut [Changes], touch: &Touch)
     requires room { (cpu : ℕ) → IsSome (change_by_cpu touch.now cpu) → HasRoom changes.old cpu }
@@ -235,8 +236,9 @@ pub(crate) fn add_touched(changes: &mut [Changes], touch: &Touch)
     add_change(changes, touch.second);
 }
 
-/// Appends the changes of an event at a time (ns). Preconditions: there is room for them, each
-/// change is of one task or of interrupt time alone, and `table` is the table after the event.
+/// Appends the changes of an event at the time `at` (ns). Preconditions: memory for the changes is
+/// reserved, each change concerns one task or only interrupt time, and `table` is the table after
+/// the event.
 #[inline(always)]
 pub(crate) fn add_changes(changes: &mut [Changes], at: Ns, touch: &Touch, table: &Table)
     requires each { length changes.old ≡ table.now.limits.cpus }
@@ -260,7 +262,7 @@ pub(crate) fn add_changes(changes: &mut [Changes], at: Ns, touch: &Touch, table:
     }
 }
 
-/// Appends a trigger, if there is one. Precondition: there is room for it.
+/// Appends a trigger. Does nothing for `None`. Precondition: memory for the trigger is reserved.
 #[inline(always)]
 pub(crate) fn add_trigger(triggers: &mut Vec<TriggerSpec>, trigger: Option<TriggerSpec>)
     requires { vec_len triggers.old + length (listed trigger) ≤ vec_capacity triggers.old }
@@ -271,7 +273,7 @@ pub(crate) fn add_trigger(triggers: &mut Vec<TriggerSpec>, trigger: Option<Trigg
     }
 }
 
-/// Appends a side, if there is one. Precondition: there is room for it.
+/// Appends a side. Does nothing for `None`. Precondition: memory for the side is reserved.
 #[inline(always)]
 pub(crate) fn add_side(sides: &mut Vec<Side>, side: Option<Side>)
     requires room { vec_len sides.old + length (listed side) ≤ vec_capacity sides.old }

@@ -1,21 +1,22 @@
-//! Sides: the contents of a trace besides the changes of its processors and its triggers.
+//! Sides: the contents of a trace that are neither changes of a processor nor triggers.
 
 use psi_base::{Ns, Preference, Slot};
 
-/// A side of a trace: something other than a change of a processor that happened at a time.
+/// A memory sample, a preference, or a task that joins or leaves a group, with its time. The clocks
+/// don't depend on sides; the oomd rules read them.
 #[derive(Clone, Copy, Debug, PartialEq, Eq)]
 pub struct Side {
-    /// The time (ns) of the side.
+    /// The time (ns) at which this happened.
     pub at: Ns,
     /// What happened at this time.
     pub what: SideAct,
 }
 
-/// What happened in a side.
+/// What happened at the time of a side.
 #[derive(Clone, Copy, Debug, PartialEq, Eq)]
 pub enum SideAct {
-    /// A group's memory and swap in use (bytes), and the number of pages scanned for the group up
-    /// to this time.
+    /// A memory sample of a group: the memory and the swap in use (bytes), and the total number of
+    /// pages scanned for the group so far.
     Mem {
         slot: Slot,
         current: u64,
@@ -27,7 +28,7 @@ pub enum SideAct {
         slot: Slot,
         preference: Preference,
     },
-    /// The memory and swap of the whole host (bytes).
+    /// A sample of the whole host: its total memory, total swap and free swap (bytes).
     Host {
         mem_total: u64,
         swap_total: u64,

@@ -2,9 +2,9 @@
 
 ghost use Rattle.proc_plan.specs.SideLaws.{MembersAreKnown, SidesAreInOrder, SidesAreOnGroups, SidesUpTo};
 
-/// Sides are in order of time and name existing slots, and the sides up to a time are those of the
-/// events up to it. They give the number of tasks in each group itself: the number of tasks that
-/// joined minus the number that left, at most 65,536.
+/// The sides are in order of time and name existing slots. The sides up to a time are the sides of
+/// the events up to that time. The number of tasks in a group itself is the number of tasks that
+/// joined the group minus the number that left it, and is at most 65,536.
 pub fn law_sides()
     ensures up_to { SidesUpTo }
     ensures order { SidesAreInOrder }

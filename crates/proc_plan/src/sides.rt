@@ -1,4 +1,4 @@
-//! The trigger and the sides of one event.
+//! Computes the trigger and the sides of one event.
 
 ghost use Rattle.std.specs.Prelude.{◌≡◌, ◌++◌, IfSome, List};
 ghost use Rattle.psi_spec.specs.Grammar.{ActFits};
@@ -14,18 +14,18 @@ use crate::side::{Side, SideAct};
 use psi_base::{Act, Event, How, Ns, Slot, TriggerSpec};
 use psi_spec::Task;
 
-/// The contents of an event besides its changes.
+/// The trigger and the sides of an event.
 #[derive(Clone, Copy)]
 pub(crate) struct SideValues {
     /// The trigger that the event sets.
     pub(crate) trigger: Option<TriggerSpec>,
-    /// The first of the event's sides. The second is in `second`.
+    /// The first side of the event. `second` is the second side.
     pub(crate) first: Option<Side>,
     pub(crate) second: Option<Side>,
 }
 
-// Returns the trigger that an act at a time (ns) sets, or `None`. `slot` is the slot of the group
-// that the act names.
+// Returns the trigger that an act at the time `at` (ns) sets, or `None`. `slot` is the slot of the
+// group that the act names.
 #[inline(always)]
 fn trigger_by(at: Ns, act: &Act, slot: Slot) -> Option<TriggerSpec>
     ensures { (groups : List GroupLife) → slot ≡ named_slot groups act.now →
@@ -50,8 +50,8 @@ fn trigger_by(at: Ns, act: &Act, slot: Slot) -> Option<TriggerSpec>
     }
 }
 
-// Returns the memory sample of a group or of the host, or the preference, that an act at a time
-// (ns) reports, or `None`. `slot` is the slot of the group that the act names.
+// Returns the side for the memory sample (of a group or of the host) or the preference in an act at
+// the time `at` (ns), or `None`. `slot` is the slot of the group that the act names.
 #[inline(always)]
 fn sample_by(at: Ns, act: &Act, slot: Slot) -> Option<Side>
     requires { ActFits act.now }
@@ -95,8 +95,8 @@ fn group_of(task: Option<Task>) -> Option<Slot>
     task.map(|task| task.slot)
 }
 
-// Returns the sides of a task that is in group `old` and then in group `new`: it leaves `old` and
-// joins `new`, unless they are the same group.
+// Returns the sides at the time `at` (ns) of a task that moves from group `old` to group `new`: the
+// task leaves `old` and joins `new`. If the groups are the same, there is no side.
 fn passage(at: Ns, old: Option<Slot>, new: Option<Slot>) -> (Option<Side>, Option<Side>)
     ensures sides { listed result.0 ++ listed result.1 ≡ passage at old new }
     ensures first { IfSome result.0 (λ side. IsSmall side.what) }
@@ -115,8 +115,8 @@ fn passage(at: Ns, old: Option<Slot>, new: Option<Slot>) -> (Option<Side>, Optio
     }
 }
 
-// Returns the sides of an event in order, at most two. `task` is the task that its act changes,
-// before the act, and `slot` is the slot of the group that the act names.
+// Returns the sides of an event in order, at most two. `task` is the task that the event changes,
+// before the event. `slot` is the slot of the group that the event names.
 #[inline(always)]
 fn sides_by(event: &Event, task: Option<Task>, slot: Slot) -> (Option<Side>, Option<Side>)
     requires { ActFits event.now.act }
@@ -139,8 +139,8 @@ fn sides_by(event: &Event, task: Option<Task>, slot: Slot) -> (Option<Side>, Opt
     }
 }
 
-/// Returns the trigger and the sides of an event. `task` is the task that its act changes, before
-/// the act, and `slot` is the slot of the group that the act names.
+/// Returns the trigger and the sides of an event. `task` is the task that the event changes, before
+/// the event. `slot` is the slot of the group that the event names.
 #[inline(always)]
 pub(crate) fn known_by(event: &Event, task: Option<Task>, slot: Slot) -> SideValues
     requires { ActFits event.now.act }

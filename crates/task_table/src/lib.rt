@@ -6,7 +6,7 @@
 //! without its time. An event is handled in two calls, so that a lack of memory is never reported
 //! in place of the cause why an event is illegal:
 //!
-//!     judge      checks the event: returns a `Finding` (its tasks and its group), or the first cause
+//!     judge      checks an event: returns a `Finding` (its tasks and group), or the first cause
 //!     perform    performs a legal event: returns a `Touch` (its change on each processor)
 //!
 //! Between the two calls the caller reserves memory for the result of the event. The table looks up

@@ -269,7 +269,7 @@ impl Table {
         })
     }
 
-    /// Returns the first cause against an event, or `None` if the event is legal. Only code outside
+    /// Returns the first cause against an event, or `None` if the event is legal. No program of
     /// this repository calls this function.
     pub fn check(&self, event: &Event) -> Option<Cause>
         ensures cause { result ≡ cause_of self.now.limits self.now.world event.now }
@@ -306,7 +306,7 @@ impl Table {
     }
 
     /// Plays an event like [`Table::play`], and returns the changes that the event makes on
-    /// processors. Only code outside this repository calls this function.
+    /// processors. No program of this repository calls this function.
     pub fn step(&mut self, event: &Event) -> Result<Touch, Fault<Cause>>
         ensures plays { PlaysEvent self.old event.now self.new result }
         ensures touch { IfOk result (λ touch.
