@@ -1,4 +1,4 @@
--- What callers see of a row's writer and of its readers.
+-- Defines what the callers of a row's writer and readers can refer to in contracts.
 use Rattle.std.specs.Prelude.{◌≡◌, ◌⊎◌, ℕ, ◌+◌, ◌*◌, ◌%◌, ◌^◌, ◌<◌, List, [], ◌∷◌, ◌++◌, false, length, slice_index_or}
 use Rattle.atomic_table.specs.Seated.{TableId}
 use Rattle.psi_counts.specs.Clock.{ClockView, zero_clock}
@@ -10,19 +10,19 @@ use Rattle.clock_row.specs.declared.view.WriterView.{WriterView}
 use Rattle.clock_row.specs.declared.view.ReaderView.{ReaderView}
 use Rattle.clock_row.specs.declared.view.Attempt.TheVariants.{Closed}
 
--- A row's writer: its row, and what the writer knows of the row.
+-- A writer in contracts: its row, and what the writer knows of the row.
 pub record WriterEnd : Type 0 where
   pub row : TableId
   pub knows : WriterView
 
--- A row's reader: its row, and what the reader knows of the row.
+-- A reader in contracts: its row, and what the reader knows of the row.
 pub record ReaderEnd : Type 0 where
   pub row : TableId
   pub knows : ReaderView
 
--- Invariant of a writer between two calls. The row has a sequence number, and nine words for each
--- slot of the plan. No change is open, and the words of each slot are a clock. The writer's own
--- plain clocks `clocks` have made the same changes of the same plan.
+-- The invariant of a writer between two calls. The row has a sequence number and nine words for
+-- each slot of the plan. No change is open, and the words of each slot are a clock. The writer's
+-- own `clocks` have made the same changes of the same plan.
 pub record IsWriterEnd (row : TableId) (seat : RowSeat) (plan : PlanView) (clocks : OnPlan) : Type 0 where
   pub on_row : seat.table_id ≡ row
   pub wide : row.words ≡ 9 * length plan.parents + 1
@@ -35,8 +35,8 @@ pub record IsWriterEnd (row : TableId) (seat : RowSeat) (plan : PlanView) (clock
   pub clocks_made : clocks.made ≡ (writer_on seat).count
   pub words : AreClockWords plan (writer_on seat).count (writer_on seat).body
 
--- Invariant of a reader between two calls. The row has a sequence number, and nine words for each
--- slot of the plan. No try is open.
+-- The invariant of a reader between two calls. The row has a sequence number and nine words for
+-- each slot of the plan. No try is open.
 pub record IsReaderEnd (row : TableId) (seat : RowSeat) : Type 0 where
   pub on_row : seat.table_id ≡ row
   pub wide : row.words ≡ 9 * length (reader_on seat).plan.parents + 1
@@ -44,24 +44,28 @@ pub record IsReaderEnd (row : TableId) (seat : RowSeat) : Type 0 where
   pub reader : IsReader seat
   pub closed : (reader_on seat).attempt ≡ Closed
 
--- the reader's view after a successful try whose sample includes `count` changes: the sequence
--- number was loaded twice, both times as twice `count`, and the reader has now seen `count` changes
+-- `sample_taken count reader`: the reader's view after a successful try whose sample includes
+-- `count` changes. The reader loaded the sequence number twice, each time with the result `2 *
+-- count`, and has now seen `count` changes.
 abbrev pub sample_taken : ℕ → ReaderView → ReaderView
 sample_taken count reader =
     record reader { seen = count; loads = reader.loads + 2; got = reader.got ++ count ∷ []; first = 2 * count; second = 2 * count }
 
--- the reader's view after a try that met a change: the sequence number was loaded `loads` times,
--- and `first` and `second` are the results of the reader's last two loads
+-- `met_change loads first second reader`: the reader's view after a try that failed because of a
+-- change. The try loaded the sequence number `loads` times. `first` and `second` are the results of
+-- the reader's last two loads.
 abbrev pub met_change : ℕ → ℕ → ℕ → ReaderView → ReaderView
 met_change loads first second reader = record reader { loads = reader.loads + loads; met = reader.met + 1; first = first; second = second }
 
--- A try met a change. Either it loaded one odd sequence number, and `first` and `second` are both
--- this number, or it loaded two numbers, an even `first` and a greater `second`.
+-- `IsBusy first second before after`: a try failed because of a change. Either the try loaded one
+-- odd sequence number, which is both `first` and `second`, or it loaded an even number `first` and
+-- a greater number `second`.
 abbrev pub IsBusy : ℕ → ℕ → ReaderView → ReaderView → Type 0
 IsBusy first second before after =
     ((first % 2 ≡ 1) × (second ≡ first) × (after ≡ met_change 1 before.second first before))
     ⊎ ((first % 2 ≡ 0) × (first < second) × (after ≡ met_change 2 first second before))
 
--- The list has a clock of each slot after the first k changes, in order of slots.
+-- `AllAreClocks plan k clocks`: the list has a clock of each slot after the first k changes of the
+-- plan, in order of slots.
 abbrev pub AllAreClocks : PlanView → ℕ → List ClockView → Type 0
 AllAreClocks plan k clocks = (slot : ℕ) → slot < length plan.parents → IsClock (slice_index_or clocks slot zero_clock) plan slot k

@@ -1,9 +1,9 @@
--- The invariant of a row: how the row's words and the views of its seats are related between any
--- two steps. A seat is the handle of the writer, a reader or a note (a message with a number of
--- changes); its view is what its owner knows of the row.
+-- Defines the invariant of a row, which relates the row's words to the views of its seats between
+-- any two steps. A seat is the handle of the writer, a reader or a note (a message that contains a
+-- number of changes). The view of a seat is what its owner knows of the row.
 --
 -- Word 0 is the sequence number: twice the number of changes in the row, plus one while a change is
--- open. After it come nine words for each slot.
+-- open. Nine words for each slot follow.
 use Rattle.std.specs.Prelude.{◌≡◌, ℕ, ◌+◌, ◌*◌, ◌%◌, ◌≤◌, Bool, true, false, List, ◌∷◌, length, replicate}
 use mathlib.Core.Option.{some}
 use lib.ListN.{get_elem?}
@@ -16,30 +16,31 @@ use Rattle.clock_row.specs.declared.view.Attempt.TheVariants.{Closed, Open}
 use Rattle.clock_row.specs.declared.view.View.{View}
 use Rattle.clock_row.specs.declared.view.View.TheVariants.{Spent, Noted, Writer, Reader}
 
--- the state of a row: its words, and the view of each seat
+-- The state of a row: its words, and the view of each seat.
 abbrev pub RowState : Type 0
 RowState = State (Unit {0}) View
 
--- one if a change is open, otherwise zero
+-- Returns 1 if a change is open, otherwise 0.
 abbrev pub open_bit : Bool → ℕ
 open_bit true = 1
 open_bit false = 0
 
--- the sequence number that the writer's view gives
+-- `sequence writer`: the sequence number of a row whose writer has this view.
 abbrev pub sequence : WriterView → ℕ
 sequence writer = 2 * writer.count + open_bit writer.changing
 
--- What an open try knows of the row. The sequence number with which the try began is even, and at
--- most the current `number`. If the current number is still the same, each value that the try
--- loaded is the word at its index in `body`.
+-- `KnowsLoaded number body attempt`: what an open try knows of a row with the sequence number
+-- `number` and the words `body` after it. The try began with an even sequence number, which is at
+-- most `number`. If the two numbers are equal, each value that the try loaded is still at its index
+-- in `body`.
 abbrev pub KnowsLoaded : ℕ → List ℕ → Attempt → Type 0
 KnowsLoaded number body Closed = Unit {0}
 KnowsLoaded number body (Open first loaded) = (first % 2 ≡ 0) × (first ≤ number) × (number ≡ first → Agrees body loaded)
 
--- What the view of the seat `other` says of a row whose writer has the seat `seat` and the view
--- `writer`. A writer's view is at that seat and is that view. A view of a note or a reader has the
--- writer's plan, and twice its number of changes is at most the sequence number. A spent view says
--- nothing.
+-- `Knows seat writer other view`: the view of the seat `other` is correct for a row whose writer
+-- has the seat `seat` and the view `writer`. A writer's view must be at `seat` and equal `writer`.
+-- The view of a note or a reader must have the writer's plan, and twice its number of changes must
+-- be at most the sequence number. A spent view is always correct.
 abbrev pub Knows : ℕ → WriterView → ℕ → View → Type 0
 Knows seat writer other Spent = Unit {0}
 Knows seat writer other (Noted note) = (note.plan ≡ writer.plan) × (2 * note.number ≤ sequence writer)
@@ -47,10 +48,10 @@ Knows seat writer other (Writer view) = (other ≡ seat) × (view ≡ writer)
 Knows seat writer other (Reader reader) =
     (reader.plan ≡ writer.plan) × (2 * reader.seen ≤ sequence writer) × KnowsLoaded (sequence writer) writer.body reader.attempt
 
--- The row `row` has the writer `writer` at the seat `seat`. The row's words are the sequence number
--- and the words in the writer's view. The view of each seat is right. The number of changes
--- reported to the writer is at most the number in the row. If no change is open, the words of each
--- slot are a clock after the changes in the row.
+-- `IsWholeRow seat writer row`: the writer of `row` has the seat `seat` and the view `writer`. The
+-- row's words are the sequence number and the words in the writer's view. The view of each seat is
+-- correct. The number of changes reported to the writer is at most the number in the row. If no
+-- change is open, the words of each slot are a clock after the changes in the row.
 pub record IsWholeRow (seat : ℕ) (writer : WriterView) (row : RowState) : Type 0 where
   pub here : get_elem? row.views seat ≡ some (Writer writer)
   pub words : row.words ≡ sequence writer ∷ writer.body
@@ -58,14 +59,15 @@ pub record IsWholeRow (seat : ℕ) (writer : WriterView) (row : RowState) : Type
   pub known : 2 * writer.known ≤ sequence writer
   pub at_rest : writer.changing ≡ false → AreClockWords writer.plan writer.count writer.body
 
--- The invariant: the row has a writer, at some seat.
+-- The invariant of a row: one of its seats is a writer whose view describes the row (`IsWholeRow`).
 abbrev pub HoldsRule : RowState → Type 0
 HoldsRule row = (seat : ℕ) × (writer : WriterView) × IsWholeRow seat writer row
 
--- the writer's view before the first change; `body` is the words after the sequence number
+-- The writer's view before the first change. `body` has the words after the sequence number.
 abbrev pub writer_at_start : PlanView → List ℕ → WriterView
 writer_at_start plan body = record { plan = plan; count = 0; body = body; changing = false; known = 0 }
 
--- the view of a new row's only seat: the writer's, before the first change, with zeros
+-- The view of the only seat of a new row: the writer's view before the first change, with all words
+-- zero.
 abbrev pub first_view : PlanView → View
 first_view plan = Writer (writer_at_start plan (replicate (9 * length plan.parents) 0))

@@ -1,5 +1,5 @@
--- The writer's seat while a change is open: some slots have their new clock, and the rest their old
--- one.
+-- Defines the state of the writer's seat while a change is open. Some slots already have their new
+-- clock, and the others still have their old clock.
 use Rattle.std.specs.Prelude.{◌≡◌, ℕ, ◌+◌, ◌*◌, ◌^◌, ◌<◌, true, List, length, Option, IfSome}
 use Rattle.std.specs.List.{All}
 use Rattle.atomic_table.specs.Seated.{TableId}
@@ -10,8 +10,8 @@ use Rattle.psi_spec.specs.Stall.{number_of_slot}
 use Rattle.clock_row.specs.Words.{AreClock, AreOnTheWay, GoesOn, words_at}
 use Rattle.clock_row.specs.Seats.{HasStored, IsSameSeat, IsWriter, RowSeat, writer_on}
 
--- A change is open. The row has a sequence number, and nine words for each slot of the plan. The
--- plan has another change, and the words of each slot are a clock before or after this change.
+-- `IsTurning row seat`: a change of the row is open. The row has a sequence number and nine words
+-- for each slot of the plan. The words of each slot are a clock either before or after the change.
 pub record IsTurning (row : TableId) (seat : RowSeat) : Type 0 where
   pub on_row : seat.table_id ≡ row
   pub wide : row.words ≡ 9 * length (writer_on seat).plan.parents + 1
@@ -22,28 +22,29 @@ pub record IsTurning (row : TableId) (seat : RowSeat) : Type 0 where
   pub next : (writer_on seat).count < length (writer_on seat).plan.changes
   pub way : AreOnTheWay (writer_on seat).plan (writer_on seat).count (writer_on seat).body
 
--- The writer updated slots: it stored words, each slot has its old words or a new clock, and the
--- slots that were done are still done.
+-- `HasTurned before after`: the writer stored words during a change. Each slot has its old words or
+-- a new clock, and slots with a clock after the change still have one.
 pub record HasTurned (before after : RowSeat) : Type 0 where
   pub seat : IsSameSeat before after
   pub stored : HasStored before after
   pub goes : GoesOn (writer_on before).plan (writer_on before).count (writer_on before).body (writer_on after).body
 
--- The words of the slot are a clock after the open change.
+-- `IsDone seat slot`: the words of the slot are a clock after the open change.
 abbrev pub IsDone : RowSeat → ℕ → Type 0
 IsDone seat slot = AreClock (writer_on seat).plan slot ((writer_on seat).count + 1) (words_at (writer_on seat).body slot)
 
--- Each slot on the chain of `start` (that slot and its ancestors) is done. Without `start` there is
--- no such slot.
+-- `ChainIsDone seat start`: the words of `start` and of each of its ancestors are a clock after the
+-- open change. Always holds if `start` is `None`.
 abbrev pub ChainIsDone : RowSeat → Option Slot → Type 0
 ChainIsDone seat start =
     (slot : ℕ) → slot < length (writer_on seat).plan.parents
     → leads_to (writer_on seat).plan.parents (number_of_slot start) slot ≡ true → IsDone seat slot
 
--- Each slot on the chains of `starts` is done.
+-- `ChainsAreDone seat starts`: the words of each slot in `starts`, and of each of its ancestors,
+-- are a clock after the open change.
 abbrev pub ChainsAreDone : RowSeat → List (Option Slot) → Type 0
 ChainsAreDone seat starts = All (ChainIsDone seat) starts
 
--- Each slot in the list is less than `slots`.
+-- `AreBelow slots starts`: each slot in the list `starts` is less than `slots`.
 abbrev pub AreBelow : ℕ → List (Option Slot) → Type 0
 AreBelow slots starts = All (λ start. IfSome start (λ slot. slot.0 < slots)) starts

@@ -1,58 +1,61 @@
--- The words of a row after its sequence number, nine for each slot, and the words that a reader
--- loaded.
+-- Defines the words of a row after its sequence number (nine for each slot), and the words that a
+-- reader has loaded.
 use Rattle.std.specs.Prelude.{◌≡◌, ◌⊎◌, ℕ, ◌+◌, ◌*◌, ◌<◌, ◌≤◌, List, [], ◌∷◌, length, take, drop, slice_index, slice_index_or}
 use Rattle.psi_counts.specs.Clock.{AreWordsOfClock, ClockView, words_of, zero_clock}
 use Rattle.plan_laws.specs.Plan.{IsClock, PlanView}
 
 -- ---- the words of a slot
 
--- the nine words of a slot
+-- `words_at body slot`: the nine words of the slot.
 abbrev pub words_at : List ℕ → ℕ → List ℕ
 words_at body slot = take 9 (drop (9 * slot) body)
 
--- the mask among the nine words of a slot: it follows the seven times
+-- `mask_at body slot`: the mask of the slot, which follows the seven times.
 abbrev pub mask_at : List ℕ → ℕ → ℕ
 mask_at body slot = slice_index body (9 * slot + 7)
 
--- The words are those of a clock of the slot after the plan's first k changes.
+-- `AreClock plan slot k words`: the nine words are a clock of the slot after the first k changes of
+-- the plan.
 abbrev pub AreClock : PlanView → ℕ → ℕ → List ℕ → Type 0
 AreClock plan slot k words = (clock : ClockView) × (words ≡ words_of clock) × IsClock clock plan slot k
 
--- The row has nine words for each slot of the plan, and the words of each slot are a clock of the
--- slot after the plan's first k changes.
+-- `AreClockWords plan k body`: the row has nine words for each slot of the plan, and they are a
+-- clock of the slot after the first k changes.
 pub record AreClockWords (plan : PlanView) (k : ℕ) (body : List ℕ) : Type 0 where
   pub wide : length body ≡ 9 * length plan.parents
   pub each : (slot : ℕ) → slot < length plan.parents → AreClock plan slot k (words_at body slot)
 
 -- ---- the words during a change
 
--- A slot whose mask is the same before and after has the same nine words.
+-- `StayByMask plan before after`: a slot whose mask didn't change has the same nine words before
+-- and after.
 abbrev pub StayByMask : PlanView → List ℕ → List ℕ → Type 0
 StayByMask plan before after =
     (slot : ℕ) → slot < length plan.parents → mask_at after slot ≡ mask_at before slot → words_at after slot ≡ words_at before slot
 
--- The words of a slot are unchanged, or their mask has changed and they are a clock of the slot
--- after k changes.
+-- `StaysOrTurns plan k slot before after`: either the words of the slot are unchanged, or the mask
+-- changed and the words are a clock of the slot after k changes.
 abbrev pub StaysOrTurns : PlanView → ℕ → ℕ → List ℕ → List ℕ → Type 0
 StaysOrTurns plan k slot before after =
     (words_at after slot ≡ words_at before slot) ⊎ ((mask_at after slot ≡ mask_at before slot → ⊥)
     × AreClock plan slot k (words_at after slot))
 
--- While change k + 1 is open, the words of each slot are a clock after k or after k + 1 changes.
+-- While change k + 1 is open, the words of each slot are a clock after k changes or after k + 1
+-- changes.
 pub record AreOnTheWay (plan : PlanView) (k : ℕ) (body : List ℕ) : Type 0 where
   pub wide : length body ≡ 9 * length plan.parents
   pub each : (slot : ℕ) → slot < length plan.parents
       → AreClock plan slot k (words_at body slot) ⊎ AreClock plan slot (k + 1) (words_at body slot)
 
--- Part of change k + 1 was made: each slot has its old words or a new clock, and each slot that had
--- a clock after the change still has one.
+-- `GoesOn plan k before after`: part of change k + 1 was made. Each slot has its old words or a new
+-- clock, and each slot that already had a clock after the change still has one.
 pub record GoesOn (plan : PlanView) (k : ℕ) (before after : List ℕ) : Type 0 where
   pub each : (slot : ℕ) → slot < length plan.parents → StaysOrTurns plan (k + 1) slot before after
   pub done : (slot : ℕ) → slot < length plan.parents → AreClock plan slot (k + 1) (words_at before slot)
       → AreClock plan slot (k + 1) (words_at after slot)
 
--- The `count` words from index `from` are now the first of `words`, and the words outside are
--- unchanged.
+-- `ArePut from count words before after`: the first `count` words of `words` were stored from index
+-- `from`. All other words are unchanged.
 pub record ArePut (from count : ℕ) (words before after : List ℕ) : Type 0 where
   pub wide : length after ≡ length before
   pub inside : (i : ℕ) → i < count → slice_index after (from + i) ≡ slice_index words i

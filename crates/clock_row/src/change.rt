@@ -1,5 +1,5 @@
-//! How the writer makes one change of a row: it opens the change, updates the clocks of the slots
-//! that the change affects, and closes the change.
+//! Makes one change of a row: the writer opens the change, updates the clocks of the slots that the
+//! change affects, and closes the change.
 ghost use Rattle.std.specs.Prelude.{◌≡◌, ◌+◌, ◌<◌, length, IfSome};
 ghost use Rattle.plan_laws.specs.Plan.{IsClock};
 ghost use Rattle.clock_row.specs.declared.view.View.TheVariants.{Writer};
@@ -15,8 +15,8 @@ use cpu_clock::Clock;
 use proc_plan::{PlainClocks, Plan, ProcClocks};
 use psi_base::Slot;
 
-// Writes the clock of `slot` as it is after the open change. If the mask doesn't change, nothing is
-// stored, because the slot's words are a clock after the change too.
+// Stores the clock of `slot` after the open change. If the change doesn't affect the slot's mask,
+// nothing is stored, because the slot's words are also a clock after the change.
 fn turn_slot(board: &Board, seat: &mut RowSeat, slot: Slot, clock: &Clock)
     requires turning { IsTurning board.now.shared.table_id seat.old }
     requires slot { slot.0 < length (writer_on seat.old).plan.parents }
@@ -32,7 +32,8 @@ fn turn_slot(board: &Board, seat: &mut RowSeat, slot: Slot, clock: &Clock)
     }
 }
 
-// Writes the clocks of `start` and its ancestors. Requires that `clocks` have made the open change.
+// Stores the clocks of `start` and of its ancestors. Precondition: `clocks` has already made the
+// open change.
 fn turn_chain(
     board: &Board,
     seat: &mut RowSeat,
@@ -79,7 +80,7 @@ fn turn_chains(
     }
 }
 
-/// Makes the next change of `plan`, in `clocks` and in the row.
+/// Makes the next change of `plan`, both in `clocks` and in the row.
 pub(crate) fn make_change(
     board: &Board,
     seat: &mut RowSeat,

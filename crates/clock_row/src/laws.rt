@@ -1,12 +1,12 @@
 //! Laws of the steps on a row. Each function has an empty body: its contract is the law.
 //!
-//! The invariant of a row holds between any two steps, whichever threads make them: it holds before
-//! the first step, and each of the nine kinds of step (numbered in the crate's header) preserves it
-//! on every row that satisfies it.
+//! The laws state that the invariant of a row holds between any two steps, regardless of which
+//! threads make them. The invariant holds before the first step, and each of the nine kinds of step
+//! (numbered in the header of the crate) preserves it.
 
 ghost use Rattle.clock_row.specs.Steps.{BeginKeeps, CloseKeeps, EndKeeps, LoadKeeps, OpenKeeps, OwnKeeps, PutKeeps, ReaderTakesNote, SplitKeeps, StartHolds, WriterTakesNote};
 
-/// The invariant holds for a row of zeros, which is the row before the first change.
+/// The invariant holds for a row before its first change, when all words are zero.
 pub fn law_start()
     ensures { StartHolds }
 {}
@@ -44,7 +44,8 @@ pub fn law_load()
 {}
 
 /// Step 7 preserves the invariant: a reader loads the sequence number again, which ends the try. If
-/// the number is unchanged, the words that the try loaded were in the row at the same time.
+/// the number is the same as at the start of the try, all words that the try loaded were in the row
+/// at the same time.
 pub fn law_end()
     ensures { EndKeeps }
 {}

@@ -1,5 +1,6 @@
-//! A type for each kind of step on a row, which tells the table how the step changes a view and
-//! what its result says. The types have no values at run time; `steps` has the functions.
+//! Defines a type for each kind of step on a row. Each type states how its step changes the view of
+//! a seat, and what the step's result means. The types have no values at run time; the functions
+//! that make the steps are in `steps`.
 ghost use Rattle.clock_row.specs.Steps.{BeginsTry, Closes, EndsTry, Loads, Opens, Owns, Puts, note_of, reader_of, with_note};
 ghost use Rattle.clock_row.specs.declared.view.View.TheVariants.{Spent};
 

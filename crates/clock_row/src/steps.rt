@@ -1,5 +1,6 @@
-//! The steps on a row, one function for each. The writer, a reader or a note makes a step through
-//! its seat. The steps don't check in which order they are made: the contracts do.
+//! The steps on a row, with one function for each. The writer, a reader or a note makes a step
+//! through its seat. The functions don't check the order of the steps at run time; their contracts
+//! require it.
 ghost use Rattle.std.specs.Prelude.{◌≡◌, ◌+◌, ◌*◌, ◌/◌, ◌^◌, ◌<◌, ◌≤◌, true, false, [], slice_index};
 ghost use Rattle.clock_row.specs.declared.view.View.TheVariants.{Reader, Writer};
 ghost use Rattle.clock_row.specs.Words.{AreClockWords, StoodTogether};
@@ -12,7 +13,7 @@ use crate::plays::{
 };
 use crate::view::{Board, RowSeat};
 
-/// Opens the writer's next change, after the first `count` changes.
+/// Opens the writer's next change. `count` is the number of changes made before it.
 pub(crate) fn open_change(board: &Board, seat: &mut RowSeat, count: u64)
     requires board { seat.old.table_id ≡ board.now.shared.table_id }
     requires words { 0 < board.now.shared.table_id.words }
@@ -26,7 +27,7 @@ pub(crate) fn open_change(board: &Board, seat: &mut RowSeat, count: u64)
     board.shared.store::<Opening>(seat, 0, 2 * count + 1);
 }
 
-/// Stores a word of the writer's open change at index `place` after the sequence number.
+/// Stores `word` at index `place` after the sequence number, as part of the writer's open change.
 pub(crate) fn put_word(board: &Board, seat: &mut RowSeat, place: usize, word: u64)
     requires board { seat.old.table_id ≡ board.now.shared.table_id }
     requires words { place + 1 < board.now.shared.table_id.words }
@@ -39,8 +40,8 @@ pub(crate) fn put_word(board: &Board, seat: &mut RowSeat, place: usize, word: u6
     board.shared.store::<Putting>(seat, place + 1, word);
 }
 
-/// Closes the writer's open change, which comes after the first `count` changes. Precondition: the
-/// words of each slot are a clock after this change.
+/// Closes the writer's open change. `count` is the number of changes made before it. Precondition:
+/// the words of each slot are a clock after this change.
 pub(crate) fn close_change(board: &Board, seat: &mut RowSeat, count: u64)
     requires board { seat.old.table_id ≡ board.now.shared.table_id }
     requires words { 0 < board.now.shared.table_id.words }
@@ -56,7 +57,7 @@ pub(crate) fn close_change(board: &Board, seat: &mut RowSeat, count: u64)
     board.shared.store::<Closing>(seat, 0, 2 * count + 2);
 }
 
-/// Returns the word at index `place` after the sequence number, as the writer loads it.
+/// Returns the word at index `place` after the sequence number, loaded by the writer.
 pub(crate) fn own_word(board: &Board, seat: &mut RowSeat, place: usize) -> u64
     requires board { seat.old.table_id ≡ board.now.shared.table_id }
     requires words { place + 1 < board.now.shared.table_id.words }
@@ -69,8 +70,8 @@ pub(crate) fn own_word(board: &Board, seat: &mut RowSeat, place: usize) -> u64
     board.shared.load::<Owning>(seat, place + 1)
 }
 
-/// Loads the sequence number for the writer. It is at least twice the number of changes that
-/// readers have reported, so the writer learns that this number is at most its own.
+/// Loads the sequence number for the writer. The load proves that the number of changes reported by
+/// readers is at most the number of changes that the writer has made.
 pub(crate) fn own_number(board: &Board, seat: &mut RowSeat)
     requires board { seat.old.table_id ≡ board.now.shared.table_id }
     requires words { 0 < board.now.shared.table_id.words }
@@ -82,7 +83,7 @@ pub(crate) fn own_number(board: &Board, seat: &mut RowSeat)
     board.shared.load::<Owning>(seat, 0);
 }
 
-/// Begins a reader's try, and returns the sequence number.
+/// Begins a reader's try: loads the sequence number and returns it.
 pub(crate) fn begin_try(board: &Board, seat: &mut RowSeat) -> u64
     requires board { seat.old.table_id ≡ board.now.shared.table_id }
     requires words { 0 < board.now.shared.table_id.words }
@@ -94,7 +95,7 @@ pub(crate) fn begin_try(board: &Board, seat: &mut RowSeat) -> u64
     board.shared.load::<Beginning>(seat, 0)
 }
 
-/// Returns the word at index `place` after the sequence number, loaded in a reader's try.
+/// Returns the word at index `place` after the sequence number, loaded during a reader's try.
 pub(crate) fn load_word(board: &Board, seat: &mut RowSeat, place: usize) -> u64
     requires board { seat.old.table_id ≡ board.now.shared.table_id }
     requires words { place + 1 < board.now.shared.table_id.words }
@@ -106,8 +107,9 @@ pub(crate) fn load_word(board: &Board, seat: &mut RowSeat, place: usize) -> u64
     board.shared.load::<Loading>(seat, place + 1)
 }
 
-/// Ends a reader's try that began with the sequence number `first`, and returns the sequence
-/// number. If it is still `first`, the words that the try loaded were in the row at the same time.
+/// Ends a reader's try that began with the sequence number `first`: loads the sequence number again
+/// and returns it. If the result equals `first`, all words that the try loaded were in the row at
+/// the same time.
 pub(crate) fn end_try(board: &Board, seat: &mut RowSeat, first: u64) -> u64
     requires board { seat.old.table_id ≡ board.now.shared.table_id }
     requires words { 0 < board.now.shared.table_id.words }
@@ -123,7 +125,7 @@ pub(crate) fn end_try(board: &Board, seat: &mut RowSeat, first: u64) -> u64
     board.shared.load::<Ending>(seat, 0)
 }
 
-/// Returns the seat of a new reader, which has seen the writer's number of changes.
+/// Creates the seat of a new reader. The reader has seen all changes that the writer has made.
 pub(crate) fn split_reader(board: &Board, seat: &mut RowSeat) -> RowSeat
     requires board { seat.old.table_id ≡ board.now.shared.table_id }
     requires words { 0 < board.now.shared.table_id.words }
@@ -137,7 +139,7 @@ pub(crate) fn split_reader(board: &Board, seat: &mut RowSeat) -> RowSeat
     board.shared.split_seat::<NewReader>(seat)
 }
 
-/// Returns a note with the writer's number of changes.
+/// Creates a note that contains the number of changes that the writer has made.
 pub(crate) fn note_count(board: &Board, seat: &mut RowSeat) -> RowSeat
     requires board { seat.old.table_id ≡ board.now.shared.table_id }
     requires words { 0 < board.now.shared.table_id.words }
@@ -152,7 +154,7 @@ pub(crate) fn note_count(board: &Board, seat: &mut RowSeat) -> RowSeat
     board.shared.split_seat::<NewNote>(seat)
 }
 
-/// Returns a note with the number of changes that a reader has seen.
+/// Creates a note that contains the number of changes that a reader has seen.
 pub(crate) fn note_seen(board: &Board, seat: &mut RowSeat) -> RowSeat
     requires board { seat.old.table_id ≡ board.now.shared.table_id }
     requires words { 0 < board.now.shared.table_id.words }
@@ -167,7 +169,8 @@ pub(crate) fn note_seen(board: &Board, seat: &mut RowSeat) -> RowSeat
     board.shared.split_seat::<NewNote>(seat)
 }
 
-/// Hands a note to a reader: afterwards the reader has seen at least the note's number of changes.
+/// Passes a note to a reader. After the call the reader has seen at least the number of changes in
+/// the note.
 pub(crate) fn show_note(board: &Board, seat: &mut RowSeat, note: RowSeat)
     requires board { seat.old.table_id ≡ board.now.shared.table_id }
     requires words { 0 < board.now.shared.table_id.words }
@@ -182,8 +185,8 @@ pub(crate) fn show_note(board: &Board, seat: &mut RowSeat, note: RowSeat)
     board.shared.join_seat::<TakenNote>(seat, note);
 }
 
-/// Hands a note to the writer: afterwards at least the note's number of changes was reported to the
-/// writer.
+/// Passes a note to the writer. After the call the number of changes reported to the writer is at
+/// least the number in the note.
 pub(crate) fn publish_note(board: &Board, seat: &mut RowSeat, note: RowSeat)
     requires board { seat.old.table_id ≡ board.now.shared.table_id }
     requires words { 0 < board.now.shared.table_id.words }

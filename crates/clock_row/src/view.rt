@@ -1,12 +1,13 @@
-//! What the seats of a row know, and the invariant of the row. A seat is the handle with which the
-//! writer, a reader or a note makes steps on the row. The types of knowledge exist for contracts
-//! only; no value of them is created.
+//! The views of the seats of a row, and the invariant of the row. A seat is the handle with which
+//! the writer, a reader or a note makes steps on the row, and its view is what its owner knows of
+//! the row. These types exist only for contracts; no value of them exists at run time.
 
 use atomic_table::{Seat, Table, TableRule};
 use proc_plan::Plan;
 use std::alloc::Global;
 
-/// What the writer knows. Contracts read an array of length 0 as a list of any length.
+/// What the writer knows of the row. In contracts an array of length 0 stands for a list of any
+/// length.
 pub struct WriterView {
     /// The plan whose changes the writer makes.
     pub plan: Plan,
@@ -14,13 +15,13 @@ pub struct WriterView {
     pub count: u64,
     /// The words after the sequence number: nine for each slot.
     pub body: [u64; 0],
-    /// Whether a change is open: words are being stored.
+    /// Whether a change is open, so that its words are being stored.
     pub changing: bool,
     /// The greatest number of changes that a reader reported to the writer.
     pub known: u64,
 }
 
-/// A reader's try to load words that are in the row at the same time.
+/// A reader's attempt to load words that are all in the row at the same time.
 pub enum Attempt {
     /// No try is open.
     Closed,
@@ -29,7 +30,8 @@ pub enum Attempt {
     Open(u64, [(u64, u64); 0]),
 }
 
-/// What a reader knows. Contracts read an array of length 0 as a list of any length.
+/// What a reader knows of the row. In contracts an array of length 0 stands for a list of any
+/// length.
 pub struct ReaderView {
     /// The plan of the row.
     pub plan: Plan,
@@ -37,11 +39,11 @@ pub struct ReaderView {
     pub seen: u64,
     /// The number of times that the reader loaded the sequence number.
     pub loads: u64,
-    /// The number of tries that met a change and gave no sample.
+    /// The number of tries that failed because of a change.
     pub met: u64,
     /// For each successful try, in order, the number of changes that its sample includes.
     pub got: [u64; 0],
-    /// The sequence number that the second-last load returned.
+    /// The sequence number that the last load but one returned.
     pub first: u64,
     /// The sequence number that the last load returned.
     pub second: u64,
@@ -49,17 +51,17 @@ pub struct ReaderView {
     pub attempt: Attempt,
 }
 
-/// A note: a message from one seat to another with a number of changes.
+/// A note: a message from one seat to another that contains a number of changes.
 pub struct Note {
     /// The plan of the row.
     pub plan: Plan,
-    /// A number of changes: at least this many are in the row.
+    /// A number of changes; the row contains at least as many.
     pub number: u64,
 }
 
-/// What a seat of a row knows, by the owner of the seat.
+/// What the owner of a seat knows of the row.
 pub enum View {
-    /// Nothing: the seat was a note that was taken.
+    /// The owner knows nothing: the seat was a note, and the note was taken.
     Spent,
     /// The seat is a note.
     Noted(Note),
@@ -69,8 +71,8 @@ pub enum View {
     Reader(ReaderView),
 }
 
-/// The invariant of a row: how the row's words and the views of its seats are related between any
-/// two steps. This type attaches `HoldsRule` to the table of words.
+/// The invariant of a row, which relates the row's words to the views of its seats. It holds
+/// between any two steps. This type attaches the relation `HoldsRule` to the table of words.
 pub struct RowRule;
 
 impl TableRule<(), View, Plan> for RowRule {
@@ -81,8 +83,8 @@ impl TableRule<(), View, Plan> for RowRule {
     ghost first = { first_view };
 }
 
-/// The shared words of a row. The table has no slots in the sense of `atomic_table`; slots here are
-/// groups.
+/// The shared words of a row. The table has no slots in the sense of `atomic_table`. In this crate
+/// a slot is the number of a group.
 pub(crate) type Board = Table<(), View, Plan, RowRule, Global>;
 
 /// The handle with which the writer, a reader or a note makes steps on a row.

@@ -1,4 +1,4 @@
-//! The nine words of a slot: how the writer loads and stores them, and how a reader loads them.
+//! Loads and stores the nine words of a slot, for the writer and for readers.
 ghost use Rattle.std.specs.Prelude.{◌≡◌, ◌+◌, ◌*◌, ◌^◌, ◌<◌, ◌≤◌, true, length, take, drop};
 ghost use Rattle.psi_counts.specs.Clock.{AreWordsOfClock, words_of};
 ghost use Rattle.clock_row.specs.Words.{ArePut, ClocksWereLoaded, StaysLoaded, WereLoaded};
@@ -11,13 +11,13 @@ use cpu_clock::Clock;
 /// The number of words of a slot: seven times, the mask and the start.
 pub(crate) const WORDS: usize = 9;
 
-/// The index of the mask among the nine words of a slot.
+/// The index of the mask within the nine words of a slot.
 pub(crate) const MASK_WORD: usize = 7;
 
 /// The bits that a mask may have, one for each of the seven states.
 const MASK_BITS: u64 = 0b111_1111;
 
-/// Returns the nine words from index `from`, as the writer loads them.
+/// Returns the nine words from index `from`, loaded by the writer.
 pub(crate) fn own_words(board: &Board, seat: &mut RowSeat, from: usize) -> [u64; 9]
     requires board { seat.old.table_id ≡ board.now.shared.table_id }
     requires words { from + 9 < board.now.shared.table_id.words }
@@ -35,8 +35,8 @@ pub(crate) fn own_words(board: &Board, seat: &mut RowSeat, from: usize) -> [u64;
     words
 }
 
-/// Stores the nine words `words` from index `from`. A word that is already in the row isn't stored,
-/// because a store costs more than a load.
+/// Stores the nine words `words` from index `from`. Words that the row already contains aren't
+/// stored again, because a store costs more than a load.
 pub(crate) fn put_words(board: &Board, seat: &mut RowSeat, from: usize, words: &[u64; 9])
     requires board { seat.old.table_id ≡ board.now.shared.table_id }
     requires words { from + 9 < board.now.shared.table_id.words }
@@ -55,8 +55,8 @@ pub(crate) fn put_words(board: &Board, seat: &mut RowSeat, from: usize, words: &
     }
 }
 
-/// Returns the nine words from index `from`, loaded in a reader's try that began with the sequence
-/// number `first`.
+/// Returns the nine words from index `from`, loaded during a reader's try. `first` is the sequence
+/// number with which the try began.
 pub(crate) fn load_words(board: &Board, seat: &mut RowSeat, from: usize, first: u64) -> [u64; 9]
     requires board { seat.old.table_id ≡ board.now.shared.table_id }
     requires words { from + 9 < board.now.shared.table_id.words }
@@ -77,8 +77,8 @@ pub(crate) fn load_words(board: &Board, seat: &mut RowSeat, from: usize, first: 
     words
 }
 
-/// Returns the clock with these words, if they are the words of a clock, and otherwise an arbitrary
-/// clock.
+/// Returns the clock with these nine words. If the words aren't those of a clock, the result is an
+/// arbitrary clock.
 fn clock_like(mut words: [u64; 9]) -> Clock
     ensures { AreWordsOfClock words → words_of result ≡ words }
 {
@@ -86,8 +86,9 @@ fn clock_like(mut words: [u64; 9]) -> Clock
     Clock::from_words(words)
 }
 
-/// Loads the clocks of all slots into `into`, in order of slots, in a reader's try that began with
-/// the sequence number `first`. They are the clocks in the row if the try succeeds.
+/// Loads the clocks of all slots into `into`, in order of slots, during a reader's try. `first` is
+/// the sequence number with which the try began. If the try succeeds, the clocks are in the row at
+/// the same time.
 pub(crate) fn load_clocks(board: &Board, seat: &mut RowSeat, into: &mut [Clock], first: u64)
     requires board { seat.old.table_id ≡ board.now.shared.table_id }
     requires words { 9 * length into.old + 1 ≡ board.now.shared.table_id.words }

@@ -1,4 +1,5 @@
-//! The writer of a row, and the creation of rows and readers. The change itself is in `change`.
+//! The writer of a row, and the functions that create rows and readers. The module `change` makes a
+//! single change.
 ghost use Rattle.std.specs.Prelude.{◌≡◌, ◌+◌, ◌*◌, ◌<◌, ◌≤◌, length, replicate, IfOk, Ok};
 ghost use Rattle.atomic_table.specs.Seated.{TableId};
 ghost use Rattle.psi_counts.specs.Clock.{words_of};
@@ -20,12 +21,13 @@ use std::alloc::Global;
 use std::marker::Model;
 use std::sync::Arc;
 
-/// A seqlock with the clocks of one processor in shared words: one writer, and any number of
-/// readers that don't change the words. This type only names the constructor.
+/// A seqlock over the clocks of one processor in shared words, with one writer and any number of
+/// readers. Readers don't change the words. This type has no values; it only holds the constructor
+/// `make`.
 pub struct Row;
 
-/// The writer of a row: it makes the changes of a plan while readers sample the clocks. Contracts
-/// see the writer's row, and what the writer knows of the row.
+/// The writer of a row, which makes the changes of a plan while readers sample the clocks. In
+/// contracts a writer is its row together with what the writer knows of the row.
 ///
 /// The writer counts tasks, advances clocks and sums interrupt time in its own [`PlainClocks`], and
 /// copies the clocks that a change advanced to the row. Interrupt time isn't in the row, so no
@@ -51,7 +53,7 @@ impl<'a> Model for ClockWriter<'a> {
         IsWriterEnd (arc_value w.board).shared.table_id w.seat w.plan.now w.clocks };
 }
 
-// Shows that a plan is well-formed, which the contract of `Plan::len` says.
+// Makes the invariant of a plan known to the proofs; the contract of `Plan::len` states it.
 fn see_whole(plan: &Plan)
     ensures { IsPlan plan.now }
 {
@@ -60,8 +62,8 @@ fn see_whole(plan: &Plan)
 
 impl Row {
     /// Creates a row for `plan`, before the first change, and returns its writer. Precondition: the
-    /// plan has `slots` slots. Allocates everything that the writer needs. `NoMemory` if memory
-    /// runs out.
+    /// plan has `slots` slots. Later calls of the writer allocate no memory. Fails with `NoMemory`
+    /// if memory runs out.
     pub fn make(alloc: Global, plan: &Plan, slots: u32) -> Result<ClockWriter<'_>, NoMemory>
         requires { slots ≡ length plan.now.parents }
         ensures { IfOk result (λ writer.
@@ -94,9 +96,9 @@ impl<'a> ProcClocks for ClockWriter<'a> {
         self.clocks.count()
     }
 
-    /// Makes the next change of the plan: afterwards the nine words of each slot are a clock after
-    /// the change. If the change leaves a slot's mask as it is, the slot's words stay too. Does not
-    /// allocate, and waits for no reader.
+    /// Makes the next change of the plan. After the call the nine words of each slot are a clock
+    /// after the change. The words of a slot whose mask doesn't change stay the same. Does not
+    /// allocate, and doesn't wait for readers.
     fn apply(&mut self)
         requires { self.old.knows.count < length self.old.knows.plan.changes }
         ensures plan { self.new.knows.plan ≡ self.old.knows.plan }
@@ -121,8 +123,8 @@ impl<'a> ProcClocks for ClockWriter<'a> {
 }
 
 impl<'a> IrqClocks for ClockWriter<'a> {
-    /// Returns the interrupt time (ns) of `slot`, from the writer's own clocks, because the row
-    /// doesn't have it. Does not allocate.
+    /// Returns the interrupt time (ns) of `slot`. The row doesn't contain it, so it comes from the
+    /// writer's own clocks. Does not allocate.
     fn own_irq(&mut self, slot: Slot) -> u64
         requires { slot.0 < length self.old.knows.plan.parents }
         ensures same { self.new ≡ self.old }
@@ -134,8 +136,8 @@ impl<'a> IrqClocks for ClockWriter<'a> {
 }
 
 impl<'a> ClockWriter<'a> {
-    /// Creates a reader of the row, which has seen all changes made up to now. Does not allocate.
-    /// `NoMemory` only if the row's reference count would overflow.
+    /// Creates a reader of the row. The reader has seen all changes made so far. Does not allocate.
+    /// Fails with `NoMemory` only if the row's reference count would overflow.
     pub fn reader(&mut self) -> Result<ClockReader, NoMemory>
         ensures same { self.new ≡ self.old }
         ensures row { IfOk result (λ reader. reader.row ≡ self.old.row) }
@@ -151,8 +153,8 @@ impl<'a> ClockWriter<'a> {
         })
     }
 
-    /// Gives a reader of the row the number of changes made, so that all its later samples include
-    /// at least that many. Does not allocate, and always returns `Ok`.
+    /// Passes the number of changes made so far to a reader of the row, so that all later samples
+    /// of the reader include at least that many. Does not allocate, and always returns `Ok`.
     pub fn meet(&mut self, reader: &mut ClockReader) -> Result<(), NoMemory>
         requires { reader.old.row ≡ self.old.row }
         ensures ok { result ≡ Ok tt }
@@ -166,8 +168,8 @@ impl<'a> ClockWriter<'a> {
         Ok(())
     }
 
-    /// Gives the writer the number of changes that a reader of the row has seen, which is at most
-    /// the number made. Does not allocate, and always returns `Ok`.
+    /// Passes the number of changes that a reader of the row has seen to the writer. The number is
+    /// at most the number of changes made. Does not allocate, and always returns `Ok`.
     pub fn settle(&mut self, reader: &mut ClockReader) -> Result<(), NoMemory>
         requires { reader.old.row ≡ self.old.row }
         ensures ok { result ≡ Ok tt }
