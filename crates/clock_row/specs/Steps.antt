@@ -60,8 +60,8 @@ Puts step before word after = Writes (put_at (step.word - 1) step.first) before.
 abbrev pub Closes : RowStep → Sitter → ℕ → Sitter → Type 0
 Closes step before number after = Writes closed before.0 after.0
 
--- 4: A load by the writer returns the word that is in the writer's view, and shows that twice the
--- number of changes reported to the writer is at most the sequence number.
+-- Step 4: a load by the writer returns the word in the writer's view. The load also shows that
+-- twice the number of changes reported to the writer is at most the sequence number.
 abbrev pub Owns : RowStep → Sitter → ℕ → Sitter → Type 0
 Owns step before word after =
     (after.0 ≡ before.0)

@@ -63,32 +63,35 @@ pub record ArePut (from count : ℕ) (words before after : List ℕ) : Type 0 wh
 
 -- ---- the words that a reader loaded
 
--- Each value that was loaded is the word at its index in `body`.
+-- `Agrees body loaded`: each loaded value is the word at its index in `body`.
 abbrev pub Agrees : List ℕ → List (ℕ × ℕ) → Type 0
 Agrees body [] = Unit {0}
 Agrees body (loaded ∷ more) = (slice_index body loaded.0 ≡ loaded.1) × Agrees body more
 
--- Some words that are clocks after k changes agree with everything that was loaded.
+-- `StoodTogether plan k loaded`: all loaded values occur in one list of words, and these words are
+-- clocks after the first k changes.
 abbrev pub StoodTogether : PlanView → ℕ → List (ℕ × ℕ) → Type 0
 StoodTogether plan k loaded = (body : List ℕ) × AreClockWords plan k body × Agrees body loaded
 
--- Words that agree with all values loaded after agree with all values loaded before: no loaded
--- value was lost.
+-- `StaysLoaded before after`: the values loaded before are among the values loaded after. In formal
+-- terms, all words that agree with `after` also agree with `before`.
 abbrev pub StaysLoaded : List (ℕ × ℕ) → List (ℕ × ℕ) → Type 0
 StaysLoaded before after = (body : List ℕ) → Agrees body after → Agrees body before
 
--- In all words that agree with the loaded values, the `count` words from index `from` are the first
--- of `words`.
+-- `WereLoaded loaded from count words`: the first `count` words of `words` were loaded from index
+-- `from`. In formal terms, they are the words at that index in each `body` that agrees with the
+-- loaded values.
 abbrev pub WereLoaded : List (ℕ × ℕ) → ℕ → ℕ → List ℕ → Type 0
 WereLoaded loaded from count words =
     (body : List ℕ) → Agrees body loaded → (i : ℕ) → i < count → slice_index words i ≡ slice_index body (from + i)
 
--- In all words that agree with the loaded values, the words of the slot are those of `clock`, if
--- they are the words of a clock at all.
+-- `ClockWasLoaded loaded slot clock`: the words of `clock` were loaded from the slot, provided that
+-- the slot's words are those of a clock.
 abbrev pub ClockWasLoaded : List (ℕ × ℕ) → ℕ → ClockView → Type 0
 ClockWasLoaded loaded slot clock =
     (body : List ℕ) → Agrees body loaded → AreWordsOfClock (words_at body slot) → words_of clock ≡ words_at body slot
 
--- `ClockWasLoaded` holds for each of the first `count` slots and its clock in the list.
+-- `ClocksWereLoaded loaded count clocks`: for each of the first `count` slots, the words of the
+-- slot's clock in `clocks` were loaded.
 abbrev pub ClocksWereLoaded : List (ℕ × ℕ) → ℕ → List ClockView → Type 0
 ClocksWereLoaded loaded count clocks = (slot : ℕ) → slot < count → ClockWasLoaded loaded slot (slice_index_or clocks slot zero_clock)

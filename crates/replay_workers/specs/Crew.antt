@@ -1,5 +1,5 @@
--- A crew, which is the pool of worker threads of a replay: the clocks of all processors, the number
--- of changes that each has made, and the table of times at a tick.
+-- Defines a crew, the pool of worker threads of a replay: the clocks of all processors, the number
+-- of changes that each processor has made, and the table of times at a tick.
 use Rattle.std.specs.Prelude.{◌≡◌, ◌⊎◌, ℕ, ◌+◌, ◌-◌, ◌*◌, ◌/◌, ◌<◌, ◌≤◌, List, [], length, map, max, min, slice_index_or, Option, None, Some, is_some, true}
 use Rattle.std.specs.List.{All, range_with_len}
 use Rattle.atomic_table.specs.Seated.{TableId}
@@ -21,29 +21,30 @@ use Rattle.replay_workers.specs.declared.ticks.Ticks.{Ticks}
 
 -- ---- ticks
 
--- the time (ns) of tick `j`, numbered from 0
+-- `moment_in ticks j`: the time (ns) of tick `j`, numbered from 0.
 abbrev pub moment_in : Ticks → ℕ → ℕ
 moment_in ticks j = ticks.first + j * ticks.length
 
--- the times (ns) of all ticks
+-- Returns the times (ns) of all ticks.
 abbrev pub moments_of : Ticks → List ℕ
 moments_of ticks = map (moment_in ticks) (range_with_len 0 ticks.count)
 
--- the time (ns) of the last tick
+-- Returns the time (ns) of the last tick.
 abbrev pub last_of : Ticks → ℕ
 last_of ticks = moment_in ticks (ticks.count - 1)
 
 -- ---- crews
 
--- the live samples of a processor in the last interval, and the state of the reader that takes them
+-- The live samples of a processor in the last interval, and the state of the reader that takes
+-- them.
 pub record WatchView : Type 0 where
   pub samples : List Sample
   pub reader : ReaderView
 
--- A crew: the plans of a trace; the clocks of each processor, and the clock row that holds them, if
--- any; the times (ns) of the ticks whose tables are ready; `room`, the most ticks that the crew
--- advances by at once; `requested`, the number of live samples per processor and interval; and each
--- processor's samples, if the crew takes any.
+-- The state of a crew: the plans of a trace; the clocks of each processor, and the row that holds
+-- them (`None` for plain clocks); the times (ns) of the ticks whose tables are ready; `room`, the
+-- most ticks that the crew advances by at once; `requested`, the number of live samples of each
+-- processor in an interval; and the samples of each processor, if the crew takes any.
 pub record CrewView : Type 0 where
   pub plans : PlansView
   pub clocks : List OnPlan
@@ -53,75 +54,79 @@ pub record CrewView : Type 0 where
   pub requested : ℕ
   pub watches : List WatchView
 
--- the most bytes for the times of ticks ahead, unless a single tick needs more: 64 MB
+-- The most bytes for the stored times of ticks, unless a single tick needs more: 64 MB.
 abbrev pub most_kept : ℕ
 most_kept = 64000000
 
--- the most ticks that a crew advances by at once: beyond this number the cost of starting threads
--- is negligible
+-- The most ticks that a crew advances by at once. With more ticks, the cost of starting threads
+-- wouldn't decrease noticeably.
 abbrev pub most_ahead : ℕ
 most_ahead = 256
 
--- The most ticks that a crew advances by at once, for `cpus` processors, `slots` groups and a trace
--- of `moments` ticks: the number that fits into `most_kept` at 64 bytes for each tick, group and
--- processor, but at most 256, at most `moments` and at least one.
+-- `room_of cpus slots moments`: the most ticks that a crew advances by at once, for a trace of
+-- `moments` ticks. This is the number of ticks whose times fit into `most_kept` bytes, at 64 bytes
+-- for each group and processor, limited to 256 and `moments`, but at least one.
 abbrev pub room_of : ℕ → ℕ → ℕ → ℕ
 room_of cpus slots moments = max (min (min (most_kept / max (64 * (slots * cpus)) 1) moments) most_ahead) 1
 
--- the clocks of processor `cpu`
+-- `clocks_at clocks cpu`: the clocks of processor `cpu`.
 abbrev pub clocks_at : List OnPlan → ℕ → OnPlan
 clocks_at clocks cpu = slice_index_or clocks cpu (record { plan = no_plan; made = 0 })
 
--- the row that holds the clocks of processor `cpu`, if any
+-- `row_at rows cpu`: the row that holds the clocks of processor `cpu`, or `None` if the clocks are
+-- plain.
 abbrev pub row_at : List (Option TableId) → ℕ → Option TableId
 row_at rows cpu = slice_index_or rows cpu None
 
--- the clocks of every processor are in a row
+-- The clocks of every processor are in a row.
 abbrev pub AreInRows : PlansView → List (Option TableId) → Type 0
 AreInRows plans rows = (cpu : ℕ) → cpu < length plans.plans → is_some (row_at rows cpu) ≡ true
 
--- Each processor's clocks are on its plan, which is well-formed and has an entry for the parent of
--- each group.
+-- `AreOnPlans plans clocks`: the clocks of each processor advance by the processor's plan. The plan
+-- is valid and has the parent of each group.
 pub record AreOnPlans (plans : PlansView) (clocks : List OnPlan) : Type 0 where
   pub each : length clocks ≡ length plans.plans
   pub on : (cpu : ℕ) → cpu < length clocks → (clocks_at clocks cpu).plan ≡ plan_at plans cpu
   pub whole : (cpu : ℕ) → cpu < length clocks → IsPlan (plan_at plans cpu)
   pub slots : (cpu : ℕ) → cpu < length clocks → length (plan_at plans cpu).parents ≡ length plans.lives
 
--- no processor has made a change that is later than `at` (ns)
+-- `AreNotPast plans clocks at`: no processor has made a change later than the time `at` (ns).
 pub record AreNotPast (plans : PlansView) (clocks : List OnPlan) (at : ℕ) : Type 0 where
   pub on_plans : AreOnPlans plans clocks
   pub not_past : (cpu : ℕ) → cpu < length clocks → (clocks_at clocks cpu).made ≤ changes_up_to (plan_at plans cpu) at
 
--- each processor has made exactly its changes up to `at` (ns)
+-- `AreAt plans clocks at`: each processor has made exactly its changes up to the time `at` (ns).
 pub record AreAt (plans : PlansView) (clocks : List OnPlan) (at : ℕ) : Type 0 where
   pub on_plans : AreOnPlans plans clocks
   pub there : (cpu : ℕ) → cpu < length clocks → (clocks_at clocks cpu).made ≡ changes_up_to (plan_at plans cpu) at
   pub past : (cpu : ℕ) → cpu < length clocks → last_change (plan_at plans cpu) (changes_up_to (plan_at plans cpu) at) ≤ at
 
--- the times (ns) of group `slot` at `at` (ns) by the first `k` changes of a plan: the time in each
--- state, followed by the interrupt time
+-- `planned_with_irq plan slot k at`: the times (ns) of the group in `slot` at the time `at` (ns),
+-- computed from the first k changes of the plan: the time in each state, followed by the interrupt
+-- time.
 abbrev pub planned_with_irq : PlanView → ℕ → ℕ → ℕ → List ℕ
 planned_with_irq plan slot k at = times_with (λ state. planned_time state plan slot k at) (planned_irq plan slot k)
 
--- the times (ns) of group `slot` at `at` (ns), by all changes of a plan up to `at`
+-- `times_by plan slot at`: the times (ns) of the group in `slot` at the time `at` (ns), computed
+-- from all changes of the plan up to `at`.
 abbrev pub times_by : PlanView → ℕ → ℕ → List ℕ
 times_by plan slot at = planned_with_irq plan slot (changes_up_to plan at) at
 
 -- ---- live samples
 
--- the samples of processor `cpu`; no samples if the processor has no reader
+-- `watch_at watches cpu`: the samples and the reader of processor `cpu`. There are no samples if
+-- the processor has no reader.
 abbrev pub watch_at : List WatchView → ℕ → WatchView
 watch_at watches cpu = slice_index_or watches cpu (record { samples = []; reader = new_reader no_plan 0 })
 
--- the number of changes that each sample includes
+-- Returns the number of changes that each sample includes.
 abbrev pub counts_sampled : List Sample → List ℕ
 counts_sampled samples = map (λ (sample : Sample). sample.count) samples
 
--- A reader took `requested` samples of a slot's clock on a processor, while the writer went from
--- `before` changes to `now`. Each sample is the clock after its number of changes. These numbers
--- never decrease, and lie between `before` and `now`. The reader made at most eight tries per
--- sample. `before` is the count of the writer's own clock, which precedes the first sample.
+-- `IsSampled plan slot requested before now old new`: a reader took `requested` samples of a slot's
+-- clock on a processor, while the number of the writer's changes went from `before` to `now`. Each
+-- sample is the clock after its number of changes. These numbers never decrease, and lie between
+-- `before` and `now`. The reader made at most eight tries for each sample.
 pub record IsSampled (plan : PlanView) (slot requested before now : ℕ) (old new : WatchView) : Type 0 where
   pub many : length new.samples ≡ requested
   pub clocks : All (λ (sample : Sample). IsClock sample.clock plan slot sample.count) new.samples
@@ -129,8 +134,8 @@ pub record IsSampled (plan : PlanView) (slot requested before now : ℕ) (old ne
   pub tried : IsTried (counts_sampled new.samples) before old.reader new.reader
   pub few : tries_of new.reader ≤ tries_of old.reader + 8 * requested
 
--- If a slot is watched, `requested` samples of its clock were taken on each processor while the
--- changes were made. Otherwise there are no samples.
+-- `AreSampled watched old new`: if a slot is watched, `requested` samples of its clock were taken
+-- on each processor while the changes were made. Otherwise there are no samples.
 abbrev pub AreSampled : Option Slot → CrewView → CrewView → Type 0
 AreSampled None old new = (cpu : ℕ) → (watch_at new.watches cpu).samples ≡ []
 AreSampled (Some slot) old new = (cpu : ℕ) → cpu < length old.plans.plans →
@@ -139,7 +144,8 @@ AreSampled (Some slot) old new = (cpu : ℕ) → cpu < length old.plans.plans �
 
 -- ---- tables
 
--- The table has, for every group and processor, the times at `at` (ns) by the processor's plan.
+-- `IsTableAt table plans at`: for every group and processor, the table has the times (ns) at the
+-- time `at` (ns) that follow from the processor's plan.
 pub record IsTableAt (table : List (List (List ℕ))) (plans : PlansView) (at : ℕ) : Type 0 where
   pub sizes : HasSizes (length plans.plans) (length plans.lives) table
   pub times : (slot cpu : ℕ) → slot < length plans.lives → cpu < length plans.plans
@@ -147,15 +153,16 @@ pub record IsTableAt (table : List (List (List ℕ))) (plans : PlansView) (at : 
 
 -- ---- laws
 
--- A crew buffers at most 64 MB of times, unless a single tick needs more. It advances by at least
--- one tick at once, and by no more than `moments` (or one, if `moments` is 0).
+-- The law of the stored times: they take at most 64 MB, unless a single tick needs more. A crew
+-- advances by at least one tick at once, and by at most `moments` ticks (or one, if `moments` is
+-- 0).
 abbrev pub RoomIsSmall : Type 0
 RoomIsSmall = (cpus slots moments : ℕ) →
     (1 ≤ room_of cpus slots moments) × (room_of cpus slots moments ≤ max moments 1)
     × ((64 * (room_of cpus slots moments * slots * cpus) ≤ most_kept) ⊎ (room_of cpus slots moments ≡ 1))
 
--- The table at a time (ns) by the plans of legal events is the table of their stall times and
--- interrupt times.
+-- The law of the tables: if plans represent legal events, the table at a time (ns) has the stall
+-- times and interrupt times that follow from the events.
 abbrev pub TableIsOfEvents : Type 0
 TableIsOfEvents = (limits : Limits) (cpus : ℕ) (events : List Event) (plans : PlansView) (table : List (List (List ℕ))) (at : ℕ) →
     AreLegal limits first_world events → Represent plans cpus events → IsTableAt table plans at → table ≡ table_until cpus events at

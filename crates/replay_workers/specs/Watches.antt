@@ -1,5 +1,5 @@
--- Watchers, which take live samples of the lanes of a crew (a lane is one processor, a crew the
--- pool of worker threads), and the crew with its watchers.
+-- Defines watchers, which take live samples of the lanes of a crew, and the invariant of a crew. A
+-- lane is one processor, and a crew is the pool of worker threads.
 use Rattle.std.specs.Prelude.{◌≡◌, ℕ, ◌+◌, ◌*◌, ◌/◌, ◌%◌, ◌<◌, ◌≤◌, true, List, [], drop, length, map, slice_index_or, Option, Some, is_some}
 use Rattle.std.specs.List.{All}
 use Rattle.atomic_table.specs.Seated.{TableId}
@@ -18,9 +18,9 @@ use Rattle.replay_workers.specs.Lanes.{AreLanes, LaneView, batch_at, clocks_of, 
 
 -- ---- one watcher
 
--- A watcher: the processor's number, the row of its clocks, the state of the reader of that row,
--- the writer's own clock when reader and writer last synchronised, the samples of the last
--- interval, and the number of samples per interval.
+-- The state of a watcher: the processor's number, the row of its clocks, the state of the reader of
+-- that row, the writer's own clock when reader and writer last synchronised, the samples of the
+-- last interval, and the number of samples in an interval.
 pub record WatcherView : Type 0 where
   pub cpu : ℕ
   pub row : TableId
@@ -29,11 +29,11 @@ pub record WatcherView : Type 0 where
   pub samples : List Sample
   pub requested : ℕ
 
--- a placeholder for a row
+-- A placeholder for the identity of a row.
 abbrev pub no_table_id : TableId
 no_table_id = record { words = 0; slots = 0; views_name = 0; atom = 0; block = 0; offset = 0; slot_names = [] }
 
--- a placeholder for an index without a watcher
+-- A placeholder, used for an index without a watcher.
 abbrev pub no_watcher : WatcherView
 no_watcher =
     record {
@@ -45,22 +45,25 @@ no_watcher =
       requested = 0;
     }
 
--- watcher `k` of a list
+-- `watcher_at watchers k`: the watcher with the index `k`.
 abbrev pub watcher_at : List WatcherView → ℕ → WatcherView
 watcher_at watchers k = slice_index_or watchers k no_watcher
 
--- what callers see of a watcher
+-- Returns the samples and the reader of a watcher, which are the parts that a crew's contracts
+-- refer to.
 abbrev pub watch_seen : WatcherView → WatchView
 watch_seen watcher = record { samples = watcher.samples; reader = watcher.knows }
 
--- the watcher's identity is unchanged: its processor, row, plan and number of samples
+-- `IsSameWatcher old new`: the watcher's processor, row, plan and number of samples in an interval
+-- are unchanged.
 pub record IsSameWatcher (old new : WatcherView) : Type 0 where
   pub cpu : new.cpu ≡ old.cpu
   pub row : new.row ≡ old.row
   pub plan : new.knows.plan ≡ old.knows.plan
   pub requested : new.requested ≡ old.requested
 
--- A new watcher of a lane's row, without samples.
+-- `IsNewWatcher cpu requested row plan watcher`: the watcher is a new watcher of the processor's
+-- row and has no samples.
 pub record IsNewWatcher (cpu requested : ℕ) (row : Option TableId) (plan : PlanView) (watcher : WatcherView) : Type 0 where
   pub cpu_is : watcher.cpu ≡ cpu
   pub row_is : Some watcher.row ≡ row
@@ -68,15 +71,16 @@ pub record IsNewWatcher (cpu requested : ℕ) (row : Option TableId) (plan : Pla
   pub requested_is : watcher.requested ≡ requested
   pub none : watcher.samples ≡ []
 
--- Precondition for sampling `slot`: the watcher's last sample is the slot's clock after all the
--- changes that the watcher has seen.
+-- `MaySample slot watcher`: the precondition for sampling `slot`. The watcher's last sample is the
+-- slot's clock after all changes that the watcher has seen.
 pub record MaySample (slot : ℕ) (watcher : WatcherView) : Type 0 where
   pub slot_is : slot < length watcher.knows.plan.parents
   pub clock : IsClock watcher.last.clock watcher.knows.plan slot watcher.last.count
   pub seen : watcher.last.count ≡ watcher.knows.seen
 
--- A watcher synchronised with the writer of the clocks `on`: it has seen all the writer's changes,
--- and its last sample is the writer's own clock of `slot`. The watcher made no try.
+-- `HasMet slot on old new`: the watcher synchronised with the writer of the clocks `on`. The
+-- watcher has seen all the writer's changes, and its last sample is the writer's own clock of
+-- `slot`. Synchronising took no try.
 pub record HasMet (slot : ℕ) (on : OnPlan) (old new : WatcherView) : Type 0 where
   pub same : IsSameWatcher old new
   pub got : new.knows.got ≡ old.knows.got
@@ -85,8 +89,9 @@ pub record HasMet (slot : ℕ) (on : OnPlan) (old new : WatcherView) : Type 0 wh
   pub count : new.last.count ≡ on.made
   pub clock : IsClock new.last.clock on.plan slot on.made
 
--- A watcher took its samples of `slot` after its last sample, up to the changes that it has seen
--- now. It made at most eight tries per sample.
+-- `HasSampled slot old new`: the watcher took its samples of `slot`. Their numbers of changes lie
+-- between the number in its last sample and the number that the watcher has now seen. Each sample
+-- took at most eight tries.
 pub record HasSampled (slot : ℕ) (old new : WatcherView) : Type 0 where
   pub same : IsSameWatcher old new
   pub many : length new.samples ≡ old.requested
@@ -95,72 +100,77 @@ pub record HasSampled (slot : ℕ) (old new : WatcherView) : Type 0 where
   pub tried : IsTried (counts_sampled new.samples) old.last.count old.knows new.knows
   pub few : tries_of new.knows ≤ tries_of old.knows + 8 * old.requested
 
--- A watcher sampled `slot` while its lane made its changes.
+-- `HasWatched slot lane_old lane_new old new`: the watcher sampled `slot` while its lane made
+-- changes.
 pub record HasWatched (slot : ℕ) (lane_old lane_new : LaneView) (old new : WatcherView) : Type 0 where
   pub same : IsSameWatcher old new
   pub sampled : IsSampled old.knows.plan slot old.requested lane_old.on.made lane_new.on.made (watch_seen old) (watch_seen new)
 
--- A watcher discarded its samples.
+-- `HasCleared old new`: the watcher discarded its samples.
 pub record HasCleared (old new : WatcherView) : Type 0 where
   pub same : IsSameWatcher old new
   pub none : new.samples ≡ []
 
 -- ---- the watchers of all processors, in their order
 
--- the clocks of a lane are in a row
+-- The clocks of the lane are in a row.
 abbrev pub IsInRow : LaneView → Type 0
 IsInRow lane = is_some lane.row ≡ true
 
--- the lane of processor `cpu` exists
+-- `IsLaneThere batches cpu`: the lane of processor `cpu` exists.
 pub record IsLaneThere (batches : List (List LaneView)) (cpu : ℕ) : Type 0 where
   pub some : 0 < length batches
   pub place : cpu / length batches < length (batch_at batches (cpu % length batches))
 
--- The lane of processor `cpu` exists, and the watcher has this lane's row and plan.
+-- `IsWatcherThere batches cpu watcher`: the lane of processor `cpu` exists, and the watcher has the
+-- row and the plan of this lane.
 pub record IsWatcherThere (batches : List (List LaneView)) (cpu : ℕ) (watcher : WatcherView) : Type 0 where
   pub there : IsLaneThere batches cpu
   pub cpu_is : watcher.cpu ≡ cpu
   pub row : Some watcher.row ≡ (lane_of batches cpu).row
   pub plan : watcher.knows.plan ≡ (lane_of batches cpu).on.plan
 
--- watcher `k` watches the lane of processor `k`
+-- `AreWatching batches watchers`: for each k, watcher `k` watches the lane of processor `k`.
 abbrev pub AreWatching : List (List LaneView) → List WatcherView → Type 0
 AreWatching batches watchers = (k : ℕ) → k < length watchers → IsWatcherThere batches k (watcher_at watchers k)
 
--- the plan of each watcher has this slot
+-- `HaveSlot slot watchers`: the plan of each watcher has this slot.
 abbrev pub HaveSlot : ℕ → List WatcherView → Type 0
 HaveSlot slot watchers = (k : ℕ) → k < length watchers → slot < length (watcher_at watchers k).knows.plan.parents
 
--- precondition for sampling `slot` with each watcher
+-- `MayAllSample slot watchers`: each watcher satisfies the precondition for sampling `slot`.
 abbrev pub MayAllSample : ℕ → List WatcherView → Type 0
 MayAllSample slot watchers = (k : ℕ) → k < length watchers → MaySample slot (watcher_at watchers k)
 
--- each watcher synchronised with the lane of its processor
+-- `HaveMet slot batches old new`: each watcher synchronised with the lane of its processor.
 pub record HaveMet (slot : ℕ) (batches : List (List LaneView)) (old new : List WatcherView) : Type 0 where
   pub many : length new ≡ length old
   pub each : (k : ℕ) → k < length old → HasMet slot (lane_of batches k).on (watcher_at old k) (watcher_at new k)
 
--- each watcher took its samples of `slot`
+-- `HaveSampled slot old new`: each watcher took its samples of `slot`.
 pub record HaveSampled (slot : ℕ) (old new : List WatcherView) : Type 0 where
   pub many : length new ≡ length old
   pub each : (k : ℕ) → k < length old → HasSampled slot (watcher_at old k) (watcher_at new k)
 
--- no watcher has seen more changes than the lane of its processor has made
+-- `AreSettled batches watchers`: no watcher has seen more changes than the lane of its processor
+-- has made.
 abbrev pub AreSettled : List (List LaneView) → List WatcherView → Type 0
 AreSettled batches watchers = (k : ℕ) → k < length watchers → (watcher_at watchers k).knows.seen ≤ (lane_of batches k).on.made
 
--- each watcher sampled `slot` while the lane of its processor made changes
+-- `HaveWatched slot batches_old batches_new old new`: each watcher sampled `slot` while the lane of
+-- its processor made changes.
 pub record HaveWatched (slot : ℕ) (batches_old batches_new : List (List LaneView)) (old new : List WatcherView) : Type 0 where
   pub many : length new ≡ length old
   pub each : (k : ℕ) → k < length old → HasWatched slot (lane_of batches_old k) (lane_of batches_new k) (watcher_at old k)
       (watcher_at new k)
 
--- each watcher discarded its samples
+-- `HaveCleared old new`: each watcher discarded its samples.
 pub record HaveCleared (old new : List WatcherView) : Type 0 where
   pub many : length new ≡ length old
   pub each : (k : ℕ) → k < length old → HasCleared (watcher_at old k) (watcher_at new k)
 
--- New watchers of the first `cpus` processors, which take `requested` samples in an interval.
+-- `AreNewWatchers batches cpus requested watchers`: these are new watchers of the first `cpus`
+-- processors, which take `requested` samples in an interval.
 pub record AreNewWatchers (batches : List (List LaneView)) (cpus requested : ℕ) (watchers : List WatcherView) : Type 0 where
   pub many : length watchers ≡ cpus
   pub each : (cpu : ℕ) → cpu < length watchers → IsNewWatcher cpu requested (lane_of batches cpu).row (lane_of batches cpu).on.plan
@@ -168,27 +178,30 @@ pub record AreNewWatchers (batches : List (List LaneView)) (cpus requested : ℕ
 
 -- ---- crews
 
--- A watcher belongs to processor `cpu` of a crew: it has the row and the plan of the processor's
--- lane, and takes `requested` samples in an interval.
+-- `IsWatcherOf plans batches requested cpu watcher`: the watcher belongs to processor `cpu` of a
+-- crew. It has the row and the plan of the processor's lane, and takes `requested` samples in an
+-- interval.
 pub record IsWatcherOf (plans : PlansView) (batches : List (List LaneView)) (requested cpu : ℕ) (watcher : WatcherView) : Type 0 where
   pub cpu_is : watcher.cpu ≡ cpu
   pub row : Some watcher.row ≡ (lane_of batches cpu).row
   pub plan : watcher.knows.plan ≡ plan_at plans cpu
   pub requested_is : watcher.requested ≡ requested
 
--- The watchers of a crew: one for each processor if the crew takes samples, none otherwise.
+-- `AreWatchers plans batches requested watchers`: a crew has one watcher for each processor if the
+-- crew takes samples, otherwise none.
 pub record AreWatchers (plans : PlansView) (batches : List (List LaneView)) (requested : ℕ) (watchers : List WatcherView) : Type 0 where
   pub none : requested ≡ 0 → length watchers ≡ 0
   pub all : 0 < requested → length watchers ≡ length plans.plans
   pub each : (cpu : ℕ) → cpu < length watchers → IsWatcherOf plans batches requested cpu (watcher_at watchers cpu)
 
--- The invariant of a crew: its lanes and its watchers are valid.
+-- `IsCrew plans batches ticks out room requested watchers`: the invariant of a crew. Its lanes and
+-- its watchers are valid.
 pub record IsCrew (plans : PlansView) (batches : List (List LaneView)) (ticks : Ticks) (out room requested : ℕ)
     (watchers : List WatcherView) : Type 0 where
   pub lanes : AreLanes plans batches ticks out room
   pub watched : AreWatchers plans batches requested watchers
 
--- what contracts see of a crew with these parts
+-- Builds the state of a crew from its parts.
 abbrev pub crew_of : PlansView → List (List LaneView) → Ticks → ℕ → ℕ → ℕ → List WatcherView → CrewView
 crew_of plans batches ticks out room requested watchers = record {
   plans = plans;

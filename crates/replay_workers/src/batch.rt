@@ -1,5 +1,5 @@
-//! A batch: the processors that one worker thread advances.
-//! This module runs the batches of all workers, in threads. `deal` creates them.
+//! A batch: the processors that one worker thread advances. This module runs the batches of all
+//! workers in threads; `deal` creates the batches.
 ghost use Rattle.std.specs.Prelude.{◌<◌, ◌≤◌};
 ghost use Rattle.std.specs.List.{All};
 ghost use Rattle.psi_spec.specs.Within.{last_moment};
@@ -14,7 +14,7 @@ use std::marker::Model;
 use std::thread;
 use std::thread::Threads;
 
-/// The lanes of one worker; each lane is one processor. Contracts see a list of lanes.
+/// The lanes of one worker, each for one processor. In contracts this is a list of lanes.
 #[derive(Drop)]
 pub(crate) struct Batch<'a> {
     pub(crate) lanes: Vec<Lane<'a>>,
@@ -43,7 +43,7 @@ impl<'a> Batch<'a> {
         }
     }
 
-    /// The number of changes up to `until` (ns) that the lanes still have to make.
+    /// Returns the number of changes up to the time `until` (ns) that the lanes haven't made yet.
     fn changes_left(&self, until: Ns) -> u64 {
         let mut left = 0u64;
         'lanes: for lane in &self.lanes {
@@ -53,8 +53,9 @@ impl<'a> Batch<'a> {
     }
 }
 
-// Returns the number of threads to use: one for each `worth` changes up to `until` (ns), but at
-// most one for each batch. Returns 1 (the caller's thread) if at most one batch has a change.
+// Returns the number of threads to use: one for every `worth` changes up to the time `until` (ns),
+// but at most one for each batch. Returns 1 (only the caller's thread) if at most one batch has
+// changes to make.
 fn threads_for(batches: &[Batch<'_>], until: Ns, worth: u64) -> usize
     requires { 0 < worth }
     ensures { 0 < result }
@@ -73,8 +74,8 @@ fn threads_for(batches: &[Batch<'_>], until: Ns, worth: u64) -> usize
 }
 
 /// Makes the changes of all batches up to each tick, and stores the times of all groups at that
-/// tick. Each batch runs in its own thread if one can be started, but there is at most one thread
-/// for each `worth` changes. Batches don't depend on each other.
+/// tick. Each batch runs in its own thread if the thread can be started, but at most one thread is
+/// used for every `worth` changes. Batches don't depend on each other.
 pub(crate) fn go_all<R: Threads + Sync, G: Gate>(
     rt: &R,
     batches: &mut [Batch<'_>],

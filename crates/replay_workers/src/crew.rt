@@ -26,31 +26,31 @@ use std::marker::Model;
 use std::mem;
 use std::thread::Threads;
 
-/// The pool of workers of a replay, with the clocks of all processors. The workers make the changes
-/// of a trace for several ticks at a time; each worker makes those of its own processors. The times
-/// of all groups at each tick are stored until [`Crew::fill`] returns them. During an interval the
-/// clocks of one group can be sampled live. Contracts see the plans, the number of changes that
-/// each processor has made, the rows of the clocks, the ticks whose times are ready, the most ticks
-/// that the crew advances by at once, and the samples.
+/// The pool of worker threads of a replay, with the clocks of all processors. The workers make the
+/// changes of a trace for several ticks at a time; each worker makes the changes of its own
+/// processors. The times of all groups at each tick are stored until [`Crew::fill`] returns them.
+/// During an interval the clocks of one group can be sampled live. In contracts a crew consists of
+/// the plans, the number of changes that each processor has made, the rows of the clocks, the ticks
+/// whose times are ready, the most ticks that the crew advances by at once, and the samples.
 ///
-/// A crew that takes live samples has its clocks in rows, even if no group is watched. A caller
-/// that wants to sample with its own readers gets them from [`Crew::reader`], and calls
-/// [`Crew::settle`] and [`Crew::meet`] for each reader between two intervals.
+/// A crew that takes live samples keeps its clocks in rows, even if no group is watched. A caller
+/// that samples with its own readers gets them from [`Crew::reader`], and calls [`Crew::settle`]
+/// and [`Crew::meet`] for each reader between two intervals.
 #[derive(Drop)]
 pub struct Crew<'a> {
     alloc: Global,
     plans: &'a Plans,
-    /// One batch for each worker: processor `c` belongs to worker `c % workers`.
+    /// The batch of each worker. Processor `c` belongs to worker `c % workers`.
     batches: Vec<Batch<'a>>,
     /// The ticks of the crew's latest advance.
     ticks: Ticks,
     /// The number of ticks in `ticks` whose tables have been returned.
     out: u32,
-    /// The most ticks that the lanes can advance by at once.
+    /// The most ticks for which the lanes can store times.
     room: u32,
-    /// The number of live samples per processor and interval.
+    /// The number of live samples of each processor in an interval.
     requested: u32,
-    /// One watcher for each processor if samples are taken, none otherwise.
+    /// A watcher for each processor if live samples are taken, otherwise empty.
     watchers: Vec<Watcher>,
 }
 
@@ -69,8 +69,9 @@ impl<'a> Model for Crew<'a> {
 
 impl<'a> Crew<'a> {
     /// Creates the clocks of all processors before the first change, for 1 to 64 workers. `moments`
-    /// is the trace's number of ticks; it bounds the look-ahead. `live` samples of each processor
-    /// are taken in an interval in which a group is watched. Allocates all that the crew needs.
+    /// is the trace's number of ticks, which limits how many ticks are computed ahead. `live` is
+    /// the number of samples taken of each processor in an interval in which a group is watched. No
+    /// later call allocates memory, except for creating a reader.
     pub fn make(
         alloc: Global,
         plans: &'a Plans,
@@ -115,7 +116,7 @@ impl<'a> Crew<'a> {
         })
     }
 
-    /// The most ticks that the crew can advance by at once.
+    /// Returns the most ticks that the crew can advance by at once.
     pub fn room(&self) -> u32
         ensures room { result ≡ self.now.room }
         ensures some { 1 ≤ result }
@@ -123,16 +124,16 @@ impl<'a> Crew<'a> {
         self.room
     }
 
-    /// The number of ticks whose tables can still be returned by `fill`.
+    /// Returns the number of ticks whose tables haven't been returned by `fill` yet.
     pub fn ready(&self) -> u32
         ensures { result ≡ length self.now.ready }
     {
         self.ticks.count - self.out
     }
 
-    /// Advances by `ticks`: each worker makes the changes of its processors up to and including
-    /// each tick, and stores the times of all groups at that tick. Discards ticks that are still
-    /// ready, and earlier samples; no group is watched. Does not allocate.
+    /// Advances by `ticks`. Each worker makes the changes of its processors up to and including
+    /// each tick, and stores the times of all groups at that tick. No group is watched. Discards
+    /// earlier samples, and ticks that `fill` hasn't returned. Does not allocate.
     pub fn intervals<R: Threads + Sync, G: Gate>(&mut self, rt: &R, ticks: Ticks, gate: &G)
         requires some { 0 < ticks.count }
         requires within { ticks.count ≤ self.old.room }
@@ -146,8 +147,9 @@ impl<'a> Crew<'a> {
         ensures ready { self.new.ready ≡ moments_of ticks }
         ensures live { AreSampled None self.old self.new }
     {
-        // Few changes per call: a crew that takes samples advances one interval at a time, even if
-        // no group is watched.
+        // A crew that takes samples advances by one interval at a time, even if no group is
+        // watched. A call then has few changes, so a thread must have enough of them to be worth
+        // its start.
         let worth = if self.requested > 0 { WORTH_THREAD } else { 1 };
         go_all(rt, &mut self.batches, ticks, worth, gate);
         clear(&mut self.watchers);
@@ -155,8 +157,8 @@ impl<'a> Crew<'a> {
         self.out = 0;
     }
 
-    // Advances by `ticks` like `intervals`, but takes live samples of `slot` while the changes are
-    // made.
+    // Advances by `ticks` like `intervals`, but also takes live samples of `slot` while the changes
+    // are made.
     fn intervals_beside<R: Threads + Sync, G: Gate>(
         &mut self,
         rt: &R,
@@ -187,9 +189,9 @@ impl<'a> Crew<'a> {
     }
 
     /// Makes the changes of all processors up to and including the tick at `until` (ns), and stores
-    /// the times of all groups at that tick. If a slot is watched and the crew takes samples, its
-    /// clock is sampled `requested` times on each processor meanwhile. Discards earlier samples.
-    /// Does not allocate.
+    /// the times of all groups at that tick. If a slot is watched and the crew takes samples, each
+    /// processor's clock of the slot is sampled `requested` times in the meantime. Discards earlier
+    /// samples. Does not allocate.
     pub fn interval<R: Threads + Sync, G: Gate>(
         &mut self,
         rt: &R,
@@ -220,8 +222,8 @@ impl<'a> Crew<'a> {
         }
     }
 
-    /// The live samples of processor `cpu` in the last interval, in the order in which they were
-    /// taken.
+    /// Returns the live samples of processor `cpu` in the last interval, in the order in which they
+    /// were taken.
     pub fn live(&self, cpu: Cpu) -> &[Sample]
         ensures { result.now ≡ (watch_at self.now.watches cpu.0).samples }
     {
@@ -231,8 +233,8 @@ impl<'a> Crew<'a> {
         }
     }
 
-    /// Copies the times (ns) of all groups on all processors at the first ready tick, whose time is
-    /// `at` (ns), to `rows`. The tick is no longer ready afterwards. Does not allocate.
+    /// Copies the times (ns) of all groups on all processors at the first ready tick to `rows`.
+    /// `at` is the time (ns) of this tick, which isn't ready afterwards. Does not allocate.
     pub fn fill(&mut self, at: Ns, rows: &mut Rows)
         requires first { slice_get self.old.ready 0 ≡ Some at }
         requires sizes { HasSizes (length self.old.plans.plans)
@@ -244,7 +246,7 @@ impl<'a> Crew<'a> {
         self.out += 1;
     }
 
-    /// The number of changes that processor `cpu` has made.
+    /// Returns the number of changes that processor `cpu` has made.
     pub fn count(&self, cpu: Cpu) -> u64
         requires { cpu.0 < length self.now.plans.plans }
         ensures { result ≡ (clocks_at self.now.clocks cpu.0).made }
@@ -252,7 +254,8 @@ impl<'a> Crew<'a> {
         lane_in(&self.batches, cpu).count()
     }
 
-    /// The clock of `slot` on processor `cpu`, after all changes that the processor has made.
+    /// Returns the clock of `slot` on processor `cpu`, after all changes that the processor has
+    /// made.
     pub fn own(&mut self, cpu: Cpu, slot: Slot) -> Clock
         requires cpu { cpu.0 < length self.old.plans.plans }
         requires slot { slot.0 < length self.old.plans.lives }
@@ -265,8 +268,8 @@ impl<'a> Crew<'a> {
         batch.lanes[at.place].own(slot)
     }
 
-    /// Returns a new reader of the row of processor `cpu`, which has seen all changes that the
-    /// processor has made. The reader may be sent to another thread.
+    /// Creates a reader of the row of processor `cpu`. The reader has seen all changes that the
+    /// processor has made, and may be sent to another thread.
     pub fn reader(&mut self, cpu: Cpu) -> Result<ClockReader, NoMemory>
         requires cpu { cpu.0 < length self.old.plans.plans }
         requires in_row { is_some (row_at self.old.rows cpu.0) ≡ true }
@@ -280,9 +283,9 @@ impl<'a> Crew<'a> {
         batch.lanes[at.place].reader()
     }
 
-    /// Shows `reader`, a reader of the row of processor `cpu`, the number of changes made:
-    /// afterwards the reader has seen at least that many. Does not allocate, and always returns
-    /// `Ok`.
+    /// Passes the number of changes made by processor `cpu` to `reader`, a reader of the
+    /// processor's row. After the call the reader has seen at least that many changes. Does not
+    /// allocate, and always returns `Ok`.
     pub fn meet(&mut self, cpu: Cpu, reader: &mut ClockReader) -> Result<(), NoMemory>
         requires cpu { cpu.0 < length self.old.plans.plans }
         requires own { Some reader.old.row ≡ row_at self.old.rows cpu.0 }
@@ -297,8 +300,8 @@ impl<'a> Crew<'a> {
         batch.lanes[at.place].meet(reader)
     }
 
-    /// Establishes that `reader`, a reader of the row of processor `cpu`, has seen at most the
-    /// changes that were made. Does not allocate, and always returns `Ok`.
+    /// Proves to the caller that `reader`, a reader of the row of processor `cpu`, has seen at most
+    /// the changes that were made. Does not allocate, and always returns `Ok`.
     pub fn settle(&mut self, cpu: Cpu, reader: &mut ClockReader) -> Result<(), NoMemory>
         requires cpu { cpu.0 < length self.old.plans.plans }
         requires own { Some reader.old.row ≡ row_at self.old.rows cpu.0 }

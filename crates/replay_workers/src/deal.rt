@@ -1,5 +1,5 @@
-//! Deals the processors of a trace to workers, round robin.
-//! Also computes the number of ticks for which a crew has room.
+//! Distributes the processors of a trace over the workers, in turn, and computes the number of
+//! ticks that a crew can store.
 ghost use Rattle.std.specs.Prelude.{◌≡◌, ◌<◌, ◌≤◌, IfOk};
 ghost use Rattle.replay_workers.specs.Crew.{room_of};
 ghost use Rattle.replay_workers.specs.Lanes.{AreNewBatches, IsNewBatch};
@@ -10,17 +10,18 @@ use proc_plan::Plans;
 use psi_base::{Cpu, NoMemory};
 use std::alloc::Global;
 
-/// The most bytes for the times of ticks ahead.
+/// The most bytes for the stored times of ticks, unless a single tick needs more.
 const MOST_KEPT: u64 = 64_000_000;
 
 /// The most ticks that a crew advances by at once.
 const MOST_AHEAD: u64 = 256;
 
-/// The size of a group's eight times on one processor, in bytes.
+/// The size (bytes) of a group's eight times on one processor.
 const TIMES_BYTES: u64 = 64;
 
-/// The most ticks that a crew advances by at once, for a trace with `moments` ticks: the number
-/// that fits into `MOST_KEPT`, at most `MOST_AHEAD` and `moments`, and at least one.
+/// Returns the most ticks that a crew advances by at once, for a trace with `moments` ticks. This
+/// is the number of ticks whose times fit into `MOST_KEPT` bytes, limited to `MOST_AHEAD` and
+/// `moments`, but at least one.
 pub(crate) fn room_for(cpus: u32, slots: u32, moments: u64) -> u32
     requires { cpus ≤ 64 }
     ensures room { result ≡ room_of cpus slots moments }
@@ -31,8 +32,8 @@ pub(crate) fn room_for(cpus: u32, slots: u32, moments: u64) -> u32
     fits.min(moments).min(MOST_AHEAD).max(1) as u32
 }
 
-// Creates the lanes of `worker` before any change: lane `k` belongs to processor k * workers +
-// worker. The clocks are in rows if `in_rows`, and plain otherwise.
+// Creates the lanes of `worker` before the first change. Lane `k` belongs to processor k * workers
+// + worker. The clocks are in rows if `in_rows` is true, otherwise plain.
 fn deal_batch<'a>(
     alloc: Global,
     plans: &'a Plans,
@@ -56,8 +57,8 @@ fn deal_batch<'a>(
     Ok(Batch { lanes })
 }
 
-/// Deals all processors to `workers` batches, before any change. The clocks are in rows if
-/// `in_rows`, which live sampling needs.
+/// Creates the batches of `workers` workers with the lanes of all processors, before the first
+/// change. The clocks are in rows if `in_rows` is true, as live sampling requires.
 pub(crate) fn deal<'a>(
     alloc: Global,
     plans: &'a Plans,

@@ -1,5 +1,5 @@
-//! Copies the stored times of all groups at a tick to a table.
-//! The times are stored by processor, and the table is ordered by group.
+//! Copies the stored times of all groups at a tick to a table. The times are stored by processor,
+//! and the table is ordered by group.
 ghost use Rattle.std.specs.Prelude.{◌<◌, ℕ, length};
 ghost use Rattle.aggregate.specs.Table.{HasSizes};
 ghost use Rattle.replay_workers.specs.Crew.{IsTableAt};
@@ -11,8 +11,8 @@ use aggregate::Rows;
 use proc_plan::Plans;
 use psi_base::{Cpu, Slot};
 
-// Copies the times (ns) of the group in `slot` on all processors, stored for tick `tick`, to the
-// group's row.
+// Copies the times (ns) of the group in `slot` on all processors to the group's row of the table.
+// The times are those stored for tick `tick`, numbered from 0.
 fn fill_row(plans: &Plans, batches: &[Batch<'_>], tick: u32, slot: Slot, rows: &mut Rows)
     requires sizes { HasSizes (length plans.now.plans) (length plans.now.lives) rows.old }
     requires slot { slot.0 < length plans.now.lives }

@@ -1,5 +1,5 @@
-//! A lane: one processor, which advances tick by tick and stores the times at each tick.
-//! A lane doesn't start threads; its batch runs in one.
+//! A lane: one processor, which advances tick by tick and stores the times at each tick. A lane
+//! starts no threads; a worker advances all lanes of its batch in one thread.
 ghost use Rattle.std.specs.Prelude.{◌≡◌, ◌*◌, ◌<◌, ◌≤◌, length, IfOk, Ok, Some, is_some};
 ghost use Rattle.plan_laws.specs.Plan.{IsClock, IsPlan};
 ghost use Rattle.psi_spec.specs.Within.{last_moment};
@@ -21,8 +21,9 @@ use psi_base::{Cpu, NoMemory, Ns, Slot};
 use std::alloc::Global;
 use std::marker::Model;
 
-/// The clocks of one processor, and the times of all groups at the ticks of its latest advance.
-/// Contracts see the processor, the row that holds the clocks (if any), the plan, the number of
+/// The clocks of one processor, and the times of all groups at the last ticks by which the lane
+/// advanced. In contracts a lane consists of the processor, the row that holds the clocks (or
+/// `None`), the plan, the number of changes made, and the stored times.
 /// changes made, and the stored times.
 #[derive(Drop)]
 pub(crate) struct Lane<'a> {
@@ -49,7 +50,7 @@ impl<'a> Model for Lane<'a> {
     ghost invariant = { λ l. IsLane l.plan.now l.slots (clocks_in l.clocks) };
 }
 
-// Returns `count` zeroed entries.
+// Creates a list of `count` entries, all zero.
 fn places(alloc: Global, count: usize) -> Result<Vec<Times>, NoMemory>
     ensures { IfOk result (λ times. length times.items ≡ count) }
 {
@@ -57,9 +58,9 @@ fn places(alloc: Global, count: usize) -> Result<Vec<Times>, NoMemory>
 }
 
 impl<'a> Lane<'a> {
-    /// Creates the lane of processor `cpu` before its first change, with room for the times of
-    /// `room` ticks. The clocks are in a row if `in_row`. Allocates everything that applying
-    /// changes needs.
+    /// Creates the lane of processor `cpu` before the first change. The lane can store the times of
+    /// `room` ticks. The clocks are in a row if `in_row` is true. Applying changes allocates no
+    /// further memory.
     pub(crate) fn make(
         alloc: Global,
         plans: &'a Plans,
@@ -88,19 +89,19 @@ impl<'a> Lane<'a> {
         })
     }
 
-    /// The number of changes made.
+    /// Returns the number of changes made.
     pub(crate) fn count(&self) -> u64
         ensures { result ≡ self.now.on.made }
     {
         self.clocks.count()
     }
 
-    /// The number of changes up to `until` (ns) that aren't made yet.
+    /// Returns the number of changes up to the time `until` (ns) that the lane hasn't made yet.
     pub(crate) fn changes_left(&self, until: Ns) -> u64 {
         self.plan.until(until).saturating_sub(self.clocks.count())
     }
 
-    /// The clock of `slot`, after all changes that the processor has made.
+    /// Returns the clock of `slot` after all changes that the processor has made.
     pub(crate) fn own(&mut self, slot: Slot) -> Clock
         requires { slot.0 < length self.old.on.plan.parents }
         ensures unchanged { self.new ≡ self.old }
@@ -109,14 +110,14 @@ impl<'a> Lane<'a> {
         self.clocks.own(slot)
     }
 
-    /// The stored times (ns): `slots` entries for each tick, in order of ticks.
+    /// Returns the stored times (ns): `slots` entries for each tick, in order of ticks.
     pub(crate) fn kept(&self) -> &[Times]
         ensures { result.now ≡ self.now.kept }
     {
         &self.kept
     }
 
-    /// Returns a new reader of the processor's row. Requires that the clocks are in a row.
+    /// Creates a reader of the processor's row. Precondition: the clocks are in a row.
     pub(crate) fn reader(&mut self) -> Result<ClockReader, NoMemory>
         requires { IsInRow self.old }
         ensures same { self.new ≡ self.old }
@@ -130,7 +131,7 @@ impl<'a> Lane<'a> {
         writer.reader()
     }
 
-    /// Shows `reader`, a reader of the processor's row, the number of changes made. Does not
+    /// Passes the number of changes made to `reader`, a reader of the processor's row. Does not
     /// allocate, and always returns `Ok`.
     pub(crate) fn meet(&mut self, reader: &mut ClockReader) -> Result<(), NoMemory>
         requires { Some reader.old.row ≡ self.old.row }
@@ -145,8 +146,8 @@ impl<'a> Lane<'a> {
         writer.meet(reader)
     }
 
-    /// Establishes that `reader`, a reader of the processor's row, has seen at most the changes
-    /// that were made. Does not allocate, and always returns `Ok`.
+    /// Proves to the caller that `reader`, a reader of the processor's row, has seen at most the
+    /// changes that were made. Does not allocate, and always returns `Ok`.
     pub(crate) fn settle(&mut self, reader: &mut ClockReader) -> Result<(), NoMemory>
         requires { Some reader.old.row ≡ self.old.row }
         ensures ok { result ≡ Ok tt }
@@ -160,8 +161,8 @@ impl<'a> Lane<'a> {
         writer.settle(reader)
     }
 
-    /// Creates a watcher of the processor, which takes `requested` samples in an interval. Requires
-    /// that the clocks are in a row. Allocates everything that the watcher needs.
+    /// Creates a watcher of the processor, which takes `requested` samples in an interval.
+    /// Precondition: the clocks are in a row. Sampling allocates no further memory.
     pub(crate) fn watcher(&mut self, alloc: Global, requested: u32) -> Result<Watcher, NoMemory>
         requires { IsInRow self.old }
         ensures same { self.new ≡ self.old }
@@ -174,8 +175,8 @@ impl<'a> Lane<'a> {
         Watcher::make(alloc, self.cpu, writer, requested)
     }
 
-    /// Shows the processor's watcher the number of changes made, and the clock of `slot` after
-    /// them.
+    /// Passes the number of changes made, and the clock of `slot` after them, to the processor's
+    /// watcher.
     pub(crate) fn meet_watcher(&mut self, watcher: &mut Watcher, slot: Slot)
         requires row { Some watcher.old.row ≡ self.old.row }
         requires plan { watcher.old.knows.plan ≡ self.old.on.plan }
@@ -189,7 +190,8 @@ impl<'a> Lane<'a> {
         watcher.meet(writer, slot);
     }
 
-    /// Establishes that the processor's watcher has seen at most the changes that were made.
+    /// Proves to the caller that the processor's watcher has seen at most the changes that were
+    /// made.
     pub(crate) fn settle_watcher(&mut self, watcher: &mut Watcher)
         requires { Some watcher.old.row ≡ self.old.row }
         ensures lane { self.new ≡ self.old }

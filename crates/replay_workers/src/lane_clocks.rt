@@ -1,5 +1,5 @@
-//! The clocks of one processor, which are in a row only if they are sampled live.
-//! Both kinds advance by the same generic code.
+//! The clocks of one processor, either plain or in a row. Only clocks that are sampled live are in
+//! a row. The same generic code advances both kinds.
 ghost use Rattle.std.specs.Prelude.{◌≡◌, ◌+◌, ◌*◌, ◌<◌, ◌≤◌, length, IfOk, is_some};
 ghost use Rattle.plan_laws.specs.Plan.{IsClock, IsPlan, changes_up_to, last_change};
 ghost use Rattle.psi_spec.specs.Within.{last_moment};
@@ -25,7 +25,7 @@ pub(crate) enum LaneClocks<'a> {
     Row(ClockWriter<'a>),
 }
 
-// Stores the times (ns) of all groups at tick `tick`, whose time is `at` (ns). Requires that the
+// Stores the times (ns) of all groups at tick `tick`, whose time is `at` (ns). Precondition: the
 // clocks have made all changes up to `at`.
 fn keep_tick<C: IrqClocks>(clocks: &mut C, slots: u32, tick: u32, at: Ns, kept: &mut [Times])
     requires known { slots ≡ length (C.plan clocks.old).parents }
@@ -77,8 +77,8 @@ fn go_over<C: IrqClocks, G: Gate>(
 }
 
 impl<'a> LaneClocks<'a> {
-    /// Creates the clocks before the first change of a plan with `slots` slots. They are in a row
-    /// if `in_row`. Allocates everything that applying changes needs.
+    /// Creates the clocks of a plan with `slots` slots, before its first change. The clocks are in
+    /// a row if `in_row` is true. Applying changes allocates no further memory.
     pub(crate) fn make(
         alloc: Global,
         plan: &'a Plan,
@@ -96,7 +96,7 @@ impl<'a> LaneClocks<'a> {
         Ok(LaneClocks::Plain(PlainClocks::make(alloc, plan, slots)?))
     }
 
-    /// The number of changes made.
+    /// Returns the number of changes made.
     pub(crate) fn count(&self) -> u64
         ensures { result ≡ (clocks_in self.now).made }
     {
@@ -106,7 +106,7 @@ impl<'a> LaneClocks<'a> {
         }
     }
 
-    /// The clock of `slot`, after all changes that the clocks have made.
+    /// Returns the clock of `slot` after all changes that the clocks have made.
     pub(crate) fn own(&mut self, slot: Slot) -> Clock
         requires { slot.0 < length (clocks_in self.old).plan.parents }
         ensures unchanged { clocks_in self.new ≡ clocks_in self.old }

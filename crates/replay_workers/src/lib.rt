@@ -1,17 +1,18 @@
-//! The workers of a replay: they advance the clocks of all processors, tick by tick, in threads.
+//! The worker threads of a replay, which advance the clocks of all processors, tick by tick.
 //!
-//! A `Crew` deals the processors to its workers: processor c belongs to worker c % workers (a
-//! *batch*), and is its lane c / workers. An interval is the time from one tick to the next. For
-//! one interval, or for as many as fit into 64 MB, each worker in a thread of its own applies the
-//! changes of its lanes up to each tick and stores the times of every group there. The caller then
-//! takes the table of times for each tick with `fill`. Starting a thread costs about as much as a
-//! busy tick, so threads apply several intervals at once.
+//! A `Crew` is the pool of workers. It assigns processor c to worker c % workers. The processors of
+//! a worker form its *batch*, and each processor in the batch is a *lane*. An interval is the time
+//! from one tick to the next. In each interval, every worker applies the changes of its lanes up to
+//! the tick in a thread of its own, and stores the times of every group. The caller then gets the
+//! table of times for each tick from `fill`. Starting a thread costs about as much as a busy tick,
+//! so the threads usually apply several intervals at once, as many as fit into 64 MB.
 //!
-//! If a group is watched (`--live`, psi_observe) the crew advances one interval at a time, and one
-//! more thread samples the rows of clock_row meanwhile.
+//! If a group is watched (`--live`, psi_observe), the crew advances by one interval at a time, and
+//! one more thread samples the rows of clock_row in the meantime.
 //!
-//! All memory is allocated by `make`, so an interval can't fail. The table doesn't depend on the
-//! number of workers, by contract. No contract can say that threads start, or when: tests do.
+//! `make` allocates all memory, so an interval can't fail. The contracts state that the table
+//! doesn't depend on the number of workers. They can't state that threads start, or when: tests
+//! check this.
 #![tactic(auto)]
 
 mod batch;

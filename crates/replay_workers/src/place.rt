@@ -1,4 +1,4 @@
-//! Which lane is a processor's.
+//! Finds the lane of a processor in the batches of the workers.
 ghost use Rattle.std.specs.Prelude.{◌≡◌, ◌+◌, ◌*◌, ◌<◌, ◌/◌, ◌%◌, length};
 ghost use Rattle.replay_workers.specs.Lanes.{batch_at, lane_at, lane_of};
 
@@ -6,8 +6,8 @@ use crate::batch::Batch;
 use crate::lane::Lane;
 use psi_base::Cpu;
 
-/// The place of a processor's lane: the index of its worker's batch, and the index within the
-/// batch.
+/// The position of a processor's lane: the index of the worker's batch, and the index of the lane
+/// within the batch.
 #[derive(Clone, Copy, Debug)]
 pub(crate) struct LanePlace {
     pub(crate) worker: usize,
@@ -15,7 +15,8 @@ pub(crate) struct LanePlace {
 }
 
 impl LanePlace {
-    /// The place of the lane of processor `cpu`, if the processors are dealt to `workers` workers.
+    /// Returns the position of the lane of processor `cpu`, if the processors are distributed over
+    /// `workers` workers.
     pub(crate) fn of(cpu: Cpu, workers: usize) -> LanePlace
         requires { 0 < workers }
         ensures worker { result.worker ≡ cpu.0 % workers }
@@ -27,7 +28,8 @@ impl LanePlace {
         }
     }
 
-    /// The place of processor 0's lane, for any number of workers.
+    /// Returns the position of the lane of processor 0, which is the same for any number of
+    /// workers.
     pub(crate) fn first() -> LanePlace
         ensures worker { result.worker ≡ 0 }
         ensures place { result.place ≡ 0 }
@@ -38,7 +40,7 @@ impl LanePlace {
         }
     }
 
-    /// The place of the next processor's lane. It takes no division, unlike `of`.
+    /// Returns the position of the next processor's lane. Unlike `of`, this takes no division.
     pub(crate) fn next(self, workers: usize) -> LanePlace
         requires worker { self.worker < workers }
         requires few { self.place < 64 }
@@ -58,7 +60,7 @@ impl LanePlace {
         }
     }
 
-    /// The lane at this place.
+    /// Returns the lane at this position.
     pub(crate) fn lane<'b, 'a>(self, batches: &'b [Batch<'a>]) -> &'b Lane<'a>
         requires worker { self.worker < length batches.now }
         requires place { self.place < length (batch_at batches.now self.worker) }
@@ -69,7 +71,7 @@ impl LanePlace {
     }
 }
 
-/// The lane of processor `cpu`.
+/// Returns the lane of processor `cpu`.
 pub(crate) fn lane_in<'b, 'a>(batches: &'b [Batch<'a>], cpu: Cpu) -> &'b Lane<'a>
     requires some { 0 < length batches.now }
     requires place { cpu.0 / length batches.now

@@ -1,23 +1,23 @@
-//! The ticks by which a crew advances at once.
-//! Their tables may have been computed before they are needed.
+//! The ticks by which a crew advances at once. The tables of these ticks are computed before the
+//! caller needs them.
 ghost use Rattle.std.specs.Prelude.{◌≡◌, ◌<◌, ◌^◌};
 ghost use Rattle.replay_workers.specs.Crew.{last_of, moment_in};
 
 use psi_base::Ns;
 
-/// Evenly spaced ticks.
+/// Ticks with equal distances.
 #[derive(Clone, Copy, Debug)]
 pub struct Ticks {
-    /// The time of the first tick, in ns.
+    /// The time (ns) of the first tick.
     pub first: Ns,
-    /// The time from each tick to the next, in ns.
+    /// The time (ns) from each tick to the next.
     pub length: Ns,
     /// The number of ticks.
     pub count: u32,
 }
 
 impl Ticks {
-    /// The time (ns) of tick `number`, counted from 0.
+    /// Returns the time (ns) of tick `number`, counted from 0.
     pub(crate) fn moment(self, number: u32) -> Ns
         requires { moment_in self number < 2 ^ 64 }
         ensures { result ≡ moment_in self number }
@@ -25,7 +25,7 @@ impl Ticks {
         self.first + u64::from(number) * self.length
     }
 
-    /// The time (ns) of the last tick.
+    /// Returns the time (ns) of the last tick.
     pub(crate) fn last(self) -> Ns
         requires some { 0 < self.count }
         requires fits { last_of self < 2 ^ 64 }

@@ -1,5 +1,5 @@
-//! A watcher, which takes live samples of one processor.
-//! It runs in a thread of its own, beside the worker that makes the changes.
+//! A watcher, which takes live samples of one processor. It runs in another thread than the worker
+//! that makes the processor's changes.
 ghost use Rattle.std.specs.Prelude.{◌≡◌, ◌+◌, ◌*◌, ◌<◌, ◌≤◌, [], length, vec_capacity, vec_len, IfOk, Some};
 ghost use Rattle.std.specs.List.{All};
 ghost use Rattle.plan_laws.specs.Plan.{IsClock};
@@ -18,16 +18,16 @@ use psi_base::{Cpu, NoMemory, Slot};
 use std::alloc::Global;
 use std::marker::Model;
 
-/// A reader of one processor's row, and the samples that it took in the last interval. Contracts
-/// see the processor, the row, the state of the reader, and the samples.
+/// A reader of one processor's row, and the samples that it took in the last interval. In contracts
+/// a watcher consists of the processor, the row, the state of the reader, and the samples.
 #[derive(Drop)]
 pub(crate) struct Watcher {
     cpu: Cpu,
     reader: ClockReader,
-    /// The writer's own clock, which precedes the first sample of an interval.
+    /// The clock that the writer passed before the interval. It precedes the first sample.
     last: Sample,
     samples: Vec<Sample>,
-    /// The number of samples per interval.
+    /// The number of samples in an interval.
     requested: u32,
 }
 
@@ -49,8 +49,8 @@ impl Model for Watcher {
     ghost invariant = { λ w. w.requested ≤ vec_capacity w.samples };
 }
 
-// Takes `requested` samples of `slot` after `last`, and reports each to the gate. `samples` must
-// have the capacity for them.
+// Takes `requested` samples of `slot` after the sample `last`, and reports each sample to the gate.
+// Precondition: `samples` has enough capacity.
 fn sample_on<G: Gate>(
     reader: &mut ClockReader,
     samples: &mut Vec<Sample>,
@@ -90,7 +90,7 @@ fn sample_on<G: Gate>(
 
 impl Watcher {
     /// Creates a watcher of the row of `writer`, which takes `requested` samples in an interval.
-    /// Allocates everything that the watcher needs.
+    /// Sampling allocates no further memory.
     pub(crate) fn make(
         alloc: Global,
         cpu: Cpu,
@@ -114,14 +114,14 @@ impl Watcher {
         })
     }
 
-    /// The processor.
+    /// Returns the watched processor.
     pub(crate) fn cpu(&self) -> Cpu
         ensures { result.0 ≡ self.now.cpu }
     {
         self.cpu
     }
 
-    /// The samples of the last interval.
+    /// Returns the samples of the last interval.
     pub(crate) fn samples(&self) -> &[Sample]
         ensures { result.now ≡ self.now.samples }
     {
@@ -135,8 +135,8 @@ impl Watcher {
         self.samples.clear();
     }
 
-    /// Synchronises with the writer: the watcher has then seen all changes that `writer` made, and
-    /// its last sample is the writer's own clock of `slot`.
+    /// Synchronises the watcher with the writer before an interval. The watcher has then seen all
+    /// changes that `writer` made, and its last sample is the writer's own clock of `slot`.
     pub(crate) fn meet(&mut self, writer: &mut ClockWriter<'_>, slot: Slot)
         requires row { self.old.row ≡ writer.old.row }
         requires plan { self.old.knows.plan ≡ writer.old.knows.plan }
@@ -154,7 +154,7 @@ impl Watcher {
         };
     }
 
-    /// Establishes that this watcher has seen at most the changes that `writer` made.
+    /// Proves to the caller that this watcher has seen at most the changes that `writer` made.
     pub(crate) fn settle(&mut self, writer: &mut ClockWriter<'_>)
         requires { self.old.row ≡ writer.old.row }
         ensures same { self.new ≡ self.old }
@@ -166,8 +166,8 @@ impl Watcher {
         let _known = writer.settle(&mut self.reader);
     }
 
-    /// Takes the watcher's samples of `slot`, and reports each to the gate. Makes at most eight
-    /// tries for each sample. Does not allocate.
+    /// Takes the watcher's samples of `slot`, and reports each sample to the gate. Each sample
+    /// takes at most eight tries. Does not allocate.
     pub(crate) fn sample<G: Gate>(&mut self, slot: Slot, gate: &G)
         requires { MaySample slot.0 self.old }
         ensures { HasSampled slot.0 self.old self.new }
