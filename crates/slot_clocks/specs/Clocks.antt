@@ -1,4 +1,5 @@
--- The clocks of all groups on one processor, and how they follow the changes of the processor.
+-- Defines the clocks of all groups on one processor, and how they follow the changes of the
+-- processor.
 use Rattle.std.specs.Prelude.{◌≡◌, ℕ, ◌+◌, ◌≤◌, ◌<◌, ◌^◌, List, map, replicate, slice_index_or, ◌&&◌, Bool, true, Option, None}
 use Rattle.psi_base.specs.declared.event.Slot.{Slot}
 use Rattle.psi_base.specs.declared.event.State.{State}
@@ -13,53 +14,53 @@ use Rattle.slot_clocks.specs.declared.cell.Cell.{Cell}
 
 -- ---- parents
 
--- the parent of each slot, as numbers instead of slots
+-- Converts the parent of each slot from a slot to its number.
 abbrev pub parent_numbers : List (Option Slot) → List (Option ℕ)
 parent_numbers parents = map number_of_slot parents
 
 -- ---- clocks
 
--- the cell of a group before the first change: no task is counted, the accounting is on, and the
--- group has been in no state
+-- The state of a group before the first change: all counts are zero, the accounting is on, and the
+-- group has been in no state.
 abbrev pub zero_cell : Cell
 zero_cell = record { counts = no_counts; on = true; clock = zero_clock }
 
 -- The clocks of a processor: the cell of each slot (the group's counts, its clock, and whether its
--- accounting is on); the slot of the running task and whether the task is in a memory stall; and
--- the time (ns) of the last change. A slot after the end of the list has the cell of a group before
--- its first change.
+-- accounting is on), the running task (its slot and whether it is in a memory stall), and the time
+-- (ns) of the last change. A slot past the end of the list counts as a group before its first
+-- change.
 pub record ClocksView : Type 0 where
   pub cells : List Cell
   pub current : Option (Slot × Bool)
   pub last : ℕ
 
--- the clocks of `slots` slots, before the first change
+-- The clocks of `slots` slots before the first change.
 abbrev pub first_clocks : ℕ → ClocksView
 first_clocks slots = record { cells = replicate slots zero_cell; current = None; last = 0 }
 
--- the cell of a slot in a list; the zero cell after the list's end
+-- `cell_in cells slot`: the cell of the slot, or the zero cell for a slot past the end of the list.
 abbrev pub cell_in : List Cell → ℕ → Cell
 cell_in cells slot = slice_index_or cells slot zero_cell
 
--- the cell of a slot: its counts, its clock, and whether its accounting is on
+-- `cell_at clocks slot`: the counts, the clock and the accounting of the slot.
 abbrev pub cell_at : ClocksView → ℕ → Cell
 cell_at clocks slot = cell_in clocks.cells slot
 
--- The mask of a cell has exactly the states that follow from the cell's counts and the running
--- task, or none if the accounting is off.
+-- `MaskShows parents current slot cell`: the mask of the cell has exactly the states that follow
+-- from its counts and the running task. The mask is empty if the accounting is off.
 abbrev pub MaskShows : List (Option ℕ) → Option (Slot × Bool) → ℕ → Cell → Type 0
 MaskShows parents current slot cell =
     (state : State) → mask_holds cell.clock.mask state ≡
     (cell.on && shows state cell.counts (is_current_in parents slot current) (is_current_stalled current))
 
--- The mask of each slot's cell is right.
+-- `AreReported parents clocks`: the mask of each slot is correct (`MaskShows`).
 abbrev pub AreReported : List (Option ℕ) → ClocksView → Type 0
 AreReported parents clocks = (slot : ℕ) → MaskShows parents clocks.current slot (cell_at clocks slot)
 
 -- ---- changes
 
--- Counts can follow a change, for each count: the part to subtract is at most the count plus the
--- part to add, and that sum fits in 32 bits.
+-- `CanFollow counts minus plus`: adding `plus` to the counts fits in 32 bits, and subtracting
+-- `minus` from the sums gives no negative count.
 pub record CanFollow (counts minus plus : Counts) : Type 0 where
   pub io : (minus.io ≤ counts.io + plus.io) × (counts.io + plus.io < 2 ^ 32)
   pub stalled : (minus.stalled ≤ counts.stalled + plus.stalled) × (counts.stalled + plus.stalled < 2 ^ 32)
@@ -67,55 +68,59 @@ pub record CanFollow (counts minus plus : Counts) : Type 0 where
   pub stalled_running : (minus.stalled_running ≤ counts.stalled_running + plus.stalled_running)
       × (counts.stalled_running + plus.stalled_running < 2 ^ 32)
 
--- The counts of each group can follow the counts that a change subtracts and adds on its chains.
+-- `AllCanFollow parents change clocks`: the counts that the change adds and subtracts can be
+-- applied to each group on their chains (`CanFollow`).
 abbrev pub AllCanFollow : List (Option ℕ) → Change → ClocksView → Type 0
 AllCanFollow parents change clocks =
     (slot : ℕ) → CanFollow (cell_at clocks slot).counts (on_chain parents slot change.minus) (on_chain parents slot change.plus)
 
--- The counts of each group have followed the counts that a change subtracts and adds on its chains.
+-- `AllFollow parents change old new`: the counts that the change adds and subtracts were applied to
+-- each group on their chains.
 abbrev pub AllFollow : List (Option ℕ) → Change → ClocksView → ClocksView → Type 0
 AllFollow parents change old new =
     (slot : ℕ) → Follows (cell_at old slot).counts (on_chain parents slot change.minus) (on_chain parents slot change.plus)
     (cell_at new slot).counts
 
--- The accounting of each group is as before, except for the group whose accounting the change
--- switches.
+-- `AllOnWith change old new`: the accounting of each group is unchanged, except for the group whose
+-- accounting the change switches.
 abbrev pub AllOnWith : Change → ClocksView → ClocksView → Type 0
 AllOnWith change old new = (slot : ℕ) → (cell_at new slot).on ≡ on_with slot (cell_at old slot).on change.account
 
--- The clock of each group has followed a change at `at` (ns).
+-- `AllClocksFollow at old new`: the clock of each group was updated for a change at the time `at`
+-- (ns).
 abbrev pub AllClocksFollow : ℕ → ClocksView → ClocksView → Type 0
 AllClocksFollow at old new = (slot : ℕ) → ClockFollows (cell_at old slot).clock at (cell_at new slot).clock
 
--- A clock whose mask is unchanged is unchanged.
+-- `StaysByMask old new`: if the mask of a clock is unchanged, the whole clock is unchanged.
 abbrev pub StaysByMask : ClockView → ClockView → Type 0
 StaysByMask old new = new.mask ≡ old.mask → new ≡ old
 
--- The clock of each group whose mask is unchanged is unchanged.
+-- `AllStayByMask old new`: each clock with an unchanged mask is unchanged.
 abbrev pub AllStayByMask : ClocksView → ClocksView → Type 0
 AllStayByMask old new = (slot : ℕ) → StaysByMask (cell_at old slot).clock (cell_at new slot).clock
 
--- The clock of each group is well-formed.
+-- The clock of each group is valid.
 abbrev pub AreWhole : ClocksView → Type 0
 AreWhole clocks = (slot : ℕ) → IsWholeClock (cell_at clocks slot).clock
 
 -- ---- the invariant of each clock
 
--- The clock is well-formed, it started at or before `at` (ns), and its time in each state up to
--- `at` is at most `at`.
+-- `IsUpTo at clock`: the clock is valid and started at or before the time `at` (ns), and its time
+-- in each state up to `at` is at most `at`.
 pub record IsUpTo (at : ℕ) (clock : ClockView) : Type 0 where
   pub whole : IsWholeClock clock
   pub start : clock.start ≤ at
   pub times : (state : State) → opened_time clock at state ≤ at
 
--- The clocks of a processor satisfy `IsUpTo` at the time `last` (ns) of the last change, which is
--- at most the longest trace.
+-- `AreUpTo cells last`: the clocks of a processor satisfy `IsUpTo` at the time `last` (ns) of the
+-- last change, which is at most the length of the longest trace.
 pub record AreUpTo (cells : List Cell) (last : ℕ) : Type 0 where
   pub each : (slot : ℕ) → IsUpTo last (cell_in cells slot).clock
   pub early : last ≤ last_moment
 
 -- ---- laws
 
--- Before the first change, the empty mask of each group is right, whatever the parents are.
+-- The law of the first clocks: before the first change the empty mask of each group is correct, for
+-- all parents of the groups.
 abbrev pub FirstAreKnown : Type 0
 FirstAreKnown = (parents : List (Option ℕ)) (slots : ℕ) → AreReported parents (first_clocks slots)

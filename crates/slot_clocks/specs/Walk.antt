@@ -1,4 +1,5 @@
--- The walk up the chains of slots that a change affects. A chain is a slot and its ancestors.
+-- Defines the walk up the chains of slots that a change affects. A chain is a slot and its
+-- ancestors.
 use Rattle.std.specs.Prelude.{◌≡◌, ◌≢◌, ◌⊎◌, ◌≤◌, ℕ, zero, suc, List, length, max, Bool, true, false, ◌==◌, if◌then◌else◌, Option, None, Some}
 use Rattle.std.specs.Option.{option_or}
 use Rattle.psi_base.specs.declared.event.Slot.{Slot}
@@ -14,31 +15,32 @@ use Rattle.slot_clocks.specs.declared.chains.Chains.{Chains}
 use Rattle.slot_clocks.specs.declared.chains.Parts.{Parts}
 use Rattle.slot_clocks.specs.Clocks.{CanFollow, IsUpTo, MaskShows, StaysByMask, cell_in, parent_numbers}
 
--- the slot of a pair; `None` if there is no pair
+-- Returns the slot of a pair, or `None` if there is no pair.
 abbrev pub slot_in : {A : Type 0} → Option (Slot × A) → Option Slot
 slot_in None = None
 slot_in (Some pair) = Some pair.0
 
--- the counts that a change subtracts or adds; zeros for `None`
+-- Returns the counts that a change subtracts or adds, or zeros for `None`.
 abbrev pub counts_in : Option (Slot × Counts) → Counts
 counts_in None = no_counts
 counts_in (Some part) = part.1
 
--- The height of a walk that is at a slot: the slot's number plus one. It is 0 if there is no slot,
--- and after the root.
+-- Returns the height of a slot, which is the slot's number plus one. The height 0 means no slot; a
+-- walk past the root has this height.
 abbrev pub height : Option Slot → ℕ
 height None = 0
 height (Some slot) = suc slot.0
 
--- whether the slot is on the rest of a chain, from a height upwards
+-- `reaches parents height slot`: whether the slot is on the rest of a chain, from this height
+-- upwards.
 abbrev pub reaches : List (Option ℕ) → ℕ → ℕ → Bool
 reaches parents zero slot = false
 reaches parents (suc place) slot = is_under parents place slot
 
--- The initial heights of the four walks of a change: up the chains of the counts that it subtracts,
--- of the counts that it adds, of the task that ran before, and of the task that runs after. A
--- change that switches accounting subtracts no counts, and its first walk begins at the switched
--- slot.
+-- `chains_of current change`: the heights at which the four walks of a change start. The walks
+-- climb the chains of the subtracted counts, of the added counts, of the task that ran before, and
+-- of the task that runs after the change. A change that switches accounting subtracts no counts, so
+-- its first walk starts at the slot whose accounting is switched.
 abbrev pub chains_of : Option (Slot × Bool) → Change → Chains
 chains_of current change =
     record {
@@ -48,15 +50,16 @@ chains_of current change =
       after = height (slot_in change.current);
     }
 
--- A chain may start at height `place`: this is the height of the slot that the change names, or the
--- change names no slot there.
+-- `MayStartAt pair place`: a chain may start at the height `place`. This must be the height of the
+-- slot in `pair`. Any height is allowed for `None`.
 abbrev pub MayStartAt : {A : Type 0} → Option (Slot × A) → ℕ → Type 0
 MayStartAt None place = Unit {0}
 MayStartAt (Some pair) place = place ≡ suc pair.0.0
 
--- The four chains of a change may start at the heights `starts`. The chain of the task that ran may
--- start anywhere if the running task and its stall don't change. The first chain starts at the slot
--- whose counts are subtracted or whose accounting is switched.
+-- `MayStart current change starts`: the four chains of a change may start at the heights `starts`.
+-- The first chain starts at the slot of the subtracted counts or of the switched accounting. The
+-- chain of the task that ran before may start anywhere if the change leaves the running task and
+-- its stall as they are.
 pub record MayStart (current : Option (Slot × Bool)) (change : Change) (starts : Chains) : Type 0 where
   pub account : MayStartAt change.account starts.minus
   pub minus : MayStartAt change.minus starts.minus
@@ -64,7 +67,8 @@ pub record MayStart (current : Option (Slot × Bool)) (change : Change) (starts 
   pub before : MayStartAt current starts.before ⊎ (current ≡ change.current)
   pub after : starts.after ≡ height (slot_in change.current)
 
--- `parts` is the effect of a change on groups; `current` is the task that ran up to the change.
+-- `AreParts current change parts`: `parts` has the parts of the change that affect groups.
+-- `current` is the task that ran before the change.
 pub record AreParts (current : Option (Slot × Bool)) (change : Change) (parts : Parts) : Type 0 where
   pub at : parts.at ≡ change.at
   pub minus : parts.minus ≡ counts_in change.minus
@@ -72,17 +76,17 @@ pub record AreParts (current : Option (Slot × Bool)) (change : Change) (parts :
   pub stalled : parts.stalled ≡ is_current_stalled change.current
   pub stays : parts.stays ≡ true → current ≡ change.current
 
--- The chains of the counts and of the task that ran are at the same height.
+-- The chains of the counts and of the task that ran before are at the same height.
 pub record AreTogether (chains : Chains) : Type 0 where
   pub plus : chains.plus ≡ chains.minus
   pub before : chains.before ≡ chains.minus
 
--- the height of a chain at height `place` after the walk passed `here`: the parent's if the chain
--- was at `here`, otherwise `place`
+-- `passed here parent place`: the height of a chain after the walk passes the height `here`. This
+-- is `parent` if the chain was at `here`, otherwise its old height `place`.
 abbrev pub passed : ℕ → ℕ → ℕ → ℕ
 passed here parent place = if place == here then parent else place
 
--- the four chains after the walk passed the height `here`
+-- `all_passed here parent chains`: the four heights after the walk passes the height `here`.
 abbrev pub all_passed : ℕ → ℕ → Chains → Chains
 all_passed here parent chains =
     record {
@@ -92,12 +96,12 @@ all_passed here parent chains =
       after = passed here parent chains.after;
     }
 
--- the greatest height of four chains
+-- Returns the greatest of four heights.
 abbrev pub top : Chains → ℕ
 top chains = max (max chains.minus chains.plus) (max chains.before chains.after)
 
--- How a group's cell changes when a change is applied, after the change's switch of accounting: the
--- counts follow, the clock follows, and the states are updated.
+-- `IsTurned parents change slot old new`: the rest of a change, after its switch of accounting, was
+-- applied to a group. The counts and the clock were updated, and the mask shows the new states.
 pub record IsTurned (parents : List (Option ℕ)) (change : Change) (slot : ℕ) (old new : Cell) : Type 0 where
   pub counts : Follows old.counts (on_chain parents slot change.minus) (on_chain parents slot change.plus) new.counts
   pub on : new.on ≡ old.on
@@ -106,28 +110,31 @@ pub record IsTurned (parents : List (Option ℕ)) (change : Change) (slot : ℕ)
   pub up_to : IsUpTo change.at new.clock
   pub known : MaskShows parents change.current slot new
 
--- Each group's cell has changed as `IsTurned` says.
+-- `AreTurned parents change olds news`: the rest of a change, after its switch of accounting, was
+-- applied to each group (`IsTurned`).
 abbrev pub AreTurned : List (Option ℕ) → Change → List Cell → List Cell → Type 0
 AreTurned parents change olds news = (slot : ℕ) → IsTurned parents change slot (cell_in olds slot) (cell_in news slot)
 
--- The switch of accounting, if there is one, is of another slot.
+-- `IsApart account slot`: the change switches the accounting of another slot, or switches no
+-- accounting.
 abbrev pub IsApart : Option (Slot × Bool) → ℕ → Type 0
 IsApart None slot = Unit {0}
 IsApart (Some account) slot = slot ≢ account.0.0
 
--- A group's cell after the switch of accounting, if there is one, was applied: nothing but the flag
+-- `IsOnWith account slot old new`: the switch of accounting was applied to a group. Only the field
 -- `on` may differ.
 pub record IsOnWith (account : Option (Slot × Bool)) (slot : ℕ) (old new : Cell) : Type 0 where
   pub counts : new.counts ≡ old.counts
   pub on : new.on ≡ on_with slot old.on account
   pub clock : new.clock ≡ old.clock
 
--- Each group's cell after the switch of accounting was applied.
+-- `AreOnWith account olds news`: the switch of accounting was applied to each group.
 abbrev pub AreOnWith : Option (Slot × Bool) → List Cell → List Cell → Type 0
 AreOnWith account olds news = (slot : ℕ) → IsOnWith account slot (cell_in olds slot) (cell_in news slot)
 
--- A change can be applied to the groups from the heights `starts` on, after its switch of
--- accounting was applied; `current` is the task that ran up to the change.
+-- `CanClimb parents current change starts cells`: the rest of a change, after its switch of
+-- accounting, can be applied by walks that start at the heights `starts`. `current` is the task
+-- that ran before the change.
 pub record CanClimb (parents : List (Option Slot)) (current : Option (Slot × Bool)) (change : Change) (starts : Chains)
     (cells : List Cell) : Type 0 where
   pub older : AreOlder (parent_numbers parents)

@@ -1,4 +1,4 @@
-//! The counts, accounting and clock of one group on a processor.
+//! The counts, the accounting and the clock of one group on one processor.
 
 ghost use Rattle.std.specs.Prelude.{◌≡◌, ◌&&◌, ◌+◌, ◌<◌, ◌≤◌, ◌^◌};
 ghost use Rattle.psi_base.specs.declared.event.State.{State};
@@ -12,7 +12,7 @@ use cpu_clock::Clock;
 use psi_base::Ns;
 use state_mask::{Counts, Mask, mask_of};
 
-/// The counts of no tasks.
+/// Counts that are all zero.
 pub(crate) const NO_COUNTS: Counts = Counts {
     io: 0,
     stalled: 0,
@@ -21,11 +21,11 @@ pub(crate) const NO_COUNTS: Counts = Counts {
 };
 
 /// The counts and the clock of a group on a processor. Both are also updated while the group's
-/// accounting is off, but then the group is in no state.
+/// accounting is off, but in that time the group is in no state.
 #[derive(Clone, Copy, Debug)]
 pub(crate) struct Cell {
     pub(crate) counts: Counts,
-    /// Whether the group's accounting is on.
+    /// Whether the group's pressure accounting is on.
     pub(crate) on: bool,
     pub(crate) clock: Clock,
 }
@@ -56,7 +56,7 @@ fn follow(counts: &Counts, minus: &Counts, plus: &Counts) -> Counts
 }
 
 impl Cell {
-    /// Returns the cell of a group before the first change.
+    /// Returns the state of a group before the first change.
     pub(crate) fn zero() -> Cell
         ensures { result ≡ zero_cell }
     {
@@ -67,7 +67,7 @@ impl Cell {
         }
     }
 
-    // Returns the states of the group: none if its accounting is off.
+    // Returns the states that the group is in. The group is in no state if its accounting is off.
     #[inline(always)]
     fn mask(&self, on_cpu: bool, current_stalled: bool) -> Mask
         ensures few { IsMask result }
@@ -82,8 +82,8 @@ impl Cell {
         }
     }
 
-    /// Applies a change at `at` (ns), which subtracts `minus` from the group's counts and adds
-    /// `plus`. The clock doesn't change if the states don't.
+    /// Applies a change at the time `at` (ns), which subtracts `minus` from the group's counts and
+    /// adds `plus`. The clock stays the same if the group's states stay the same.
     #[inline(always)]
     pub(crate) fn turn(
         &mut self,

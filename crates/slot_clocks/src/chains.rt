@@ -1,4 +1,4 @@
-//! The walk up the chains of groups that a change affects. A chain is a slot and its ancestors.
+//! Applies a change to the groups on its chains. A chain is a slot and its ancestors.
 
 ghost use Rattle.std.specs.Prelude.{◌≡◌, ◌&&◌, ◌⊎◌, ◌+◌, ◌==◌, ◌<◌, ◌≤◌, length, true, false, if◌then◌else◌, None, IfSome};
 ghost use Rattle.psi_base.specs.declared.event.State.{State};
@@ -15,33 +15,35 @@ use crate::part::Part;
 use crate::running::Running;
 use psi_base::{Ns, Slot};
 
-/// The current heights on the four chains of a change. A height is the slot's number plus one, and
-/// 0 after the root, so that one comparison shows both whether a chain continues and at which slot.
+/// The current heights on the four chains of a change. The height of a slot is its number plus one,
+/// and the height past the root is 0. So one comparison shows both whether a chain continues and at
+/// which slot.
 #[derive(Clone, Copy)]
 pub(crate) struct Chains {
-    /// The chain of the counts that are subtracted.
+    /// The height on the chain of the subtracted counts.
     minus: u64,
-    /// The chain of the counts that are added.
+    /// The height on the chain of the added counts.
     plus: u64,
-    /// The chain of the task that ran up to the change.
+    /// The height on the chain of the task that ran before the change.
     before: u64,
-    /// The chain of the task that runs after the change.
+    /// The height on the chain of the task that runs after the change.
     after: u64,
 }
 
-/// The effect of a change on a group, by which of the four chains the group is on.
+/// The parts of a change that can affect a group. Which parts do depends on which of the four
+/// chains the group is on.
 #[derive(Drop)]
 pub(crate) struct Parts {
     /// The time (ns) of the change.
     at: Ns,
-    /// The counts that are subtracted.
+    /// The counts to subtract.
     minus: Part,
-    /// The counts that are added.
+    /// The counts to add.
     plus: Part,
     /// Whether the task that runs after the change is in a memory stall.
     stalled: bool,
-    /// If true, the running task's slot and stall are the same before and after the change, or no
-    /// task runs before and after it.
+    /// True only if the change leaves the running task's slot and stall as they are, or no task
+    /// runs before and after the change.
     stays: bool,
 }
 
@@ -54,16 +56,17 @@ fn height(slot: Option<Slot>) -> u64
     }
 }
 
-// Returns the next height of a chain at height `place`, if the walk passes the height `here`: the
-// parent's if the chain is at that height, otherwise `place`.
+// Returns the height of a chain after the walk passes the height `here`. This is `parent`, the
+// height of the parent, if the chain was at `here`. Otherwise the height `place` of the chain is
+// unchanged.
 fn pass(place: u64, here: u64, parent: u64) -> u64
     ensures { result ≡ passed here parent place }
 {
     if place == here { parent } else { place }
 }
 
-// Whether a chain at height `place` can be merged with a chain at height `other`: both heights are
-// equal, or the first chain has no slot.
+// Whether a chain at height `place` can be merged with a chain at height `other`: the heights are
+// equal, or the first chain is empty.
 fn fits(place: u64, other: u64) -> bool
     ensures { result ≡ true → (place ≡ 0) ⊎ (place ≡ other) }
 {
@@ -71,9 +74,9 @@ fn fits(place: u64, other: u64) -> bool
 }
 
 impl Chains {
-    /// Returns the chains of a change at their first slots; `current` is the task that ran up to
+    /// Returns the chains of a change at their first slots. `current` is the task that ran before
     /// the change. A change that switches accounting subtracts no counts, so its chain `minus`
-    /// begins at the switched slot, which the walk has to visit.
+    /// starts at the slot whose accounting is switched, which the walk must visit.
     fn of(current: &Running, change: &PackedChange) -> Chains
         ensures { result ≡ chains_of current.now change.now }
     {
@@ -86,7 +89,7 @@ impl Chains {
         }
     }
 
-    /// Returns the greatest height of the four chains.
+    /// Returns the greatest of the four heights.
     pub(crate) fn top(&self) -> u64
         ensures { result ≡ top self.now }
     {
@@ -95,9 +98,9 @@ impl Chains {
         counted.max(running)
     }
 
-    // Moves each chain that is at height `here` to `parent`, the height of the parent. If
-    // `together` is true, the chains of the counts and of the task that ran are at one height and
-    // are handled as one.
+    // Moves each chain at height `here` to `parent`, the height of the parent. If `together` is
+    // true, the chains of the counts and of the task that ran before are at the same height and are
+    // moved as one.
     fn pass(&mut self, here: u64, parent: u64, together: bool)
         requires together { together ≡ true → AreTogether self.old }
         ensures { self.new ≡ all_passed here parent self.old }
@@ -113,10 +116,11 @@ impl Chains {
         }
     }
 
-    // Returns the chains of a change of a task if the chains of the counts and of the task that ran
-    // can all start at one slot, otherwise `None`. A chain without a slot can join the rest. So can
-    // the chain of the task that ran if the running task and its stall don't change, because
-    // nothing changes on that chain.
+    // Returns the chains of a change of a task if three of them can start at the same slot: the two
+    // chains of the counts, and the chain of the task that ran before. Otherwise returns `None`. An
+    // empty chain can start anywhere. So can the chain of the task that ran before, if the change
+    // leaves the running task and its stall as they are, because nothing changes on that chain
+    // then.
     #[tactic(auto, using(crate::proofs::StartLaws::start_together))]
     #[inline(always)]
     fn together(current: &Running, change: &PackedChange, stays: bool) -> Option<Chains>
@@ -157,8 +161,8 @@ impl Parts {
     }
 }
 
-// Applies a change to the group at height `here`. If no counts change at the group and the running
-// task and its stall don't change, there is nothing to do.
+// Applies a change to the group at height `here`. Does nothing if the change affects neither the
+// group's counts nor the running task and its stall.
 #[inline(always)]
 fn turn_at(cell: &mut Cell, parts: &Parts, chains: &Chains, here: u64)
     requires fits { CanFollow cell.old.counts
@@ -198,9 +202,9 @@ fn turn_at(cell: &mut Cell, parts: &Parts, chains: &Chains, here: u64)
 }
 
 // Applies a change to the groups on its chains, which start at the heights in `chains`. A parent
-// has a smaller slot than its child, so the chains are climbed side by side, always from the
-// greatest slot, and each group is visited once. If `together` is known at compile time, the
-// compiler merges three of the four chains into one.
+// has a smaller slot than its child, so the walk always continues at the greatest slot of the four
+// chains and visits each group once. If `together` is known at compile time, the compiler merges
+// three of the four chains into one.
 #[inline(always)]
 fn climb(
     cells: &mut [Cell],
@@ -229,8 +233,8 @@ fn climb(
     }
 }
 
-// Applies a change by climbing each of the four chains separately. This is rare, so the function
-// isn't inlined.
+// Applies a change by climbing the four chains without merging them. The function isn't inlined,
+// because this case is rare.
 #[inline(never)]
 fn climb_each(
     cells: &mut [Cell],
@@ -248,8 +252,8 @@ fn climb_each(
     climb(cells, parents, current, change, &parts, starts, false);
 }
 
-/// Applies a switch of accounting, if there is one. The counts and the clock of the group don't
-/// change until the walk visits it.
+/// Applies a switch of accounting. Does nothing for `None`. The counts and the clock of the group
+/// are updated later, when the walk visits the group.
 pub(crate) fn switch(cells: &mut [Cell], account: Option<(Slot, bool)>)
     requires made { IfSome account (λ g. g.0.0 < length cells.old) }
     ensures on_with { AreOnWith account cells.old cells.new }
@@ -260,9 +264,8 @@ pub(crate) fn switch(cells: &mut [Cell], account: Option<(Slot, bool)>)
     }
 }
 
-/// Applies a change to the groups on its chains. For most changes two chains suffice instead of
-/// four: the chain of the task that runs afterwards, and one chain for the counts and the task that
-/// ran.
+/// Applies a change to the groups on its chains. Most changes need two chains instead of four: one
+/// for the task that runs after the change, and one for the counts and the task that ran before.
 #[inline(always)]
 pub(crate) fn walk(
     cells: &mut [Cell],

@@ -1,4 +1,4 @@
-//! The clocks of all groups on one processor, and how a change is applied to them.
+//! The clocks of all groups on one processor, and the function that applies a change to them.
 
 ghost use Rattle.std.specs.Prelude.{◌≡◌, ℕ, ◌<◌, ◌≤◌, length, None, IfOk, IfSome};
 ghost use Rattle.psi_counts.specs.Clock.{IsInTime};
@@ -16,16 +16,15 @@ use psi_base::{NoMemory, Ns, Slot};
 use std::alloc::Global;
 use std::marker::Model;
 
-/// The clocks of all groups on one processor, after the changes applied up to now. A contract sees
-/// the counts and the clock of each slot, the processor's running task, and the time of the last
-/// change.
+/// The clocks of all groups on one processor, after the changes applied so far. In contracts these
+/// are the counts and the clock of each slot, the running task, and the time of the last change.
 #[derive(Drop)]
 pub struct SlotClocks {
-    /// The cell of each slot.
+    /// The counts, the accounting and the clock of each slot.
     cells: Vec<Cell>,
     /// The processor's running task after the last change.
     current: Running,
-    /// The time (ns) of the last change, 0 before the first.
+    /// The time (ns) of the last change, or 0 before the first change.
     last: Ns,
 }
 
@@ -41,8 +40,8 @@ impl Model for SlotClocks {
 }
 
 impl SlotClocks {
-    /// Creates the clocks of `slots` slots, before the first change. Allocates all of its memory at
-    /// once.
+    /// Creates the clocks of `slots` slots, before the first change. No later call allocates
+    /// memory.
     pub fn make(alloc: Global, slots: u32) -> Result<SlotClocks, NoMemory>
         ensures { IfOk result (λ clocks. clocks ≡ first_clocks slots) }
     {
@@ -54,13 +53,13 @@ impl SlotClocks {
     }
 
     /// Applies a change of the processor to the counts and clocks of the groups on the change's
-    /// chains. `parents` has the parent of each slot, `None` for the root. Preconditions: there is
-    /// a clock for each slot in `parents`, and a change that switches a group's accounting
+    /// chains. `parents` has the parent of each slot, and `None` for the root. Preconditions: there
+    /// is a clock for each slot in `parents`, and a change that switches a group's accounting
     /// subtracts no counts. Does not allocate.
     ///
     /// The running time is proportional to the number of groups on the chains of four slots: the
-    /// slots of the counts that are subtracted and added, and of the tasks that run before and
-    /// after.
+    /// slots of the subtracted and of the added counts, and the slots of the tasks that run before
+    /// and after the change.
     #[tactic(auto, using(crate::proofs::AccountLaws::turned_since))]
     pub fn apply(&mut self, parents: &[Option<Slot>], change: &PackedChange)
         requires older { AreOlder (parent_numbers parents.now) }
@@ -73,7 +72,7 @@ impl SlotClocks {
         requires later { self.old.last ≤ change.now.at }
         requires early { change.now.at ≤ last_moment }
 
-        // Each group's counts follow the change, whether or not the group is on one of the change's
+        // The counts of each group follow the change, including groups that are on none of the
         // chains.
         ensures counts { AllFollow (parent_numbers parents.now) change.now self.old self.new }
         ensures accounts { AllOnWith change.now self.old self.new }
@@ -92,7 +91,8 @@ impl SlotClocks {
         self.last = change.at();
     }
 
-    /// Whether a group's accounting is on after the last change; true for a slot that has no clock.
+    /// Whether a group's accounting is on after the last change. Returns true for a slot without a
+    /// clock.
     pub fn is_on(&self, slot: Slot) -> bool
         ensures { result ≡ (cell_at self.now slot.0).on }
     {
@@ -102,8 +102,8 @@ impl SlotClocks {
         }
     }
 
-    /// Returns the clock of a group, or the zero clock for a slot that has no clock. The clock may
-    /// be read at any time from the last change on.
+    /// Returns the clock of a group, or the zero clock for a slot without a clock. The clock can be
+    /// read for any time from the last change on.
     pub fn clock(&self, slot: Slot) -> Clock
         ensures value { result ≡ (cell_at self.now slot.0).clock }
         ensures in_time { (at : ℕ) → self.now.last ≤ at → at ≤ last_moment →

@@ -3,8 +3,8 @@
 
 ghost use Rattle.slot_clocks.specs.Clocks.{FirstAreKnown};
 
-/// Before the first change no group is in any state, and each mask says so, whatever the parents
-/// are.
+/// Before the first change each group is in no state, and its mask is empty. This holds for all
+/// parents of the groups.
 pub fn law_first_clocks()
     ensures { FirstAreKnown }
 {}

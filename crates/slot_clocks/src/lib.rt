@@ -1,8 +1,8 @@
 //! The clocks of all groups on one processor, which follow the changes of that processor.
 //!
-//! [`SlotClocks`] corresponds to the kernel's `psi_group_cpu` of each group on a processor. A
-//! change is applied to the groups on its chains (a slot and its ancestors), as the kernel calls
-//! `psi_group_change` for a task's group and each ancestor.
+//! [`SlotClocks`] corresponds to the kernel's `psi_group_cpu` of all groups on one processor. A
+//! change is applied to the groups on its chains (a slot and its ancestors), just as the kernel
+//! calls `psi_group_change` for a task's group and for each ancestor.
 //!
 //! The crate doesn't derive changes from a trace: proc_plan does.
 #![tactic(auto)]

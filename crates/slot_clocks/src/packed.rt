@@ -13,12 +13,12 @@ use psi_base::{Ns, Slot};
 use psi_counts::{Change, Counts};
 use std::marker::Model;
 
-/// The kind of a change, by what it contains besides its time and the running task.
+/// The kind of a change, which determines the contents other than the time and the running task.
 #[derive(Clone, Copy)]
 enum Kind {
-    /// The counts of one task are subtracted and added.
+    /// The counts of one task are subtracted, added or both.
     Task,
-    /// Interrupts took time.
+    /// Interrupts took time on the processor.
     Irq,
     /// The accounting of a group is switched on.
     SwitchedOn,
@@ -26,25 +26,25 @@ enum Kind {
     SwitchedOff,
 }
 
-/// A change in 16 bytes: of a single task, of interrupt time alone, or of a switch of accounting
-/// alone. Contracts see the unpacked change.
+/// A change in 16 bytes. The change concerns either a single task, only interrupt time, or only a
+/// switch of accounting. In contracts it is the unpacked change.
 ///
-/// In a plan of 4,000,000 changes each byte counts: touching a page of memory for the first time
-/// costs more than writing to it. So a slot is stored as its height (the slot's number plus one, 0
-/// for no slot) and a task's counts as four bits, and interrupt time and switches use the fields of
-/// a task's slots.
+/// The size matters in a plan of 4,000,000 changes, because the first access to a page of memory
+/// costs more than writing to it. So a slot is stored as its height (the slot's number plus one, or
+/// 0 for no slot), and a task's counts as four bits. Interrupt time and switches of accounting are
+/// stored in the fields for a task's slots.
 #[derive(Drop)]
 pub struct PackedChange {
     at: Ns,
-    /// By kind: the height of the slot whose counts are subtracted; the number of the slot whose
-    /// accounting is switched; or the lower half of the interrupt time.
+    /// Depends on the kind: the height of the slot with the subtracted counts, the number of the
+    /// slot whose accounting is switched, or the lower 16 bits of the interrupt time.
     first: u16,
-    /// By kind: the height of the slot whose counts are added, or the upper half of the interrupt
-    /// time.
+    /// Depends on the kind: the height of the slot with the added counts, or the upper 16 bits of
+    /// the interrupt time.
     second: u16,
     current: Running,
-    /// Sixteen times the bits of the counts that are subtracted, plus the bits of the counts that
-    /// are added.
+    /// The bits of the subtracted counts in the upper four bits, and the bits of the added counts
+    /// in the lower four bits.
     bits: u8,
     kind: Kind,
 }
@@ -69,8 +69,8 @@ impl Model for PackedChange {
         IsPart p.kind p.first (p.bits / 16) × IsPart p.kind p.second (p.bits % 16) };
 }
 
-// Returns the height and the bits of the counts that a change subtracts or adds. Preconditions: the
-// slot is less than 1,024, and each count is at most 1.
+// Returns the height of the slot and the bits of the counts that a change subtracts or adds.
+// Preconditions: the slot is less than 1,024, and each count is at most 1.
 #[inline(always)]
 fn pack_part(part: Option<(Slot, Counts)>) -> (u16, u8)
     requires low { IfSome part (λ part. part.0.0 < most_groups) }
@@ -96,8 +96,8 @@ fn unpack_part(height: u16, bits: u8) -> Option<(Slot, Counts)>
 }
 
 impl PackedChange {
-    /// Packs a change. Preconditions: the change is of one task, of interrupt time alone or of a
-    /// switch of accounting alone, and its slots are less than 1,024.
+    /// Packs a change. Preconditions: the change concerns one task, only interrupt time, or only a
+    /// switch of accounting, and its slots are less than 1,024.
     #[inline(always)]
     pub fn new(change: Change) -> PackedChange
         requires one { IsOfOne change }
@@ -143,7 +143,8 @@ impl PackedChange {
         }
     }
 
-    // Packs a change that has only interrupt time. This is rare, so the function isn't inlined.
+    // Packs a change that has only interrupt time. The function isn't inlined, because this case is
+    // rare.
     #[inline(never)]
     fn of_irq(at: Ns, current: Option<(Slot, bool)>, irq: u64) -> PackedChange
         requires running { IfSome current (λ current. current.0.0 < most_groups) }
@@ -167,7 +168,8 @@ impl PackedChange {
         }
     }
 
-    // Packs a change that only switches accounting. This is rare, so the function isn't inlined.
+    // Packs a change that only switches accounting. The function isn't inlined, because this case
+    // is rare.
     #[inline(never)]
     fn of_account(at: Ns, current: Option<(Slot, bool)>, account: (Slot, bool)) -> PackedChange
         requires running { IfSome current (λ current. current.0.0 < most_groups) }
@@ -204,7 +206,8 @@ impl PackedChange {
         self.at
     }
 
-    /// Returns the counts that the change subtracts, with their slot; `None` if it subtracts none.
+    /// Returns the counts that the change subtracts, with their slot, or `None` if the change
+    /// subtracts no counts.
     pub fn minus(&self) -> Option<(Slot, Counts)>
         ensures { result ≡ self.now.minus }
     {
@@ -214,7 +217,8 @@ impl PackedChange {
         }
     }
 
-    /// Returns the counts that the change adds, with their slot; `None` if it adds none.
+    /// Returns the counts that the change adds, with their slot, or `None` if the change adds no
+    /// counts.
     pub fn plus(&self) -> Option<(Slot, Counts)>
         ensures { result ≡ self.now.plus }
     {
@@ -225,14 +229,14 @@ impl PackedChange {
     }
 
     /// Returns the slot of the task that runs after the change, and whether the task is in a memory
-    /// stall; `None` if no task runs.
+    /// stall. Returns `None` if no task runs.
     pub fn current(&self) -> Option<(Slot, bool)>
         ensures { result ≡ self.now.current }
     {
         self.current.get()
     }
 
-    /// Returns the time (ns) that interrupts took, 0 if the change has none.
+    /// Returns the time (ns) that interrupts took, or 0 if the change has no interrupt time.
     #[inline(always)]
     pub fn irq(&self) -> u64
         ensures { result ≡ self.now.irq }
@@ -243,8 +247,8 @@ impl PackedChange {
         }
     }
 
-    /// Returns the slot whose accounting the change switches, and whether it is on afterwards.
-    /// `None` if the change switches none.
+    /// Returns the slot whose accounting the change switches, and whether accounting is on after
+    /// the change. Returns `None` if the change switches no accounting.
     #[inline(always)]
     pub fn account(&self) -> Option<(Slot, bool)>
         ensures { result ≡ self.now.account }
@@ -270,8 +274,8 @@ impl PackedChange {
         }
     }
 
-    /// Returns the heights of the slots whose counts a change of a task subtracts and adds. `None`
-    /// for a change of another kind.
+    /// Returns the heights of the slots with the subtracted and the added counts. Returns `None` if
+    /// the change doesn't concern a task.
     #[inline(always)]
     pub(crate) fn heights(&self) -> Option<(u64, u64)>
         ensures task { IfSome result (λ _. self.now.account ≡ None) }
@@ -284,7 +288,7 @@ impl PackedChange {
         }
     }
 
-    /// Returns the counts that the change subtracts.
+    /// Returns the counts that the change subtracts, or zeros.
     #[inline(always)]
     pub(crate) fn taken(&self) -> Part
         ensures { result ≡ counts_in self.now.minus }
@@ -292,7 +296,7 @@ impl PackedChange {
         Part::of(self.bits / 16)
     }
 
-    /// Returns the counts that the change adds.
+    /// Returns the counts that the change adds, or zeros.
     #[inline(always)]
     pub(crate) fn added(&self) -> Part
         ensures { result ≡ counts_in self.now.plus }

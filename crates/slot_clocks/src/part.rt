@@ -1,5 +1,5 @@
-//! The counts that a change subtracts or adds: four bits, because a change of one task has counts
-//! of 0 or 1.
+//! The counts that a change subtracts or adds, stored in four bits. Four bits suffice, because each
+//! count of a single task is 0 or 1.
 
 ghost use Rattle.std.specs.Prelude.{◌≡◌, ◌<◌, if◌then◌else◌};
 ghost use Rattle.psi_counts.specs.Touch.{AreAtMost, no_counts};
@@ -8,14 +8,14 @@ ghost use Rattle.slot_clocks.specs.Bits.{counts_by};
 use psi_counts::Counts;
 use std::marker::Model;
 
-// The four counts that each number of four bits represents, in the order of the fields of `Counts`.
-// The table has plain numbers, because a table of structs would be built anew at each use.
+// The four counts for each number from 0 to 15, in the order of the fields of `Counts`. The table
+// consists of plain numbers, because a table of structs would be built anew at each use.
 const COUNTS: [u32; 64] = [
     0, 0, 0, 0, 1, 0, 0, 0, 0, 1, 0, 0, 1, 1, 0, 0, 0, 0, 1, 0, 1, 0, 1, 0, 0, 1, 1, 0, 1, 1, 1, 0,
     0, 0, 0, 1, 1, 0, 0, 1, 0, 1, 0, 1, 1, 1, 0, 1, 0, 0, 1, 1, 1, 0, 1, 1, 0, 1, 1, 1, 1, 1, 1, 1,
 ];
 
-/// Returns the four bits of counts. Precondition: each count is at most 1.
+/// Returns counts as four bits. Precondition: each count is at most 1.
 #[inline(always)]
 pub(crate) fn bits_of(counts: &Counts) -> u8
     requires { AreAtMost 1 counts.now }
@@ -40,11 +40,12 @@ pub(crate) fn counts_at(bits: u8) -> Counts
     }
 }
 
-/// The counts that a change subtracts, or those that it adds. A contract sees these counts.
+/// The counts that a change subtracts, or the counts that it adds. In contracts this is a value of
+/// type `Counts`.
 ///
-/// The counts of a group come from a table: those of the part if the part's chain is at the group,
-/// otherwise the zeros at index 0. There is no branch, because the order of the four chains is hard
-/// for a processor to predict.
+/// The counts for a group are looked up in a table: at the index of this part if its chain is at
+/// the group, otherwise at index 0, which has zeros. This avoids a branch on the order of the four
+/// chains, which processors predict badly.
 #[derive(Drop)]
 pub(crate) struct Part(u8);
 
@@ -70,8 +71,8 @@ impl Part {
         Part(bits)
     }
 
-    /// Returns the counts for a group: the part's counts if `here` is true, that is if the part's
-    /// chain is at the group, and otherwise zeros.
+    /// Returns the counts for a group. These are the part's counts if `here` is true, which means
+    /// that the part's chain is at the group. Otherwise they are zeros.
     #[inline(always)]
     pub(crate) fn at(&self, here: bool) -> Counts
         ensures { result ≡ (if here then self.now else no_counts) }

@@ -8,11 +8,11 @@ ghost use Rattle.slot_clocks.specs.Walk.{height, slot_in};
 use psi_base::Slot;
 use std::marker::Model;
 
-/// The running task of a processor: its slot, and whether it is in a memory stall; or no task.
-/// Contracts see this as an `Option`.
+/// The running task of a processor, or no task. A task is given by its slot and whether it is in a
+/// memory stall. In contracts this is an `Option`.
 ///
-/// The number is twice the height of the slot (its number plus one), plus one if the task is in a
-/// stall, and 0 for no task.
+/// The number is twice the height of the slot (the slot's number plus one), plus one if the task is
+/// in a stall. It is 0 for no task.
 #[derive(Drop)]
 pub(crate) struct Running(u16);
 
@@ -36,7 +36,7 @@ impl Running {
         Running(0)
     }
 
-    /// Packs the running task, if there is one. Precondition: its slot is less than 1,024.
+    /// Packs the running task or `None`. Precondition: the task's slot is less than 1,024.
     #[inline(always)]
     pub(crate) fn of(current: Option<(Slot, bool)>) -> Running
         requires { IfSome current (λ running. running.0.0 < most_groups) }
@@ -48,7 +48,7 @@ impl Running {
         }
     }
 
-    /// Returns a copy.
+    /// Returns a copy of the value.
     #[inline(always)]
     pub(crate) fn again(&self) -> Running
         ensures { result ≡ self.now }
@@ -56,7 +56,7 @@ impl Running {
         Running(self.0)
     }
 
-    /// Unpacks the running task; `None` if no task is running.
+    /// Unpacks the running task. Returns `None` if no task is running.
     pub(crate) fn get(&self) -> Option<(Slot, bool)>
         ensures { result ≡ self.now }
     {
@@ -67,8 +67,8 @@ impl Running {
         Some((Slot(u32::from(height) - 1), self.0 % 2 == 1))
     }
 
-    /// Returns the height of the running task's slot, at which a walk up its chain begins; 0 if no
-    /// task is running.
+    /// Returns the height of the running task's slot, at which the walk up its chain starts, or 0
+    /// if no task is running.
     #[inline(always)]
     pub(crate) fn height(&self) -> u64
         ensures { result ≡ height (slot_in self.now) }
@@ -84,7 +84,7 @@ impl Running {
         self.0 % 2 == 1
     }
 
-    /// Whether both have the same slot and stall, or no task.
+    /// Whether both values have the same slot and the same stall, or both have no task.
     #[inline(always)]
     pub(crate) fn is_same(&self, other: &Running) -> bool
         ensures { result ≡ true → self.now ≡ other.now }
