@@ -1,4 +1,5 @@
--- Which changes a tree of groups rejects, the ancestors of a group, and the invariant of a tree.
+-- Defines which changes a tree of groups rejects, the ancestors of a group, and the invariant of a
+-- tree.
 use Rattle.std.specs.Prelude.{◌≡◌, ℕ, zero, suc, ◌+◌, List, [], ◌∷◌, length, map, slice_index_or, nat_le, ◌&&◌, ◌||◌, Bool, if◌then◌else◌, Option, None, Some}
 use denote.Ref.{Bor}
 use Rattle.psi_base.specs.declared.event.Slot.{Slot}
@@ -15,77 +16,79 @@ use Rattle.psi_spec.specs.LegalGroups.{AreGroups}
 
 -- ---- causes
 
--- the first cause against a new group with this path: 1,024 groups were created, a live group has
--- the path, or no live group has the parent path; `None` if the group can be created
+-- `add_cause groups path`: the first cause against creating a group with this path: 1,024 groups
+-- were created, a live group has the path, or no live group has the parent path.
 abbrev pub add_cause : List GroupLife → List ℕ → Option Cause
 add_cause groups path =
     if nat_le most_groups (length groups) then Some cause.TooManyGroups else
     if has_group groups (Some path) then Some cause.GroupExists else
     if lacks_parent groups (Some path) then Some cause.NoParent else None
 
--- the first cause against removing the group with this path: no live group has the path, or it is
--- the root or has a live child; `None` if neither applies
+-- `remove_cause groups path`: the first cause against removing the group with this path: no live
+-- group has the path, or the group is the root or has a live child.
 abbrev pub remove_cause : List GroupLife → List ℕ → Option Cause
 remove_cause groups path =
     if lacks_group groups (Some path) then Some cause.UnknownGroup else
     if is_root path || has_child groups (slot_of groups path) then Some cause.GroupBusy else None
 
--- the first cause against switching the accounting of the group with this path: no live group has
--- the path, or it is the root; `None` if neither applies
+-- `pressure_cause groups path`: the first cause against switching the accounting of the group with
+-- this path: no live group has the path, or the group is the root.
 abbrev pub pressure_cause : List GroupLife → List ℕ → Option Cause
 pressure_cause groups path =
     if lacks_group groups (Some path) then Some cause.UnknownGroup else
     if is_root path then Some cause.RootPressure else None
 
--- The fault is the first cause `why`. Running out of memory is possible only if there is no cause.
+-- `IsGroupFault why fault`: the fault reports the cause `why`. `NoMemory` is possible only if there
+-- is no cause.
 abbrev pub IsGroupFault : Option Cause → Fault Cause → Type 0
 IsGroupFault why (fault.Refused cause) = why ≡ Some cause
 IsGroupFault why (fault.NoMemory _) = why ≡ None
 
 -- ---- the chain of a group
 
--- the slot with the number `n`
+-- Returns the slot with the number `n`.
 abbrev pub slot_at : ℕ → Slot
 slot_at n = record { 0 = n }
 
--- the numbers of slots, in order
+-- Returns the number of each slot, in the same order.
 abbrev pub numbers_of : List Slot → List ℕ
 numbers_of slots = map (λ (slot : Slot). slot.0) slots
 
--- the numbers below `n` that pass the test, in descending order
+-- `down_from n test`: the numbers below `n` that pass the test, in descending order.
 abbrev pub down_from : ℕ → (ℕ → Bool) → List ℕ
 down_from zero test = []
 down_from (suc n) test = if test n then n ∷ down_from n test else down_from n test
 
--- The chain of a group: the slots of the group and all its ancestors. A parent has a smaller slot
--- than its child, so the slots are in descending order, and the root's is the last.
+-- `chain_of groups slot`: the slots of the group and of all its ancestors. A parent has a smaller
+-- slot than its child, so the slots are in descending order and end with the root.
 abbrev pub chain_of : List GroupLife → ℕ → List Slot
 chain_of groups slot = map slot_at (down_from (suc slot) (is_under (parents_of groups) slot))
 
--- the chain of the group in a slot; empty for `None`
+-- Returns the chain of the group in a slot, or the empty list for `None`.
 abbrev pub chain_from : List GroupLife → Option Slot → List Slot
 chain_from groups None = []
 chain_from groups (Some slot) = chain_of groups slot.0
 
 -- ---- live groups
 
--- the slots of the live groups in the byte order of their paths
+-- Returns the slots of the live groups in the byte order of their paths.
 abbrev pub live_slots : List GroupLife → List Slot
 live_slots groups = map (λ (pair : List ℕ × ℕ). slot_at pair.1) (live_groups groups)
 
--- the list of pairs with each path as its bytes and each slot as its number
+-- Converts each borrowed path to a list of bytes, and each slot to its number.
 abbrev pub paths_and_slots : List (Bor (List ℕ) × Slot) → List (List ℕ × ℕ)
 paths_and_slots groups = map (λ (pair : Bor (List ℕ) × Slot). (pair.0.now, pair.1.0)) groups
 
 -- ---- the invariant of a tree
 
--- the number of live groups whose parent is the group in `slot`
+-- `count_children groups slot`: the number of live groups whose parent is the group in `slot`.
 abbrev pub count_children : List GroupLife → ℕ → ℕ
 count_children [] slot = 0
 count_children (group ∷ groups) slot = count_children groups slot + (if is_live group && is_slot (Some slot) group.parent then 1 else 0)
 
--- The invariant of a tree: its groups are those of a legal world, a lookup by path finds exactly
--- the live groups, and `children` has the number of live children of each group.
+-- `IsTree groups find children`: the invariant of a tree. The groups are possible in a legal world,
+-- the lookup `find` finds exactly the live groups by path, and `children` has the number of live
+-- children of each group.
 pub record IsTree (groups : List GroupLife) (find : List ℕ → Option Slot) (children : List ℕ) : Type 0 where
   pub legal : AreGroups groups
   pub found : (path : List ℕ) → find path ≡ as_slot (slot_of groups path)

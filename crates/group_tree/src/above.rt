@@ -1,4 +1,4 @@
-//! The path of a group's parent, from the path of the group alone. Groups aren't looked up here.
+//! Computes the path of a group's parent from the path of the group. No group is looked up.
 ghost use Rattle.std.specs.Prelude.{◌≡◌};
 ghost use Rattle.psi_spec.specs.World.{or_root, parent_path};
 
@@ -15,7 +15,8 @@ fn or_root(bytes: &[u8]) -> &[u8]
     }
 }
 
-// Returns the bytes of `path` before its last slash, or the root's path if there are none.
+// Returns the bytes of `path` before its last slash, or the root's path if there is nothing before
+// it.
 #[tactic(auto, using(crate::proofs::Slashes::slashes))]
 fn parent_bytes(path: &[u8]) -> &[u8]
     ensures { result.now ≡ parent_path path.now }
@@ -30,7 +31,7 @@ fn parent_bytes(path: &[u8]) -> &[u8]
     b"/".as_slice()
 }
 
-/// Returns the path of the parent of the group with this path. For the root's path, that is the
+/// Returns the path of the parent of the group with this path. For the root's path, returns the
 /// root's path itself.
 #[tactic(auto, using(crate::proofs::Slashes::texts))]
 pub(crate) fn path_above(path: &Path) -> &str

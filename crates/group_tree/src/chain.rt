@@ -1,4 +1,4 @@
-//! The chain of a group: the group and its ancestors, up to the root.
+//! The chain of a group: an iterator over the group and its ancestors, up to the root.
 ghost use Rattle.std.specs.Prelude.{◌≡◌, ◌<◌, length, slice_index_or, None, IfSome};
 ghost use Rattle.psi_spec.specs.Stall.{number_of_slot, parents_of};
 ghost use Rattle.psi_spec.specs.LegalGroups.{AreGroups};
@@ -8,8 +8,8 @@ use psi_base::Slot;
 use psi_spec::GroupLife;
 use std::marker::Model;
 
-/// Returns the slot of the parent of the group in `slot`. `None` for the root, and for a slot
-/// without a group.
+/// Returns the slot of the parent of the group in `slot`. Returns `None` for the root and for a
+/// slot without a group.
 #[tactic(auto, using(crate::proofs::Chains::parents))]
 pub(crate) fn parent_of(lives: &[GroupLife], slot: Slot) -> Option<Slot>
     ensures { number_of_slot result ≡ slice_index_or (parents_of lives.now) slot.0 None }
@@ -20,8 +20,8 @@ pub(crate) fn parent_of(lives: &[GroupLife], slot: Slot) -> Option<Slot>
     }
 }
 
-/// An iterator over the slots of a group and its ancestors, from the group to the root. Contracts
-/// see the list of the slots that remain.
+/// An iterator over the slots of a group and its ancestors, from the group to the root. In
+/// contracts this is the list of the remaining slots.
 #[derive(Drop)]
 pub struct Chain<'a> {
     lives: &'a [GroupLife],
@@ -44,7 +44,7 @@ impl<'a> Model for Chain<'a> {
 }
 
 impl<'a> Chain<'a> {
-    /// Returns the chain that begins at the slot `next`; the chain is empty for `None`.
+    /// Creates the chain that starts at the slot `next`. The chain is empty for `None`.
     pub(crate) fn new(lives: &'a [GroupLife], next: Option<Slot>) -> Chain<'a>
         requires groups { AreGroups lives.now }
         requires made { IfSome next (λ slot. slot.0 < length lives.now) }

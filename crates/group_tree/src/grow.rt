@@ -1,5 +1,5 @@
-//! Creating and removing groups: these functions change the list of groups, the map of paths and
-//! the counts of children together. They don't check whether a change is legal.
+//! Creates and removes groups. The functions update the list of groups, the map of paths and the
+//! counts of children together, and don't check whether the change is legal.
 ghost use Rattle.std.specs.Prelude.{◌≡◌, ◌+◌, ◌<◌, ◌≤◌, ◌++◌, [], ◌∷◌, ℕ, length, map, Some, IfOk, OnOk, OnErr, IfSome, slice_index_or, string_bytes, true, false, if◌then◌else◌};
 ghost use Rattle.std.specs.HashMap.{get_by_text};
 ghost use Rattle.psi_spec.specs.World.{slot_of, marked_removed, is_root, is_live, most_groups};
@@ -11,7 +11,7 @@ use psi_base::{NoMemory, Ns, Path, Slot};
 use psi_spec::GroupLife;
 use std::collections::HashMap;
 
-/// Adds 1 to the number of live children of `parent`, if there is a parent.
+/// Adds 1 to the number of live children of `parent`. Does nothing for `None`.
 fn count_child(children: &mut [u32], parent: Option<Slot>)
     requires made { IfSome parent (λ slot. slot.0 < length children.old) }
     requires few { IfSome parent (λ slot. slice_index_or children.old slot.0 0 ≤ most_groups) }
@@ -25,7 +25,7 @@ fn count_child(children: &mut [u32], parent: Option<Slot>)
     }
 }
 
-/// Subtracts 1 from the number of live children of `parent`, if there is a parent.
+/// Subtracts 1 from the number of live children of `parent`. Does nothing for `None`.
 fn uncount_child(children: &mut [u32], parent: Option<Slot>)
     requires made { IfSome parent (λ slot. slot.0 < length children.old) }
     requires some { IfSome parent (λ slot. 0 < slice_index_or children.old slot.0 0) }
@@ -39,7 +39,7 @@ fn uncount_child(children: &mut [u32], parent: Option<Slot>)
     }
 }
 
-/// Appends a group. Allocates before anything changes, so nothing changes if memory runs out.
+/// Appends a group, and returns its slot. If memory runs out, the tree is unchanged.
 pub(crate) fn push_group(
     lives: &mut Vec<GroupLife>,
     slots: &mut HashMap<String, Slot>,
@@ -70,7 +70,7 @@ pub(crate) fn push_group(
     Ok(slot)
 }
 
-/// Ends the live group with the path `path` at a time (ns). Does not allocate.
+/// Removes the live group with the path `path` at the time `at` (ns). Does not allocate.
 pub(crate) fn end_group(
     lives: &mut Vec<GroupLife>,
     slots: &mut HashMap<String, Slot>,

@@ -1,7 +1,8 @@
-//! The tree of control groups: which groups were created, which are live, and the parent of each.
+//! The tree of control groups: which groups were created, which of them are live, and the parent of
+//! each group.
 //!
-//! The tree rejects illegal changes with their cause. It doesn't know tasks: task_table checks
-//! whether a group still has members.
+//! The tree rejects illegal changes and returns their cause. It has no tasks: task_table checks
+//! whether a group still contains tasks.
 #![tactic(auto)]
 
 mod above;

@@ -1,4 +1,4 @@
-//! The tree of groups, with the checks of each change.
+//! The tree of groups, and the checks for each change of the tree.
 ghost use Rattle.std.specs.Prelude.{◌≡◌, ◌<◌, ◌≤◌, ◌++◌, [], ◌∷◌, length, map, slice_index_or, None, Some, IfOk, IfErr, IfSome, OnOk, OnErr, MatchResult, ◌↔◌};
 ghost use Rattle.psi_spec.specs.World.{root, slot_of, as_slot, parent_path, new_group, marked_removed, marked_switched, most_groups};
 ghost use Rattle.psi_spec.specs.Stall.{number_of_slot, parents_of, is_under};
@@ -19,9 +19,9 @@ use std::marker::Model;
 /// The maximum number of groups ever created, including the root.
 const MOST_GROUPS: usize = 1024;
 
-/// All groups ever created, by slot. Contracts see the list of them. A map finds a live group by
-/// its path, and the number of live children of each group is stored, so only [`Tree::live_order`]
-/// and [`Tree::path_order`] visit all groups.
+/// All groups ever created, by slot. In contracts this is the list of these groups. A map finds a
+/// live group by its path, and the number of live children of each group is stored, so that only
+/// [`Tree::live_order`] and [`Tree::path_order`] visit all groups.
 #[derive(Drop)]
 pub struct Tree {
     alloc: Global,
@@ -48,7 +48,7 @@ impl Model for Tree {
 }
 
 impl Tree {
-    /// Returns a tree that has only the root, created at 0.
+    /// Creates a tree that has only the root, created at time 0.
     pub fn new(alloc: Global) -> Result<Tree, NoMemory>
         ensures { IfOk result (λ tree. tree ≡ root ∷ []) }
     {
@@ -70,8 +70,8 @@ impl Tree {
         })
     }
 
-    /// Returns all groups ever created, by slot. The field `gone` is the time (ns) at which a group
-    /// was removed.
+    /// Returns all groups ever created, indexed by slot. The field `gone` is the time (ns) at which
+    /// the group was removed.
     pub fn lives(&self) -> &[GroupLife]
         ensures lives { result.now ≡ self.now }
         ensures groups { AreGroups result.now }
@@ -87,15 +87,15 @@ impl Tree {
         self.lives.len()
     }
 
-    /// Returns the slot of the live group with this path, or `None` if no live group has it.
+    /// Returns the slot of the live group with this path, or `None` if no live group has this path.
     pub fn find(&self, path: &Path) -> Option<Slot>
         ensures { result ≡ as_slot (slot_of self.now path.now) }
     {
         self.slots.get(path.text()).copied()
     }
 
-    /// Returns the slot of the live group with the parent path of `path`, or `None` if no live
-    /// group has it.
+    /// Returns the slot of the live group whose path is the parent path of `path`, or `None` if
+    /// there is no such group.
     fn find_above(&self, path: &Path) -> Option<Slot>
         ensures { result ≡ as_slot (slot_of self.now (parent_path path.now)) }
     {
@@ -109,9 +109,9 @@ impl Tree {
         self.children.get(slot.0 as usize).copied().unwrap_or(0) > 0
     }
 
-    /// Returns the first cause why a group with this path can't be created: TooManyGroups if 1,024
-    /// groups were created; GroupExists if a live group has the path; NoParent if no live group has
-    /// the parent path. `None` exactly if the group can be created.
+    /// Returns the first cause why a group with this path can't be created, or `None` if the group
+    /// can be created. The causes are TooManyGroups (1,024 groups were created), GroupExists (a
+    /// live group has the path) and NoParent (no live group has the parent path).
     pub fn add_cause(&self, path: &Path) -> Option<Cause>
         ensures { result ≡ add_cause self.now path.now }
     {
@@ -126,9 +126,9 @@ impl Tree {
         }
     }
 
-    /// Returns the first cause why the group with this path can't be removed: UnknownGroup if no
-    /// live group has the path; GroupBusy if it is the root or has a live child. `None` exactly if
-    /// neither applies. Tasks in the group aren't checked.
+    /// Returns the first cause why the group with this path can't be removed, or `None`. The causes
+    /// are UnknownGroup (no live group has the path) and GroupBusy (the group is the root or has a
+    /// live child). Tasks in the group aren't checked.
     pub fn remove_cause(&self, path: &Path) -> Option<Cause>
         ensures { result ≡ remove_cause self.now path.now }
     {
@@ -143,8 +143,8 @@ impl Tree {
     }
 
     /// Returns the first cause why the pressure accounting of the group with this path can't be
-    /// switched: UnknownGroup if no live group has the path; RootPressure if it is the root. `None`
-    /// exactly if the accounting can be switched.
+    /// switched, or `None` if it can. The causes are UnknownGroup (no live group has the path) and
+    /// RootPressure (the group is the root).
     pub fn pressure_cause(&self, path: &Path) -> Option<Cause>
         ensures { result ≡ pressure_cause self.now path.now }
     {
@@ -168,8 +168,8 @@ impl Tree {
         parent_of(&self.lives, slot)
     }
 
-    /// Returns the chain of a group: its slot and the slots of its ancestors, up to the root. The
-    /// programs of this repository don't call it.
+    /// Returns the chain of a group: its slot and the slots of its ancestors, up to the root. No
+    /// program of this repository calls this function.
     pub fn chain(&self, slot: Slot) -> Chain<'_>
         requires made { slot.0 < length self.now }
         ensures { result ≡ chain_of self.now slot.0 }
@@ -177,8 +177,8 @@ impl Tree {
         Chain::new(&self.lives, Some(slot))
     }
 
-    /// Whether the group `low` is the group `high` or a descendant of it. A slot without a group is
-    /// only under itself.
+    /// Whether the group `low` is the group `high` or a descendant of it. For a slot `low` without
+    /// a group, true only if the slots are equal.
     pub fn is_under(&self, low: Slot, high: Slot) -> bool
         ensures { result ≡ is_under (parents_of self.now) low.0 high.0 }
     {
@@ -192,8 +192,8 @@ impl Tree {
         at.0 == high.0
     }
 
-    /// Returns a new group with this path, created at `at` (ns) as a child of the live group with
-    /// the parent path.
+    /// Returns a new group with this path, created at the time `at` (ns) as a child of the live
+    /// group with the parent path. The tree is unchanged.
     fn new_life(&self, path: &Path, at: Ns) -> Result<GroupLife, NoMemory>
         ensures { IfOk result (λ life. life ≡ new_group self.now path.now at) }
     {
@@ -206,9 +206,9 @@ impl Tree {
         })
     }
 
-    /// Creates a group at `at` (ns) in the next slot, and returns the slot. Fails with `Refused`
-    /// and the cause of [`Tree::add_cause`] if there is one, otherwise only with `NoMemory`.
-    /// Nothing changes if it fails.
+    /// Creates a group at the time `at` (ns) in the next slot, and returns the slot. Fails with
+    /// `Refused` and the cause that [`Tree::add_cause`] returns, or with `NoMemory` if there is no
+    /// cause but memory runs out. The tree is unchanged on failure.
     pub fn add(&mut self, path: &Path, at: Ns) -> Result<Slot, Fault<Cause>>
         ensures legal { OnOk result (add_cause self.old path.now ≡ None) }
         ensures groups { OnOk result
@@ -233,8 +233,9 @@ impl Tree {
         Ok(slot)
     }
 
-    /// Removes the live group with this path at `at` (ns), and returns its slot. Fails with the
-    /// cause of [`Tree::remove_cause`] if there is one; then nothing changes. Does not allocate.
+    /// Removes the live group with this path at the time `at` (ns), and returns its slot. Fails
+    /// with the cause that [`Tree::remove_cause`] returns, and leaves the tree unchanged. Does not
+    /// allocate.
     pub fn remove(&mut self, path: &Path, at: Ns) -> Result<Slot, Cause>
         ensures legal { OnOk result (remove_cause self.old path.now ≡ None) }
         ensures groups { OnOk result (self.new ≡ map (marked_removed path.now at) self.old) }
@@ -260,8 +261,8 @@ impl Tree {
     }
 
     /// Switches the pressure accounting of the live group with this path on or off, and returns the
-    /// group's slot. Fails with the cause of [`Tree::pressure_cause`] if there is one; then nothing
-    /// changes. Does not allocate.
+    /// group's slot. Fails with the cause that [`Tree::pressure_cause`] returns, and leaves the
+    /// tree unchanged. Does not allocate.
     pub fn switch(&mut self, path: &Path, on: bool) -> Result<Slot, Cause>
         ensures legal { OnOk result (pressure_cause self.old path.now ≡ None) }
         ensures groups { OnOk result (self.new ≡ map (marked_switched path.now on) self.old) }
@@ -287,8 +288,8 @@ impl Tree {
         live_order(alloc, &self.lives)
     }
 
-    /// Returns all slots in the byte order of their paths, including the slots of removed groups.
-    /// Slots with equal paths are in any order.
+    /// Returns all slots in the byte order of their groups' paths, including the slots of removed
+    /// groups. The order of slots with equal paths isn't specified.
     pub fn path_order(&self, alloc: Global) -> Result<Vec<Slot>, NoMemory>
         ensures { IfOk result (λ order. IsPathOrder self.now (numbers_of order.items)) }
     {
