@@ -1,4 +1,4 @@
--- The results of the code's searches in bytes, for the parts of a line.
+-- Defines the results of the searches in bytes with which the code finds the parts of a line.
 use Rattle.std.specs.Prelude.{◌≡◌, ℕ, ◌+◌, ◌≤◌, List, Bool, ◌==◌, Option, Some, option_map, length, take, drop}
 use Rattle.std.specs.Borrow.{Bor}
 use Rattle.ftrace_import.specs.declared.marked.ShortMark.{ShortMark}
@@ -6,19 +6,21 @@ use Rattle.import_spec.specs.Marked.{Mark, Marked, begins_marked, mark_of}
 use Rattle.import_spec.specs.Places.{first_place, last_place}
 use Rattle.import_spec.specs.Tails.{digit_count, is_bracketed}
 
--- `other` equals `byte`
+-- `is_at byte other`: whether `other` equals `byte`.
 abbrev pub is_at : ℕ → ℕ → Bool
 is_at byte other = other == byte
 
--- the borrowed bytes as a list, or `None`
+-- Converts borrowed bytes to a list, and keeps `None`.
 abbrev pub shown : Option (Bor (List ℕ)) → Option (List ℕ)
 shown part = option_map (λ (bytes : Bor (List ℕ)). bytes.now) part
 
--- a mark (the text that shows the kind of a line) as its kind and its size (bytes)
+-- Returns the kind of a mark and the size (bytes) of its text. A mark is the text that shows the
+-- kind of a line.
 abbrev pub mark_parts : Mark → ShortMark
 mark_parts mark = record { kind = mark.kind; size = length mark.text }
 
--- the last number in brackets has `count` digits, and its first digit is at index `start`
+-- `IsLastBracket bytes start count`: the last number in brackets has `count` digits, and its first
+-- digit is at index `start`.
 pub record IsLastBracket (bytes : List ℕ) (start count : ℕ) : Type 0 where
   pub at : ℕ
   pub suffix : start ≡ at + 1
@@ -26,12 +28,14 @@ pub record IsLastBracket (bytes : List ℕ) (start count : ℕ) : Type 0 where
   pub digits : count ≡ digit_count (drop start bytes)
   pub inside : start + count ≤ length bytes
 
--- the leftmost mark of a line begins at index `at`, and has the kind and size of `short`
+-- `IsFirstMark line at short`: the leftmost mark of the line begins at index `at`, and has the kind
+-- and the size of `short`.
 pub record IsFirstMark (line : List ℕ) (at : ℕ) (short : ShortMark) : Type 0 where
   pub first : first_place begins_marked line ≡ Some at
   pub mark : option_map mark_parts (mark_of (drop at line)) ≡ Some short
   pub inside : at + short.size ≤ length line
 
--- the parts of a line before and after the mark at index `at`
+-- `parted line at short`: the kind of the line, and its parts before and after the mark at index
+-- `at`.
 abbrev pub parted : List ℕ → ℕ → ShortMark → Marked
 parted line at short = record { kind = short.kind; head = take at line; tail = drop (at + short.size) line }

@@ -1,5 +1,5 @@
--- The stored acts of an import (*deeds*), and the events that they represent. An act is what an
--- event does.
+-- Defines the stored acts of an import (*deeds*) and the events that they stand for. An act is an
+-- event without its time.
 use Rattle.std.specs.Prelude.{◌≡◌, ℕ, List, ◌++◌, map, OnOk, Result}
 use Rattle.psi_base.specs.declared.event.Act.{Act}
 use Rattle.psi_base.specs.declared.event.Act.TheVariants as act
@@ -10,26 +10,26 @@ use Rattle.ftrace_import.specs.declared.deeds.Deed.{Deed}
 use Rattle.ftrace_import.specs.declared.deeds.Deed.TheVariants.{Fork, Migrate, Switch, Wake}
 use Rattle.ftrace_import.specs.declared.deeds.Kept.{Kept}
 
--- the act that a deed represents
+-- Returns the act that a deed stands for.
 abbrev pub act_by : Deed → Act
 act_by (Fork pid cpu) = made pid cpu
 act_by (Wake pid cpu) = act.Wake pid cpu
 act_by (Switch cpu next how) = act.Switch cpu next how
 act_by (Migrate pid cpu) = act.Migrate pid cpu
 
--- the event that a stored deed represents
+-- Returns the event that a stored deed stands for.
 abbrev pub event_by : Kept → Event
 event_by kept = record { at = kept.at; act = act_by kept.deed }
 
--- the events that a list of stored deeds represents
+-- Returns the events that stored deeds stand for, in order.
 abbrev pub events_by : List Kept → List Event
 events_by kept = map event_by kept
 
--- the acts that a list of stored deeds represents
+-- Returns the acts that stored deeds stand for, in order.
 abbrev pub acts_in : List Kept → List Act
 acts_in kept = map (λ (one : Kept). act_by one.deed) kept
 
--- events at time `at` (ns) with these acts were appended to the stored events, unless memory ran
--- out
+-- `Adds old new result at acts`: unless memory ran out, events with these acts at the time `at`
+-- (ns) were appended to the stored events.
 abbrev pub Adds : {T E : Type 0} → List Kept → List Kept → Result T E → ℕ → List Act → Type 0
 Adds old new result at acts = OnOk result (events_by new ≡ events_by old ++ events_at at acts)

@@ -1,5 +1,5 @@
--- The results of collecting the events of an ftrace text. A `Gathering` is the state of an import:
--- the stored events, the table of tasks after them, and the times of the marked lines.
+-- Defines the results of collecting the events of an ftrace text. A `Gathering` is the state of an
+-- import: the stored events, the table of tasks after them, and the times of the marked lines.
 use Rattle.std.specs.Prelude.{◌≡◌, ℕ, ◌+◌, ◌-◌, ◌≤◌, List, [], ◌∷◌, ◌++◌, length, take, Bool, true, false, Option, None, Some, OnOk, IsErrOf, Result, Ok, Err, ⊤}
 use Rattle.outside.specs.Outside.{HasCauses, ShelfCounts}
 use Rattle.outside.specs.Reads.{ReadCall, ReadsFile, ReadsFrom}
@@ -27,21 +27,22 @@ use Rattle.ftrace_import.specs.Stands.{Ends, IsUnderWay, Run, limits}
 
 -- ---- line by line
 
--- the progress of an import: the time of the first marked line, the trace time of the last one, and
--- the world after the stored events
+-- Returns the progress of an import: the time of the first marked line, the trace time of the last
+-- marked line, and the world after the stored events.
 abbrev pub reached_in : Gathering → Reached
 reached_in g = record { first = g.first; moment = g.moment; world = g.table.world }
 
--- The invariant of an import between lines: the table has the limits of the import, and its world
--- is the one after the stored events, which can be spelled and are legal.
+-- `IsGathered g`: the invariant of an import between two lines. The table has the limits of the
+-- import, and its world is the world after the stored events. These events are legal and can be
+-- written as lines of a trace.
 pub record IsGathered (g : Gathering) : Type 0 where
   pub limits_are : g.table.limits ≡ limits g.cpus
   pub under : IsUnderWay g.cpus (reached_in g)
   pub run : Run g.cpus first_world (events_by g.kept.items)
   pub after_them : g.table.world ≡ after_from first_world (events_by g.kept.items)
 
--- The events of a line, which isn't rejected, were appended to the stored events; `new` is the
--- state after the line, and satisfies the invariant.
+-- `HasTaken line_events old new`: the line was accepted, and its events were appended to the stored
+-- events. `new` is the state after the line, and satisfies the invariant.
 pub record HasTaken (line_events : Result LineEvents ImportCause) (old new : Gathering) : Type 0 where
   pub suffix : LineEvents
   pub is : line_events ≡ Ok suffix
@@ -50,8 +51,8 @@ pub record HasTaken (line_events : Result LineEvents ImportCause) (old new : Gat
   pub cpus : new.cpus ≡ old.cpus
   pub so : IsGathered new
 
--- The result of taking a line: its events were stored, or the cause of rejection is returned.
--- `line_events` is the definition's result for the line.
+-- `TakesLine line_events old new result`: either the events of the line were stored, or the result
+-- is the cause why the line is rejected. `line_events` is what import_spec defines for the line.
 abbrev pub TakesLine : Result LineEvents ImportCause → Gathering → Gathering → Result (Unit {0}) (Fault ImportCause) → Type 0
 TakesLine line_events old new (Ok done) = HasTaken line_events old new
 TakesLine line_events old new (Err (fault.Refused why)) = line_events ≡ Err why
@@ -59,25 +60,26 @@ TakesLine line_events old new (Err (fault.NoMemory _)) = ⊤
 
 -- ---- reading the lines of a file
 
--- the events of the remaining bytes, or their rejection; `number` is the number of the first
--- remaining line
+-- `rest_from cpus reached number bytes`: the events of the remaining bytes, or the rejection of one
+-- of their lines. `number` is the number of the first remaining line.
 abbrev pub rest_from : ℕ → Reached → ℕ → List ℕ → Result (List Event) Refused
 rest_from cpus reached number bytes = import_from cpus reached number (parts_at 10 bytes)
 
--- a rejection is the one in the definition's result `read`; nothing is said here about the other
--- faults
+-- `RefusalOf fault read`: if `fault` is a rejection, then it is the rejection in `read`, the result
+-- that import_spec defines. Other faults aren't constrained.
 abbrev pub RefusalOf : ImportFault → Result (List Event) Refused → Type 0
 RefusalOf (import.Refused number why) read = read ≡ Err (import_refused number why)
 RefusalOf import.NoFile read = ⊤
 RefusalOf import.ReadFault read = ⊤
 RefusalOf (import.NoMemory _) read = ⊤
 
--- the fault of the import for the fault of line `number`
+-- `IsLineFault number fault result`: `result` is the fault of the import for the fault `fault` of
+-- line `number`.
 abbrev pub IsLineFault : ℕ → Fault ImportCause → ImportFault → Type 0
 IsLineFault number (fault.Refused why) result = result ≡ import.Refused number why
 IsLineFault number (fault.NoMemory none) result = result ≡ import.NoMemory none
 
--- the fault of an import if a line can't be read
+-- Converts the fault of reading a line to a fault of the import.
 abbrev pub import_fault : LineFault → ImportFault
 import_fault (lines.TooLong number) = import.Refused number cause.LineTooLong
 import_fault (lines.Cut number) = import.Refused number cause.Cut
@@ -85,9 +87,10 @@ import_fault lines.NoFile = import.NoFile
 import_fault lines.ReadFault = import.ReadFault
 import_fault (lines.NoMemory none) = import.NoMemory none
 
--- A line was taken. If the bytes are known, the import of the remaining bytes gives the line's
--- events, followed by the import of the bytes after the line. `before` and `suffix` give the
--- remaining bytes before and after the call.
+-- `LineTaken number old new before suffix known`: line `number` was taken. `before` and `suffix`
+-- give the remaining bytes before and after the call. If the bytes of the file are known, importing
+-- the remaining bytes before the call gives the line's events, followed by the import of the
+-- remaining bytes after the call.
 pub record LineTaken (number : ℕ) (old new : Gathering) (before suffix : List ℕ → List ℕ) (known : Option (List ℕ)) : Type 0 where
   pub so : IsGathered new
   pub cpus : new.cpus ≡ old.cpus
@@ -96,7 +99,8 @@ pub record LineTaken (number : ℕ) (old new : Gathering) (before suffix : List 
   pub read : (bytes : List ℕ) → known ≡ Some bytes → rest_from old.cpus (reached_in old) number (before bytes)
       ≡ events_followed events (rest_from old.cpus (reached_in new) (number + 1) (suffix bytes))
 
--- the result of taking the next line: it was taken, there is no further line, or there is a fault
+-- The result of taking the next line: true if the line was taken, false if there is no further
+-- line, or a fault.
 abbrev pub NextGives : ℕ → Gathering → Gathering → (List ℕ → List ℕ) → (List ℕ → List ℕ) → Option (List ℕ) → Result Bool ImportFault
     → Type 0
 NextGives number old new before suffix known (Ok true) = LineTaken number old new before suffix known
@@ -106,32 +110,34 @@ NextGives number old new before suffix known (Ok false) =
 NextGives number old new before suffix known (Err fault) =
     (bytes : List ℕ) → known ≡ Some bytes → RefusalOf fault (rest_from old.cpus (reached_in old) number (before bytes))
 
--- the shelf's counts of failed reads and missing files grew exactly for the fault that `result`
--- reports
+-- `CausesImportFault before now result`: the shelf counted a failed read or a missing file exactly
+-- if `result` reports it.
 abbrev pub CausesImportFault : {A : Type 0} → ShelfCounts → ShelfCounts → Result A ImportFault → Type 0
 CausesImportFault before now result = HasCauses before now (IsErrOf result import.ReadFault) (IsErrOf result import.NoFile)
 
--- the shelf's fault that a fault of the import reports, or `None`
+-- Returns the fault of the shelf that a fault of the import reports, or `None`.
 abbrev pub shelf_fault : ImportFault → Option ShelfFault
 shelf_fault (import.Refused number why) = None
 shelf_fault import.NoFile = Some shelf.NoFile
 shelf_fault import.ReadFault = Some shelf.Failed
 shelf_fault (import.NoMemory _) = None
 
--- the shelf's fault that a result reports, or `None`
+-- Returns the fault of the shelf that a result reports, or `None`.
 abbrev pub shelf_fault_in : {A : Type 0} → Result A ImportFault → Option ShelfFault
 shelf_fault_in (Ok x) = None
 shelf_fault_in (Err found) = shelf_fault found
 
--- The log of reads grew by the reads for one line: from offset `at` to offset `place` (bytes), or
--- up to the end of the file or a fault.
+-- `LineInOrder name at place before now result`: the reads for one line were appended to the log of
+-- reads. They continue from offset `at` to offset `place` (bytes), or to the end of the file or a
+-- fault.
 abbrev pub LineInOrder : List ℕ → ℕ → ℕ → List ReadCall → List ReadCall → Result Bool ImportFault → Type 0
 LineInOrder name at place before now (Ok true) = ReadsFrom name (Next at) before now (Next place)
 LineInOrder name at place before now (Ok false) = ReadsFile name at before now None
 LineInOrder name at place before now (Err found) = ReadsFile name at before now (shelf_fault found)
 
--- The effect of reading the next line on the reader and the shelf, whatever the line contains.
--- `bytes_read` and `read_now` are the bytes that the shelf had returned before and after.
+-- `ReadsLine known old new counts counts_now bytes_read read_now result`: the effect of reading the
+-- next line on the reader and the shelf, for any content of the line. `bytes_read` and `read_now`
+-- are the numbers of bytes that the shelf had returned before and after the call.
 pub record ReadsLine {A : Type 0} (known : Option (List ℕ)) (old new : Reader) (counts counts_now : ShelfCounts) (bytes_read read_now : ℕ)
     (result : Result A ImportFault) : Type 0 where
   pub name : new.name ≡ old.name
@@ -141,17 +147,18 @@ pub record ReadsLine {A : Type 0} (known : Option (List ℕ)) (old new : Reader)
   pub counted : read_now + old.at ≡ bytes_read + new.at
   pub place : new.at ≤ furthest old.number
 
--- The effect of reading the next line on the number of remaining lines. If a read failed, no line
--- was consumed and no complete line is buffered. A rejected line is the line with the reader's
--- number.
+-- `KeepsLines known old new result`: reading the next line removes at most that line from the
+-- remaining lines. If a read failed, no line was removed and no complete line is buffered. If a
+-- line is rejected, it is the line with the reader's number.
 pub record KeepsLines {A : Type 0} (known : Option (List ℕ)) (old new : Reader) (result : Result A ImportFault) : Type 0 where
   pub lines : (bytes : List ℕ) → known ≡ Some bytes → new.number + line_count (left new bytes) ≡ old.number + line_count (left old bytes)
   pub failed : IsErrOf result import.ReadFault → (new.number ≡ old.number)
       × ((bytes : List ℕ) → known ≡ Some bytes → HasNoNewline new.buffered (length new.buffered))
   pub refused : (number : ℕ) (why : ImportCause) → IsErrOf result (import.Refused number why) → number ≡ old.number
 
--- Reading a text stops at the first rejected line: the reads go at most a full buffer beyond the
--- lines before it. A read fails only if the bytes that were read don't contain that whole line.
+-- `StopsAtRefusal read known bytes_read read_now result`: reading stops at the first rejected line.
+-- At most one full buffer is read beyond the lines before it. A read can fail only while the bytes
+-- read so far don't include the whole rejected line.
 abbrev pub StopsAtRefusal : {A : Type 0} → (List ℕ → Result (List Event) Refused) → Option (List ℕ) → ℕ → ℕ → Result A ImportFault → Type 0
 StopsAtRefusal read known bytes_read read_now (Ok x) = ⊤
 StopsAtRefusal read known bytes_read read_now (Err (import.Refused number why)) = read_now ≤ bytes_read + furthest number
@@ -161,7 +168,7 @@ StopsAtRefusal read known bytes_read read_now (Err import.ReadFault) =
     → line_count (take (read_now - bytes_read) bytes) ≤ refusal.line
 StopsAtRefusal read known bytes_read read_now (Err (import.NoMemory _)) = ⊤
 
--- the result says nothing about the file's bytes: it is `NoFile`, `ReadFault` or `NoMemory`
+-- The result doesn't depend on the file's bytes: it is `NoFile`, `ReadFault` or `NoMemory`.
 abbrev pub ShowsNothing : {A : Type 0} → Result A ImportFault → Type 0
 ShowsNothing (Ok x) = ⊥
 ShowsNothing (Err (import.Refused number why)) = ⊥
@@ -171,11 +178,12 @@ ShowsNothing (Err (import.NoMemory _)) = ⊤
 
 -- ---- a whole text
 
--- all events of an import, including the end
+-- Returns all events of an import, including the end of the trace.
 abbrev pub whole_events : Gathering → List Event
 whole_events g = events_by g.kept.items ++ end_at (reached_in g) ∷ []
 
--- the result of taking all lines of a file, from the first
+-- `LinesGive cpus new before known result`: the result of taking all lines of a file, from the
+-- first line.
 abbrev pub LinesGive : ℕ → Gathering → (List ℕ → List ℕ) → Option (List ℕ) → Result (Unit {0}) ImportFault → Type 0
 LinesGive cpus new before known (Ok done) =
     IsGathered new × (new.cpus ≡ cpus) × ((bytes : List ℕ) → known ≡ Some bytes
@@ -183,20 +191,21 @@ LinesGive cpus new before known (Ok done) =
 LinesGive cpus new before known (Err fault) =
     (bytes : List ℕ) → known ≡ Some bytes → RefusalOf fault (rest_from cpus unreached 1 (before bytes))
 
--- the greatest number of bytes that an import reads: the greatest offset of a reader after
--- 16,000,000 lines
+-- The maximum number of bytes that an import reads: the greatest offset of a reader after
+-- 16,000,000 lines.
 abbrev pub most_of_text : ℕ
 most_of_text = furthest 16000001
 
--- All lines of a file were taken, and their events with the end form a legal trace. If the file's
--- bytes are known, they are the events that the definition gives for these bytes.
+-- `AllTaken cpus g known`: all lines of a file were taken, and their events with the end form a
+-- legal trace. If the file's bytes are known, these are the events that import_spec defines for the
+-- bytes.
 pub record AllTaken (cpus : ℕ) (g : Gathering) (known : Option (List ℕ)) : Type 0 where
   pub so : IsGathered g
   pub cpus_are : g.cpus ≡ cpus
   pub ends : Ends cpus first_world (whole_events g)
   pub read : (bytes : List ℕ) → known ≡ Some bytes → import_of cpus bytes ≡ Ok (whole_events g)
 
--- the result of importing a text
+-- `Gathers cpus known result`: the result of importing a text.
 abbrev pub Gathers : ℕ → Option (List ℕ) → Result Gathering ImportFault → Type 0
 Gathers cpus known (Ok g) = AllTaken cpus g known
 Gathers cpus known (Err fault) = (bytes : List ℕ) → known ≡ Some bytes → RefusalOf fault (import_of cpus bytes)

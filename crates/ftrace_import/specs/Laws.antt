@@ -1,5 +1,5 @@
--- Laws of imports: the output is an accepted trace, and every line of the text has its effect in
--- it.
+-- States the laws of imports: the output is an accepted trace, and each line of the text has its
+-- effect in the trace.
 use Rattle.std.specs.Prelude.{◌≡◌, ◌≢◌, ℕ, List, [], ◌∷◌, ◌++◌, true, Option, None, Some, option_map, Result, Ok, Err}
 use Rattle.psi_base.specs.declared.event.Cpu.{Cpu}
 use Rattle.psi_base.specs.declared.event.Event.{Event}
@@ -20,7 +20,7 @@ use Rattle.import_spec.specs.Marked.{read_line}
 use Rattle.import_spec.specs.Events.{LineEvents, Reached, default_tick, events_of_line, unreached}
 use Rattle.import_spec.specs.Import.{import_of, import_trace}
 
--- The trace of each imported text is accepted at the default tick by every program that accepts
+-- The imported trace of each text is accepted, with the default tick, by every program that accepts
 -- version 1.
 abbrev pub ImportedIsTrace : Type 0
 ImportedIsTrace =
@@ -28,19 +28,20 @@ ImportedIsTrace =
     → IsAmong One versions
     → IsTrace (accepts_with versions default_tick) (text_of (import_trace cpus events)) (import_trace cpus events)
 
--- the progress of an import after a line and the lines after it, or `None` if one of them is
--- rejected
+-- Applies `next` to the progress of an import after a line. Returns `None` if the line is rejected.
 abbrev pub after_events : Result LineEvents ImportCause → (Reached → Option Reached) → Option Reached
 after_events (Err why) next = None
 after_events (Ok line_events) next = next line_events.reached
 
--- the progress of an import after complete lines, or `None` if one of them is rejected
+-- `reached_by cpus reached lines`: the progress of an import after these complete lines, starting
+-- from `reached`, or `None` if a line is rejected.
 abbrev pub reached_by : ℕ → Reached → List (List ℕ) → Option Reached
 reached_by cpus reached [] = Some reached
 reached_by cpus reached (line ∷ lines) = after_events (events_of_line cpus reached line) (λ suffix. reached_by cpus suffix lines)
 
--- the line is marked and reports `sighting` (a time and an event of the kernel), and its result
--- after the earlier lines, none of which is rejected, is `line_events`
+-- `GivesAfter cpus lines line sighting line_events`: all lines in `lines` are accepted. After them,
+-- `line` is marked and reports `sighting` (a time and an event of the kernel), and has the result
+-- `line_events`.
 pub record GivesAfter (cpus : ℕ) (lines : List (List ℕ)) (line : List ℕ) (sighting : Sighting) (line_events : LineEvents) : Type 0 where
   pub counted : IsCpuCount cpus
   pub reached : Reached
@@ -48,11 +49,11 @@ pub record GivesAfter (cpus : ℕ) (lines : List (List ℕ)) (line : List ℕ) (
   pub shows : read_line line ≡ Ok (Some sighting)
   pub gives : events_of_line cpus reached line ≡ Ok line_events
 
--- the task that runs on processor `cpu`, or `None`
+-- Returns the task that runs on processor `cpu`, or `None`.
 abbrev pub runner : Tasks → ℕ → Option Pid
 runner tasks cpu = option_map (λ (e : ℕ × Task). let pid : Pid = record { 0 = e.0 } in pid) (running_on tasks cpu)
 
--- After the line of a switch, its processor runs the next task, or none.
+-- After the line of a switch, its processor runs the next task that the line names, or no task.
 abbrev pub SwitchRunsNext : Type 0
 SwitchRunsNext =
     (cpus : ℕ) (lines : List (List ℕ)) (line : List ℕ) (at : ℕ) (cpu : Cpu) (previous next : Option Pid) (how : How)
@@ -66,10 +67,10 @@ WakeupWakes = (cpus : ℕ) (lines : List (List ℕ)) (line : List ℕ) (at : ℕ
     → GivesAfter cpus lines line (record { at = at; seen = seen.Wakeup pid cpu }) line_events
     → is_some_and (task_of line_events.reached.world.tasks pid.0) (λ task. is_active task.mode) ≡ true
 
--- A complete line, after `lines`, has a part of its own in the written events: the events before
--- this part lead to the world before the line, and these events with the part lead to the world
--- after it. So the laws about the world after a line hold for the world after a prefix of the
--- written events.
+-- `IsWritten cpus lines line events`: the complete line `line`, which follows `lines`, corresponds
+-- to its own section of the written events. The events before this section lead to the world before
+-- the line, and the events up to its end lead to the world after the line. So a law about the world
+-- after a line also holds for the world after a prefix of the written events.
 pub record IsWritten (cpus : ℕ) (lines : List (List ℕ)) (line : List ℕ) (events : List Event) : Type 0 where
   pub prefix : List Event
   pub suffix : List Event
@@ -81,8 +82,8 @@ pub record IsWritten (cpus : ℕ) (lines : List (List ℕ)) (line : List ℕ) (e
   pub there : reached.world ≡ after prefix
   pub world : line_events.reached.world ≡ after (prefix ++ line_events.events)
 
--- Every complete line of a text that isn't rejected has its own part of the written events, as
--- `IsWritten` says.
+-- Each complete line of an accepted text corresponds to its own section of the written events
+-- (`IsWritten`).
 abbrev pub LinesAreWritten : Type 0
 LinesAreWritten = (cpus : ℕ) (bytes : List ℕ) (events : List Event) (lines more : List (List ℕ)) (line : List ℕ)
     → import_of cpus bytes ≡ Ok events → parts_at 10 bytes ≡ lines ++ line ∷ more → more ≢ []

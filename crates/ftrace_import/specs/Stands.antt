@@ -1,4 +1,4 @@
--- The invariant of an import: the worlds that its events lead to.
+-- Defines the invariant of an import: a property of each world to which its events lead.
 use Rattle.std.specs.Prelude.{◌≡◌, ℕ, ◌+◌, ◌≤◌, List, [], ◌∷◌, true, false, Option, IfSome, is_some}
 use Rattle.psi_base.specs.declared.event.Event.{Event}
 use Rattle.psi_base.specs.declared.event.How.{How}
@@ -14,18 +14,18 @@ use Rattle.import_spec.specs.declared.seen.Seen.{Seen}
 use Rattle.import_spec.specs.declared.seen.Seen.TheVariants as seen
 use Rattle.import_spec.specs.Events.{Reached, default_tick, latest_moment, most_imported}
 
--- the limits of an imported trace: its number of processors, and the latest time for the default
--- tick
+-- The limits of an imported trace: its number of processors, and the latest time that the default
+-- tick allows.
 abbrev pub limits : ℕ → Limits
 limits cpus = limits_of default_tick cpus
 
--- no task is in a memory stall
+-- No task is in a memory stall.
 abbrev pub IsCalm : Tasks → Type 0
 IsCalm tasks = (q : ℕ) → is_some_and (task_of tasks q) (λ t. t.stalled) ≡ false
 
--- The invariant of a world of an import at time `at` (ns), if at least `room` more events are
--- allowed: the world is legal, no task is in a memory stall, the root is the only group, and the
--- trace hasn't ended.
+-- `Stands cpus at room w`: the invariant of a world in an import at the time `at` (ns), if `room`
+-- more events are to come. The world is legal, no task is in a memory stall, the root is the only
+-- group, and the trace hasn't ended.
 pub record Stands (cpus at room : ℕ) (w : World) : Type 0 where
   pub counted : IsCpuCount cpus
   pub legal : IsLegalWorld (limits cpus) w
@@ -36,28 +36,30 @@ pub record Stands (cpus at room : ℕ) (w : World) : Type 0 where
   pub early : at ≤ latest_moment
   pub few : w.lines + room ≤ most_imported
 
--- the world and the time of an import's progress satisfy the invariant
+-- The world and the time of an import's progress satisfy the invariant.
 abbrev pub IsUnderWay : ℕ → Reached → Type 0
 IsUnderWay cpus reached = Stands cpus reached.moment 0 reached.world
 
--- the events can be spelled, have verbs of version 1, and are legal in their order from world `w`
+-- `Run cpus w events`: starting in the world `w`, the events are legal in this order. They can be
+-- written as lines of a trace of version 1.
 pub record Run (cpus : ℕ) (w : World) (events : List Event) : Type 0 where
   pub fit : AllFit events
   pub known : AreKnown (verbs_of One) events
   pub legal : AreLegal (limits cpus) w events
 
--- the events are as in `Run`, and the last one, and no other, is the end
+-- `Ends cpus w events`: the events satisfy `Run`, and exactly the last of them is the end of the
+-- trace.
 pub record Ends (cpus : ℕ) (w : World) (events : List Event) : Type 0 where
   pub run : Run cpus w events
   pub ends : EndsLast events
 
 -- ---- the content of a line
 
--- `how` is a way in which a running task can leave its processor (not `idle`)
+-- `how` is a way in which a running task can leave its processor (not `idle`).
 abbrev pub Leaves : How → Type 0
 Leaves how = (o : Option (ℕ × Task)) → is_some o ≡ true → is_wrong how o ≡ false
 
--- the values of a line's content are in range
+-- The values in the content of a line are in range.
 abbrev pub IsSeen : Seen → Type 0
 IsSeen (seen.Switch cpu previous next how) = IfSome next IsPid × Leaves how
 IsSeen (seen.Wakeup pid cpu) = IsPid pid

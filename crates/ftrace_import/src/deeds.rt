@@ -1,7 +1,8 @@
-//! The acts of a line in a compact form, stored until all lines are read. An act is what an event
-//! does; a *deed* is its compact form.
+//! The acts of an ftrace line in a compact form (*deeds*), which are stored until all lines are
+//! read. An act is an event without its time.
 //!
-//! The deeds of a line are those that import_spec defines; they aren't played here.
+//! import_spec defines the acts of each line. This module computes and stores them; it doesn't play
+//! them.
 ghost use Rattle.std.specs.Prelude.{◌≡◌, ◌∷◌, [], IfOk};
 ghost use Rattle.import_spec.specs.Events.{acts_of, migration_acts, next_acts, runs_there, switch_acts, turn_acts, wakeup_acts};
 ghost use Rattle.std.specs.Prelude.{None};
@@ -13,7 +14,7 @@ use psi_spec::{Mode, Task};
 use std::alloc::Global;
 use task_table::Table;
 
-/// An act of an import. No path is stored, because all tasks are in the root group.
+/// An act of an import in compact form. No path is stored, because all tasks are in the root group.
 #[derive(Clone, Copy)]
 pub(crate) enum Deed {
     /// A task is created, ready on processor `cpu`.
@@ -26,7 +27,7 @@ pub(crate) enum Deed {
         pid: Pid,
         cpu: Cpu,
     },
-    /// The running task of processor `cpu` leaves, and the next task, if any, runs.
+    /// The running task of processor `cpu` leaves, and the next task runs, or none.
     Switch {
         cpu: Cpu,
         next: Option<Pid>,
@@ -39,7 +40,7 @@ pub(crate) enum Deed {
     },
 }
 
-/// A stored event of an import. It has a third of the size of an [`Event`].
+/// An event of an import in compact form. It takes a third of the memory of an [`Event`].
 #[derive(Clone, Copy)]
 pub(crate) struct Kept {
     /// The time of the event (ns).
@@ -47,7 +48,7 @@ pub(crate) struct Kept {
     pub(crate) deed: Deed,
 }
 
-/// Returns the event that a stored deed represents.
+/// Returns the event that a stored deed stands for.
 pub(crate) fn event_of(alloc: Global, kept: Kept) -> Result<Event, NoMemory>
     ensures { IfOk result (λ event. event ≡ event_by kept) }
 {
@@ -63,7 +64,7 @@ pub(crate) fn event_of(alloc: Global, kept: Kept) -> Result<Event, NoMemory>
     Ok(Event { at: kept.at, act })
 }
 
-/// Appends one deed at time `at` (ns).
+/// Appends one deed at the time `at` (ns).
 #[tactic(auto, using(crate::proofs::Keeping::one_kept))]
 fn keep(kept: &mut Vec<Kept>, at: Ns, deed: Deed) -> Result<(), NoMemory>
     ensures { Adds kept.old.items kept.new.items result at (act_by deed ∷ []) }
@@ -72,7 +73,7 @@ fn keep(kept: &mut Vec<Kept>, at: Ns, deed: Deed) -> Result<(), NoMemory>
     Ok(())
 }
 
-/// Appends nothing: the case without deeds.
+/// Appends nothing, for a line without deeds.
 #[tactic(auto, using(crate::proofs::Keeping::none_kept))]
 fn keep_none(kept: &mut Vec<Kept>, at: Ns) -> Result<(), NoMemory>
     ensures { Adds kept.old.items kept.new.items result at [] }
@@ -82,7 +83,8 @@ fn keep_none(kept: &mut Vec<Kept>, at: Ns) -> Result<(), NoMemory>
     Ok(())
 }
 
-/// Appends the deeds of a wakeup. `task` is the task before the wakeup, if it exists.
+/// Appends the deeds of a wakeup. `task` is the task before the wakeup, or `None` if it doesn't
+/// exist yet.
 fn keep_wakeup(
     kept: &mut Vec<Kept>,
     at: Ns,
@@ -101,7 +103,8 @@ fn keep_wakeup(
     }
 }
 
-/// Appends the deeds of a migration. `task` is the task before the migration, if it exists.
+/// Appends the deeds of a migration. `task` is the task before the migration, or `None` if it
+/// doesn't exist yet.
 fn keep_migration(
     kept: &mut Vec<Kept>,
     at: Ns,
@@ -119,8 +122,8 @@ fn keep_migration(
     }
 }
 
-/// Appends two deeds: the running task of processor `from` is preempted, and is moved to processor
-/// `cpu`.
+/// Appends two deeds: the task that runs on processor `from` is preempted, and then moves to
+/// processor `cpu`.
 #[tactic(auto, using(crate::proofs::Keeping::two_kept))]
 fn keep_pulled(kept: &mut Vec<Kept>, at: Ns, pid: Pid, cpu: Cpu, from: Cpu) -> Result<(), NoMemory>
     ensures { Adds kept.old.items kept.new.items result at
@@ -138,8 +141,8 @@ fn keep_pulled(kept: &mut Vec<Kept>, at: Ns, pid: Pid, cpu: Cpu, from: Cpu) -> R
     keep(kept, at, Deed::Migrate { pid, cpu })
 }
 
-/// Appends the deeds that bring the task `next`, if any, to the processor `cpu` on which it is to
-/// run.
+/// Appends the deeds that make the task `next` ready on the processor `cpu` on which it will run.
+/// Appends nothing for `None`.
 fn keep_next(
     table: &Table,
     kept: &mut Vec<Kept>,
@@ -164,7 +167,7 @@ fn keep_next(
     }
 }
 
-/// Returns whether `pid` is a task that runs on processor `cpu`.
+/// Whether `pid` is a task that is running on processor `cpu`.
 fn runs_there(table: &Table, cpu: Cpu, pid: Option<Pid>) -> bool
     ensures { result ≡ runs_there table.now.world.tasks cpu pid }
 {
@@ -177,7 +180,8 @@ fn runs_there(table: &Table, cpu: Cpu, pid: Option<Pid>) -> bool
     }
 }
 
-/// Appends the deeds after which the running task of `cpu` has left and `next` runs.
+/// Appends the deeds that make the running task leave processor `cpu` and the task `next` run
+/// there.
 #[tactic(auto, using(crate::proofs::Keeping::some_part))]
 fn keep_turn(
     table: &Table,
@@ -240,7 +244,8 @@ fn keep_switch(
     keep_turn(table, kept, at, cpu, previous, next, how)
 }
 
-/// Appends the deeds of a line's content at time `at` (ns), in the world of the table.
+/// Appends the deeds of a line with the content `seen` at the time `at` (ns). `table` is the table
+/// before the line.
 pub(crate) fn keep_seen(
     table: &Table,
     kept: &mut Vec<Kept>,

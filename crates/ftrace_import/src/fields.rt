@@ -1,7 +1,7 @@
-//! Parses the parts of a marked line: the time and the processor in its head (before the mark), and
-//! the fields of its tail (after the mark).
+//! Parses the parts of a marked line: the time and the processor in its head (the part before the
+//! mark), and the fields in its tail (the part after the mark).
 //!
-//! The mark itself is found in `marked`.
+//! The module `marked` finds the mark.
 ghost use Rattle.std.specs.Prelude.{◌≡◌, ◌+◌, ◌-◌, ◌^◌, ◌<◌, ◌≤◌, IfSome, IsNone, Some, None, length, drop, if◌then◌else◌};
 ghost use Rattle.import_spec.specs.Places.{last_place};
 ghost use Rattle.import_spec.specs.Tails.{cpu_in, digit_count, field_in, how_in, is_bracketed, short_number, pid_in, time_in, time_of};
@@ -10,11 +10,11 @@ ghost use Rattle.ftrace_import.specs.Bytes.{IsLastBracket};
 use crate::places::{after_last, count_before, count_digits};
 use psi_base::{How, Ns, Pid, read_digits};
 
-/// A second (ns).
+/// The length of a second (ns).
 const SECOND: Ns = 1_000_000_000;
 
-/// Returns the number that 1 to `most` digits write. `None` if there are more or fewer bytes, or
-/// one isn't a digit.
+/// Parses a number of 1 to `most` digits. Returns `None` if there are no bytes, more than `most`
+/// bytes, or a byte that isn't a digit.
 fn number_in(digits: &[u8], most: usize) -> Option<u64>
     ensures value { result ≡ short_number most digits.now }
     ensures below { IfSome result (λ number. number < 10 ^ most) }
@@ -26,8 +26,8 @@ fn number_in(digits: &[u8], most: usize) -> Option<u64>
     read_digits(digits)
 }
 
-/// Returns the unit (ns) of the last digit of a fraction of a second that has `missing` digits
-/// fewer than nine.
+/// Returns the value (ns) of one unit of the last digit, in a fraction of a second with nine minus
+/// `missing` digits.
 fn unit(missing: usize) -> Ns
     requires { missing ≤ 8 }
     ensures unit { result ≡ 10 ^ missing }
@@ -47,8 +47,8 @@ fn unit(missing: usize) -> Ns
     }
 }
 
-/// Parses a time: seconds, a point, and a fraction of 1 to 9 digits. Returns it in ns, or `None` if
-/// the word isn't a time.
+/// Parses a time: seconds, a point, and 1 to 9 digits of the fraction. Returns the time (ns), or
+/// `None` if the word isn't a time.
 #[tactic(auto, unfolding(import_spec::specs::Tails::time_of))]
 fn time_of(word: &[u8]) -> Option<Ns>
     ensures { result ≡ time_of word.now }
@@ -60,7 +60,7 @@ fn time_of(word: &[u8]) -> Option<Ns>
     Some(seconds * SECOND + fraction * unit(9 - digits.len()))
 }
 
-/// Returns the bytes after index `at`, or no bytes if `at` is the length.
+/// Returns the bytes after index `at`. Returns no bytes if `at` is the length.
 fn suffix(bytes: &[u8], at: usize) -> &[u8]
     requires { at ≤ length bytes.now }
     ensures { result.now ≡ drop (at + 1) bytes.now }
@@ -72,7 +72,7 @@ fn suffix(bytes: &[u8], at: usize) -> &[u8]
     }
 }
 
-/// Parses the time (ns) in a head, which is its last word.
+/// Parses the time (ns) in the head of a line, which is the last word of the head.
 #[tactic(auto, unfolding(import_spec::specs::Tails::time_in))]
 pub(crate) fn time_in(head: &[u8]) -> Option<Ns>
     ensures { result ≡ time_in head.now }
@@ -81,8 +81,8 @@ pub(crate) fn time_in(head: &[u8]) -> Option<Ns>
     time_of(word)
 }
 
-/// Returns the number of digits if the bytes begin with a number in brackets, or `None`.
-/// Precondition: there is a byte.
+/// If the bytes begin with a number in brackets, returns the number of its digits, otherwise
+/// `None`. Precondition: there is at least one byte.
 #[inline(always)]
 #[tactic(auto, unfolding(import_spec::specs::Tails::is_bracketed))]
 fn digits_in_brackets(bytes: &[u8]) -> Option<usize>
@@ -103,15 +103,15 @@ fn digits_in_brackets(bytes: &[u8]) -> Option<usize>
     }
 }
 
-/// The place of a number in brackets.
+/// The position of a number in brackets.
 #[derive(Clone, Copy)]
 struct Bracketed {
-    /// The index of its first digit.
+    /// The index of the number's first digit.
     start: usize,
     count: usize,
 }
 
-/// Returns the place of the last number in brackets, or `None`.
+/// Returns the position of the last number in brackets, or `None`.
 fn last_in_brackets(bytes: &[u8]) -> Option<Bracketed>
     ensures none { IsNone result → last_place is_bracketed bytes.now ≡ None }
     ensures some { IfSome result (λ found. IsLastBracket bytes.now found.start found.count) }
@@ -129,7 +129,8 @@ fn last_in_brackets(bytes: &[u8]) -> Option<Bracketed>
     None
 }
 
-/// Parses the processor in a head: the last number in brackets, of at most three digits.
+/// Parses the processor in the head of a line: the last number in brackets, which has at most three
+/// digits.
 #[tactic(auto, unfolding(import_spec::specs::Tails::cpu_in))]
 pub(crate) fn cpu_in(head: &[u8]) -> Option<u32>
     ensures { result ≡ cpu_in head.now }
@@ -139,8 +140,8 @@ pub(crate) fn cpu_in(head: &[u8]) -> Option<u32>
     Some(cpu as u32)
 }
 
-/// Parses the field after the last `key` in a tail or a part of it: a number below 2^32, up to the
-/// next space.
+/// Parses the field after the last occurrence of `key` in a tail or in a part of it. The field is a
+/// number below 2^32, and ends at the next space.
 #[tactic(auto, unfolding(import_spec::specs::Tails::field_in))]
 pub(crate) fn field_in(part: &[u8], key: &[u8]) -> Option<u32>
     requires some { 0 < length key.now }
@@ -155,15 +156,15 @@ pub(crate) fn field_in(part: &[u8], key: &[u8]) -> Option<u32>
     }
 }
 
-/// Returns the task with this pid, or `None` for 0.
+/// Returns the task with the pid `number`, or `None` for 0, which stands for the idle task.
 pub(crate) fn pid_in(number: u32) -> Option<Pid>
     ensures { result ≡ pid_in number }
 {
     if number == 0 { None } else { Some(Pid(number)) }
 }
 
-/// Returns how a task leaves its processor, according to the first letter of its state. `None` if
-/// the state is empty.
+/// Returns the way in which a task leaves its processor, which follows from the first letter of the
+/// task's state. Returns `None` if the state is empty.
 #[tactic(auto, unfolding(import_spec::specs::Tails::how_in))]
 pub(crate) fn how_in(state: &[u8]) -> Option<How>
     ensures { result ≡ how_in state.now }

@@ -1,6 +1,6 @@
 //! An iterator that lends the events of an import.
 //!
-//! It needs no allocation for each event, unlike `import`, which returns them as a vector.
+//! Unlike `import`, which returns a vector, the iterator doesn't allocate memory for each event.
 ghost use Rattle.std.specs.Prelude.{◌≡◌, ◌+◌, ◌≤◌, ℕ, List, false, IfOk, IsErrOf, MatchResult, Some, None, Ok};
 ghost use Rattle.outside.specs.Outside.{content_of, IsAbsent, counts_of};
 ghost use Rattle.outside.specs.Reads.{ReadsFile};
@@ -21,19 +21,20 @@ use psi_base::{Act, Cpu, Event, NoMemory, Ns, Path, Pid};
 use std::alloc::Global;
 use std::marker::Model;
 
-/// The events of an import, including the end, lent one by one. Contracts see the current event and
-/// the list of the remaining events. Each event is valid until the next call, and none is
-/// allocated.
+/// The events of an import, including the end of the trace, lent one by one. In contracts these are
+/// the current event and the list of the remaining events. An event is valid until the next call.
+/// Lending an event allocates nothing.
 #[derive(Drop)]
 pub struct Imported {
     gathering: Gathering,
-    /// The number of events that were lent.
+    /// The number of events lent so far.
     at: usize,
     /// Whether the current event is `making` (true) or `other` (false).
     makes: bool,
-    /// The current event if it creates a task: its path is always the root's.
+    /// The current event if it creates a task. Its path is always the root's path, so only the
+    /// other fields are set for each event.
     making: Event,
-    /// The current event if it creates no task.
+    /// The current event if it doesn't create a task.
     other: Event,
 }
 
@@ -47,7 +48,8 @@ impl Model for Imported {
     ghost invariant = { λ i. IsLending i.gathering i.at i.making };
 }
 
-/// Sets the time (ns), task and processor of an event that creates a task in the root group.
+/// Sets the time `at` (ns), the task and the processor of an event that creates a task in the root
+/// group.
 fn make_anew(making: &mut Event, at: Ns, pid: Pid, cpu: Cpu)
     requires { IsMade making.old.act }
     ensures moment { making.new.at ≡ at }
@@ -67,7 +69,7 @@ fn make_anew(making: &mut Event, at: Ns, pid: Pid, cpu: Cpu)
     }
 }
 
-/// Replaces `other`. Returns false, which selects it as the current event.
+/// Replaces the event `other`. Returns false, which makes `other` the current event.
 fn show_other(other: &mut Event, at: Ns, act: Act) -> bool
     ensures event { other.new ≡ record { at = at; act = act } }
     ensures result { result ≡ false }
@@ -76,8 +78,8 @@ fn show_other(other: &mut Event, at: Ns, act: Act) -> bool
     false
 }
 
-/// Sets one of two events to the stored event: `making` if it creates a task, and `other` if not.
-/// Returns whether it is `making`.
+/// Sets one of the two events to the stored event: `making` if the stored event creates a task,
+/// otherwise `other`. Returns whether it was `making`.
 fn notify(kept: Kept, making: &mut Event, other: &mut Event) -> bool
     requires { IsMade making.old.act }
     ensures known { shown result making.new other.new ≡ event_by kept }
@@ -97,7 +99,7 @@ fn notify(kept: Kept, making: &mut Event, other: &mut Event) -> bool
 }
 
 impl Imported {
-    /// Returns the collected events, including the end, before the first is lent.
+    /// Creates the iterator over all collected events, including the end of the trace.
     fn make(alloc: Global, gathering: Gathering) -> Result<Imported, NoMemory>
         ensures { IfOk result (λ events. events.left ≡ whole_events gathering) }
     {
@@ -122,7 +124,7 @@ impl Imported {
         })
     }
 
-    /// Advances to the next event. Returns false after the end. Doesn't allocate.
+    /// Advances to the next event. Returns false if there is no further event. Does not allocate.
     pub fn advance(&mut self) -> bool
         ensures { GoesOn self.old self.new result }
     {
@@ -141,7 +143,8 @@ impl Imported {
         true
     }
 
-    /// Returns the current event. It means nothing before the first [`Imported::advance`].
+    /// Returns the current event. The result is meaningless before the first call of
+    /// [`Imported::advance`].
     pub fn event(&self) -> &Event
         ensures { result.now ≡ self.now.event }
     {
@@ -153,9 +156,9 @@ impl Imported {
     }
 }
 
-/// Imports a file's ftrace text, and returns its events, to be lent one by one. Fails with
-/// `Refused` at the first rejected line, with its first cause. Allocates about 24 bytes for each
-/// event.
+/// Imports the ftrace text in a file, and returns an iterator that lends its events. Fails with
+/// `Refused` at the first rejected line, with the first cause against it. Allocates about 24 bytes
+/// for each event.
 pub fn read_import<S: Shelf>(
     alloc: Global,
     shelf: &mut S,

@@ -1,7 +1,7 @@
-//! The import of ftrace text: parses its marked lines (switches, wakeups and migrations), and turns
-//! them into the events of a trace.
+//! The import of ftrace text. It parses the marked lines (switches, wakeups and migrations) and
+//! converts them to the events of a trace.
 //!
-//! It doesn't write the trace, and knows no groups: all tasks are in the root group.
+//! The crate doesn't write the trace. It has no groups but the root, to which all tasks belong.
 #![tactic(auto)]
 
 mod deeds;

@@ -1,7 +1,8 @@
-//! Finds the mark of a line (the text that shows its kind, such as `: sched_switch: `), and parses
-//! the content of marked lines.
+//! Finds the mark of a line and parses the content of marked lines. The mark is the text that shows
+//! the kind of a line, such as `: sched_switch: `.
 //!
-//! The head of a line is the part before the mark, the tail is the part after it. What a line means
+//! The head of a line is the part before the mark, and the tail is the part after it. The module
+//! `deeds` computes what a line does to the tasks.
 //! for the tasks is in `deeds`.
 ghost use Rattle.std.specs.Prelude.{◌≡◌, ◌≤◌, IfSome, IsNone, None, length, option_map};
 ghost use Rattle.import_spec.specs.Places.{first_place};
@@ -14,12 +15,12 @@ use import_spec::{ImportCause, LineKind, Seen, Sighting};
 use memchr::memchr;
 use psi_base::Cpu;
 
-/// A mark without its text.
+/// A mark, without its text.
 #[derive(Clone, Copy)]
 struct ShortMark {
-    /// The kind of line that it marks.
+    /// The kind of line that has this mark.
     kind: LineKind,
-    /// The length of its text (bytes).
+    /// The length (bytes) of the mark's text.
     size: usize,
 }
 
@@ -29,7 +30,7 @@ fn mark(kind: LineKind, size: usize) -> ShortMark
     ShortMark { kind, size }
 }
 
-/// Returns the mark at the start of the bytes, or `None`.
+/// Returns the mark with which the bytes begin, or `None`.
 #[tactic(auto, unfolding(import_spec::specs::Marked::mark_of))]
 fn mark_of(bytes: &[u8]) -> Option<ShortMark>
     ensures mark { result ≡ option_map mark_parts (mark_of bytes.now) }
@@ -48,15 +49,15 @@ fn mark_of(bytes: &[u8]) -> Option<ShortMark>
     }
 }
 
-/// A mark in a line, and its index.
+/// A mark in a line, and its index in the line.
 #[derive(Clone, Copy)]
 struct Found {
     at: usize,
     mark: ShortMark,
 }
 
-/// Finds the leftmost mark of a line, or returns `None`. The search looks for colons, because every
-/// mark begins with one.
+/// Finds the leftmost mark of a line, or returns `None`. The search jumps from colon to colon,
+/// because every mark begins with a colon.
 fn first_mark(line: &[u8]) -> Option<Found>
     ensures none { IsNone result → first_place begins_marked line.now ≡ None }
     ensures some { IfSome result (λ found. IsFirstMark line.now found.at found.mark) }
@@ -72,7 +73,7 @@ fn first_mark(line: &[u8]) -> Option<Found>
     None
 }
 
-/// Parses the tail of a switch on processor `cpu`. `None` if the tail is malformed.
+/// Parses the tail of a switch on processor `cpu`. Returns `None` if the tail is malformed.
 #[tactic(auto, unfolding(import_spec::specs::Marked::switch_in))]
 fn switch_in(cpu: u32, tail: &[u8]) -> Option<Seen>
     ensures { result ≡ switch_in cpu tail.now }
@@ -91,7 +92,7 @@ fn switch_in(cpu: u32, tail: &[u8]) -> Option<Seen>
     })
 }
 
-/// Parses the tail of a wakeup. `None` if the tail is malformed.
+/// Parses the tail of a wakeup. Returns `None` if the tail is malformed.
 #[tactic(auto, unfolding(import_spec::specs::Marked::wakeup_in))]
 fn wakeup_in(tail: &[u8]) -> Option<Seen>
     ensures { result ≡ wakeup_in tail.now }
@@ -105,7 +106,7 @@ fn wakeup_in(tail: &[u8]) -> Option<Seen>
     })
 }
 
-/// Parses the tail of a migration. `None` if the tail is malformed.
+/// Parses the tail of a migration. Returns `None` if the tail is malformed.
 #[tactic(auto, unfolding(import_spec::specs::Marked::migration_in))]
 fn migration_in(tail: &[u8]) -> Option<Seen>
     ensures { result ≡ migration_in tail.now }
@@ -119,7 +120,8 @@ fn migration_in(tail: &[u8]) -> Option<Seen>
     })
 }
 
-/// Parses the tail of a line of this kind on processor `cpu`. `None` if the tail is malformed.
+/// Parses the tail of a line of this kind on processor `cpu`. Returns `None` if the tail is
+/// malformed.
 fn seen_in(kind: LineKind, cpu: u32, tail: &[u8]) -> Option<Seen>
     ensures { result ≡ seen_in kind cpu tail.now }
 {
@@ -130,8 +132,8 @@ fn seen_in(kind: LineKind, cpu: u32, tail: &[u8]) -> Option<Seen>
     }
 }
 
-/// Parses the time and the content of a marked line, from its head and tail. `None` if the line is
-/// malformed.
+/// Parses the time and the content of a marked line, from its head and tail. Returns `None` if the
+/// line is malformed.
 #[tactic(auto, unfolding(import_spec::specs::Marked::sighting_of))]
 fn sighting_of(kind: LineKind, head: &[u8], tail: &[u8]) -> Option<Sighting>
     ensures { result ≡ sighting_of (record { kind = kind; head = head.now; tail = tail.now }) }
@@ -154,8 +156,8 @@ fn read_marked(line: &[u8], found: Found) -> Result<Option<Sighting>, ImportCaus
     }
 }
 
-/// Parses a line: its time and content. Returns `None` if the line isn't marked, and `BadLine` if
-/// it is marked but malformed.
+/// Parses the time and the content of a line. Returns `None` if the line isn't marked, and fails
+/// with `BadLine` if the line is marked but malformed.
 pub(crate) fn read_line(line: &[u8]) -> Result<Option<Sighting>, ImportCause>
     ensures { result ≡ read_line line.now }
 {

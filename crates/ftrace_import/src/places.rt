@@ -1,6 +1,5 @@
-//! Searches in bytes.
-//!
-//! The functions know nothing about the format of a line.
+//! Searches for bytes and texts in a slice of bytes. The functions don't depend on the format of a
+//! line.
 ghost use Rattle.std.specs.Prelude.{◌≡◌, ◌+◌, ◌<◌, ◌≤◌, IfSome, length};
 ghost use Rattle.std.specs.List.{position_or_len, prefix_len};
 ghost use Rattle.std.specs.Char.{is_ascii_digit};
@@ -27,7 +26,7 @@ pub(crate) fn last_text(bytes: &[u8], text: &[u8]) -> Option<usize>
     None
 }
 
-/// Returns the bytes after the last occurrence of `text`, or `None` if it doesn't occur.
+/// Returns the bytes after the last occurrence of `text`, or `None` if `text` doesn't occur.
 /// Precondition: `text` isn't empty.
 #[inline(always)]
 pub(crate) fn after_last<'a>(bytes: &'a [u8], text: &[u8]) -> Option<&'a [u8]>
@@ -40,8 +39,8 @@ pub(crate) fn after_last<'a>(bytes: &'a [u8], text: &[u8]) -> Option<&'a [u8]>
     }
 }
 
-/// Returns the number of bytes before the first byte with value `byte`, or the number of all bytes
-/// if there is none.
+/// Returns the number of bytes before the first byte that equals `byte`, or the number of all bytes
+/// if no byte does.
 #[inline(always)]
 #[tactic(auto, using(crate::proofs::Bytes::runs))]
 pub(crate) fn count_before(bytes: &[u8], byte: u8) -> usize
@@ -58,7 +57,7 @@ pub(crate) fn count_before(bytes: &[u8], byte: u8) -> usize
     count
 }
 
-/// Returns the number of leading digits.
+/// Returns the number of digits at the start of the bytes.
 #[inline(always)]
 #[tactic(auto, using(crate::proofs::Bytes::runs))]
 pub(crate) fn count_digits(bytes: &[u8]) -> usize

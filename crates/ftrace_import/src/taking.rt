@@ -1,6 +1,5 @@
-//! Collects the events of an ftrace text, line by line.
-//!
-//! The lines are read from a file in `text`.
+//! Collects the events of an ftrace text, line by line. The module `text` reads the lines from a
+//! file.
 ghost use Rattle.std.specs.Prelude.{◌≡◌, ◌-◌, ◌≤◌, [], IfOk, OnOk, None, drop, is_some, length, max, unwrap_or};
 ghost use Rattle.psi_spec.specs.Names.{names};
 ghost use Rattle.psi_spec.specs.Refusal.{AreLegal, cause_of};
@@ -18,7 +17,7 @@ use psi_base::{Cpu, Fault, LATEST, MOST_EVENTS, NoMemory, Ns};
 use std::alloc::Global;
 use task_table::Table;
 
-/// The state of an import after some lines of the text.
+/// The state of an import after a number of lines of the text.
 #[derive(Drop)]
 pub struct Gathering {
     alloc: Global,
@@ -26,16 +25,16 @@ pub struct Gathering {
     pub(crate) cpus: u32,
     /// The table of tasks after all stored events.
     table: Table,
-    /// The stored events, without the end.
+    /// The stored events, without the end of the trace.
     pub(crate) kept: Vec<Kept>,
-    /// The time (ns) of the first marked line, if any.
+    /// The time (ns) of the first marked line, or `None` before it.
     first: Option<Ns>,
-    /// The trace time (ns) of the last marked line: its time since the first marked line, but never
-    /// less than the trace time of an earlier line.
+    /// The trace time (ns) of the last marked line. The trace time of a line is its time since the
+    /// first marked line, but never less than the trace time of an earlier line.
     pub(crate) moment: Ns,
 }
 
-/// Returns the state of an import before the first line.
+/// Returns the state of an import before the first line of the text.
 pub(crate) fn start(alloc: Global, cpus: u32) -> Result<Gathering, NoMemory>
     requires { IsCpuCount cpus }
     ensures so { IfOk result (λ g. IsGathered g) }
@@ -52,7 +51,7 @@ pub(crate) fn start(alloc: Global, cpus: u32) -> Result<Gathering, NoMemory>
     })
 }
 
-/// Returns whether a deed creates a task.
+/// Whether a deed creates a task.
 fn makes(deed: Deed) -> bool
     ensures { result ≡ is_some (names (act_by deed)).new_task }
 {
@@ -62,7 +61,7 @@ fn makes(deed: Deed) -> bool
     }
 }
 
-/// Returns whether at least one of the deeds creates a task.
+/// Whether at least one of the deeds creates a task.
 fn make_task(kept: &[Kept]) -> bool
     ensures { result ≡ make_task (acts_in kept.now) }
 {
@@ -76,9 +75,9 @@ fn make_task(kept: &[Kept]) -> bool
     false
 }
 
-/// Returns the first cause of rejection of a line with the deeds `kept` at trace time `moment`
-/// (ns), in the world of the table. `cpu` is the processor that the line requires. `None` if the
-/// line is accepted.
+/// Returns the first cause why a line with the deeds `kept` at the trace time `moment` (ns) is
+/// rejected, or `None` if the line is accepted. `table` is the table before the line, and `cpu` is
+/// the processor that the line names.
 fn acts_cause(table: &Table, cpus: u32, moment: Ns, cpu: Cpu, kept: &[Kept]) -> Option<ImportCause>
     ensures { result ≡ acts_cause cpus table.now.world moment cpu (acts_in kept.now) }
 {
@@ -109,7 +108,7 @@ fn play_one(alloc: Global, table: &mut Table, kept: Kept) -> Result<(), NoMemory
     }
 }
 
-/// Plays the events that the deeds represent. Precondition: they are legal in their order.
+/// Plays the events that the deeds stand for. Precondition: the events are legal in this order.
 fn play_all(alloc: Global, table: &mut Table, kept: &[Kept]) -> Result<(), NoMemory>
     requires { AreLegal table.old.limits table.old.world (events_by kept.now) }
     ensures limits { OnOk result (table.new.limits ≡ table.old.limits) }
@@ -124,8 +123,8 @@ fn play_all(alloc: Global, table: &mut Table, kept: &[Kept]) -> Result<(), NoMem
     Ok(())
 }
 
-/// Returns the processor that a line requires: the processor of a switch, or the target of a wakeup
-/// or migration.
+/// Returns the processor that must exist for a line: the processor of a switch, or the target
+/// processor of a wakeup or a migration.
 fn needed_cpu(seen: Seen) -> Cpu
     ensures { result ≡ needed_cpu seen }
 {
@@ -134,7 +133,7 @@ fn needed_cpu(seen: Seen) -> Cpu
     }
 }
 
-/// Returns `first` if it has a value, and `at` otherwise (both in ns).
+/// Returns `first`, or `at` if `first` is `None` (both in ns).
 fn time_or(first: Option<Ns>, at: Ns) -> Ns
     ensures { result ≡ unwrap_or first at }
 {
@@ -144,8 +143,8 @@ fn time_or(first: Option<Ns>, at: Ns) -> Ns
     }
 }
 
-/// Returns the trace time (ns) of a line: its time `at` less the time `first` of the first marked
-/// line, but at least `moment`, the trace time of the last marked line.
+/// Returns the trace time (ns) of a line: the line's time `at` minus the time `first` of the first
+/// marked line, but at least `moment`, the trace time of the last marked line.
 fn moment_of(first: Ns, moment: Ns, at: Ns) -> Ns
     ensures { result ≡ max moment (at - first) }
 {
@@ -160,7 +159,7 @@ fn kept_from(kept: &Vec<Kept>, before: usize) -> &[Kept]
     &kept[before..]
 }
 
-/// Stores and plays the events of a line with this content.
+/// Stores and plays the events of a line with the content `sighting`.
 fn take_sighting(g: &mut Gathering, sighting: Sighting) -> Result<(), Fault<ImportCause>>
     requires so { IsGathered g.old }
     requires seen { IsSeen sighting.seen }
@@ -182,8 +181,8 @@ fn take_sighting(g: &mut Gathering, sighting: Sighting) -> Result<(), Fault<Impo
     Ok(())
 }
 
-/// Stores and plays the events of a line, if it is marked. After a rejection the import must not be
-/// used again.
+/// Stores and plays the events of a line; a line that isn't marked has none. The import must not be
+/// continued after a rejected line.
 pub(crate) fn take_line(g: &mut Gathering, line: &[u8]) -> Result<(), Fault<ImportCause>>
     requires { IsGathered g.old }
     ensures { TakesLine (events_of_line g.old.cpus (reached_in g.old) line.now) g.old g.new result }

@@ -1,6 +1,5 @@
-//! Imports an ftrace text from a file on a shelf (the trait for input files).
-//!
-//! The lines are parsed in `marked`, and their events are collected in `taking`.
+//! Imports an ftrace text from a file on a shelf (the trait for input files). The module `marked`
+//! parses the lines, and `taking` collects their events.
 ghost use Rattle.std.specs.Prelude.{◌≡◌, ◌+◌, ◌≤◌, ℕ, List, [], IfOk, IsErrOf, MatchResult, Some, None, Ok, true, false};
 ghost use Rattle.outside.specs.Outside.{content_of, IsAbsent, counts_of};
 ghost use Rattle.outside.specs.Reads.{ReadsFile};
@@ -20,13 +19,13 @@ use psi_base::{Act, Event, Fault, NoMemory};
 use psi_lines::{LineFault, Lines};
 use std::alloc::Global;
 
-/// The greatest number of lines; a text with more is rejected.
+/// The maximum number of lines. A longer text is rejected.
 const MOST_LINES: u32 = 16_000_000;
 
 /// Why an import fails.
 #[derive(Clone, Copy, Debug, PartialEq, Eq)]
 pub enum ImportFault {
-    /// A line is rejected, for the first cause that applies. Lines are numbered from 1.
+    /// A line is rejected, with the first cause against it. Lines are numbered from 1.
     Refused { line: u32, cause: ImportCause },
     /// The shelf has no file with this name.
     NoFile,
@@ -56,7 +55,7 @@ fn fault_at(line: u32, fault: Fault<ImportCause>) -> ImportFault
     }
 }
 
-/// Returns the fault of an import if a line can't be read.
+/// Converts the fault of reading a line to a fault of the import.
 fn import_fault(fault: LineFault) -> ImportFault
     ensures { result ≡ import_fault fault }
 {
@@ -75,8 +74,8 @@ fn import_fault(fault: LineFault) -> ImportFault
     }
 }
 
-/// Checks that no bytes follow after the greatest number of lines. Fails with `TooManyLines` if
-/// some do.
+/// Checks, after the maximum number of lines, that the file has no further bytes. Fails with
+/// `TooManyLines` if it has.
 fn look_after<S: Shelf>(
     g: &Gathering,
     lines: &mut Lines,
@@ -109,7 +108,7 @@ fn look_after<S: Shelf>(
     }
 }
 
-/// Reads and takes the next line. Returns false if there is none.
+/// Reads the next line and takes its events. Returns false at the end of the file.
 fn take_next<S: Shelf>(
     g: &mut Gathering,
     lines: &mut Lines,
@@ -143,8 +142,8 @@ fn take_next<S: Shelf>(
     }
 }
 
-/// Reads and takes the next line, or checks that no bytes follow after the greatest number of
-/// lines. Returns false at the end of the file.
+/// Reads the next line and takes its events. After the maximum number of lines, only checks that
+/// the file has no further bytes. Returns false at the end of the file.
 fn next_step<S: Shelf>(
     g: &mut Gathering,
     lines: &mut Lines,
@@ -175,7 +174,7 @@ fn next_step<S: Shelf>(
     }
 }
 
-/// Reads and takes all lines of a file. The loop ends after at most 16,000,001 steps.
+/// Reads all lines of a file and takes their events. The loop ends after at most 16,000,001 steps.
 fn take_lines<S: Shelf>(
     g: &mut Gathering,
     lines: &mut Lines,
@@ -210,11 +209,11 @@ fn take_lines<S: Shelf>(
     }
 }
 
-/// Reads a file's ftrace text and collects its events, for a machine with 1 to 64 processors. Reads
-/// at most 16,000,000 lines, and checks that none follows.
+/// Reads the ftrace text in a file and collects its events, for a machine with 1 to 64 processors.
+/// Reads at most 16,000,000 lines, and checks that the file has no further bytes.
 ///
-/// `NoFile` and `ReadFault` are returned only if the shelf counted a missing file or a failed read
-/// in this call.
+/// Returns `NoFile` or `ReadFault` only if the shelf counted a missing file or a failed read during
+/// this call.
 pub fn gather<S: Shelf>(
     alloc: Global,
     shelf: &mut S,
@@ -243,11 +242,12 @@ pub fn gather<S: Shelf>(
     }
 }
 
-/// Imports a file's ftrace text, and returns its events, including the end. Fails with `Refused` at
-/// the first rejected line, with its first cause.
+/// Imports the ftrace text in a file, and returns its events, including the end of the trace. Fails
+/// with `Refused` at the first rejected line, with the first cause against it.
 ///
-/// The programs of this repository don't call it: they call [`read_import`](crate::read_import),
-/// which lends the same events one by one, and needs a third of the memory.
+/// No program of this repository calls this function. The programs call
+/// [`read_import`](crate::read_import), which lends the same events one by one and needs a third of
+/// the memory.
 pub fn import<S: Shelf>(
     alloc: Global,
     shelf: &mut S,
@@ -276,7 +276,7 @@ pub fn import<S: Shelf>(
     Ok(events)
 }
 
-/// Returns all events of an import, including the end.
+/// Returns all events of an import, including the end of the trace.
 fn all_events(alloc: Global, g: &Gathering) -> Result<Vec<Event>, NoMemory>
     ensures { IfOk result (λ events. events.items ≡ whole_events g.now) }
 {
