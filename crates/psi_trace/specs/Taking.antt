@@ -1,5 +1,5 @@
--- The result of a call that parses words of a line and consumes them, compared with the result of
--- its definition.
+-- Relates the result of a function that parses and consumes words of a line to the result that its
+-- definition gives.
 use Rattle.std.specs.Prelude.{◌≡◌, ℕ, List, [], ◌∷◌, Bool, true, false, Option, None, Some, Result, Ok, Err, ⊤}
 use Rattle.psi_base.specs.declared.event.Act.{Act}
 use Rattle.psi_base.specs.declared.event.Cause.{Cause}
@@ -9,34 +9,36 @@ use Rattle.psi_base.specs.declared.event.Fault.TheVariants.{Refused, NoMemory}
 use Rattle.psi_spec.specs.Fields.{Kind, path}
 use Rattle.psi_spec.specs.Grammar.{Verb, kinds_of, verb_of}
 
--- the call's result is the definition's result `read`, and the call leaves the same words, `rest`
+-- `TakesWords result rest read`: the function's result and the remaining words `rest` are those of
+-- `read`, which the definition gives.
 abbrev pub TakesWords : {A W : Type 0} → Result A Cause → W → Result (A × W) Cause → Type 0
 TakesWords (Ok x) rest read = read ≡ Ok (x, rest)
 TakesWords (Err cause) rest read = read ≡ Err cause
 
--- like `TakesWords`, but nothing is said if memory ran out
+-- `TakesAny result rest read`: like `TakesWords`, but nothing is stated if memory ran out.
 abbrev pub TakesAny : {A W : Type 0} → Result A (Fault Cause) → W → Result (A × W) Cause → Type 0
 TakesAny (Ok x) rest read = read ≡ Ok (x, rest)
 TakesAny (Err (Refused cause)) rest read = read ≡ Err cause
 TakesAny (Err (NoMemory _)) rest read = ⊤
 
--- the event at time `at` (ns) with this act, or the cause why the act wasn't parsed
+-- `dated at act`: the event with this act at the time `at` (ns), or the cause why the act is
+-- malformed.
 abbrev pub dated : ℕ → Result Act Cause → Result Event Cause
 dated at (Ok what) = Ok (record { at = at; act = what })
 dated at (Err why) = Err why
 
--- the list of kinds contains `path`
+-- Whether the list of field kinds contains a path.
 abbrev pub has_path : List Kind → Bool
 has_path [] = false
 has_path (path ∷ ks) = true
 has_path (k ∷ ks) = has_path ks
 
--- there is a verb, and one of its fields is a path
+-- Whether there is a verb, and one of its fields is a path.
 abbrev pub takes_path : Option Verb → Bool
 takes_path None = false
 takes_path (Some verb) = has_path (kinds_of verb)
 
--- the first word is a verb of the list, and one of its fields is a path
+-- Whether the first word is one of the verbs, and one of the verb's fields is a path.
 abbrev pub names_path : List Verb → List (List ℕ) → Bool
 names_path verbs [] = false
 names_path verbs (text ∷ words) = takes_path (verb_of verbs text)

@@ -1,14 +1,14 @@
--- The words of an event line after its time, as they are written.
+-- Defines the words of an event line after its time, as they are written.
 use Rattle.std.specs.Prelude.{ℕ, List, [], ◌∷◌, ◌++◌, Bool, true, false}
 use Rattle.psi_base.specs.declared.event.Act.{Act}
 use Rattle.psi_base.specs.declared.event.Act.TheVariants as act
 
--- the words, with a space before each
+-- Joins the words, with a space before each word.
 abbrev pub spaced : List (List ℕ) → List ℕ
 spaced [] = []
 spaced (text ∷ words) = 32 ∷ text ++ spaced words
 
--- the act has few words and no path, so its line fits in a `ShortLine`
+-- Whether the act has few words and no path, so that its line fits in a `ShortLine`.
 abbrev pub is_short : Act → Bool
 is_short (act.Wake pid cpu) = true
 is_short (act.Switch cpu next how) = true

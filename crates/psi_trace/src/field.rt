@@ -1,7 +1,8 @@
-//! Parses the fields of an event line. Each function takes the next word of the line, and parses it
-//! as a value of one kind.
+//! Parses the fields of an event line. Each function takes the next word of the line and parses it
+//! as one kind of value, such as a pid or a path.
 //!
-//! The functions don't know the verb of the line: `read` calls the right ones for each verb.
+//! The functions don't depend on the verb of the line: `read` calls the functions that fit each
+//! verb.
 ghost use Rattle.std.specs.Prelude.{◌≡◌, ◌^◌, ◌≢◌, [], ◌∷◌, nat_lt, true, false, MatchResult};
 ghost use Rattle.psi_base.specs.declared.event.Cause.TheVariants as cause;
 ghost use Rattle.psi_spec.specs.Fields as kind;
@@ -12,13 +13,13 @@ ghost use Rattle.psi_trace.specs.Taking.{TakesAny, TakesWords};
 use psi_base::{Cause, Cpu, Fault, How, Level, Parts, Path, Pid, Preference, Res, read_number};
 use std::alloc::Global;
 
-/// The words of a line that aren't parsed yet.
+/// The words of a line that aren't parsed yet, separated by spaces.
 pub type Words<'a> = Parts<'a, b' '>;
 
-/// The greatest value of a size (bytes) or quantity in a `mem` or `host` line.
+/// The greatest size (bytes) or quantity (pages) in a `mem` or `host` line.
 const LARGEST_AMOUNT: u64 = 1 << 60;
 
-// Takes the next word. Fails with `BadField(index)` if none is left.
+// Takes the next word. Fails with `BadField(index)` if there is no further word.
 fn next_word<'a>(words: &mut Words<'a>, index: u8) -> Result<&'a [u8], Cause>
     ensures { MatchResult result (λ text. words.old ≡ text.now ∷ words.new)
         (λ e. (e ≡ cause.BadField index) × (words.old ≡ [])) }
@@ -26,7 +27,7 @@ fn next_word<'a>(words: &mut Words<'a>, index: u8) -> Result<&'a [u8], Cause>
     words.next_part().ok_or(Cause::BadField(index))
 }
 
-// Parses a number below 2^32. `None` if `word` isn't one.
+// Parses a number below 2^32. Returns `None` if `word` isn't such a number.
 fn small_number(word: &[u8]) -> Option<u32>
     ensures { result ≡ number_in (λ n. nat_lt n (2 ^ 32)) word.now }
 {
@@ -90,35 +91,35 @@ fn account_in(word: &[u8]) -> Option<bool>
     }
 }
 
-/// Parses field number `index` as a task (pid).
+/// Parses field number `index` as a pid.
 pub fn pid_field(words: &mut Words, index: u8) -> Result<Pid, Cause>
     ensures { TakesWords result words.new (field index kind.pid words.old) }
 {
     pid_in(next_word(words, index)?).ok_or(Cause::BadField(index))
 }
 
-/// Parses field number `index` as the next task: a pid, or 0 for no task (`None`).
+/// Parses field number `index` as the next task of a switch: a pid, or 0 for no task (`None`).
 pub fn next_field(words: &mut Words, index: u8) -> Result<Option<Pid>, Cause>
     ensures { TakesWords result words.new (field index kind.next words.old) }
 {
     next_in(next_word(words, index)?).ok_or(Cause::BadField(index))
 }
 
-/// Parses field number `index` as a processor.
+/// Parses field number `index` as the number of a processor.
 pub fn cpu_field(words: &mut Words, index: u8) -> Result<Cpu, Cause>
     ensures { TakesWords result words.new (field index kind.cpu words.old) }
 {
     cpu_in(next_word(words, index)?).ok_or(Cause::BadField(index))
 }
 
-/// Parses field number `index` as a size or quantity of at most 2^60.
+/// Parses field number `index` as a size (bytes) or quantity (pages), which is at most 2^60.
 pub fn amount_field(words: &mut Words, index: u8) -> Result<u64, Cause>
     ensures { TakesWords result words.new (field index kind.amount words.old) }
 {
     amount_in(next_word(words, index)?).ok_or(Cause::BadField(index))
 }
 
-/// Parses field number `index` as any 64-bit number.
+/// Parses field number `index` as a number below 2^64.
 #[tactic(auto, unfolding(psi_spec::specs::Fields::value_of))]
 pub fn number_field(words: &mut Words, index: u8) -> Result<u64, Cause>
     ensures { TakesWords result words.new (field index kind.number words.old) }
@@ -134,7 +135,7 @@ pub fn how_field(words: &mut Words, index: u8) -> Result<How, Cause>
     How::of(next_word(words, index)?).ok_or(Cause::BadField(index))
 }
 
-/// Parses field number `index` as a group's kill preference.
+/// Parses field number `index` as the kill preference of a group.
 #[tactic(auto, unfolding(psi_spec::specs::Fields::value_of))]
 pub fn preference_field(words: &mut Words, index: u8) -> Result<Preference, Cause>
     ensures { TakesWords result words.new (field index kind.preference words.old) }
@@ -142,7 +143,7 @@ pub fn preference_field(words: &mut Words, index: u8) -> Result<Preference, Caus
     Preference::of(next_word(words, index)?).ok_or(Cause::BadField(index))
 }
 
-/// Parses field number `index` as a resource.
+/// Parses field number `index` as the name of a resource.
 #[tactic(auto, unfolding(psi_spec::specs::Fields::value_of))]
 pub fn resource_field(words: &mut Words, index: u8) -> Result<Res, Cause>
     ensures { TakesWords result words.new (field index kind.resource words.old) }
@@ -165,7 +166,7 @@ pub fn account_field(words: &mut Words, index: u8) -> Result<bool, Cause>
     account_in(next_word(words, index)?).ok_or(Cause::BadField(index))
 }
 
-/// Parses field number `index` as a group's path. Allocates the path's bytes.
+/// Parses field number `index` as the path of a group. Allocates memory for the path.
 #[tactic(auto, unfolding(psi_spec::specs::Fields::value_of))]
 pub fn path_field(alloc: Global, words: &mut Words, index: u8) -> Result<Path, Fault<Cause>>
     ensures { TakesAny result words.new (field index kind.path words.old) }
@@ -177,7 +178,7 @@ pub fn path_field(alloc: Global, words: &mut Words, index: u8) -> Result<Path, F
     }
 }
 
-/// Checks that no word is left. Fails with `BadField(index)` if one is.
+/// Checks that no word is left. Fails with `BadField(index)` if there is one more word.
 pub fn end_of(words: &mut Words, index: u8) -> Result<(), Cause>
     ensures { MatchResult result (λ _. words.old ≡ [])
         (λ e. (e ≡ cause.BadField index) × (words.old ≢ [])) }

@@ -1,6 +1,4 @@
-//! Parses the header of a trace, which is its first line.
-//!
-//! Headers are written in `write`.
+//! Parses the header of a trace, which is the first line. The module `write` writes headers.
 ghost use Rattle.std.specs.Prelude.{◌≡◌, ◌≢◌, ℕ, ◌≤◌, ◌++◌, None, Some, IfSome, MatchOption, MatchResult, option_map};
 ghost use Rattle.psi_base.specs.declared.event.Cause.TheVariants as cause;
 ghost use Rattle.psi_spec.specs.Grammar.{header, header_of, versions};
@@ -9,17 +7,17 @@ ghost use Rattle.psi_trace.specs.Heads.{before_cpus};
 
 use psi_base::{Cause, read_number};
 
-/// The contents of a header.
+/// The contents of a trace's header.
 #[derive(Clone, Copy, Debug, PartialEq, Eq)]
 pub struct Header {
-    /// The trace's version, 1 or 2.
+    /// The version of the trace format, 1 or 2.
     pub version: u32,
     /// The number of processors, 1 to 64.
     pub cpus: u32,
 }
 
-// Returns the version of a header, and the bytes that spell the number of processors. `None` if the
-// line doesn't begin like a header of version 1 or 2.
+// Returns the version in a header, and the bytes for the number of processors. Returns `None` if
+// the line doesn't begin like a header of version 1 or 2.
 fn version_in(line: &[u8]) -> Option<(u32, &[u8])>
     ensures { MatchOption result
         ((version n : ℕ) → IsVersion version → line.now ≢ header version n)
@@ -50,8 +48,8 @@ fn header_in(line: &[u8]) -> Option<Header>
     })
 }
 
-/// Parses a header line without its newline. Fails with `BadHeader` if the line isn't a header of
-/// version 1 or 2 with 1 to 64 processors.
+/// Parses a header line, given without its newline. Fails with `BadHeader` if the line isn't a
+/// header of version 1 or 2 with 1 to 64 processors.
 pub fn read_header(line: &[u8]) -> Result<Header, Cause>
     ensures spelled { MatchResult result
         (λ head. IsVersion head.version × (1 ≤ head.cpus) × (head.cpus ≤ 64)

@@ -1,9 +1,9 @@
 //! The lines of a trace: parses and writes headers and events.
 //!
-//! Lines are passed without their newline. The words of a line are separated by single spaces,
-//! numbers are decimal without leading zeros, and each event has exactly one spelling: parsing a
-//! line and writing its event gives the same bytes. [`take_prefix`] parses a frequent line at the
-//! start of buffered bytes, and plays its event.
+//! Lines are passed without their newline. The words of a line are separated by single spaces, and
+//! numbers are decimal without leading zeros. Each event has exactly one line: parsing a line and
+//! writing its event gives the same bytes. [`take_prefix`] parses a line with one of the frequent
+//! verbs at the start of buffered bytes, and plays its event.
 //!
 //! This crate doesn't decide whether an event is legal (task_table does), and doesn't read files.
 #![tactic(auto)]

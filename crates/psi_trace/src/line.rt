@@ -1,25 +1,26 @@
-//! A buffer of fixed size for one line, which is written from its end to its start.
-//!
-//! It knows no words of a trace: `write` and `word` put them into the line.
+//! A buffer of fixed size for one line, which is written from its end to its start. The buffer has
+//! no words of the trace format: `write` and `word` add them to the line.
 ghost use Rattle.std.specs.Prelude.{◌≡◌, ◌+◌, ◌≤◌, ◌++◌, [], decimal, length};
 
 use std::marker::Model;
 
-/// A line of at most `ROOM` bytes; contracts see the bytes that are written. The line is written
-/// from its end to its start, so that the digits of a number are put directly in their final place.
+/// A line of at most `ROOM` bytes. In contracts it is the list of the bytes written so far. The
+/// line is written from its end to its start, so that each digit of a number is stored directly in
+/// its final place.
 #[derive(Drop)]
 pub(crate) struct LineBuffer<const ROOM: usize> {
     bytes: [u8; ROOM],
-    /// The index of the first byte that is written.
+    /// The index of the first byte written so far.
     start: usize,
 }
 
-/// A header, or the line of an event with few words and no path. The longest is a `switch`: time,
-/// verb, processor, task and how the previous task leaves.
+/// A header, or the line of an event with few words and no path. The longest such line is a
+/// `switch`, with the time, the verb, the processor, the next task and the way in which the
+/// previous task leaves.
 pub(crate) type ShortLine = LineBuffer<80>;
 
-/// The line of any other event. The longest is the memory sample of a group with a path of 255
-/// bytes.
+/// The line of any other event. The longest such line is the memory sample of a group with a path
+/// of 255 bytes.
 pub(crate) type LongLine = LineBuffer<384>;
 
 impl<const ROOM: usize> Model for LineBuffer<ROOM> {
@@ -33,7 +34,7 @@ impl<const ROOM: usize> Model for LineBuffer<ROOM> {
 }
 
 impl<const ROOM: usize> LineBuffer<ROOM> {
-    /// Returns an empty line.
+    /// Creates an empty line.
     #[inline(always)]
     pub(crate) fn new() -> LineBuffer<ROOM>
         ensures { result ≡ [] }
@@ -44,7 +45,7 @@ impl<const ROOM: usize> LineBuffer<ROOM> {
         }
     }
 
-    /// Returns the bytes that are written.
+    /// Returns the bytes written so far.
     #[inline(always)]
     pub(crate) fn bytes(&self) -> &[u8]
         ensures { result.now ≡ self.now }
@@ -53,7 +54,7 @@ impl<const ROOM: usize> LineBuffer<ROOM> {
         &all[self.start..]
     }
 
-    /// Prepends bytes. Precondition: there is room for them.
+    /// Adds bytes at the start of the line. Precondition: the line has room for the bytes.
     #[inline(always)]
     pub(crate) fn text(&mut self, text: &[u8])
         requires { length text.now + length self.old ≤ ROOM }
@@ -67,7 +68,8 @@ impl<const ROOM: usize> LineBuffer<ROOM> {
         self.start = start;
     }
 
-    /// Prepends a number in decimal digits. Precondition: there is room for 20 bytes.
+    /// Adds a number in decimal digits at the start of the line. Precondition: the line has room
+    /// for 20 bytes.
     #[inline(always)]
     pub(crate) fn number(&mut self, number: u64)
         requires { 20 + length self.old ≤ ROOM }

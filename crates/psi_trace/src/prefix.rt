@@ -1,9 +1,9 @@
-//! Parses the most frequent lines of a trace in place, and plays their events: `switch`, `wake`,
-//! `stall`, `unstall` and `migrate`.
+//! Parses the lines with the most frequent verbs (`switch`, `wake`, `stall`, `unstall` and
+//! `migrate`) in the buffer, and plays their events.
 //!
 //! Each line is parsed in one pass from the left, up to its newline. The result is `None` if the
-//! bytes don't begin with such a line, and says nothing about why: `read_event` parses any line,
-//! and reports what is wrong with it.
+//! bytes don't begin with such a line, without a reason. `read_event` parses any line, and reports
+//! the error in a malformed line.
 ghost use Rattle.std.specs.Prelude.{◌≡◌, ◌+◌, ◌<◌, ◌≤◌, ◌^◌, ◌∷◌, ◌++◌, ◌↔◌, IfNone, IfSome, IsTrue, codes, decimal, false, length};
 ghost use Rattle.psi_spec.specs.Fields.{how_word, next_word, IsPid};
 ghost use Rattle.psi_spec.specs.Refusal.{is_exit};
@@ -12,20 +12,20 @@ ghost use Rattle.psi_trace.specs.Prefix.{AreDigits, AreFour, BeginsWithTaskAct, 
 use psi_base::{Cause, Cpu, Fault, How, Ns, Pid};
 use trace_player::{Player, TaskAct};
 
-/// The greatest number of digits that is parsed: every number of 19 digits fits in 64 bits.
+/// The maximum number of digits parsed here. Every number of 19 digits fits in 64 bits.
 const MOST_DIGITS: usize = 19;
 
-/// A line at the start of buffered bytes. Its event was passed to a player.
+/// A line at the start of buffered bytes, whose event was passed to a player.
 #[derive(Clone, Copy)]
 pub struct PlayedLine {
-    /// The number of bytes of the line before its newline.
+    /// The length (bytes) of the line without its newline.
     pub count: usize,
-    /// The player's answer.
+    /// The player's result for the event.
     pub answer: Result<(), Fault<Cause>>,
 }
 
-// Returns the number that the four digits from index `place` write, or `None` if one of the four
-// bytes isn't a digit.
+// Returns the value of the four digits at index `place`, or `None` if one of the four bytes isn't a
+// digit.
 #[inline(always)]
 fn four_at(bytes: &[u8], place: usize) -> Option<u64>
     requires { place + 4 ≤ length bytes.now }
@@ -35,7 +35,7 @@ fn four_at(bytes: &[u8], place: usize) -> Option<u64>
     let second = bytes[place + 1];
     let third = bytes[place + 2];
     let fourth = bytes[place + 3];
-    // The tests are combined with `&`, which needs one branch; `&&` would need four.
+    // Combining the tests with `&` takes one branch, while `&&` would take four.
     if !(is_digit(first) & is_digit(second) & is_digit(third) & is_digit(fourth)) {
         return None;
     }
@@ -72,8 +72,8 @@ fn digit(byte: u8) -> Option<u64>
     Some(value_of(byte))
 }
 
-// Reads leading digits in groups of four, as long as four digits follow, up to 16 digits. Returns
-// their value and their count.
+// Parses the digits at the start of the bytes in groups of four, up to 16 digits. Stops at the
+// first group that isn't four digits. Returns the value and the number of the parsed digits.
 #[inline(always)]
 fn fours_before(bytes: &[u8]) -> (u64, usize)
     ensures are { AreDigits bytes.now result.0 result.1 }
@@ -93,8 +93,8 @@ fn fours_before(bytes: &[u8]) -> (u64, usize)
     (number, count)
 }
 
-// Continues to read a number whose first `place` digits have the value `written`. Returns the value
-// and the count of all leading digits, at most 19.
+// Continues to parse a number whose first `place` digits have the value `written`. Returns the
+// value and the number of all digits, at most 19.
 #[inline(always)]
 fn continue_digits(bytes: &[u8], written: u64, place: usize) -> (u64, usize)
     requires are { AreDigits bytes.now written place }
@@ -115,8 +115,9 @@ fn continue_digits(bytes: &[u8], written: u64, place: usize) -> (u64, usize)
     (number, count)
 }
 
-// Returns `number` and the bytes after `end`, if the byte `end` follows the `count` digits and they
-// have no leading zero. `None` otherwise.
+// Checks the end of a number with the value `number` and `count` digits. Returns `number` and the
+// bytes after `end` if the number has no leading zero and the byte `end` follows it, otherwise
+// `None`.
 #[inline(always)]
 fn ended_by(bytes: &[u8], number: u64, count: usize, end: u8) -> Option<(u64, &[u8])>
     requires { AreDigits bytes.now number count }
@@ -131,8 +132,8 @@ fn ended_by(bytes: &[u8], number: u64, count: usize, end: u8) -> Option<(u64, &[
     Some((number, &bytes[count + 1..]))
 }
 
-// Returns the number at the start of the bytes, and the bytes after `end`. `None` if the byte `end`
-// doesn't follow the number, or the number has more than 19 digits.
+// Parses the number at the start of the bytes. Returns the number and the bytes after `end`, or
+// `None` if the byte `end` doesn't follow the number or the number has more than 19 digits.
 #[inline(always)]
 fn number_before(bytes: &[u8], end: u8) -> Option<(u64, &[u8])>
     ensures { IfSome result (λ found. bytes.now ≡ decimal found.0 ++ end ∷ found.1.now) }
@@ -141,8 +142,8 @@ fn number_before(bytes: &[u8], end: u8) -> Option<(u64, &[u8])>
     ended_by(bytes, number, count, end)
 }
 
-// Like `number_before` with a space as `end`, for a time (ns). Most times have many digits, so they
-// are read in groups of four.
+// Like `number_before` with a space as `end`, for a time (ns). The digits are parsed in groups of
+// four, because most times have many digits.
 #[inline(always)]
 fn time_before(bytes: &[u8]) -> Option<(Ns, &[u8])>
     ensures { IfSome result (λ found. bytes.now ≡ decimal found.0 ++ 32 ∷ found.1.now) }
@@ -163,7 +164,7 @@ fn small_before(bytes: &[u8], end: u8) -> Option<(u32, &[u8])>
     }
 }
 
-// Like `number_before`, for a task (a pid from 1).
+// Like `number_before`, for a pid (at least 1).
 #[inline(always)]
 fn pid_before(bytes: &[u8], end: u8) -> Option<(Pid, &[u8])>
     ensures { IfSome result (λ found. IsPid found.0
@@ -175,7 +176,7 @@ fn pid_before(bytes: &[u8], end: u8) -> Option<(Pid, &[u8])>
     }
 }
 
-// Like `number_before`, for a processor.
+// Like `number_before`, for the number of a processor.
 #[inline(always)]
 fn cpu_before(bytes: &[u8], end: u8) -> Option<(Cpu, &[u8])>
     ensures { IfSome result (λ found. (found.0.0 < 2 ^ 32)
@@ -185,7 +186,7 @@ fn cpu_before(bytes: &[u8], end: u8) -> Option<(Cpu, &[u8])>
     Some((Cpu(number), rest))
 }
 
-// Like `number_before`, for the next task: 0 means no task.
+// Like `number_before`, for the next task of a switch. The number 0 means no task.
 #[inline(always)]
 fn next_before(bytes: &[u8], end: u8) -> Option<(Option<Pid>, &[u8])>
     ensures { IfSome result (λ found. IfSome found.0 IsPid
@@ -198,8 +199,8 @@ fn next_before(bytes: &[u8], end: u8) -> Option<(Option<Pid>, &[u8])>
     Some((Some(Pid(number)), rest))
 }
 
-// Returns how the running task leaves its processor, and the bytes after the newline, if the bytes
-// are one of the words except `exit`, followed by a newline. `None` otherwise.
+// If the bytes begin with a way in which the running task leaves (other than `exit`) and a newline,
+// returns the way and the bytes after the newline, otherwise `None`.
 #[inline(always)]
 fn how_before_newline(bytes: &[u8]) -> Option<(How, &[u8])>
     ensures word { IfSome result (λ found. bytes.now ≡ how_word found.0 ++ 10 ∷ found.1.now) }
@@ -220,8 +221,8 @@ fn how_before_newline(bytes: &[u8]) -> Option<(How, &[u8])>
     None
 }
 
-// This function and the next four parse the fields of one verb. Each returns the task act (a
-// frequent event that concerns a task) and the bytes after the newline, or `None` if the bytes
+// Each of the next five functions parses the fields of one verb. It returns the task act (the act
+// of an event that concerns only tasks) and the bytes after the newline, or `None` if the bytes
 // don't begin with the verb's fields and a newline.
 
 #[inline(always)]
@@ -273,8 +274,8 @@ fn migrate_in(fields: &[u8]) -> Option<(TaskAct, &[u8])>
     Some((TaskAct::Migrate { pid, cpu }, rest))
 }
 
-// Returns the task act whose verb and fields the bytes begin with, and the bytes after its newline.
-// `None` if there is none.
+// Parses the verb and the fields of a task act at the start of the bytes. Returns the task act and
+// the bytes after the newline, or `None` if the bytes don't begin with a task act.
 #[inline(always)]
 fn task_act_in(bytes: &[u8]) -> Option<(TaskAct, &[u8])>
     ensures { IfSome result (λ found. BeginsWithTaskAct bytes.now found.0 found.1.now) }
@@ -297,10 +298,10 @@ fn task_act_in(bytes: &[u8]) -> Option<(TaskAct, &[u8])>
     None
 }
 
-/// Plays the event of the line at the start of `bytes`, if it is a `wake`, `stall`, `unstall`,
-/// `migrate`, or a `switch` that isn't an exit: the same event that
-/// [`read_event`](crate::read_event) returns. For any other line, and for a few of these lines
-/// (times of 20 digits), returns `None` and plays nothing.
+/// Plays the event of the line at the start of `bytes`, if the line is a `wake`, `stall`, `unstall`
+/// or `migrate`, or a `switch` that isn't an exit. The event is the one that
+/// [`read_event`](crate::read_event) returns for the line. For any other line, and for a line with
+/// a time of 20 digits, returns `None` and plays nothing.
 // All verbs share one call of the player, so that its code is inlined once.
 #[inline(always)]
 pub fn take_prefix<P: Player>(bytes: &[u8], player: &mut P) -> Option<PlayedLine>

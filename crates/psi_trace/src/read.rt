@@ -1,6 +1,5 @@
-//! Parses an event line of a trace.
-//!
-//! It doesn't check whether the event is legal after the earlier events.
+//! Parses an event line of a trace. The module doesn't check whether the event is legal after the
+//! earlier events: task_table does.
 ghost use Rattle.std.specs.Prelude.{◌≡◌, ◌≢◌, IfOk, Err, drop, true};
 ghost use Rattle.psi_base.specs.Path.{parts_at};
 ghost use Rattle.psi_base.specs.declared.event.Cause.{Cause};
@@ -20,10 +19,10 @@ use crate::field::{
 use psi_base::{Act, Cause, Event, Fault, Ns, Parts, read_number};
 use std::alloc::Global;
 
-// The functions from here to `end_of_trace` each parse the fields of one verb, and return its event
-// at time `at` (ns). Each builds the whole result in place, so that nothing is copied. They are
-// inlined, because a call would clear the memory of its result for every line, whichever verb the
-// line has.
+// Each function from here to `end_of_trace` parses the fields of one verb, and returns the event at
+// the time `at` (ns). The functions build their result in place, so that nothing is copied. They
+// are inlined, because otherwise the memory for their results would be cleared for every line,
+// regardless of the line's verb.
 
 #[tactic(auto, unfolding(psi_spec::specs::Grammar::act_from))]
 #[inline(always)]
@@ -242,9 +241,9 @@ fn end_of_trace(at: Ns, mut words: Words) -> Result<Event, Fault<Cause>>
     Ok(Event { at, act })
 }
 
-// Parses the verb, which is the next word, and its fields, and returns the event at time `at` (ns).
-// The most frequent verbs are tested first. The tests are split over three functions, because the
-// proof of each test goes over all tests before it in the function.
+// Parses the next word as the verb, and then the verb's fields. Returns the event at the time `at`
+// (ns). The most frequent verbs are tested first. The tests are split over three functions, because
+// the proof of each test repeats all earlier tests of the same function.
 #[tactic(auto, unfolding(psi_spec::specs::Grammar::act_at, psi_spec::specs::Grammar::verb_of))]
 fn event_at(alloc: Global, version: u32, at: Ns, mut words: Words) -> Result<Event, Fault<Cause>>
     ensures exact { Gives result (dated at (act_at (verbs_of (version_of version)) words.entry)) }
@@ -269,8 +268,8 @@ fn event_at(alloc: Global, version: u32, at: Ns, mut words: Words) -> Result<Eve
     }
 }
 
-// Like `event_at`, for a verb that isn't one of the first five. Inlined like the functions of the
-// verbs.
+// Like `event_at`, for a verb that isn't one of the first five. The function is inlined for the
+// same reason as the functions of the verbs.
 #[tactic(auto, unfolding(psi_spec::specs::Grammar::verb_of))]
 #[inline(always)]
 fn rarer_event_at(
@@ -300,8 +299,8 @@ fn rarer_event_at(
     }
 }
 
-// Like `event_at`, for a verb that isn't one of the first ten. Inlined like the functions of the
-// verbs.
+// Like `event_at`, for a verb that isn't one of the first ten. The function is inlined for the same
+// reason as the functions of the verbs.
 #[tactic(auto, unfolding(psi_spec::specs::Grammar::verb_of))]
 #[inline(always)]
 fn rarest_event_at(
@@ -333,7 +332,8 @@ fn rarest_event_at(
     }
 }
 
-// Parses a line of a trace of this version: a time (ns), followed by an act (what the event does).
+// Parses a line of a trace of this version: a time (ns), followed by an act. An act is an event
+// without its time.
 #[tactic(auto, unfolding(psi_spec::specs::Grammar::event_of, psi_spec::specs::Grammar::event_at))]
 fn event_in(alloc: Global, version: u32, line: &[u8]) -> Result<Event, Fault<Cause>>
     ensures exact { Gives result (event_of (verbs_of (version_of version)) line.now) }
@@ -350,10 +350,10 @@ fn event_in(alloc: Global, version: u32, line: &[u8]) -> Result<Event, Fault<Cau
     event_at(alloc, version, at, words)
 }
 
-/// Parses the line of an event, without its newline, in a trace of version 1 or 2. Fails with the
-/// first cause from the left: `BadTime`, `BadVerb`, or `BadField` with the number of the leftmost
-/// field that is missing, malformed or surplus. Only a path is allocated, so `NoMemory` is possible
-/// only for a verb with a path among its fields.
+/// Parses the line of an event, given without its newline, in a trace of version 1 or 2. Fails with
+/// the first cause from the left: `BadTime`, `BadVerb`, or `BadField` with the number of the
+/// leftmost field that is missing, malformed or surplus. Only paths are allocated, so `NoMemory` is
+/// possible only for a verb with a path among its fields.
 pub fn read_event(alloc: Global, version: u32, line: &[u8]) -> Result<Event, Fault<Cause>>
     requires version { IsVersion version }
     ensures exact { Gives result (event_of (verbs_of (version_of version)) line.now) }

@@ -1,13 +1,12 @@
-//! Writes single fields of an event into its line.
-//!
-//! A line is written from its end to its start, so each function prepends.
+//! Writes single fields of an event into its line. A line is written from its end to its start, so
+//! each function adds its field at the start.
 ghost use Rattle.std.specs.Prelude.{◌≡◌, ◌≤◌, ◌+◌, ◌++◌, ◌∷◌, [], decimal, length};
 ghost use Rattle.psi_spec.specs.Fields as fields;
 ghost use Rattle.psi_trace.specs.Writes.{spaced};
 
 use crate::line::{LineBuffer, LongLine};
 
-/// Prepends a space and a number.
+/// Adds a space and a number at the start of the line.
 #[tactic(auto, using(crate::proofs::InPieces::lines))]
 pub(crate) fn put_number(line: &mut LongLine, number: u64)
     requires { length line.old ≤ 63 }
@@ -18,7 +17,7 @@ pub(crate) fn put_number(line: &mut LongLine, number: u64)
     line.text(b" ");
 }
 
-/// Prepends three numbers, each after a space.
+/// Adds three numbers at the start of the line, each after a space.
 #[tactic(auto, using(crate::proofs::InPieces::lines))]
 pub(crate) fn put_numbers(line: &mut LongLine, first: u64, second: u64, third: u64)
     requires { length line.old ≡ 0 }
@@ -31,7 +30,7 @@ pub(crate) fn put_numbers(line: &mut LongLine, first: u64, second: u64, third: u
     put_number(line, first);
 }
 
-/// Prepends a space and a word.
+/// Adds a space and a word at the start of the line.
 #[inline(always)]
 pub(crate) fn put_word<const ROOM: usize>(line: &mut LineBuffer<ROOM>, word: &str)
     requires { 1 + length word.now + length line.old ≤ ROOM }
@@ -42,7 +41,7 @@ pub(crate) fn put_word<const ROOM: usize>(line: &mut LineBuffer<ROOM>, word: &st
     line.text(b" ");
 }
 
-/// Prepends a space, and `on` or `off` for a group's accounting.
+/// Adds a space and `on` or `off` (for a group's accounting) at the start of the line.
 pub(crate) fn put_account(line: &mut LongLine, on: bool)
     requires { length line.old ≤ 63 }
     ensures bytes { line.new ≡ 32 ∷ fields.account_word on ++ line.old }

@@ -1,7 +1,5 @@
-//! Writes headers and events as lines of a trace.
-//!
-//! Each line is built on the stack, and then appended to a buffer; nothing is written to a file
-//! here.
+//! Writes headers and events as lines of a trace. Each line is built on the stack and then appended
+//! to a buffer in memory. The module writes no files.
 ghost use Rattle.std.specs.Prelude.{◌≡◌, ◌≤◌, ◌<◌, ◌+◌, ◌++◌, ◌∷◌, [], true, false, OnOk, OnErr, codes, decimal, length};
 ghost use Rattle.std.specs.Prelude.{vec_capacity, vec_len};
 ghost use Rattle.psi_spec.specs.Fields as fields;
@@ -13,7 +11,7 @@ use crate::line::{LongLine, ShortLine};
 use crate::word::{put_account, put_number, put_numbers, put_word};
 use psi_base::{Act, Cpu, Event, How, Level, NoMemory, Path, Pid, Preference, Res};
 
-/// Returns whether the act has few words and no path, so that its line fits in a `ShortLine`.
+/// Whether an act has few words and no path, so that its line fits in a `ShortLine`.
 fn is_short(act: &Act) -> bool
     ensures { result ≡ is_short act.now }
 {
@@ -29,8 +27,7 @@ fn is_short(act: &Act) -> bool
     )
 }
 
-/// Writes the words of a short act into an empty line, each after a space. Precondition:
-/// `is_short(act)`.
+/// Writes the words of a short act (`is_short`) into an empty line, each after a space.
 #[tactic(auto, using(crate::proofs::InPieces::lines))]
 fn put_short_act(line: &mut ShortLine, act: &Act)
     requires short { is_short act.now ≡ true }
@@ -50,8 +47,7 @@ fn put_short_act(line: &mut ShortLine, act: &Act)
     }
 }
 
-/// Writes the words of any other act into an empty line, each after a space. Precondition: not
-/// `is_short(act)`.
+/// Writes the words of an act that isn't short into an empty line, each after a space.
 #[tactic(auto, using(crate::proofs::InPieces::lines))]
 fn put_long_act(line: &mut LongLine, act: &Act)
     requires long { is_short act.now ≡ false }
@@ -88,7 +84,8 @@ fn put_long_act(line: &mut LongLine, act: &Act)
     }
 }
 
-/// Prepends a verb, passed with a space before and after it, and a group's path.
+/// Adds a verb and a group's path at the start of the line. `verb` includes the spaces before and
+/// after the verb.
 #[tactic(auto, using(crate::proofs::InPieces::lines))]
 fn put_group(line: &mut LongLine, verb: &[u8], path: &Path)
     requires room { length line.old ≤ 63 }
@@ -228,7 +225,8 @@ fn put_irq(line: &mut ShortLine, cpu: Cpu, ns: u64)
     line.text(b" irq ");
 }
 
-/// Prepends a verb, passed with a space before and after it, and a task.
+/// Adds a verb and a task at the start of the line. `verb` includes the spaces before and after the
+/// verb.
 #[inline(always)]
 #[tactic(auto, using(crate::proofs::InPieces::lines))]
 fn put_task(line: &mut ShortLine, verb: &[u8], pid: Pid)
@@ -241,7 +239,8 @@ fn put_task(line: &mut ShortLine, verb: &[u8], pid: Pid)
     line.text(verb);
 }
 
-/// Prepends a verb, passed with a space before and after it, a task, and a processor.
+/// Adds a verb, a task and a processor at the start of the line. `verb` includes the spaces before
+/// and after the verb.
 #[inline(always)]
 #[tactic(auto, using(crate::proofs::InPieces::lines))]
 fn put_task_on(line: &mut ShortLine, verb: &[u8], pid: Pid, cpu: Cpu)
@@ -256,7 +255,7 @@ fn put_task_on(line: &mut ShortLine, verb: &[u8], pid: Pid, cpu: Cpu)
     put_task(line, verb, pid);
 }
 
-/// Writes an event with a short act into an empty line. Precondition: `is_short(&event.act)`.
+/// Writes an event with a short act (`is_short`) into an empty line.
 #[tactic(auto, using(crate::proofs::InPieces::lines))]
 fn put_short(line: &mut ShortLine, event: &Event)
     requires short { is_short event.now.act ≡ true }
@@ -267,7 +266,7 @@ fn put_short(line: &mut ShortLine, event: &Event)
     line.number(event.at);
 }
 
-/// Writes an event with any other act into an empty line. Precondition: not `is_short(&event.act)`.
+/// Writes an event whose act isn't short into an empty line.
 #[tactic(auto, using(crate::proofs::InPieces::lines))]
 fn put_long(line: &mut LongLine, event: &Event)
     requires long { is_short event.now.act ≡ false }
@@ -288,8 +287,8 @@ fn put_header(line: &mut ShortLine, cpus: u32)
     line.text(b"psitrace 1 cpus=");
 }
 
-/// Appends bytes to a buffer. After `NoMemory` the buffer is unchanged, and its capacity was too
-/// small for the bytes.
+/// Appends bytes to a buffer. If the call fails with `NoMemory`, the buffer is unchanged, and its
+/// capacity was too small for the bytes.
 fn append(bytes: &[u8], to: &mut Vec<u8>) -> Result<(), NoMemory>
     ensures written { OnOk result (to.new.items ≡ to.old.items ++ bytes.now) }
     ensures unchanged { OnErr result (to.new.items ≡ to.old.items) }
@@ -300,8 +299,8 @@ fn append(bytes: &[u8], to: &mut Vec<u8>) -> Result<(), NoMemory>
     Ok(())
 }
 
-/// Appends the line of an event whose act isn't short. Not inlined, because a function with a
-/// `LongLine` on its stack clears it at each call.
+/// Appends the line of an event whose act isn't short. The function isn't inlined, because a
+/// function with a `LongLine` on its stack clears the `LongLine` at each call.
 #[inline(never)]
 fn write_long(event: &Event, to: &mut Vec<u8>) -> Result<(), NoMemory>
     requires { is_short event.now.act ≡ false }
@@ -316,8 +315,9 @@ fn write_long(event: &Event, to: &mut Vec<u8>) -> Result<(), NoMemory>
     append(line.bytes(), to)
 }
 
-/// Appends the header of version 1 for `cpus` processors, without a newline, to a buffer. After
-/// `NoMemory` the buffer is unchanged, and its capacity was too small for the header.
+/// Appends the header of version 1 for `cpus` processors to a buffer, without a newline. If the
+/// call fails with `NoMemory`, the buffer is unchanged, and its capacity was too small for the
+/// header.
 pub fn write_header(cpus: u32, to: &mut Vec<u8>) -> Result<(), NoMemory>
     ensures written { OnOk result (to.new.items ≡ to.old.items ++ header 1 cpus) }
     ensures unchanged { OnErr result (to.new.items ≡ to.old.items) }
@@ -330,9 +330,10 @@ pub fn write_header(cpus: u32, to: &mut Vec<u8>) -> Result<(), NoMemory>
     append(line.bytes(), to)
 }
 
-/// Appends the line of an event, without a newline, to a buffer. After `NoMemory` the buffer is
-/// unchanged, and its capacity was too small for the line. Precondition: the event's values are in
-/// the ranges of a trace (times below 2^64 ns, pids from 1, sizes and quantities of at most 2^60).
+/// Appends the line of an event to a buffer, without a newline. If the call fails with `NoMemory`,
+/// the buffer is unchanged, and its capacity was too small for the line. Precondition: the event's
+/// values are in the ranges of the trace format (times below 2^64 ns, pids of at least 1, sizes and
+/// quantities of at most 2^60).
 pub fn write_event(event: &Event, to: &mut Vec<u8>) -> Result<(), NoMemory>
     requires { Fits event.now }
     ensures written { OnOk result (to.new.items ≡ to.old.items ++ spelling event.now) }
