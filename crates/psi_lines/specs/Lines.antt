@@ -1,39 +1,41 @@
--- The state of a reader of lines, and what the bytes that it hasn't returned begin with.
+-- Defines the state of a reader of lines, and the line at the start of the bytes that it hasn't
+-- returned.
 use Rattle.std.specs.Prelude.{◌≡◌, ◌≢◌, ℕ, ◌≤◌, ◌<◌, List, ◌∷◌, ◌++◌, length, drop, slice_index}
 use Rattle.psi_base.specs.Path.{parts_at}
 
--- A reader: the file's name, the number of the next line (from 1), the bytes that were read and not
--- returned yet, and the offset (bytes) of the next read.
+-- The state of a reader: the file's name, the number of the next line (from 1), the bytes that were
+-- read but not returned yet, and the offset (bytes) of the next read.
 pub record Reader : Type 0 where
   pub name : List ℕ
   pub number : ℕ
   pub buffered : List ℕ
   pub at : ℕ
 
--- the bytes of the file that the reader hasn't returned yet
+-- `left reader bytes`: the bytes of the file that the reader hasn't returned yet.
 abbrev pub left : Reader → List ℕ → List ℕ
 left reader bytes = reader.buffered ++ drop reader.at bytes
 
--- the first `n` bytes contain no newline
+-- `HasNoNewline bytes n`: the first `n` bytes contain no newline.
 abbrev pub HasNoNewline : List ℕ → ℕ → Type 0
 HasNoNewline bytes n = (k : ℕ) → k < n → slice_index bytes k ≢ 10
 
--- the number of lines in the bytes, including an incomplete line after the last newline
+-- Returns the number of lines in the bytes, including an incomplete line after the last newline.
 abbrev pub line_count : List ℕ → ℕ
 line_count bytes = length (parts_at 10 bytes)
 
--- the bytes begin with `line`, of at most 512 bytes, and its newline; `after` follows
+-- `BeginsWithLine bytes line after`: the bytes are `line`, of at most 512 bytes, then a newline,
+-- then `after`.
 pub record BeginsWithLine (bytes line after : List ℕ) : Type 0 where
   pub whole : bytes ≡ line ++ 10 ∷ after
   pub short : length line ≤ 512
   pub one : HasNoNewline line (length line)
 
--- the bytes begin with 513 bytes without a newline: the line is too long
+-- The line at the start of the bytes is too long: the first 513 bytes contain no newline.
 pub record IsTooLong (bytes : List ℕ) : Type 0 where
   pub long : 513 ≤ length bytes
   pub none : HasNoNewline bytes 513
 
--- the bytes are 1 to 512 bytes without a newline: the end of the input cuts the line off
+-- The end of the input cuts off the line: the bytes are 1 to 512 bytes without a newline.
 pub record IsCut (bytes : List ℕ) : Type 0 where
   pub some : 0 < length bytes
   pub short : length bytes ≤ 512

@@ -1,6 +1,5 @@
-//! A buffer of fixed capacity for the bytes that a reader of lines has read and not returned yet.
-//!
-//! It doesn't look for newlines: `lines` does.
+//! A buffer of fixed capacity for the bytes that a reader of lines has read but not returned yet.
+//! The module `lines` searches the bytes for newlines.
 ghost use Rattle.std.specs.Prelude.{◌≡◌, ◌+◌, ◌-◌, ◌<◌, ◌≤◌, ◌⊎◌, [], ℕ, List, length, drop, take, IfOk, OnErr, IsErrOf, Some, None};
 ghost use Rattle.outside.specs.Outside.{content_of, IsAbsent, counts_of, count_read};
 ghost use Rattle.outside.specs.Reads.{ReadsFrom};
@@ -13,12 +12,12 @@ use psi_base::NoMemory;
 use std::alloc::Global;
 use std::marker::Model;
 
-/// The greatest length of a line with its newline (bytes). A read is needed only if fewer bytes are
-/// buffered.
+/// The maximum length (bytes) of a line with its newline. If at least this number of bytes is
+/// buffered, no read is needed.
 pub(crate) const LINE: usize = 513;
 
-/// The capacity of a buffer (bytes): an incomplete line, and at least 65,536 bytes after it for a
-/// read.
+/// The capacity (bytes) of a buffer: room for an incomplete line, and for at least 65,536 bytes of
+/// the next read.
 pub(crate) const ROOM: usize = 66048;
 
 // Moves the bytes from index `start` to index `end` to the start of the buffer.
@@ -32,9 +31,9 @@ fn move_to_front(bytes: &mut [u8], start: usize, end: usize)
     }
 }
 
-/// The bytes that were read and not returned yet. Contracts see them as a list. They are
-/// `bytes[start..end]`; the allocation never grows, and the bytes are moved to its start only when
-/// a read is needed.
+/// The bytes that were read but not returned yet. In contracts this is a list of bytes. The list is
+/// stored in `bytes[start..end]`. The allocation never grows, and the bytes are moved to its start
+/// only when a read is needed.
 #[derive(Drop)]
 pub(crate) struct Buffer {
     bytes: Vec<u8>,
@@ -58,7 +57,7 @@ impl Buffer {
     ghost use Rattle.std.specs.Io.BufRead.{Rests};
     ghost use Rattle.psi_lines.specs.contracts.buffer.Buffer.{the_row};
 
-    /// Returns an empty buffer. Allocates its whole capacity.
+    /// Creates an empty buffer, and allocates its whole capacity.
     pub(crate) fn new(alloc: Global) -> Result<Buffer, NoMemory>
         ensures { IfOk result (λ b. b ≡ []) }
     {
@@ -78,8 +77,8 @@ impl Buffer {
         &self.bytes[self.start..self.end]
     }
 
-    /// Removes and returns the first `count` bytes, and removes the byte after them (the newline).
-    /// Precondition: more than `count` bytes are buffered.
+    /// Removes the first `count` bytes and returns them. Also removes the byte after them, which is
+    /// the newline. Precondition: more than `count` bytes are buffered.
     #[inline(always)]
     pub(crate) fn take_line(&mut self, count: usize) -> &[u8]
         requires { count < length self.old }
@@ -92,8 +91,8 @@ impl Buffer {
         &self.bytes[start..start + count]
     }
 
-    /// Reads once from the shelf, at offset `at` (bytes), and appends the bytes. Returns the number
-    /// of bytes read; 0 means the end of the file. A fault leaves the buffer unchanged.
+    /// Reads once from the shelf at offset `at` (bytes), and appends the bytes. Returns the number
+    /// of bytes read; 0 means the end of the file. On failure the buffer is unchanged.
     pub(crate) fn read_more<S: Shelf>(
         &mut self,
         shelf: &mut S,

@@ -1,6 +1,5 @@
-//! A reader of the lines of a file, however the shelf's reads split them.
-//!
-//! It only splits the file's bytes at newlines; it gives the lines no meaning.
+//! A reader of the lines of a file. It splits the file's bytes at newlines, in whatever pieces the
+//! shelf returns them, and doesn't interpret the lines.
 ghost use Rattle.std.specs.Prelude.{◌≡◌, ◌≢◌, ◌+◌, ◌-◌, ◌*◌, ◌<◌, ◌≤◌, ◌^◌, ◌↔◌, [], ◌++◌, ℕ, List, length, drop, IfOk, OnErr, IsErrOf, IsTrue, MatchOption, slice_index, Ok, Some, None, false};
 ghost use Rattle.psi_base.specs.Memory.{no_memory};
 ghost use Rattle.outside.specs.Outside.{content_of, IsAbsent, counts_of};
@@ -25,7 +24,7 @@ pub struct Line {
     pub bytes: Text,
 }
 
-/// Why a call returns no result.
+/// Why a line can't be returned.
 #[derive(Clone, Copy, Debug, PartialEq, Eq)]
 pub enum LineFault {
     /// The line with this number has more than 512 bytes before its newline.
@@ -65,12 +64,12 @@ impl From<ShelfFault> for LineFault {
     }
 }
 
-/// A reader of a file's lines, at the start of a line. Contracts see it as a `Reader`: the file's
-/// name, the number of the next line, the buffered bytes (read and not returned yet), and the
-/// offset of the next read.
+/// A reader of a file's lines, which is always at the start of a line. In contracts it is a
+/// `Reader`: the file's name, the number of the next line, the buffered bytes (read but not
+/// returned yet), and the offset of the next read.
 ///
 /// After a fault the reader is still at the start of the same line and has all its buffered bytes,
-/// so a further call continues there.
+/// so the next call continues at this line.
 #[derive(Drop)]
 pub struct Lines {
     alloc: Global,
@@ -93,8 +92,8 @@ impl Model for Lines {
         × (l.at + 513 ≤ 513 * l.number + length l.buffered) × (length l.buffered ≤ 66048) };
 }
 
-// Returns the index of the first newline among the first 513 bytes, which is the most that a line
-// with its newline can have.
+// Returns the index of the first newline, or `None`. Only the first 513 bytes are searched, the
+// maximum length of a line with its newline.
 fn newline_in(buffered: &[u8]) -> Option<usize>
     ensures { MatchOption result ((k : ℕ) → k < length buffered.now → k < LINE
         → slice_index buffered.now k ≢ 10) (λ i. (i < length buffered.now) × (i < LINE)
@@ -103,8 +102,9 @@ fn newline_in(buffered: &[u8]) -> Option<usize>
     memchr(b'\n', &buffered[..buffered.len().min(LINE)])
 }
 
-// Reads until the buffered bytes begin with a complete line. Returns its length (bytes) without the
-// newline, or `None` at the end of the input. `number` is the number of the line, for the faults.
+// Reads until the buffered bytes begin with a complete line. Returns the length (bytes) of the line
+// without its newline, or `None` at the end of the input. `number` is the number of the line, which
+// faults include.
 fn find_line<S: Shelf>(
     shelf: &mut S,
     name: &str,
@@ -161,8 +161,8 @@ impl Lines {
     ghost use Rattle.psi_lines.specs.Lent.{LendsLine, lent_line};
     ghost use Rattle.psi_lines.specs.contracts.lines.Lines.{the_row};
 
-    /// Returns a reader at the first byte of the file, before line 1. Allocates the whole buffer,
-    /// and reads nothing.
+    /// Creates a reader at the first byte of the file, before line 1. Allocates the whole buffer,
+    /// but reads nothing.
     pub fn new(alloc: Global, name: &str) -> Result<Lines, NoMemory>
         ensures { IfOk result (λ l.
             l ≡ record { name = name.now; number = 1; buffered = []; at = 0 }) }
@@ -176,7 +176,7 @@ impl Lines {
         })
     }
 
-    // Calls [`find_line`] for the next line. Doesn't advance to the line after it.
+    // Calls [`find_line`] for the next line. The reader stays at the start of this line.
     #[inline(always)]
     fn find<S: Shelf>(&mut self, shelf: &mut S) -> Result<Option<usize>, LineFault>
         requires { self.old.number < 2 ^ 32 }
@@ -212,18 +212,18 @@ impl Lines {
         )
     }
 
-    /// Returns the next line, without its newline, and advances past the newline. Returns `None` at
+    /// Returns the next line without its newline, and advances past the newline. Returns `None` at
     /// the end of the input, if no bytes follow the last newline.
     ///
-    /// It reads at most one full buffer beyond the lines that were returned. If the buffered bytes
-    /// already determine the line, it doesn't read.
+    /// Reads at most one full buffer beyond the returned lines. Reads nothing if the buffered bytes
+    /// already determine the line.
     ///
-    /// `TooLong` exactly if the next 513 bytes contain no newline; `Cut` exactly if the input ends
-    /// inside a line of at most 512 bytes. `NoFile` and `ReadFault` only if the shelf counted a
-    /// missing file or a failed read in this call, and `ReadFault` only if no complete line is
-    /// buffered.
+    /// Fails with `TooLong` exactly if the next 513 bytes contain no newline, and with `Cut`
+    /// exactly if the input ends inside a line of at most 512 bytes. Fails with `NoFile` or
+    /// `ReadFault` only if the shelf counted a missing file or a failed read in this call.
+    /// `ReadFault` is possible only if no complete line is buffered.
     ///
-    /// The programs of this repository don't call it.
+    /// No program of this repository calls this function.
     pub fn next<S: Shelf>(&mut self, shelf: &mut S) -> Result<Option<Line>, LineFault>
         requires { self.old.number < 2 ^ 32 }
         ensures unchanged { S.holds shelf.new ≡ S.holds shelf.old }
@@ -258,8 +258,8 @@ impl Lines {
         Ok(Some(Line { number, bytes }))
     }
 
-    /// Like [`Lines::next`], but lends the bytes from the buffer, until the next call. Doesn't
-    /// allocate, so it never returns `NoMemory`.
+    /// Like [`Lines::next`], but lends the bytes from the buffer until the next call. Doesn't
+    /// allocate, so `NoMemory` isn't possible.
     pub fn next_bytes<S: Shelf>(&mut self, shelf: &mut S) -> Result<Option<&[u8]>, LineFault>
         requires { self.old.number < 2 ^ 32 }
         ensures unchanged { S.holds shelf.new ≡ S.holds shelf.old }
@@ -286,7 +286,7 @@ impl Lines {
         Ok(Some(self.buffered.take_line(count)))
     }
 
-    /// Returns the number of the next line, from 1.
+    /// Returns the number of the next line, counted from 1.
     #[inline(always)]
     pub fn number(&self) -> u32
         requires { self.now.number < 2 ^ 32 }
@@ -295,7 +295,8 @@ impl Lines {
         self.number as u32
     }
 
-    /// Returns the buffered bytes, which were read and not returned yet. Doesn't read.
+    /// Returns the buffered bytes, which were read but not returned yet. Doesn't read from the
+    /// file.
     #[inline(always)]
     pub fn buffered(&self) -> &[u8]
         ensures { result.now ≡ self.now.buffered }
@@ -303,7 +304,7 @@ impl Lines {
         self.buffered.buffered()
     }
 
-    /// Advances past the first buffered line. Doesn't read. Precondition: the buffered bytes
+    /// Advances past the first buffered line without reading. Precondition: the buffered bytes
     /// ([`Lines::buffered`]) begin with a line of `count` bytes and its newline.
     #[inline(always)]
     pub fn pass(&mut self, count: usize)
@@ -322,8 +323,8 @@ impl Lines {
         self.buffered.take_line(count);
     }
 
-    /// Returns whether the file has no bytes after the lines that were returned. Reads once if
-    /// nothing is buffered, and not at all otherwise. Consumes no bytes.
+    /// Whether the file has no bytes after the returned lines. Reads once if nothing is buffered,
+    /// otherwise not at all. Consumes no bytes.
     pub fn is_at_end<S: Shelf>(&mut self, shelf: &mut S) -> Result<bool, LineFault>
         ensures unchanged { S.holds shelf.new ≡ S.holds shelf.old }
         ensures same { (self.new.name ≡ self.old.name) × (self.new.number ≡ self.old.number) }
