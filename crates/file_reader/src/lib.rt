@@ -1,6 +1,7 @@
 //! Reads a file, or its first bytes, into one piece of memory.
 //!
-//! It is for small files such as rules; a trace is read line by line, with `psi_lines`.
+//! The crate is meant for small files such as rules. A trace is read line by line, with
+//! `psi_lines`.
 #![tactic(auto)]
 
 mod prefix;

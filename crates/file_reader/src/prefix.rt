@@ -1,4 +1,4 @@
-//! Reads the first bytes of a file, by as many reads as the shelf needs.
+//! Reads the first bytes of a file, with as many reads as the shelf requires.
 ghost use Rattle.std.specs.Prelude.{◌≡◌, ◌+◌, ◌<◌, ◌≤◌, ℕ, List, length, take, IfOk, IsErrOf, Some, None};
 ghost use Rattle.outside.specs.Outside.{IsAbsent, counts_of, content_of};
 ghost use Rattle.outside.specs.Reads.{ReadsFile};
@@ -8,7 +8,7 @@ use outside::{Shelf, ShelfFault, read_after};
 use psi_base::NoMemory;
 use std::alloc::Global;
 
-/// Why a file wasn't read.
+/// Why a file can't be read.
 #[derive(Clone, Copy, Debug, PartialEq, Eq)]
 pub enum FileFault {
     /// The shelf has no file with this name.
@@ -51,8 +51,8 @@ fn zeros(alloc: Global, count: usize) -> Result<Vec<u8>, NoMemory>
     Ok(vec![in alloc; 0; count]?)
 }
 
-// Reads from the start of a file until the buffer is full or the file ends, and returns the number
-// of bytes.
+// Reads from the start of a file until the buffer is full or the file ends. Returns the number of
+// bytes read.
 fn fill<S: Shelf>(shelf: &mut S, name: &str, bytes: &mut [u8]) -> Result<usize, FileFault>
     requires some { 0 < length bytes.old }
     ensures unchanged { S.holds shelf.new ≡ S.holds shelf.old }
@@ -82,9 +82,9 @@ fn fill<S: Shelf>(shelf: &mut S, name: &str, bytes: &mut [u8]) -> Result<usize, 
     Ok(buffered)
 }
 
-/// The bytes of a file, or the first `most` of them if it has more. Allocates memory for `most`
-/// bytes before it reads, and reads at most that many bytes, even if it fails. `NoFile` and
-/// `ReadFault` come from the shelf, which counts them.
+/// Returns the bytes of a file, or its first `most` bytes if the file is longer. Allocates memory
+/// for `most` bytes before reading. Reads at most `most` bytes, even if the call fails. `NoFile`
+/// and `ReadFault` are faults of the shelf, which counts them.
 pub fn read_prefix<S: Shelf>(
     alloc: Global,
     shelf: &mut S,
