@@ -1,4 +1,4 @@
-//! The clock of one group on one processor: how it is read and advanced, and its form as nine
+//! The clock of one group on one processor: reading it, advancing it, and converting it to nine
 //! words.
 
 ghost use Rattle.std.specs.Prelude.{◌≡◌, if◌then◌else◌};
@@ -8,16 +8,17 @@ use psi_base::{Ns, State};
 use state_mask::{Mask, STATES};
 use std::marker::Model;
 
-/// How long a group was in each state on a processor: the `times`, `state_mask` and `state_start`
-/// of the kernel's `psi_group_cpu`. Two clocks with different fields can be equivalent, if one of
-/// them skipped a change that left the states unchanged; so clocks have no `==`.
+/// The time that a group was in each state on a processor. The fields correspond to `times`,
+/// `state_mask` and `state_start` of the kernel's `psi_group_cpu`. Two clocks with different fields
+/// can be equivalent, if one of them skipped a change that left the states unchanged. Therefore
+/// clocks have no `==`.
 #[derive(Clone, Copy, Debug)]
 pub struct Clock {
-    /// The time (ns) in each state up to the start, ordered by state.
+    /// The time (ns) in each state up to `start`, ordered by state.
     pub times: [u64; 7],
-    /// The states since the start.
+    /// The states that the group has been in since `start`.
     pub mask: Mask,
-    /// The time (ns) since which the mask applies. Later changes left the mask unchanged.
+    /// The time (ns) from which the mask applies. Later changes left the mask unchanged.
     pub start: Ns,
 }
 
@@ -36,15 +37,15 @@ impl Model for Clock {
         record { times = clock.times; mask = clock.mask; start = clock.start } };
 }
 
-/// The index of the mask among a clock's nine words, after the seven times.
+/// The index of the mask among the nine words of a clock. The mask follows the seven times.
 const MASK_WORD: usize = 7;
 
-/// The index of the start among a clock's nine words.
+/// The index of the start among the nine words of a clock.
 const START_WORD: usize = 8;
 
-/// Returns `time` (ns), the time since a clock's start, if the state is in the clock's mask
-/// (`held`), otherwise 0. The function has no branch, because the condition is hard for a processor
-/// to predict.
+/// Returns `time`, the time (ns) since a clock's start, if the state is in the clock's mask
+/// (`held`), otherwise 0. The function avoids a branch on the condition, which processors predict
+/// badly.
 fn open_time(held: bool, time: u64) -> u64
     ensures { result ≡ (if held then time else 0) }
 {
@@ -52,7 +53,7 @@ fn open_time(held: bool, time: u64) -> u64
 }
 
 impl Clock {
-    /// Returns the clock at time 0, with no state in its mask.
+    /// Returns the clock at time 0, whose mask is empty.
     pub fn zero() -> Clock
         ensures { result ≡ zero_clock }
     {
@@ -63,8 +64,8 @@ impl Clock {
         }
     }
 
-    /// Returns the time (ns) in `state` up to `at`. Precondition: the clock can be advanced to
-    /// `at`.
+    /// Returns the time (ns) in `state` up to the time `at` (ns). Precondition: the clock can be
+    /// advanced to `at`.
     fn opened_time(&self, at: Ns, state: State) -> u64
         requires { IsInTime self.now at }
         ensures { result ≡ opened_time self.now at state }
@@ -73,22 +74,22 @@ impl Clock {
         self.times[state as usize] + open
     }
 
-    /// Returns the times (ns) in each state up to `at`, ordered by state: for the states in the
-    /// mask, the time since the start is added. Precondition: the clock can be advanced to `at`.
-    /// The kernel's `get_recent_times` does the same, and then subtracts the times of its last
-    /// call.
+    /// Returns the time (ns) in each state up to the time `at` (ns), ordered by state. The time
+    /// since the start counts for the states in the mask. Precondition: the clock can be advanced
+    /// to `at`. The kernel's `get_recent_times` does the same, and then subtracts the times of its
+    /// last call.
     pub fn opened(&self, at: Ns) -> [u64; 7]
         requires { IsInTime self.now at }
         ensures { result ≡ opened self.now at }
     {
-        // Most groups are idle on most processors.
+        // Most groups are idle on most processors, so this case is handled first.
         if self.mask.bits() == 0 {
             return self.times;
         }
         STATES.map(|state| self.opened_time(at, state))
     }
 
-    /// Advances the clock to `at` (ns); the states of `mask` apply from then on. The kernel calls
+    /// Advances the clock to the time `at` (ns), from which `mask` has the states. The kernel calls
     /// `record_times`, and then sets the new mask.
     pub fn advance(&mut self, at: Ns, mask: Mask)
         requires { IsInTime self.old at }
@@ -99,12 +100,11 @@ impl Clock {
         self.start = at;
     }
 
-    /// Applies a change of the clock's processor at `at` (ns); the states of `mask` apply from then
-    /// on. If the mask doesn't change, neither does the clock.
+    /// Applies a change of the clock's processor at the time `at` (ns), from which `mask` has the
+    /// states. If the mask stays the same, the clock stays the same.
     ///
-    /// So if the clock is right for a slot after some changes of a plan, and `mask` has the slot's
-    /// states after one more change, the new clock is right after this change: see
-    /// [`plan_laws::law_plan_clocks`].
+    /// So a clock that is correct for a slot before a change is also correct after the change, if
+    /// `mask` has the slot's states after the change: see [`plan_laws::law_plan_clocks`].
     pub fn turn(&mut self, at: Ns, mask: Mask)
         requires { IsInTime self.old at }
         ensures mask { self.new.mask ≡ mask }
@@ -129,8 +129,8 @@ impl Clock {
         words
     }
 
-    /// Returns the clock with these nine words. Precondition: they are the words of a clock, such
-    /// as [`Clock::to_words`] returns. The function doesn't check it.
+    /// Returns the clock with these nine words. Precondition: the words are those of a clock, such
+    /// as the words that [`Clock::to_words`] returns. The function doesn't check the precondition.
     pub fn from_words(words: [u64; 9]) -> Clock
         requires { AreWordsOfClock words }
         ensures { words_of result ≡ words }
