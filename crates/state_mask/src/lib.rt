@@ -1,8 +1,8 @@
-//! Which states a group is in on a processor, from counts of its tasks.
+//! Determines the states of a group on a processor from the counts of the group's tasks there.
 //!
-//! [`mask_of`] corresponds to the kernel's `test_states`, and to what `psi_group_change` adds for a
-//! running task in a memory stall. It returns a [`Mask`], with a bit for each state. The crate
-//! doesn't measure how long a state lasts: cpu_clock does.
+//! [`mask_of`] corresponds to the kernel's `test_states`, together with the part of
+//! `psi_group_change` for a running task in a memory stall. The result is a [`Mask`] with one bit
+//! for each state. The crate doesn't measure how long a state lasts: cpu_clock does.
 #![tactic(auto)]
 
 mod mask;

@@ -1,4 +1,4 @@
-//! A set of states as a byte. Which states a group is in is computed in `states`.
+//! A set of states, stored in a byte. The module `states` computes the states of a group.
 
 ghost use Rattle.std.specs.Prelude.{◌≡◌, ◌^◌};
 ghost use Rattle.psi_base.specs.declared.event.State.{State};
@@ -8,8 +8,8 @@ ghost use Rattle.psi_spec.specs.Stall.{state_number};
 use psi_base::State;
 use std::marker::Model;
 
-/// A set of states, one bit for each: the kernel's `state_mask`. A contract sees a mask as the
-/// number with these bits, so two masks with the same states are equal.
+/// A set of states with one bit for each state, like the kernel's `state_mask`. In contracts a mask
+/// is the number with these bits, so two masks with the same states are equal.
 #[derive(Clone, Copy, Debug, PartialEq, Eq)]
 pub struct Mask(u8);
 
@@ -34,15 +34,15 @@ fn bit(state: State) -> u8
 }
 
 impl Mask {
-    /// Returns the empty set of states.
+    /// Returns the mask without states.
     pub fn empty() -> Mask
         ensures { result ≡ 0 }
     {
         Mask(0)
     }
 
-    /// Returns the mask with these bits. Precondition: only the lower seven bits may be set, one
-    /// for each state.
+    /// Returns the mask with these bits. Precondition: only the lower seven bits are set, one for
+    /// each state.
     pub fn from_bits(bits: u8) -> Mask
         requires { IsMask bits }
         ensures { result ≡ bits }
@@ -50,7 +50,7 @@ impl Mask {
         Mask(bits)
     }
 
-    /// Returns the bits of the mask; bit `n` belongs to the state with number `n`.
+    /// Returns the bits of the mask. Bit `n` stands for the state with the number `n`.
     pub fn bits(self) -> u8
         ensures value { result ≡ self }
         ensures few { IsMask result }
@@ -58,7 +58,7 @@ impl Mask {
         self.0
     }
 
-    /// Whether the mask has `state`.
+    /// Whether `state` is in the mask.
     pub fn holds(self, state: State) -> bool
         ensures { result ≡ mask_holds self state }
     {

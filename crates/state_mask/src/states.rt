@@ -1,4 +1,5 @@
-//! The list of states, and a table from conditions on counts of tasks to masks of states.
+//! The list of states, and the table that gives the mask of states for each combination of
+//! conditions on task counts.
 
 ghost use Rattle.std.specs.Prelude.{◌≡◌, ◌<◌};
 ghost use Rattle.psi_base.specs.declared.event.State.{State};
@@ -20,8 +21,8 @@ pub const STATES: [State; 7] = [
     State::Nonidle,
 ];
 
-// The masks of states by the index that `place` returns. They are bytes, because a table of
-// structs, such as `Mask`, would be built anew at each use.
+// The mask of states for each index that `place` returns. The masks are stored as bytes, because a
+// table of structs such as `Mask` would be built anew at each use.
 const MASKS: [u8; 128] = [
     0, 67, 68, 71, 96, 97, 100, 101, 0, 67, 76, 79, 96, 97, 108, 109, 0, 67, 68, 71, 64, 65, 68,
     69, 0, 67, 76, 79, 64, 65, 76, 77, 0, 67, 68, 71, 96, 97, 100, 101, 0, 67, 76, 79, 96, 97, 108,
@@ -31,8 +32,8 @@ const MASKS: [u8; 128] = [
     92, 95, 88, 89, 92, 93, 24, 91, 92, 95, 88, 89, 92, 93,
 ];
 
-// Returns the index of the mask in `MASKS`. The function has no branch on the conditions, because
-// they are hard for a processor to predict.
+// Returns the index of a mask in `MASKS`. The function avoids branches on the conditions, which
+// processors predict badly.
 fn place(counts: &Counts, on_cpu: bool, current_stalled: bool) -> usize
     ensures place { result ≡ place_by counts.now on_cpu current_stalled }
     ensures within { result < 128 }
@@ -52,9 +53,9 @@ fn place(counts: &Counts, on_cpu: bool, current_stalled: bool) -> usize
 }
 
 /// Returns the states of a group on a processor, from the counts of the group's tasks there.
-/// `on_cpu` is whether the processor's running task is among the counted tasks, and
-/// `current_stalled` whether the running task is in a memory stall. If both are true, the group is
-/// in memory full, even if the counts alone say otherwise.
+/// `on_cpu` is whether the processor's running task is in the group, and `current_stalled` is
+/// whether the running task is in a memory stall. If both are true, the group is in the state
+/// memory full, even if the counts alone don't imply this state.
 pub fn mask_of(counts: &Counts, on_cpu: bool, current_stalled: bool) -> Mask
     ensures few { IsMask result }
     ensures states { (state : State) →
