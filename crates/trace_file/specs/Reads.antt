@@ -1,5 +1,6 @@
--- The result of reading a trace from a shelf (the trait for input files): what a player has played,
--- which bytes were read, and what the result says about the file's bytes if these are known.
+-- Defines the results of reading a trace from a shelf (the trait for input files): which events
+-- were played, which bytes were read, and how the result follows from the file's bytes if these are
+-- known.
 use Rattle.std.specs.Prelude.{◌≡◌, ◌≢◌, ℕ, ◌+◌, ◌<◌, ◌≤◌, ◌-◌, List, [], ◌∷◌, ◌++◌, length, take, Option, None, Some, Result, Ok, Err, IsErrOf, OnOk, ⊤, true, false}
 use Rattle.outside.specs.Outside.{HasCauses, ShelfCounts}
 use Rattle.outside.specs.Reads.{ReadCall, ReadsFile, ReadsFrom}
@@ -30,29 +31,31 @@ use Rattle.trace_file.specs.declared.trace.TraceFault.TheVariants.{Refused, NoFi
 
 -- ---- players
 
--- The invariant of a `Keeper` (a player that stores events): its table has played `events`, `kept`
--- is the list of these events, and `cpus` is the number of processors of the limits.
+-- `HasKept cpus kept limits_now w limits events`: the invariant of a `Keeper`, a player that stores
+-- events. Its table has played `events`, the list `kept` has these events, and `cpus` is the number
+-- of processors in the limits.
 pub record HasKept (cpus : ℕ) (kept : List Event) (limits_now : Limits) (w : World) (limits : Limits) (events : List Event) : Type 0 where
   pub played : IsPlayed limits_now w limits events
   pub kept_are : kept ≡ events
   pub cpus_are : cpus ≡ limits.cpus
 
--- like `Played`, and the events also can be spelled, have verbs of the list, and are legal in their
--- order
+-- `Legally verbs Played`: like `Played`, but the events are also legal in this order, and can be
+-- written as lines with the verbs in the list.
 abbrev pub Legally : List Verb → Plays → Plays
 Legally verbs Played limits events = Played limits events × AllFit events × AreKnown verbs events × AreLegal limits first_world events
 
--- The effect of a parsed line on a player: its event is played, or its fault is returned. `Before`
--- and `After` are the player's property before and after.
+-- `TakesRead Before After read result`: the player plays the event of a parsed line, or the result
+-- is the fault found by the parser. `Before` and `After` are the player's properties before and
+-- after the call.
 abbrev pub TakesRead : Plays → Plays → Result Event (Fault Cause) → Result (Unit {0}) (Fault Cause) → Type 0
 TakesRead Before After (Ok event) result = PlayerTakes Before After event result
 TakesRead Before After (Err why) result = result ≡ Err why
 
 -- ---- one line
 
--- The effect of a line, parsed with these verbs, on a player whose trace hasn't ended. Either the
--- line's event is played after the earlier events, which are fewer than 4,000,000; or the line is
--- rejected with the cause that the definition gives.
+-- `TakesLine verbs Before After line result`: the effect of a line on a player whose trace hasn't
+-- ended. Either the line's event is played after fewer than 4,000,000 earlier events, or the line
+-- is rejected with the cause that trace_spec's `line_event` gives.
 abbrev pub TakesLine : List Verb → Plays → Plays → List ℕ → Result (Unit {0}) (Fault Cause) → Type 0
 TakesLine verbs Before After line (Ok x) =
     (limits : Limits) (events : List Event) → Before limits events → (after events).ended ≡ false
@@ -63,26 +66,27 @@ TakesLine verbs Before After line (Err (fault.Refused why)) =
     → line_event verbs limits (after events) line ≡ Err why
 TakesLine verbs Before After line (Err (fault.NoMemory _)) = ⊤
 
--- The events of the remaining bytes, parsed with these verbs. `w` is the world before them, and
--- `line` is the number of the first remaining line.
+-- `rest_from verbs limits w line bytes`: the events of the remaining bytes, parsed with these
+-- verbs. `w` is the world before the events, and `line` is the number of the first remaining line.
 abbrev pub rest_from : List Verb → Limits → World → ℕ → List ℕ → Result (List Event) Refusal
 rest_from verbs limits w line bytes = events_from verbs limits w line (parts_at 10 bytes)
 
--- a rejection is the one in the definition's result `read`; nothing is said here about the other
--- faults
+-- `RefusalOf fault read`: if `fault` is a rejection, then it is the rejection in `read`, the result
+-- that the definition gives. Other faults aren't constrained.
 abbrev pub RefusalOf : {A : Type 0} → TraceFault → Result A Refusal → Type 0
 RefusalOf (Refused refusal) read = read ≡ Err refusal
 RefusalOf NoFile read = ⊤
 RefusalOf ReadFault read = ⊤
 RefusalOf (NoMemory _) read = ⊤
 
--- the fault of the trace for the fault of the line with this number
+-- `IsTraceFault line fault result`: `result` is the fault of the trace for the fault `fault` of the
+-- line with the number `line`.
 abbrev pub IsTraceFault : ℕ → Fault Cause → TraceFault → Type 0
 IsTraceFault line (fault.Refused why) result = result ≡ Refused (refused line why)
 IsTraceFault line (fault.NoMemory none) result = result ≡ NoMemory none
 
--- The fault of the trace if a line can't be read. A line that the end of the input cuts off is
--- rejected with the cause `cut`.
+-- `trace_fault cut fault`: the fault of the trace for a line that can't be read. A line that the
+-- end of the input cuts off is rejected with the cause `cut`.
 abbrev pub trace_fault : Cause → LineFault → TraceFault
 trace_fault cut (lines.TooLong line) = Refused (refused line cause.LineTooLong)
 trace_fault cut (lines.Cut line) = Refused (refused line cut)
@@ -90,8 +94,9 @@ trace_fault cut lines.NoFile = NoFile
 trace_fault cut lines.ReadFault = ReadFault
 trace_fault cut (lines.NoMemory none) = NoMemory none
 
--- One more event was played after `events`. If the remaining bytes are known, it is their first
--- event; `before` and `after_bytes` give the remaining bytes before and after the call.
+-- `NextPlayed verbs After limits events line before after_bytes known`: one more event was played
+-- after `events`. `before` and `after_bytes` give the remaining bytes before and after the call. If
+-- the bytes of the file are known, the event is the first of the remaining events before the call.
 pub record NextPlayed (verbs : List Verb) (After : Plays) (limits : Limits) (events : List Event) (line : ℕ)
     (before after_bytes : List ℕ → List ℕ) (known : Option (List ℕ)) : Type 0 where
   pub event : Event
@@ -100,8 +105,9 @@ pub record NextPlayed (verbs : List Verb) (After : Plays) (limits : Limits) (eve
   pub read : (bytes : List ℕ) → known ≡ Some bytes → rest_from verbs limits (after events) line (before bytes)
       ≡ followed (event ∷ []) (rest_from verbs limits (after (events ++ event ∷ [])) (line + 1) (after_bytes bytes))
 
--- The result of reading and playing the next line: an event was played, or the line is rejected as
--- the definition says. Requires that the trace hasn't ended.
+-- `NextGives verbs Before After line before after_bytes known result`: the result of reading and
+-- playing the next line. Either an event was played, or the line is rejected as defined. Applies
+-- only if the trace hasn't ended.
 abbrev pub NextGives : List Verb → Plays → Plays → ℕ → (List ℕ → List ℕ) → (List ℕ → List ℕ) → Option (List ℕ)
     → Result (Unit {0}) TraceFault → Type 0
 NextGives verbs Before After line before after_bytes known (Ok x) =
@@ -111,8 +117,8 @@ NextGives verbs Before After line before after_bytes known (Err fault) =
     (limits : Limits) (events : List Event) → Before limits events → (after events).ended ≡ false → (bytes : List ℕ)
     → known ≡ Some bytes → RefusalOf fault (rest_from verbs limits (after events) line (before bytes))
 
--- The result of the check that nothing follows the `end` line: no bytes follow, or the next line is
--- rejected with `AfterEnd`.
+-- `TailGives line bytes result`: the result of checking that nothing follows the `end` line. Either
+-- no bytes follow, or the next line is rejected with `AfterEnd`.
 abbrev pub TailGives : {A : Type 0} → ℕ → List ℕ → Result A TraceFault → Type 0
 TailGives line bytes (Ok x) = bytes ≡ []
 TailGives line bytes (Err (Refused refusal)) = (bytes ≢ []) × (refusal ≡ refused line cause.AfterEnd)
@@ -122,8 +128,8 @@ TailGives line bytes (Err (NoMemory _)) = ⊤
 
 -- ---- all lines
 
--- The player has played all events after the header, up to the end of the trace. If the bytes are
--- known, these are the events that they spell.
+-- `RestPlayed verbs Played limits before known`: the player has played all events after the header,
+-- up to the end of the trace. If the bytes are known, these are the events of the bytes.
 pub record RestPlayed (verbs : List Verb) (Played : Plays) (limits : Limits) (before : List ℕ → List ℕ)
     (known : Option (List ℕ)) : Type 0 where
   pub events : List Event
@@ -131,39 +137,41 @@ pub record RestPlayed (verbs : List Verb) (Played : Plays) (limits : Limits) (be
   pub ended : (after events).ended ≡ true
   pub read : (bytes : List ℕ) → known ≡ Some bytes → rest_from verbs limits first_world 2 (before bytes) ≡ Ok events
 
--- the result of reading and playing the lines after the header
+-- `RestGives verbs Played limits before known result`: the result of reading and playing the lines
+-- after the header.
 abbrev pub RestGives : List Verb → Plays → Limits → (List ℕ → List ℕ) → Option (List ℕ) → Result (Unit {0}) TraceFault → Type 0
 RestGives verbs Played limits before known (Ok x) = RestPlayed verbs Played limits before known
 RestGives verbs Played limits before known (Err fault) =
     (bytes : List ℕ) → known ≡ Some bytes → RefusalOf fault (rest_from verbs limits first_world 2 (before bytes))
 
--- the verbs of the version with number `number`
+-- Returns the verbs of the version with this number.
 abbrev pub verbs_in : ℕ → List Verb
 verbs_in number = verbs_of (version_of number)
 
--- The result of reading the header. If the bytes `before` begin with a header, the bytes `after`
--- remain, and the trace is the header with the events of `after`.
+-- `HeadGives tick before after result`: the result of reading the header. If the bytes `before`
+-- begin with a header, the bytes `after` remain. The whole trace then consists of the header and
+-- the events of `after`.
 abbrev pub HeadGives : ℕ → List ℕ → List ℕ → Result Header TraceFault → Type 0
 HeadGives tick before after (Ok head) =
     trace_of (accepts_with versions tick) before ≡ with_events (header_with head.version head.cpus)
     (rest_from (verbs_in head.version) (limits_of tick head.cpus) first_world 2 after)
 HeadGives tick before after (Err fault) = RefusalOf fault (trace_of (accepts_with versions tick) before)
 
--- the header has the number of a version, and a valid number of processors
+-- The header has the number of a version, and a valid number of processors.
 pub record IsHead (head : Header) : Type 0 where
   pub numbered : IsVersion head.version
   pub counted : IsCpuCount head.cpus
 
--- the trace with this version, number of processors and events
+-- Builds a trace from its version, its number of processors and its events.
 abbrev pub trace_with : Version → ℕ → List Event → Trace
 trace_with version cpus events = record { version = version; cpus = cpus; events = events }
 
--- the trace of version 1 with this number of processors and these events
+-- Builds a trace of version 1 from its number of processors and its events.
 abbrev pub plain_trace : ℕ → List Event → Trace
 plain_trace cpus events = trace_with One cpus events
 
--- The player has played all events of an accepted trace of the version with number `number`. If the
--- bytes are known, they spell that trace.
+-- `TracePlayed Played number tick known`: the player has played all events of an accepted trace
+-- whose version has this number. If the bytes are known, they are the text of the trace.
 pub record TracePlayed (Played : Plays) (number tick : ℕ) (known : Option (List ℕ)) : Type 0 where
   pub numbered : IsVersion number
   pub cpus : ℕ
@@ -175,8 +183,9 @@ pub record TracePlayed (Played : Plays) (number tick : ℕ) (known : Option (Lis
   pub read : (bytes : List ℕ) → known ≡ Some bytes → trace_of (accepts_with versions tick) bytes
       ≡ Ok (trace_with (version_of number) cpus events)
 
--- The plans (the changes of each processor) represent an accepted trace of the version with number
--- `number`. If the bytes are known, they spell that trace.
+-- `PlansRead plans number tick known`: the plans (the changes of each processor) represent an
+-- accepted trace whose version has this number. If the bytes are known, they are the text of the
+-- trace.
 pub record PlansRead (plans : PlansView) (number tick : ℕ) (known : Option (List ℕ)) : Type 0 where
   pub numbered : IsVersion number
   pub trace : Trace
@@ -187,36 +196,37 @@ pub record PlansRead (plans : PlansView) (number tick : ℕ) (known : Option (Li
   pub accepted : IsAccepted (limits_of tick trace.cpus) trace.events
   pub read : (bytes : List ℕ) → known ≡ Some bytes → trace_of (accepts_with versions tick) bytes ≡ Ok trace
 
--- if the bytes are known and `fault` is a rejection, it is the definition's rejection of these
--- bytes
+-- `TraceRefused fault tick known`: if the bytes are known and `fault` is a rejection, it is the
+-- rejection that the definition gives for these bytes.
 abbrev pub TraceRefused : TraceFault → ℕ → Option (List ℕ) → Type 0
 TraceRefused fault tick known = (bytes : List ℕ) → known ≡ Some bytes → RefusalOf fault (trace_of (accepts_with versions tick) bytes)
 
--- The shelf's counts of failed reads and missing files grew exactly for the fault that `result`
--- reports.
+-- `CausesTraceFault before now result`: the shelf counted a failed read or a missing file exactly
+-- if `result` reports it.
 abbrev pub CausesTraceFault : {A : Type 0} → ShelfCounts → ShelfCounts → Result A TraceFault → Type 0
 CausesTraceFault before now result = HasCauses before now (IsErrOf result ReadFault) (IsErrOf result NoFile)
 
--- the shelf's fault that a fault of the trace reports, or `None`
+-- Returns the fault of the shelf that a fault of the trace reports, or `None`.
 abbrev pub shelf_fault : TraceFault → Option ShelfFault
 shelf_fault (Refused refusal) = None
 shelf_fault NoFile = Some shelf.NoFile
 shelf_fault ReadFault = Some shelf.Failed
 shelf_fault (NoMemory _) = None
 
--- the shelf's fault that a result reports, or `None`
+-- Returns the fault of the shelf that a result reports, or `None`.
 abbrev pub shelf_fault_in : {A : Type 0} → Result A TraceFault → Option ShelfFault
 shelf_fault_in (Ok x) = None
 shelf_fault_in (Err found) = shelf_fault found
 
--- The log of reads grew by the reads for one line: from offset `at` to offset `place` (bytes), or
--- up to a fault.
+-- `LineInOrder name at place before now result`: the reads for one line were appended to the log of
+-- reads. They continue from offset `at` to offset `place` (bytes), or to a fault.
 abbrev pub LineInOrder : {A : Type 0} → List ℕ → ℕ → ℕ → List ReadCall → List ReadCall → Result A TraceFault → Type 0
 LineInOrder name at place before now (Ok x) = ReadsFrom name (Next at) before now (Next place)
 LineInOrder name at place before now (Err found) = ReadsFile name at before now (shelf_fault found)
 
--- The effect of reading the next line on the reader and the shelf, whatever the line contains.
--- `bytes_read` and `read_now` are the bytes that the shelf had returned before and after.
+-- `ReadsLine known old new counts counts_now bytes_read read_now result`: the effect of reading the
+-- next line on the reader and the shelf, for any content of the line. `bytes_read` and `read_now`
+-- are the numbers of bytes that the shelf had returned before and after the call.
 pub record ReadsLine {A : Type 0} (known : Option (List ℕ)) (old new : Reader) (counts counts_now : ShelfCounts) (bytes_read read_now : ℕ)
     (result : Result A TraceFault) : Type 0 where
   pub name : new.name ≡ old.name
@@ -226,32 +236,34 @@ pub record ReadsLine {A : Type 0} (known : Option (List ℕ)) (old new : Reader)
   pub counted : read_now + old.at ≡ bytes_read + new.at
   pub place : new.at ≤ furthest old.number
 
--- The effect of reading the next line on the number of remaining lines. If a read failed, no line
--- was consumed and no complete line is buffered. A rejected line is the line with the reader's
--- number.
+-- `KeepsLines known old new result`: reading the next line removes at most that line from the
+-- remaining lines. If a read failed, no line was removed and no complete line is buffered. If a
+-- line is rejected, it is the line with the reader's number.
 pub record KeepsLines {A : Type 0} (known : Option (List ℕ)) (old new : Reader) (result : Result A TraceFault) : Type 0 where
   pub lines : (bytes : List ℕ) → known ≡ Some bytes → new.number + line_count (left new bytes) ≡ old.number + line_count (left old bytes)
   pub failed : IsErrOf result ReadFault → (new.number ≡ old.number)
       × ((bytes : List ℕ) → known ≡ Some bytes → HasNoNewline new.buffered (length new.buffered))
   pub refused : (refusal : Refusal) → IsErrOf result (Refused refusal) → refusal.line ≡ old.number
 
--- A read failed at the line with the number of the reader `new`, and its newline isn't buffered. If
--- the definition rejects a line, it isn't an earlier one.
+-- `FailsAt bytes old new read`: a read failed at the line with the number of the reader `new`,
+-- whose newline isn't buffered. If the definition rejects a line of the trace, it isn't an earlier
+-- line.
 pub record FailsAt {A : Type 0} (bytes : List ℕ) (old new : Reader) (read : Result A Refusal) : Type 0 where
   pub lines : new.number + line_count (left new bytes) ≡ old.number + line_count (left old bytes)
   pub none : HasNoNewline new.buffered (length new.buffered)
   pub later : (refusal : Refusal) → read ≡ Err refusal → new.number ≤ refusal.line
 
--- Reading stops at the first rejected line: the reads go at most a full buffer beyond the lines
--- before it, and no later read fails.
+-- `StopsReading known old new bytes_read read_now read result`: reading stops at the first rejected
+-- line. At most one full buffer is read beyond the lines before it, and no later read fails.
 pub record StopsReading {A B : Type 0} (known : Option (List ℕ)) (old new : Reader) (bytes_read read_now : ℕ)
     (read : List ℕ → Result B Refusal) (result : Result A TraceFault) : Type 0 where
   pub counted : read_now + old.at ≡ bytes_read + new.at
   pub refused : (refusal : Refusal) → IsErrOf result (Refused refusal) → new.at ≤ furthest refusal.line
   pub failed : IsErrOf result ReadFault → (bytes : List ℕ) → known ≡ Some bytes → FailsAt bytes old new (read bytes)
 
--- Reading a trace stops at the first rejected line: the reads go at most a full buffer beyond the
--- lines before it. A read fails only if the bytes that were read don't contain that whole line.
+-- `StopsAtRefusal tick known bytes_read read_now result`: reading a trace stops at the first
+-- rejected line. At most one full buffer is read beyond the lines before it. A read can fail only
+-- while the bytes read so far don't include the whole rejected line.
 abbrev pub StopsAtRefusal : {A : Type 0} → ℕ → Option (List ℕ) → ℕ → ℕ → Result A TraceFault → Type 0
 StopsAtRefusal tick known bytes_read read_now (Ok x) = ⊤
 StopsAtRefusal tick known bytes_read read_now (Err (Refused refusal)) = read_now ≤ bytes_read + furthest refusal.line
@@ -261,7 +273,7 @@ StopsAtRefusal tick known bytes_read read_now (Err ReadFault) =
     → line_count (take (read_now - bytes_read) bytes) ≤ refusal.line
 StopsAtRefusal tick known bytes_read read_now (Err (NoMemory _)) = ⊤
 
--- the result says nothing about the file's bytes: it is `NoFile`, `ReadFault` or `NoMemory`
+-- The result doesn't depend on the file's bytes: it is `NoFile`, `ReadFault` or `NoMemory`.
 abbrev pub ShowsNothing : {A : Type 0} → Result A TraceFault → Type 0
 ShowsNothing (Ok x) = ⊥
 ShowsNothing (Err (Refused refusal)) = ⊥

@@ -1,18 +1,17 @@
-//! A player that stores the events of a trace.
-//!
-//! It is for callers that need the events themselves, such as the removal of kills from a trace.
+//! A player that stores the events of a trace. It is meant for callers that need the events
+//! themselves, such as the removal of kills from a trace.
 use psi_base::{Cause, Event, Fault, NoMemory, Ns};
 use std::alloc::Global;
 use task_table::Table;
 use trace_player::{Player, TaskAct};
 use whatif_trace::copy_event;
 
-/// Plays a trace on a table of tasks, and stores the events.
+/// Plays a trace on a table of tasks, and stores the played events.
 #[derive(Drop)]
 pub struct Keeper {
     /// The number of processors of the trace.
     pub cpus: u32,
-    /// The events that were played, in order.
+    /// The events played so far, in order.
     pub events: Vec<Event>,
     table: Table,
     alloc: Global,

@@ -1,8 +1,9 @@
-//! Reads traces from a shelf line by line, and plays each event as it is read. A shelf is the trait
-//! for input files. Parsing a line is left to `psi_trace`.
+//! Reads traces from a shelf line by line, and plays each event as soon as its line is read. A
+//! shelf is the trait for input files. psi_trace parses the lines.
 //!
-//! [`play_trace`] plays a trace on any player, [`read_plans`] splits it by processor into plans,
-//! and a [`Keeper`] stores its events. [`put_refusal`] writes which line was rejected and why.
+//! [`play_trace`] plays a trace on any player, [`read_plans`] splits a trace into plans by
+//! processor, and a [`Keeper`] stores the events of a trace. [`put_refusal`] writes the message for
+//! a rejected line.
 #![tactic(auto)]
 
 mod keeper;

@@ -1,6 +1,5 @@
-//! Reads a trace into plans, which list the changes of each processor.
-//!
-//! The clocks that run on the plans are in other crates.
+//! Reads a trace into plans, which list the changes of each processor. Other crates run clocks on
+//! the plans.
 ghost use Rattle.std.specs.Prelude.{◌≡◌, ◌+◌, ◌≤◌, None, IsErrOf, MatchResult};
 ghost use Rattle.outside.specs.Outside.{IsAbsent, counts_of, content_of};
 ghost use Rattle.outside.specs.Reads.{ReadsFile};
@@ -13,8 +12,8 @@ use proc_plan::{Planner, Plans};
 use psi_base::Ns;
 use std::alloc::Global;
 
-/// Reads a trace of any version, and splits it by processor. Returns the number of the trace's
-/// version, and its plans. An event later than a million ticks (`tick` in ns) is rejected.
+/// Reads a trace of any version, and splits it by processor. Returns the version's number and the
+/// plans. An event later than a million ticks is rejected; `tick` is the length of a tick (ns).
 pub fn read_plans<S: Shelf>(
     alloc: Global,
     name: &str,

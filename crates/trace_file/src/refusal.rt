@@ -1,6 +1,5 @@
-//! Writes the message for a rejected line of a trace.
-//!
-//! It doesn't decide why a line is rejected.
+//! Writes the message for a rejected line of a trace. The module doesn't decide which lines are
+//! rejected.
 ghost use Rattle.std.specs.Prelude.{◌≡◌};
 ghost use Rattle.outside.specs.Outside.{HasCause};
 ghost use Rattle.outside.specs.Calls.{PutsAll};
@@ -48,7 +47,7 @@ fn cause_name(cause: Cause) -> &'static [u8]
     }
 }
 
-// Returns the number of the field in a `BadField`, or `None` for any other cause.
+// Returns the number of the field in a `BadField`, or `None` for another cause.
 fn field_of(cause: Cause) -> Option<u8>
     ensures { result ≡ field_number cause }
 {
@@ -58,8 +57,8 @@ fn field_of(cause: Cause) -> Option<u8>
     }
 }
 
-/// Writes the message for a rejected line of a trace: the line's number, from 1, and the cause.
-/// Doesn't allocate.
+/// Writes the message for a rejected line of a trace. The message has the line's number (from 1)
+/// and the cause. Doesn't allocate.
 pub fn put_refusal<N: Sink>(note: &mut N, line: u32, cause: Cause) -> Result<(), WriteFailed>
     ensures bytes { PutsAll (N.has note.old) (N.has note.new) result (refusal_text line cause) }
     ensures cause { HasCause (N.faults note.old) (N.faults note.new) result }

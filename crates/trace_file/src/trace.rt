@@ -1,6 +1,5 @@
-//! Reads traces from a shelf, and plays their events on a player.
-//!
-//! Each line is read, parsed and played before the next is read.
+//! Reads traces from a shelf, and plays their events on a player. Each line is read, parsed and
+//! played before the next line is read.
 ghost use Rattle.std.specs.Prelude.{◌≡◌, ◌+◌, ◌*◌, ◌<◌, ◌≤◌, ◌^◌, ℕ, List, [], IfOk, IsErrOf, Some, None, Ok, MatchResult, false, length};
 ghost use Rattle.outside.specs.Outside.{content_of, IsAbsent, counts_of};
 ghost use Rattle.outside.specs.Reads.{ReadsFile};
@@ -60,8 +59,8 @@ fn fault_at(line: u32, fault: Fault<Cause>) -> TraceFault
     }
 }
 
-// Returns the fault of the trace if a line can't be read. If the input ends inside the line, the
-// line is rejected with the cause `cut`.
+// Converts the fault of reading a line to a fault of the trace. If the input ends inside the line,
+// the line is rejected with the cause `cut`.
 fn trace_fault(fault: LineFault, cut: Cause) -> TraceFault
     ensures { result ≡ trace_fault cut fault }
 {
@@ -74,7 +73,7 @@ fn trace_fault(fault: LineFault, cut: Cause) -> TraceFault
     }
 }
 
-// Plays the event of a parsed line, or returns the fault of the line.
+// Plays the event of a parsed line, or returns the fault found by the parser.
 fn take_read<P: Player>(
     player: &mut P,
     read: &Result<Event, Fault<Cause>>,
@@ -88,8 +87,9 @@ fn take_read<P: Player>(
     }
 }
 
-// Parses and plays a line. The event isn't moved before it is played, to avoid a copy.
-// Precondition: the line has at most 512 bytes. The contract says nothing if the trace has ended.
+// Parses and plays a line. The event isn't moved before it is played, which saves a copy.
+// Precondition: the line has at most 512 bytes. The contract states nothing if the trace has
+// already ended.
 fn take_line<P: Player>(
     alloc: Global,
     version: u32,
@@ -104,8 +104,8 @@ fn take_line<P: Player>(
     take_read(player, &read_event(alloc, version, line))
 }
 
-// Reads and plays the next event line, of any verb. The contract says nothing about the events if
-// the trace has ended.
+// Reads and plays the next event line, with any verb. If the trace has already ended, the contract
+// states nothing about the events.
 fn next_event<S: Shelf, P: Player>(
     alloc: Global,
     version: u32,
@@ -141,8 +141,8 @@ fn next_event<S: Shelf, P: Player>(
     }
 }
 
-// Plays the next event line. If the line is completely buffered and has one of the most frequent
-// verbs, it is parsed in the buffer; otherwise it is read by `next_event`.
+// Plays the next event line. A line that is completely buffered and has one of the most frequent
+// verbs is parsed in the buffer. Any other line is read by `next_event`.
 #[inline(always)]
 fn play_next<S: Shelf, P: Player>(
     alloc: Global,
@@ -179,7 +179,7 @@ fn play_next<S: Shelf, P: Player>(
     }
 }
 
-// Checks that no bytes follow the `end` line. Reads at most once.
+// Checks that the file has no bytes after the `end` line. Reads at most once.
 fn close<S: Shelf>(lines: &mut Lines, shelf: &mut S) -> Result<(), TraceFault>
     requires number { lines.old.number < 2 ^ 32 }
     ensures unchanged { S.holds shelf.new ≡ S.holds shelf.old }
@@ -205,7 +205,7 @@ fn close<S: Shelf>(lines: &mut Lines, shelf: &mut S) -> Result<(), TraceFault>
     }
 }
 
-// Reads and plays the event lines after the header `head`, up to the `end` line. The loop ends
+// Reads and plays the event lines after the header `head`, up to the `end` line. The loop ends,
 // because a player takes at most 4,000,000 events.
 fn play_events<S: Shelf, P: Player>(
     alloc: Global,
@@ -273,8 +273,8 @@ fn read_head<S: Shelf>(lines: &mut Lines, shelf: &mut S, tick: Ns) -> Result<Hea
     }
 }
 
-/// Reads a trace, and plays its events on a new player. Returns the number of the trace's version,
-/// and the player. An event later than a million ticks (`tick` in ns) is rejected.
+/// Reads a trace, and plays its events on a new player. Returns the version's number and the
+/// player. An event later than a million ticks is rejected; `tick` is the length of a tick (ns).
 pub fn play_trace<S: Shelf, P: Player + Drop>(
     alloc: Global,
     name: &str,
