@@ -1,6 +1,6 @@
--- The invariant while a trace is generated, and the laws of generated traces. The definition of a
--- generated trace is in run_spec; a *shape* is its seed and its numbers of processors, groups and
--- events.
+-- Defines the invariant while a trace is generated, and the laws of generated traces. run_spec
+-- defines the generated trace of a *shape*, which is a seed and the numbers of processors, groups
+-- and events.
 use Rattle.std.specs.Prelude.{◌≡◌, ℕ, ◌+◌, ◌*◌, ◌≤◌, ◌<◌, List, [], ◌∷◌, length, map}
 use Rattle.std.specs.List.{range_with_len}
 use Rattle.psi_base.specs.declared.event.Event.{Event}
@@ -14,33 +14,35 @@ use Rattle.run_spec.specs.Generated.{at_start, gen_text, generated, made_group, 
 use Rattle.kill_spec.specs.Detectors.{of_seconds}
 use Rattle.run_spec.specs.LegalCommand.{IsShape}
 
--- the number of events that create the groups and tasks of a shape
+-- Returns the number of events that create the groups and tasks of a shape.
 abbrev pub first_count : Shape → ℕ
 first_count shape = shape.groups + task_count shape
 
--- the number of all events of a generated trace, including the end
+-- Returns the number of all events of a generated trace, including the end.
 abbrev pub event_count : Shape → ℕ
 event_count shape = first_count shape + shape.events + 1
 
--- the limits of a generated trace: its number of processors, and the latest time for the default
--- tick of 2 s
+-- The limits of a generated trace: its number of processors, and the latest time that the default
+-- tick of 2 s allows.
 abbrev pub limits_in : Shape → Limits
 limits_in shape = limits_of (of_seconds 2) shape.cpus
 
--- the events that create the groups with numbers below `number`
+-- `made_groups shape number`: the events that create the groups with numbers below `number`.
 abbrev pub made_groups : Shape → ℕ → List Event
 made_groups shape number = map (λ i. at_start (made_group i)) (range_with_len 0 number)
 
 -- ---- the invariant while a trace is generated
 
--- every task of the shape is live, and every live task is on a processor of the shape
+-- `AreLive shape tasks`: every task of the shape is live, and every live task is on a processor of
+-- the shape.
 pub record AreLive (shape : Shape) (tasks : Tasks) : Type 0 where
   pub live : (pid : ℕ) → 1 ≤ pid → pid ≤ task_count shape → IsSome (task_of tasks pid)
   pub within : (pid : ℕ) → IfSome (task_of tasks pid) (λ task. task.cpu.0 < shape.cpus)
 
--- The invariant of the world `w` after the groups and tasks of a shape were created and `count`
--- more events were played: all tasks are live, the world has counted all events, the last time is
--- at most 2 ms times `count`, and the trace hasn't ended.
+-- `IsGenerating shape count w`: the invariant of the world `w` after the groups and tasks of a
+-- shape were created and `count` more events were played. All tasks of the shape are live, the
+-- world has counted all events, the time of the last event is at most `count` times 2 ms, and the
+-- trace hasn't ended.
 pub record IsGenerating (shape : Shape) (count : ℕ) (w : World) : Type 0 where
   pub tasks : AreLive shape w.tasks
   pub lines : w.lines ≡ first_count shape + count
@@ -49,13 +51,13 @@ pub record IsGenerating (shape : Shape) (count : ℕ) (w : World) : Type 0 where
 
 -- ---- laws
 
--- Each generated text is the text of the generated trace, which has version 1 and is accepted at
--- the default tick.
+-- The law of generated texts: each generated text is the text of the generated trace. This trace
+-- has version 1 and is accepted with the default tick.
 abbrev pub GeneratedIsTrace : Type 0
 GeneratedIsTrace = (shape : Shape) → IsShape shape
     → IsTrace (accepts_with (One ∷ []) (of_seconds 2)) (gen_text shape) (generated shape)
 
--- A generated trace has one event for each group and each task, then the requested number of
--- further events, and the end.
+-- The law of the number of events: a generated trace has one event for each group and each task,
+-- then the requested number of further events, and the end.
 abbrev pub GeneratedCount : Type 0
 GeneratedCount = (shape : Shape) → length (generated shape).events ≡ event_count shape

@@ -1,4 +1,4 @@
--- The model of a trace generator: the list of the events that it hasn't returned yet.
+-- Defines the list of the events that a trace generator hasn't returned yet.
 use Rattle.std.specs.Prelude.{◌≡◌, ℕ, ◌+◌, List, [], ◌++◌, Bool, if◌then◌else◌}
 use Rattle.psi_base.specs.declared.event.Act.{Act}
 use Rattle.psi_base.specs.declared.event.Event.{Event}
@@ -9,18 +9,21 @@ use Rattle.run_spec.specs.LegalCommand.{IsShape}
 use Rattle.task_table.specs.Stands.{TableView}
 use Rattle.trace_gen.specs.Generating.{IsGenerating, limits_in}
 
--- a random act (what an event does), and the state of the random numbers after it
+-- Pairs a random act with the state of the random numbers after it. An act is an event without its
+-- time.
 abbrev pub random_act : Act → ℕ → RandomEvent
 random_act a state = record { act = a; state = state }
 
--- The events that remain: the creations in `first`, then `left` random events that start from world
--- `w` and state `state`, and the end; only `first` if the end was returned.
+-- `events_left shape first w state left ended`: the remaining events of a generator. These are the
+-- events in `first`, then `left` random events that start from the world `w` and the state `state`,
+-- and the end. Only `first` remains if the end was already returned.
 abbrev pub events_left : Shape → List Event → World → ℕ → ℕ → Bool → List Event
 events_left shape first w state left ended =
     first ++ (if ended then [] else random_events shape left w state)
 
--- The invariant of a generator: its shape is in range, and its table has the limits of the shape
--- and a world from which `left` random events remain.
+-- `IsGenerator shape table left`: the invariant of a generator. The numbers of its shape are in
+-- range, its table has the limits of the shape, and `left` random events remain after the table's
+-- world.
 pub record IsGenerator (shape : Shape) (table : TableView) (left : ℕ) : Type 0 where
   pub shaped : IsShape shape
   pub limits : table.limits ≡ limits_in shape

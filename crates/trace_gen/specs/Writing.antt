@@ -1,4 +1,4 @@
--- The result of writing a generated text to a sink.
+-- Defines the result of writing a generated text to a sink.
 use Rattle.std.specs.Prelude.{◌≡◌, ℕ, List, Option, Result, Ok, Err}
 use Rattle.std.specs.Io.KnownBytes.{Appends, Keeps}
 use Rattle.outside.specs.Outside.{AppendsPrefix, Increased}
@@ -6,21 +6,21 @@ use Rattle.psi_base.specs.declared.event.Fault.{Fault}
 use Rattle.psi_base.specs.declared.event.Fault.TheVariants.{NoMemory, Refused}
 use Rattle.run_spec.specs.declared.command.Shape.{Shape}
 
--- the shape with these numbers
+-- Builds a shape from its numbers.
 abbrev pub shape_by : ℕ → ℕ → ℕ → ℕ → Shape
 shape_by seed cpus groups events =
     record { seed = seed; cpus = cpus; groups = groups; events = events }
 
--- The text wasn't written completely. After a failed write (`Refused`) a prefix of it was written,
--- and the count of failed writes increased. After `NoMemory` nothing was written, and the count is
--- unchanged.
+-- `Misses text before now had has fault`: the text wasn't written completely. After a failed write
+-- (`Refused`), a prefix of the text was written, and the count of failed writes increased. After
+-- `NoMemory`, nothing was written, and the count is unchanged.
 abbrev pub Misses : {E : Type 0} → List ℕ → ℕ → ℕ → Option (List ℕ) → Option (List ℕ) → Fault E
     → Type 0
 Misses text before now had has (Refused failed) = AppendsPrefix had has text × Increased before now
 Misses text before now had has (NoMemory _) = Keeps had has × (now ≡ before)
 
--- The result of writing a text: all of it was written and the count of failed writes is unchanged,
--- or there is a fault as in `Misses`.
+-- `WritesWhole text before now had has result`: either the whole text was written and the count of
+-- failed writes is unchanged, or there is a fault (`Misses`).
 abbrev pub WritesWhole :
     {T E : Type 0} → List ℕ → ℕ → ℕ → Option (List ℕ) → Option (List ℕ) → Result T (Fault E) → Type 0
 WritesWhole text before now had has (Ok done) = Appends had has text × (now ≡ before)

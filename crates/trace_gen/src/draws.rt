@@ -1,13 +1,12 @@
-//! Pseudo-random numbers: equal seeds give equal numbers.
-//!
-//! They are for test traces only, and not for security.
+//! Pseudo-random numbers: the same seed gives the same numbers. They are meant only for test
+//! traces, not for security.
 ghost use Rattle.std.specs.Prelude.{◌≡◌, ℕ, ◌<◌};
 ghost use Rattle.run_spec.specs.Generated.{random_event, next_state};
 
 use std::marker::Model;
 
-/// The state of a linear congruential generator of 64 bits, with the constants of Knuth's MMIX.
-/// Contracts see the state as a number.
+/// The state of a linear congruential generator of 64 bits, with the constants of Knuth's MMIX. In
+/// contracts the state is a number.
 #[derive(Drop)]
 pub(crate) struct Draws {
     state: u64,
@@ -20,14 +19,14 @@ impl Model for Draws {
 }
 
 impl Draws {
-    /// Returns a generator with the state `seed`.
+    /// Creates a generator with the state `seed`.
     pub(crate) fn new(seed: u64) -> Draws
         ensures { result ≡ seed }
     {
         Draws { state: seed }
     }
 
-    /// Returns the next random number below `bound`, which must be positive.
+    /// Returns the next random number, which is below `bound`. Precondition: `bound` isn't 0.
     pub(crate) fn draw(&mut self, bound: u32) -> u32
         requires { 0 < bound }
         ensures state { self.new ≡ next_state self.old }

@@ -1,6 +1,5 @@
-//! The events at the start of a generated trace: they create its groups and tasks.
-//!
-//! The random events after them are in `generator`.
+//! The events at the start of a generated trace, which create its groups and tasks. The module
+//! `generator` generates the random events after them.
 ghost use Rattle.std.specs.Prelude.{◌≡◌, ◌≤◌, ◌<◌, ◌++◌, ◌∷◌, [], None, IfOk, OnOk, map};
 ghost use Rattle.std.specs.List.{range_with_len};
 ghost use Rattle.psi_spec.specs.Refusal.{cause_of};
@@ -16,10 +15,10 @@ use std::alloc::Global;
 use std::collections::VecDeque;
 use task_table::Table;
 
-/// The number of tasks per processor.
+/// The number of tasks for each processor.
 pub(crate) const TASKS_EACH: u32 = 4;
 
-/// Returns the path of the group with number `number` (from 0).
+/// Returns the path of the group with the number `number`, counted from 0.
 #[tactic(auto, using(crate::proofs::Naming::numbered_is_path))]
 fn numbered_path(alloc: Global, number: u32) -> Result<Path, NoMemory>
     ensures { IfOk result (λ path. path ≡ numbered_path number) }
@@ -33,7 +32,7 @@ fn numbered_path(alloc: Global, number: u32) -> Result<Path, NoMemory>
     }
 }
 
-/// Returns the path of the group in which a task is created.
+/// Returns the path of the group in which the task `pid` is created.
 fn home_of(alloc: Global, shape: Shape, pid: u32) -> Result<Path, NoMemory>
     requires { 1 ≤ pid }
     ensures { IfOk result (λ path. path ≡ home_of shape pid) }
@@ -45,7 +44,7 @@ fn home_of(alloc: Global, shape: Shape, pid: u32) -> Result<Path, NoMemory>
     }
 }
 
-/// Returns the event that creates the group with number `number` (from 0).
+/// Returns the event that creates the group with the number `number`, counted from 0.
 fn made_group(alloc: Global, number: u32) -> Result<Event, NoMemory>
     ensures { IfOk result (λ event. event ≡ at_start (made_group number)) }
 {
@@ -56,7 +55,7 @@ fn made_group(alloc: Global, number: u32) -> Result<Event, NoMemory>
     })
 }
 
-/// Returns the event that creates the task `pid`.
+/// Returns the event that creates the task with this pid.
 fn made_task(alloc: Global, shape: Shape, pid: u32) -> Result<Event, NoMemory>
     requires { 1 ≤ pid }
     ensures { IfOk result (λ event. event ≡ at_start (made_task shape pid)) }
@@ -72,8 +71,8 @@ fn made_task(alloc: Global, shape: Shape, pid: u32) -> Result<Event, NoMemory>
     })
 }
 
-/// Plays an event, and appends it to `events`. Precondition: the table's world is the one after
-/// `events`, and the event is legal in it.
+/// Plays an event, and appends it to `events`. Preconditions: the table has played exactly
+/// `events`, and the event is legal after them.
 #[tactic(auto, using(crate::proofs::Drawing::one_after))]
 fn play(events: &mut VecDeque<Event>, table: &mut Table, event: Event) -> Result<(), NoMemory>
     requires world { table.old.world ≡ after events.old.items }
@@ -91,8 +90,8 @@ fn play(events: &mut VecDeque<Event>, table: &mut Table, event: Event) -> Result
     Ok(())
 }
 
-/// Plays and appends the creations of all groups of a shape. Precondition: no other event was
-/// played.
+/// Plays the events that create all groups of a shape, and appends them to `events`. Precondition:
+/// no event was played before.
 fn make_groups(
     alloc: Global,
     shape: Shape,
@@ -113,8 +112,8 @@ fn make_groups(
     Ok(())
 }
 
-/// Plays and appends the creations of all tasks of a shape. Precondition: exactly its groups were
-/// created.
+/// Plays the events that create all tasks of a shape, and appends them to `events`. Precondition:
+/// only the events that create the shape's groups were played before.
 fn make_tasks(
     alloc: Global,
     shape: Shape,
@@ -136,8 +135,8 @@ fn make_tasks(
     Ok(())
 }
 
-/// Returns the events that create all groups and tasks of a shape, in order, and plays them in a
-/// new table.
+/// Returns the events that create all groups and tasks of a shape, in order. Plays the events in
+/// `table`, which must be new.
 pub(crate) fn found(
     alloc: Global,
     shape: Shape,

@@ -1,6 +1,4 @@
-//! Generates the events of a trace, one by one.
-//!
-//! It doesn't write them: `text` does.
+//! Generates the events of a trace, one by one. The module `text` writes them.
 ghost use Rattle.std.specs.Prelude.{◌≡◌, ◌<◌, ◌≤◌, ◌^◌, IfOk, MatchOption, [], ◌∷◌};
 ghost use Rattle.run_spec.specs.Generated.{random_events, generated, next_random, next_event, next_of, running_act};
 ghost use Rattle.run_spec.specs.Generated.{random_event, next_state, stall_turn, started, way_of, woken};
@@ -17,21 +15,21 @@ use std::collections::VecDeque;
 use std::marker::Model;
 use task_table::Table;
 
-/// The time between two random events (ns) is below this bound.
+/// The time (ns) between two random events is less than this.
 const LONGEST_WAIT: u32 = 2_000_000;
 
-/// Generates the events of a trace. Contracts see the list of the events that remain.
+/// Generates the events of a trace. In contracts a generator is the list of the remaining events.
 #[derive(Drop)]
 pub struct Generator {
     shape: Shape,
-    /// The remaining events that create groups and tasks.
+    /// The events that create groups and tasks and haven't been returned yet.
     first: VecDeque<Event>,
-    /// The table of tasks after all events that were returned, and the events in `first`.
+    /// The table of tasks after all returned events and the events in `first`.
     table: Table,
     draws: Draws,
-    /// The number of random events that remain after the events in `first`.
+    /// The number of random events that follow the events in `first`.
     left: u32,
-    /// Whether the end was returned.
+    /// Whether the event that ends the trace has been returned.
     ended: bool,
 }
 
@@ -52,8 +50,8 @@ impl Model for Generator {
 }
 
 impl Generator {
-    /// Returns a generator of all events of a shape. Precondition: the numbers of the shape are in
-    /// range. Allocates all its memory.
+    /// Creates a generator of the events of a shape. Precondition: the numbers of the shape are in
+    /// range. No later call allocates memory.
     pub fn make(alloc: Global, shape: Shape) -> Result<Generator, NoMemory>
         requires { IsShape shape }
         ensures { IfOk result (λ g. g ≡ (generated shape).events) }
@@ -70,7 +68,7 @@ impl Generator {
         })
     }
 
-    /// Returns the next event, or `None` after the end. Doesn't allocate.
+    /// Returns the next event, or `None` after the end of the trace. Doesn't allocate.
     pub fn next(&mut self) -> Option<Event>
         ensures { MatchOption result ((self.old ≡ []) × (self.new ≡ []))
             (λ event. self.old ≡ event ∷ self.new) }
@@ -100,8 +98,8 @@ fn next_first(events: &mut VecDeque<Event>) -> Option<Event>
     events.pop_front()
 }
 
-/// Returns and plays the next random event, which is always legal. Counts down `left`, the number
-/// of random events that remain. Doesn't allocate.
+/// Plays and returns the next random event, which is always legal. Subtracts 1 from `left`, the
+/// number of remaining random events. Doesn't allocate.
 fn play_next(shape: Shape, table: &mut Table, draws: &mut Draws, left: &mut u32) -> Event
     requires some { 0 < left.old }
     requires so { IsGenerator shape table.old left.old }
@@ -119,7 +117,7 @@ fn play_next(shape: Shape, table: &mut Table, draws: &mut Draws, left: &mut u32)
     }
 }
 
-/// Returns the next random event in the world of the table.
+/// Returns the next random event. `table` is the table before the event.
 #[tactic(auto, unfolding(run_spec::specs::Generated::next_random))]
 fn next_event(shape: Shape, table: &Table, draws: &mut Draws) -> Event
     requires shaped { IsShape shape }
@@ -136,7 +134,8 @@ fn next_event(shape: Shape, table: &Table, draws: &mut Draws) -> Event
     Event { at, act }
 }
 
-/// Returns a random act for task `pid`: what its event does. `task` is the state of the task.
+/// Returns a random act for the task `pid`, whose state is `task`. An act is an event without its
+/// time.
 fn act_of(shape: Shape, table: &Table, draws: &mut Draws, pid: Pid, task: Task) -> Act
     requires { IsShape shape }
     ensures { random_act result draws.new
@@ -160,8 +159,8 @@ fn woken(shape: Shape, draws: &mut Draws, pid: Pid) -> Act
     }
 }
 
-/// Returns a switch to a ready task on its processor. If the processor is idle, no random number is
-/// drawn.
+/// Returns the act that switches to a ready task on its processor. Draws a random number only if a
+/// task is running there.
 #[tactic(auto, using(crate::proofs::Drawing::some_part))]
 fn started(table: &Table, draws: &mut Draws, pid: Pid, task: Task) -> Act
     ensures { random_act result draws.new
@@ -178,7 +177,7 @@ fn started(table: &Table, draws: &mut Draws, pid: Pid, task: Task) -> Act
     }
 }
 
-/// Returns how the running task leaves, for a random number below 4.
+/// Returns the way in which the running task leaves, for a random number below 4.
 fn way_of(number: u32) -> How
     ensures { result ≡ way_of number }
 {
@@ -189,8 +188,8 @@ fn way_of(number: u32) -> How
     }
 }
 
-/// Returns a random act of a running task: it sleeps, waits for IO, or begins or ends a memory
-/// stall.
+/// Returns a random act of a running task: the task sleeps, waits for IO, or starts or ends a
+/// memory stall.
 fn running_act(draws: &mut Draws, pid: Pid, task: Task) -> Act
     ensures { (draws.new ≡ next_state draws.old)
         × (result ≡ running_act pid.0 task (random_event (next_state draws.old) 4)) }
@@ -199,8 +198,8 @@ fn running_act(draws: &mut Draws, pid: Pid, task: Task) -> Act
     leaving(number, pid, task)
 }
 
-/// Returns the act of a running task for a random number below 4: it sleeps, waits for IO, or
-/// begins or ends a memory stall.
+/// Returns the act of a running task for a random number below 4: the task sleeps, waits for IO, or
+/// starts or ends a memory stall.
 fn leaving(number: u32, pid: Pid, task: Task) -> Act
     ensures { result ≡ running_act pid.0 task number }
 {
@@ -216,7 +215,8 @@ fn leaving(number: u32, pid: Pid, task: Task) -> Act
     }
 }
 
-/// Returns an act that ends the task's memory stall if it is in one, and begins one otherwise.
+/// Returns the act that ends the task's memory stall, or that starts one if the task isn't in a
+/// stall.
 fn stall_turn(pid: Pid, task: Task) -> Act
     ensures { result ≡ stall_turn pid.0 task }
 {

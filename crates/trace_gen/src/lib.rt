@@ -1,11 +1,12 @@
-//! Generated traces: large valid ones, each from the few numbers of its shape, and reproducible.
+//! Generates large, valid traces. Each trace is determined by the few numbers of its shape, so it
+//! can be reproduced.
 //!
-//! [`Generator`] returns the events one by one, [`generate`] writes their text, and
+//! [`Generator`] returns the events one by one, [`generate`] writes the text of the trace, and
 //! [`law_generated`] states that the text is accepted. [`put_header`] and [`put_event`] write one
-//! line of a trace without allocating.
+//! line of any trace without allocating.
 //!
-//! The definition of a generated trace is in run_spec. The events are random but legal; they model
-//! no real machine.
+//! run_spec defines the generated trace of a shape. The events are random but legal; they don't
+//! model a real machine.
 #![tactic(auto)]
 
 mod draws;

@@ -1,6 +1,5 @@
-//! Writes the text of a generated trace to a sink.
-//!
-//! It also writes single lines of other traces, without allocating.
+//! Writes the text of a generated trace to a sink. It also writes single lines of other traces,
+//! without allocating.
 ghost use Rattle.std.specs.Prelude.{◌≡◌, ◌≤◌, ◌++◌, ◌∷◌, [], vec_capacity};
 ghost use Rattle.outside.specs.Outside.{HasCause, SameInner};
 ghost use Rattle.outside.specs.Calls.{PutsAll};
@@ -17,11 +16,11 @@ use psi_trace::{write_event, write_header};
 use run_spec::Shape;
 use std::alloc::Global;
 
-/// The greatest length of an event's line with its newline (bytes).
+/// The maximum length (bytes) of an event's line with its newline.
 const ROOM: usize = 513;
 
-/// Replaces the content of `line` by the header line for `cpus` processors. Doesn't allocate,
-/// because the capacity of `line` suffices.
+/// Replaces the content of `line` with the header line for `cpus` processors. Doesn't allocate,
+/// because the capacity of `line` is large enough.
 #[tactic(auto, using(psi_trace::proofs::Headers::header_short))]
 fn make_header(cpus: u32, line: &mut Vec<u8>)
     requires { 513 ≤ vec_capacity line.old }
@@ -35,8 +34,8 @@ fn make_header(cpus: u32, line: &mut Vec<u8>)
     }
 }
 
-/// Replaces the content of `line` by the line of an event. Doesn't allocate, because the capacity
-/// of `line` suffices.
+/// Replaces the content of `line` with the line of an event. Doesn't allocate, because the capacity
+/// of `line` is large enough.
 #[tactic(auto, using(crate::proofs::Sending::line_short))]
 fn make_line(event: &Event, line: &mut Vec<u8>)
     requires fits { Fits event.now }
@@ -51,8 +50,8 @@ fn make_line(event: &Event, line: &mut Vec<u8>)
     }
 }
 
-/// Writes the header line for `cpus` processors. `line` is a work buffer. Doesn't allocate, because
-/// its capacity suffices.
+/// Writes the header line for `cpus` processors to `out`. `line` is a buffer for the line. Doesn't
+/// allocate, because the buffer's capacity is large enough.
 pub fn put_header<K: Sink>(cpus: u32, line: &mut Vec<u8>, out: &mut K) -> Result<(), WriteFailed>
     requires room { 513 ≤ vec_capacity line.old }
     ensures room { 513 ≤ vec_capacity line.new }
@@ -64,8 +63,8 @@ pub fn put_header<K: Sink>(cpus: u32, line: &mut Vec<u8>, out: &mut K) -> Result
     put_all(out, line)
 }
 
-/// Writes the line of an event. `line` is a work buffer. Doesn't allocate, because its capacity
-/// suffices.
+/// Writes the line of an event to `out`. `line` is a buffer for the line. Doesn't allocate, because
+/// the buffer's capacity is large enough.
 pub fn put_event<K: Sink>(event: &Event, line: &mut Vec<u8>, out: &mut K) -> Result<(), WriteFailed>
     requires fits { Fits event.now }
     requires room { 513 ≤ vec_capacity line.old }
@@ -79,7 +78,7 @@ pub fn put_event<K: Sink>(event: &Event, line: &mut Vec<u8>, out: &mut K) -> Res
     put_all(out, line)
 }
 
-/// Writes the line of an event, and drops the event. `line` is a work buffer.
+/// Writes the line of an event to `out`, and drops the event. `line` is a buffer for the line.
 fn put_owned<K: Sink>(event: Event, line: &mut Vec<u8>, out: &mut K) -> Result<(), WriteFailed>
     requires fits { Fits event }
     requires room { 513 ≤ vec_capacity line.old }
@@ -91,7 +90,7 @@ fn put_owned<K: Sink>(event: Event, line: &mut Vec<u8>, out: &mut K) -> Result<(
     put_event(&event, line, out)
 }
 
-/// Writes the lines of a generator's remaining events. `line` is a work buffer.
+/// Writes the lines of a generator's remaining events to `out`. `line` is a buffer for one line.
 fn put_events<K: Sink>(
     generator: &mut Generator,
     line: &mut Vec<u8>,
@@ -109,8 +108,8 @@ fn put_events<K: Sink>(
     Ok(())
 }
 
-/// Writes the header line for `cpus` processors, and the lines of a generator's remaining events.
-/// `line` is a work buffer.
+/// Writes the header line for `cpus` processors and the lines of a generator's remaining events to
+/// `out`. `line` is a buffer for one line.
 #[tactic(auto, using(outside::proofs::Grows::chain))]
 fn put_trace<K: Sink>(
     cpus: u32,
@@ -130,10 +129,10 @@ fn put_trace<K: Sink>(
 }
 
 /// Writes the text of the trace that is generated from these numbers: any seed, 1 to 64 processors,
-/// at most 1,000 groups and 3,900,000 events. Each line takes at least one write.
+/// at most 1,000 groups and at most 3,900,000 events. Each line takes at least one write.
 ///
-/// Returns `Refused` if a write failed: a prefix of the text was written. Returns `NoMemory` only
-/// before anything is written.
+/// Fails with `Refused` if a write failed; a prefix of the text was then written. Fails with
+/// `NoMemory` only before anything is written.
 pub fn generate<K: Sink>(
     alloc: Global,
     seed: u64,
