@@ -1,24 +1,26 @@
--- Reading a stream at a place.
+-- Defines properties of streams that can be read from any position.
 use Rattle.std.specs.Prelude.{◌≡◌, ℕ, ◌+◌, ◌-◌, ◌^◌, ◌<◌, ◌≤◌, min, List, length, take, drop, MatchResult, Option, Result, Some}
 use Rattle.outside.specs.declared.shelf.ShelfFault.{ShelfFault}
 use Rattle.outside.specs.declared.shelf.ShelfFault.TheVariants.{Failed}
 
--- for streams of this type: the remaining bytes are the content from the current position on
+-- `LeavesFromPlace left place bytes`: for streams of this type, the remaining bytes are the content
+-- from the current position to the end.
 abbrev pub LeavesFromPlace : {F : Type 0} → (F → Option (List ℕ)) → (F → Option ℕ) → (F → Option (List ℕ)) → Type 0
 LeavesFromPlace {F} left place bytes =
     (file : F) (at : ℕ) (held : List ℕ) → place file ≡ Some at → bytes file ≡ Some held → left file ≡ Some (drop at held)
 
--- the stream's position and content are known, and are these
+-- `IsPlacedAt place bytes file at held`: the position and the content of the stream `file` are
+-- known, and are `at` and `held`.
 abbrev pub IsPlacedAt : {F : Type 0} → (F → Option ℕ) → (F → Option (List ℕ)) → F → ℕ → List ℕ → Type 0
 IsPlacedAt place bytes file at held = (place file ≡ Some at) × (bytes file ≡ Some held)
 
--- the position advanced by the number of bytes read (64 bits), or is unchanged after a failed read;
--- the failure is never a missing file
+-- `GoesOn before now result`: the position advanced by the number of bytes read, up to the greatest
+-- 64-bit number. After a failed read the position is unchanged, and the fault isn't a missing file.
 abbrev pub GoesOn : ℕ → ℕ → Result ℕ ShelfFault → Type 0
 GoesOn before now result = MatchResult result (λ n. now ≡ min (before + n) (2 ^ 64 - 1)) (λ fault. (fault ≡ Failed) × (now ≡ before))
 
--- n bytes were read from this offset into the start of the buffer; n is 0 only at the end of the
--- file. The rest of the buffer may have any content.
+-- `ReadsPrefix bytes at n into`: `n` bytes were read from offset `at` into the start of the buffer.
+-- `n` is 0 only at the end of the file. The rest of the buffer may have any content.
 pub record ReadsPrefix (bytes : List ℕ) (at n : ℕ) (into : List ℕ) : Type 0 where
   pub read : take n into ≡ take n (drop at bytes)
   pub inside : n ≤ length bytes - at

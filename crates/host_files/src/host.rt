@@ -1,5 +1,5 @@
-//! The system's files and streams. Contracts know nothing about their content, so their behaviour
-//! is trusted, not proved.
+//! The system's files and streams. Contracts don't know their content, so the behaviour of the
+//! system is trusted, not proved.
 ghost use Rattle.std.specs.Prelude.{◌≡◌, ◌≢◌, ◌<◌, ◌≤◌, ℕ, List, None, Some, IfErr, IfOk, IfSome, IsErrOf, OnOk, codes, length};
 ghost use Rattle.std.specs.Io.KnownBytes.{Keeps, ReadConsumes};
 ghost use Rattle.host_files.specs.Host.{GoesOn, LeavesFromPlace, ReadsPrefix, IsPlacedAt};
@@ -10,8 +10,8 @@ use std::fs;
 use std::io::{AsBytes, Cursor, ErrorKind, Read, Seek, SeekFrom, Write};
 use std::rt::Files;
 
-// The fault for a file that can't be opened: `NoFile` only if the system says that the file doesn't
-// exist.
+// Returns the fault for a file that can't be opened. The fault is `NoFile` only if the system
+// reports that the file doesn't exist.
 fn open_fault(kind: ErrorKind) -> ShelfFault
     ensures missing { kind ≡ ErrorKind.NotFound → result ≡ ShelfFault.NoFile }
     ensures other { kind ≢ ErrorKind.NotFound → result ≡ ShelfFault.Failed }
@@ -23,7 +23,7 @@ fn open_fault(kind: ErrorKind) -> ShelfFault
     }
 }
 
-// Reads once from a stream, whose offset is `place` (bytes), and advances `place`.
+// Reads once from a stream at the offset `place` (bytes), and advances `place`.
 fn read_next<I: Read>(stream: &mut I, place: &mut u64, into: &mut [u8]) -> Result<usize, ShelfFault>
     ensures bound { IfOk result (λ n. n ≤ length into.new) }
     ensures bytes { ReadConsumes (I.remaining stream.old) (I.remaining stream.new) result into.new }
@@ -38,7 +38,7 @@ fn read_next<I: Read>(stream: &mut I, place: &mut u64, into: &mut [u8]) -> Resul
     }
 }
 
-// Reads standard input at offset `at`. Fails unless `at` is where the previous read ended.
+// Reads standard input at offset `at`. Fails if the previous read didn't end at this offset.
 fn read_input<I: Read>(
     input: &mut I,
     place: &mut u64,
@@ -68,7 +68,8 @@ fn seek_to<F: Seek>(file: &mut F, at: u64) -> Result<(), ShelfFault>
     Ok(())
 }
 
-/// An open file. It stays open, so that a file that can't seek (a pipe) is read in order.
+/// An open file. The file stays open, so that a file without seeking (such as a pipe) is read in
+/// order.
 #[derive(Drop)]
 struct Opened<F> {
     name: Name,
@@ -77,7 +78,7 @@ struct Opened<F> {
 }
 
 impl<F: Read + Seek> Opened<F> {
-    // Reads at offset `at`. Seeks only if the previous read ended elsewhere.
+    // Reads at offset `at`. Seeks only if the previous read didn't end at this offset.
     fn read_at(&mut self, at: u64, into: &mut [u8]) -> Result<usize, ShelfFault>
         ensures bound { IfOk result (λ n. n ≤ length into.new) }
         ensures bytes { (bytes : List ℕ)
@@ -96,7 +97,8 @@ impl<F: Read + Seek> Opened<F> {
     }
 }
 
-// Opens a file at its first byte. A name that is too long for `Name` is too long for the system.
+// Opens a file at its first byte. Fails if the name is too long for `Name`, because such a name is
+// also too long for the system.
 fn open<R: Files>(rt: &R, name: &str) -> Result<Opened<R::File>, ShelfFault>
     ensures name { IfOk result (λ opened. opened.name ≡ name.now) }
     ensures place { IfOk result (λ opened. opened.place ≡ 0) }
@@ -115,7 +117,7 @@ fn open<R: Files>(rt: &R, name: &str) -> Result<Opened<R::File>, ShelfFault>
     }
 }
 
-// Reads a file at offset `at`, and keeps it open for the next read.
+// Reads a file at offset `at`, and leaves the file open for the next read.
 fn read_file<R: Files>(
     rt: &R,
     opened: &mut Option<Opened<R::File>>,
@@ -137,7 +139,8 @@ fn read_file<R: Files>(
     Ok(count)
 }
 
-/// Files by name, and an input with the name `-`, which is read in order. Does not allocate.
+/// The system's files by name, and an input with the name `-`, which can only be read in order.
+/// Does not allocate.
 #[derive(Drop)]
 pub struct HostShelf<'a, R: Files, I> {
     rt: &'a R,
@@ -151,7 +154,7 @@ pub struct HostShelf<'a, R: Files, I> {
 }
 
 impl<'a, R: Files, I: Read> HostShelf<'a, R, I> {
-    /// A shelf of the system's files, with this input.
+    /// Creates a shelf of the system's files with this input.
     pub fn new(rt: &'a R, input: I) -> Self {
         HostShelf {
             rt,
@@ -165,7 +168,8 @@ impl<'a, R: Files, I: Read> HostShelf<'a, R, I> {
         }
     }
 
-    // Reads at a place: from the input if the name is `-`, otherwise from the file with this name.
+    // Reads at offset `at` from the input if the name is `-`, otherwise from the file with this
+    // name.
     fn read_named(&mut self, name: &str, at: u64, into: &mut [u8]) -> Result<usize, ShelfFault>
         ensures bound { IfOk result (λ n. n ≤ length into.new) }
         ensures order { name.now ≡ codes "-" → at ≢ self.old.place →
@@ -225,9 +229,9 @@ impl<'a, R: Files, I: Read> Shelf for HostShelf<'a, R, I> {
     }
 }
 
-/// A sink over a stream, such as standard output or standard error. Its content is known only if
-/// the stream's is; that of the system's streams never is. A write of a nonempty piece that takes
-/// no byte is a failure.
+/// A sink that writes to a stream, such as standard output or standard error. Contracts know the
+/// written bytes only if they know the stream's content, which isn't the case for the system's
+/// streams. A write of a nonempty piece that writes no byte counts as a failure.
 #[derive(Drop)]
 pub struct HostSink<W> {
     stream: W,
@@ -235,7 +239,7 @@ pub struct HostSink<W> {
 }
 
 impl<W: Write> HostSink<W> {
-    /// A sink that writes to a stream.
+    /// Creates a sink that writes to a stream.
     pub fn new(stream: W) -> Self {
         HostSink { stream, faults: 0 }
     }
@@ -257,7 +261,7 @@ impl<W: Write> Sink for HostSink<W> {
     }
 }
 
-/// The remaining bytes of a cursor over bytes are those from its position on.
+/// For a cursor over bytes, the remaining bytes are the bytes from its position to the end.
 pub fn law_cursors_leave_from_place<T: AsBytes>()
     ensures { LeavesFromPlace ⟦<Cursor<T> as Read>⟧.remaining
         ⟦<Cursor<T> as Seek>⟧.stream_position

@@ -1,7 +1,8 @@
-//! The system's files and streams as a shelf and sinks, and the words of a command line.
+//! Implements a shelf and sinks with the system's files and streams, and returns the words of the
+//! command line.
 //!
-//! Only the programs use this crate; every other crate uses the traits of `outside`. The content of
-//! the system's files is not known here, so no contract depends on it.
+//! Only the programs use this crate; every other crate uses the traits of `outside`. No contract
+//! depends on the content of the system's files, because it isn't known here.
 #![tactic(auto)]
 
 mod host;

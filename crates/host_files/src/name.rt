@@ -3,10 +3,10 @@ ghost use Rattle.std.specs.Prelude.{◌≡◌, ◌<◌, ◌↔◌, IsTrue, Match
 
 use std::marker::Model;
 
-/// The length of the longest name that the system opens, in bytes.
+/// The length (bytes) of the longest name that the system can open.
 const LONGEST: usize = 4095;
 
-/// A name that the system can open. It is stored in place, so it does not allocate.
+/// A file name that isn't too long for the system. It is stored in place, without allocation.
 #[derive(Drop)]
 pub(crate) struct Name {
     bytes: [u8; LONGEST],
@@ -24,7 +24,7 @@ impl Model for Name {
 }
 
 impl Name {
-    /// Copies a file name. `None` if it is longer than the system allows.
+    /// Copies a file name. Returns `None` if the name is longer than the system allows.
     pub(crate) fn new(name: &str) -> Option<Name>
         ensures { MatchOption result (4095 < length name.now) (λ kept. kept ≡ name.now) }
     {
@@ -37,7 +37,7 @@ impl Name {
         Some(Name { bytes, length })
     }
 
-    /// Whether this is the file name `name`.
+    /// Whether this file name equals `name`.
     pub(crate) fn is(&self, name: &str) -> bool
         ensures { IsTrue result ↔ (self.now ≡ name.now) }
     {

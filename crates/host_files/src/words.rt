@@ -9,15 +9,15 @@ use std::env::Args;
 use std::io;
 use std::io::ErrorKind;
 
-// Collects the arguments without the first, which is the program's name.
+// Collects all arguments except the first, which is the name of the program.
 fn after_the_name(alloc: Global, words: Args) -> Result<Vec<String>, AllocError>
     ensures { IfOk result (λ kept. kept.items ≡ drop 1 (into_iter_items words)) }
 {
     words.skip(1).collect(alloc)
 }
 
-/// The arguments of a command line without the program's name. If one isn't UTF-8, the result is
-/// empty, which isn't a command.
+/// Returns the arguments of a command line without the name of the program. If an argument isn't
+/// UTF-8, the result is empty, which isn't a valid command.
 pub fn words_of(alloc: Global, arguments: io::Result<Args>) -> Result<Vec<String>, NoMemory>
     ensures words { IfOk arguments
         (λ args. IfOk result (λ words. words.items ≡ drop 1 (into_iter_items args))) }
