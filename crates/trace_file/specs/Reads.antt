@@ -55,7 +55,7 @@ TakesRead Before After (Err why) result = result ≡ Err why
 
 -- `TakesLine verbs Before After line result`: the effect of a line on a player whose trace hasn't
 -- ended. Either the line's event is played after fewer than 4,000,000 earlier events, or the line
--- is rejected with the cause that trace_spec's `line_event` gives.
+-- is rejected with the cause that psi_spec's `line_event` gives.
 abbrev pub TakesLine : List Verb → Plays → Plays → List ℕ → Result (Unit {0}) (Fault Cause) → Type 0
 TakesLine verbs Before After line (Ok x) =
     (limits : Limits) (events : List Event) → Before limits events → (after events).ended ≡ false
