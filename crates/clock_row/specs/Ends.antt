@@ -1,4 +1,5 @@
--- Defines what the callers of a row's writer and readers can refer to in contracts.
+-- Defines the writer and the readers of a row as the contracts of their methods refer to them. Each
+-- has a row and a view, which records what the writer or the reader knows about the row.
 use Rattle.std.specs.Prelude.{◌≡◌, ◌⊎◌, ℕ, ◌+◌, ◌*◌, ◌%◌, ◌^◌, ◌<◌, List, [], ◌∷◌, ◌++◌, false, length, slice_index_or}
 use Rattle.atomic_table.specs.Seated.{TableId}
 use Rattle.psi_counts.specs.Clock.{ClockView, zero_clock}
@@ -10,12 +11,12 @@ use Rattle.clock_row.specs.declared.view.WriterView.{WriterView}
 use Rattle.clock_row.specs.declared.view.ReaderView.{ReaderView}
 use Rattle.clock_row.specs.declared.view.Attempt.TheVariants.{Closed}
 
--- A writer in contracts: its row, and what the writer knows of the row.
+-- A writer in contracts: its row, and what the writer knows about the row.
 pub record WriterEnd : Type 0 where
   pub row : TableId
   pub knows : WriterView
 
--- A reader in contracts: its row, and what the reader knows of the row.
+-- A reader in contracts: its row, and what the reader knows about the row.
 pub record ReaderEnd : Type 0 where
   pub row : TableId
   pub knows : ReaderView

@@ -1,6 +1,6 @@
 -- Defines the invariant of a row, which relates the row's words to the views of its seats between
 -- any two steps. A seat is the handle of the writer, a reader or a note (a message that contains a
--- number of changes). The view of a seat is what its owner knows of the row.
+-- number of changes). The view of a seat records what its owner knows about the row.
 --
 -- Word 0 is the sequence number: twice the number of changes in the row, plus one while a change is
 -- open. Nine words for each slot follow.
@@ -29,7 +29,7 @@ open_bit false = 0
 abbrev pub sequence : WriterView → ℕ
 sequence writer = 2 * writer.count + open_bit writer.changing
 
--- `KnowsLoaded number body attempt`: what an open try knows of a row with the sequence number
+-- `KnowsLoaded number body attempt`: what an open try knows about a row with the sequence number
 -- `number` and the words `body` after it. The try began with an even sequence number, which is at
 -- most `number`. If the two numbers are equal, each value that the try loaded is still at its index
 -- in `body`.

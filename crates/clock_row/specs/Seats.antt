@@ -1,6 +1,6 @@
 -- Defines the views of the seats of a row: who owns a seat, and how its view may change. A seat is
--- the handle of the writer, a reader or a note. The view of a seat is what its owner knows of the
--- row.
+-- the handle of the writer, a reader or a note. The view of a seat records what its owner knows
+-- about the row.
 use Rattle.std.specs.Prelude.{◌≡◌, ℕ, List, []}
 use Rattle.atomic_table.specs.declared.shared.Seat.{Seat}
 use Rattle.plan_laws.specs.Plan.{no_plan}

@@ -1,6 +1,6 @@
 -- Defines the nine kinds of step on a row: how a step changes the view of its seat, what its result
 -- means, and that it preserves the invariant. A seat is the handle of the writer, a reader or a
--- note. The view of a seat is what its owner knows of the row.
+-- note. The view of a seat records what its owner knows about the row.
 use Rattle.std.specs.Prelude.{◌≡◌, ℕ, ◌+◌, ◌*◌, ◌-◌, ◌/◌, ◌%◌, ◌≤◌, max, Bool, true, false, ◌==◌, List, [], ◌∷◌, ◌++◌, slice_index, slice_set}
 use mathlib.Core.Option.{none}
 use Rattle.atomic_table.specs.Table.{Allows, Joins, Me, Splits, Step, opening, step}

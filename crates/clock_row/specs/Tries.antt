@@ -1,4 +1,5 @@
--- Defines how many tries a reader needed for a sequence of samples.
+-- Defines how many tries a reader needed for a sequence of samples. A try fails if the row changes
+-- while the reader loads a clock.
 use Rattle.std.specs.Prelude.{◌≡◌, ◌⊎◌, ℕ, ◌+◌, ◌-◌, ◌≤◌, List, [], ◌∷◌, ◌++◌, length}
 use Rattle.clock_row.specs.declared.view.ReaderView.{ReaderView}
 

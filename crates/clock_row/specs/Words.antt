@@ -86,7 +86,7 @@ WereLoaded loaded from count words =
     (body : List ℕ) → Agrees body loaded → (i : ℕ) → i < count → slice_index words i ≡ slice_index body (from + i)
 
 -- `ClockWasLoaded loaded slot clock`: the words of `clock` were loaded from the slot, provided that
--- the slot's words are those of a clock.
+-- the slot's words represent a clock.
 abbrev pub ClockWasLoaded : List (ℕ × ℕ) → ℕ → ClockView → Type 0
 ClockWasLoaded loaded slot clock =
     (body : List ℕ) → Agrees body loaded → AreWordsOfClock (words_at body slot) → words_of clock ≡ words_at body slot

@@ -55,7 +55,7 @@
 //! A *note* is a message with a number of changes, which `meet` and `settle` pass from one end of
 //! the row to the other. Steps 8 and 9 load word 0 and ignore its value. The writer, each reader
 //! and each note have a *seat*: a handle for making steps. A seat has a *view*: ghost state (it
-//! exists in contracts only) that says what the seat's owner knows of the row.
+//! exists in contracts only) that says what the seat's owner knows about the row.
 //!
 //! The invariant is `HoldsRule` (specs/Row); the type `RowRule` attaches it to the table. It says:
 //!

@@ -17,7 +17,7 @@ use std::sync::Arc;
 
 /// A reader of a row. The reader samples the clocks while the row's writer may be making changes,
 /// without taking a lock and without waiting. A reader may be sent to another thread. In contracts
-/// a reader is its row together with what the reader knows of the row.
+/// a reader is its row together with what the reader knows about the row.
 #[derive(Drop)]
 pub struct ClockReader {
     pub(crate) board: Arc<Board, Global>,

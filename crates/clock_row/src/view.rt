@@ -1,12 +1,12 @@
 //! The views of the seats of a row, and the invariant of the row. A seat is the handle with which
-//! the writer, a reader or a note makes steps on the row, and its view is what its owner knows of
-//! the row. These types exist only for contracts; no value of them exists at run time.
+//! the writer, a reader or a note makes steps on the row, and its view records what its owner knows
+//! about the row. These types exist only for contracts; no value of them exists at run time.
 
 use atomic_table::{Seat, Table, TableRule};
 use proc_plan::Plan;
 use std::alloc::Global;
 
-/// What the writer knows of the row. In contracts an array of length 0 stands for a list of any
+/// What the writer knows about the row. In contracts an array of length 0 stands for a list of any
 /// length.
 pub struct WriterView {
     /// The plan whose changes the writer makes.
@@ -30,7 +30,7 @@ pub enum Attempt {
     Open(u64, [(u64, u64); 0]),
 }
 
-/// What a reader knows of the row. In contracts an array of length 0 stands for a list of any
+/// What a reader knows about the row. In contracts an array of length 0 stands for a list of any
 /// length.
 pub struct ReaderView {
     /// The plan of the row.
@@ -59,7 +59,7 @@ pub struct Note {
     pub number: u64,
 }
 
-/// What the owner of a seat knows of the row.
+/// What the owner of a seat knows about the row.
 pub enum View {
     /// The owner knows nothing: the seat was a note, and the note was taken.
     Spent,

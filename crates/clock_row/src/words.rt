@@ -1,4 +1,5 @@
-//! Loads and stores the nine words of a slot, for the writer and for readers.
+//! Loads and stores the nine words of a slot, for the writer and for readers. Each word is loaded
+//! or stored in a step of its own.
 ghost use Rattle.std.specs.Prelude.{◌≡◌, ◌+◌, ◌*◌, ◌^◌, ◌<◌, ◌≤◌, true, length, take, drop};
 ghost use Rattle.psi_counts.specs.Clock.{AreWordsOfClock, words_of};
 ghost use Rattle.clock_row.specs.Words.{ArePut, ClocksWereLoaded, StaysLoaded, WereLoaded};
@@ -77,7 +78,7 @@ pub(crate) fn load_words(board: &Board, seat: &mut RowSeat, from: usize, first: 
     words
 }
 
-/// Returns the clock with these nine words. If the words aren't those of a clock, the result is an
+/// Returns the clock with these nine words. If the words don't represent a clock, the result is an
 /// arbitrary clock.
 fn clock_like(mut words: [u64; 9]) -> Clock
     ensures { AreWordsOfClock words → words_of result ≡ words }

@@ -27,7 +27,7 @@ use std::sync::Arc;
 pub struct Row;
 
 /// The writer of a row, which makes the changes of a plan while readers sample the clocks. In
-/// contracts a writer is its row together with what the writer knows of the row.
+/// contracts a writer is its row together with what the writer knows about the row.
 ///
 /// The writer counts tasks, advances clocks and sums interrupt time in its own [`PlainClocks`], and
 /// copies the clocks that a change advanced to the row. Interrupt time isn't in the row, so no
@@ -53,7 +53,8 @@ impl<'a> Model for ClockWriter<'a> {
         IsWriterEnd (arc_value w.board).shared.table_id w.seat w.plan.now w.clocks };
 }
 
-// Makes the invariant of a plan known to the proofs; the contract of `Plan::len` states it.
+// Makes the invariant of a plan available to proofs, by the contract of `Plan::len`. Has no effect
+// at run time.
 fn see_whole(plan: &Plan)
     ensures { IsPlan plan.now }
 {

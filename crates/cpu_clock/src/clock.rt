@@ -129,8 +129,8 @@ impl Clock {
         words
     }
 
-    /// Returns the clock with these nine words. Precondition: the words are those of a clock, such
-    /// as the words that [`Clock::to_words`] returns. The function doesn't check the precondition.
+    /// Returns the clock with these nine words. Precondition: the words represent a clock, like the
+    /// words that [`Clock::to_words`] returns. The function doesn't check the precondition.
     pub fn from_words(words: [u64; 9]) -> Clock
         requires { AreWordsOfClock words }
         ensures { words_of result ≡ words }

@@ -1,4 +1,5 @@
-//! Reads the first bytes of a file, with as many reads as the shelf requires.
+//! Reads the first bytes of a file, with as many reads as the shelf requires. The maximum number of
+//! bytes is an argument.
 ghost use Rattle.std.specs.Prelude.{◌≡◌, ◌+◌, ◌<◌, ◌≤◌, ℕ, List, length, take, IfOk, IsErrOf, Some, None};
 ghost use Rattle.outside.specs.Outside.{IsAbsent, counts_of, content_of};
 ghost use Rattle.outside.specs.Reads.{ReadsFile};

@@ -1,4 +1,5 @@
--- Defines the results of the searches in bytes with which the code finds the parts of a line.
+-- Defines the results of the searches in bytes with which the code finds the parts of a line. The
+-- parts are the mark, the head before it and the tail after it.
 use Rattle.std.specs.Prelude.{◌≡◌, ℕ, ◌+◌, ◌≤◌, List, Bool, ◌==◌, Option, Some, option_map, length, take, drop}
 use Rattle.std.specs.Borrow.{Bor}
 use Rattle.ftrace_import.specs.declared.marked.ShortMark.{ShortMark}

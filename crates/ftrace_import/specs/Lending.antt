@@ -1,4 +1,5 @@
--- Defines the iterator that lends the events of an import one by one, as contracts refer to it.
+-- Defines the iterator that lends the events of an import one by one, as contracts refer to it. The
+-- iterator has a current event and a list of remaining events.
 use Rattle.std.specs.Prelude.{◌≡◌, ℕ, ◌+◌, ◌≤◌, List, [], ◌∷◌, length, drop, Bool, true, false}
 use Rattle.psi_base.specs.declared.event.Act.{Act}
 use Rattle.psi_base.specs.declared.event.Cpu.{Cpu}

@@ -1,4 +1,5 @@
--- Defines the invariant of an import: a property of each world to which its events lead.
+-- Defines the invariant of an import, which holds in each world to which its events lead, and the
+-- range of the values in a line.
 use Rattle.std.specs.Prelude.{◌≡◌, ℕ, ◌+◌, ◌≤◌, List, [], ◌∷◌, true, false, Option, IfSome, is_some}
 use Rattle.psi_base.specs.declared.event.Event.{Event}
 use Rattle.psi_base.specs.declared.event.How.{How}

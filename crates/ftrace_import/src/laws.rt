@@ -1,4 +1,5 @@
-//! The laws of imports. Each function has an empty body: its contract is the law.
+//! The laws of imports: the imported trace is accepted, and each line has its effect in the trace.
+//! Each function has an empty body: its contract is the law.
 ghost use Rattle.ftrace_import.specs.Laws.{ImportedIsTrace, LinesAreWritten, SwitchRunsNext, WakeupWakes};
 
 /// The imported trace of each text is accepted, with the default tick, by every program that

@@ -1,4 +1,5 @@
-//! Computes the path of a group's parent from the path of the group. No group is looked up.
+//! Computes the path of a group's parent from the path of the group. The tree isn't needed, and no
+//! group is looked up.
 ghost use Rattle.std.specs.Prelude.{◌≡◌};
 ghost use Rattle.psi_spec.specs.World.{or_root, parent_path};
 

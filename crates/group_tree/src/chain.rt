@@ -1,4 +1,5 @@
-//! The chain of a group: an iterator over the group and its ancestors, up to the root.
+//! The chain of a group: an iterator over the group and its ancestors, up to the root. The iterator
+//! allocates nothing.
 ghost use Rattle.std.specs.Prelude.{◌≡◌, ◌<◌, length, slice_index_or, None, IfSome};
 ghost use Rattle.psi_spec.specs.Stall.{number_of_slot, parents_of};
 ghost use Rattle.psi_spec.specs.LegalGroups.{AreGroups};

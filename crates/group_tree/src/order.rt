@@ -1,4 +1,5 @@
-//! Sorts the slots of groups by the bytes of their paths, for live groups and for all groups.
+//! Sorts the slots of groups by the bytes of their paths. One function sorts the live groups, and
+//! another sorts all groups ever created.
 ghost use Rattle.std.specs.Prelude.{◌≡◌, ◌≤◌, length, map, IfOk, IsPermutation, IsSortedByKey};
 ghost use Rattle.std.specs.List.{range_with_len};
 ghost use Rattle.std.specs.Ordering.{nat_cmp};

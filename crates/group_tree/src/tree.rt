@@ -1,4 +1,5 @@
-//! The tree of groups, and the checks for each change of the tree.
+//! The tree of groups, and the checks for each change of the tree. The module `grow` adds and
+//! removes groups.
 ghost use Rattle.std.specs.Prelude.{◌≡◌, ◌<◌, ◌≤◌, ◌++◌, [], ◌∷◌, length, map, slice_index_or, None, Some, IfOk, IfErr, IfSome, OnOk, OnErr, MatchResult, ◌↔◌};
 ghost use Rattle.psi_spec.specs.World.{root, slot_of, as_slot, parent_path, new_group, marked_removed, marked_switched, most_groups};
 ghost use Rattle.psi_spec.specs.Stall.{number_of_slot, parents_of, is_under};

@@ -1,4 +1,5 @@
--- Defines properties of streams that can be read from any position.
+-- Defines the properties of streams that can be read from any position, such as files. The
+-- contracts of the shelf of system files use them.
 use Rattle.std.specs.Prelude.{◌≡◌, ℕ, ◌+◌, ◌-◌, ◌^◌, ◌<◌, ◌≤◌, min, List, length, take, drop, MatchResult, Option, Result, Some}
 use Rattle.outside.specs.declared.shelf.ShelfFault.{ShelfFault}
 use Rattle.outside.specs.declared.shelf.ShelfFault.TheVariants.{Failed}

@@ -1,4 +1,5 @@
-//! File names that are stored without allocation.
+//! File names that are stored without allocation, in an array for the longest name that the system
+//! can open.
 ghost use Rattle.std.specs.Prelude.{◌≡◌, ◌<◌, ◌↔◌, IsTrue, MatchOption, length};
 
 use std::marker::Model;

@@ -1,4 +1,5 @@
-//! The words of the command line.
+//! Returns the words of the command line, without the name of the program. The programs parse the
+//! words.
 ghost use Rattle.std.specs.Prelude.{◌≡◌, ◌≢◌, [], IfErr, IfOk, IsErr, IsOk, drop};
 ghost use Rattle.std.specs.IoError.{error_kind};
 ghost use Rattle.std.specs.Vec.Iter.{into_iter_items};

@@ -1,4 +1,5 @@
--- Defines the plans of all processors, and states when plans represent the events of a trace.
+-- Defines the plans of all processors, and states when plans represent the events of a trace. Also
+-- defines the state of a planner, which builds plans event by event.
 use Rattle.std.specs.Prelude.{◌≡◌, ◌≢◌, ◌⊎◌, ℕ, ◌+◌, ◌<◌, ◌≤◌, List, [], ◌∷◌, ◌++◌, length, map, slice_get, slice_index_or, Option, None, Some, Result, Ok, Err, ⊤, true, false, refl}
 use Rattle.std.specs.Option.{option_or}
 use Rattle.std.specs.List.{All}

@@ -1,4 +1,5 @@
-//! Sums the time that interrupts took from each group on one processor.
+//! Sums the time that interrupts took from each group on one processor. Only changes with interrupt
+//! time take this path.
 
 ghost use Rattle.std.specs.Prelude.{◌≡◌, ◌+◌, ◌<◌, ◌^◌, ℕ, length, if◌then◌else◌, IfSome};
 ghost use Rattle.psi_spec.specs.LegalGroups.{AreOlder};

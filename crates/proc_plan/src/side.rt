@@ -1,4 +1,5 @@
-//! Sides: the contents of a trace that are neither changes of a processor nor triggers.
+//! Sides: the contents of a trace that are neither changes of a processor nor triggers. The module
+//! `sides` computes the sides of an event.
 
 use psi_base::{Ns, Preference, Slot};
 

@@ -1,4 +1,5 @@
-//! Laws of the sides of a trace. Each function has an empty body: its contract is the law.
+//! Laws of the sides of a trace: memory samples, preferences, and tasks that join or leave groups.
+//! Each function has an empty body: its contract is the law.
 
 ghost use Rattle.proc_plan.specs.SideLaws.{MembersAreKnown, SidesAreInOrder, SidesAreOnGroups, SidesUpTo};
 

@@ -1,4 +1,5 @@
-//! Computes the trigger and the sides of one event.
+//! Computes the trigger and the sides of one event. Sides are memory samples, preferences, and
+//! tasks that join or leave groups.
 
 ghost use Rattle.std.specs.Prelude.{◌≡◌, ◌++◌, IfSome, List};
 ghost use Rattle.psi_spec.specs.Grammar.{ActFits};

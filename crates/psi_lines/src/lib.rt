@@ -1,6 +1,6 @@
-//! Reads the lines of a shelf's file, in whatever pieces the shelf returns its bytes. A shelf is
-//! the trait for input files. This crate doesn't parse the lines; its users do (`trace_file`,
-//! `ftrace_import`).
+//! Reads the lines of a shelf's file. The pieces in which the shelf returns the file's bytes don't
+//! matter. A shelf is the trait for input files. This crate doesn't parse the lines; its users do
+//! (`trace_file`, `ftrace_import`).
 //!
 //! A line ends with a newline (byte 10) and has at most 512 bytes before it. [`Lines::next`]
 //! returns the lines in order, [`Lines::next_bytes`] lends each line from the buffer, and

@@ -1,5 +1,5 @@
-//! A reader of the lines of a file. It splits the file's bytes at newlines, in whatever pieces the
-//! shelf returns them, and doesn't interpret the lines.
+//! A reader of the lines of a file. It splits the file's bytes at newlines and doesn't interpret
+//! the lines. The pieces in which the shelf returns the bytes don't matter.
 ghost use Rattle.std.specs.Prelude.{◌≡◌, ◌≢◌, ◌+◌, ◌-◌, ◌*◌, ◌<◌, ◌≤◌, ◌^◌, ◌↔◌, [], ◌++◌, ℕ, List, length, drop, IfOk, OnErr, IsErrOf, IsTrue, MatchOption, slice_index, Ok, Some, None, false};
 ghost use Rattle.psi_base.specs.Memory.{no_memory};
 ghost use Rattle.outside.specs.Outside.{content_of, IsAbsent, counts_of};

@@ -9,8 +9,8 @@ use Rattle.psi_base.specs.declared.event.Fault.TheVariants.{Refused, NoMemory}
 use Rattle.psi_spec.specs.Fields.{Kind, path}
 use Rattle.psi_spec.specs.Grammar.{Verb, kinds_of, verb_of}
 
--- `TakesWords result rest read`: the function's result and the remaining words `rest` are those of
--- `read`, which the definition gives.
+-- `TakesWords result rest read`: the function's result and the remaining words `rest` agree with
+-- `read`, the result that the definition gives.
 abbrev pub TakesWords : {A W : Type 0} → Result A Cause → W → Result (A × W) Cause → Type 0
 TakesWords (Ok x) rest read = read ≡ Ok (x, rest)
 TakesWords (Err cause) rest read = read ≡ Err cause

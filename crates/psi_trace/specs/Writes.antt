@@ -1,4 +1,5 @@
--- Defines the words of an event line after its time, as they are written.
+-- Defines the words of an event line after its time, as they are written, and which acts have short
+-- lines.
 use Rattle.std.specs.Prelude.{ℕ, List, [], ◌∷◌, ◌++◌, Bool, true, false}
 use Rattle.psi_base.specs.declared.event.Act.{Act}
 use Rattle.psi_base.specs.declared.event.Act.TheVariants as act

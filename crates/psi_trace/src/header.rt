@@ -1,4 +1,5 @@
-//! Parses the header of a trace, which is the first line. The module `write` writes headers.
+//! Parses the header of a trace, which is the first line. The header contains the version of the
+//! trace format and the number of processors. The module `write` writes headers.
 ghost use Rattle.std.specs.Prelude.{◌≡◌, ◌≢◌, ℕ, ◌≤◌, ◌++◌, None, Some, IfSome, MatchOption, MatchResult, option_map};
 ghost use Rattle.psi_base.specs.declared.event.Cause.TheVariants as cause;
 ghost use Rattle.psi_spec.specs.Grammar.{header, header_of, versions};

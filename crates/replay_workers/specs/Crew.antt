@@ -43,8 +43,9 @@ pub record WatchView : Type 0 where
 
 -- The state of a crew: the plans of a trace; the clocks of each processor, and the row that holds
 -- them (`None` for plain clocks); the times (ns) of the ticks whose tables are ready; `room`, the
--- most ticks that the crew advances by at once; `requested`, the number of live samples of each
--- processor in an interval; and the samples of each processor, if the crew takes any.
+-- maximum number of ticks by which the crew advances at once; `requested`, the number of live
+-- samples of each processor in an interval; and the samples of each processor, if the crew takes
+-- any.
 pub record CrewView : Type 0 where
   pub plans : PlansView
   pub clocks : List OnPlan
@@ -54,18 +55,18 @@ pub record CrewView : Type 0 where
   pub requested : ℕ
   pub watches : List WatchView
 
--- The most bytes for the stored times of ticks, unless a single tick needs more: 64 MB.
+-- The maximum size (bytes) of the stored times of ticks, unless a single tick needs more: 64 MB.
 abbrev pub most_kept : ℕ
 most_kept = 64000000
 
--- The most ticks that a crew advances by at once. With more ticks, the cost of starting threads
--- wouldn't decrease noticeably.
+-- The maximum number of ticks by which a crew advances at once. With more ticks, the cost of
+-- starting threads wouldn't decrease noticeably.
 abbrev pub most_ahead : ℕ
 most_ahead = 256
 
--- `room_of cpus slots moments`: the most ticks that a crew advances by at once, for a trace of
--- `moments` ticks. This is the number of ticks whose times fit into `most_kept` bytes, at 64 bytes
--- for each group and processor, limited to 256 and `moments`, but at least one.
+-- `room_of cpus slots moments`: the maximum number of ticks by which a crew advances at once, for a
+-- trace of `moments` ticks. This is the number of ticks whose times fit into `most_kept` bytes, at
+-- 64 bytes for each group and processor, limited to 256 and `moments`, but at least one.
 abbrev pub room_of : ℕ → ℕ → ℕ → ℕ
 room_of cpus slots moments = max (min (min (most_kept / max (64 * (slots * cpus)) 1) moments) most_ahead) 1
 

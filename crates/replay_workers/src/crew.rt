@@ -31,7 +31,8 @@ use std::thread::Threads;
 /// processors. The times of all groups at each tick are stored until [`Crew::fill`] returns them.
 /// During an interval the clocks of one group can be sampled live. In contracts a crew consists of
 /// the plans, the number of changes that each processor has made, the rows of the clocks, the ticks
-/// whose times are ready, the most ticks that the crew advances by at once, and the samples.
+/// whose times are ready, the maximum number of ticks by which the crew advances at once, and the
+/// samples.
 ///
 /// A crew that takes live samples keeps its clocks in rows, even if no group is watched. A caller
 /// that samples with its own readers gets them from [`Crew::reader`], and calls [`Crew::settle`]
@@ -46,7 +47,7 @@ pub struct Crew<'a> {
     ticks: Ticks,
     /// The number of ticks in `ticks` whose tables have been returned.
     out: u32,
-    /// The most ticks for which the lanes can store times.
+    /// The maximum number of ticks for which the lanes can store times.
     room: u32,
     /// The number of live samples of each processor in an interval.
     requested: u32,
@@ -70,8 +71,8 @@ impl<'a> Model for Crew<'a> {
 impl<'a> Crew<'a> {
     /// Creates the clocks of all processors before the first change, for 1 to 64 workers. `moments`
     /// is the trace's number of ticks, which limits how many ticks are computed ahead. `live` is
-    /// the number of samples taken of each processor in an interval in which a group is watched. No
-    /// later call allocates memory, except for creating a reader.
+    /// the number of samples taken of each processor in an interval in which a group is watched.
+    /// Allocates all memory that the crew needs.
     pub fn make(
         alloc: Global,
         plans: &'a Plans,
@@ -116,7 +117,7 @@ impl<'a> Crew<'a> {
         })
     }
 
-    /// Returns the most ticks that the crew can advance by at once.
+    /// Returns the maximum number of ticks by which the crew can advance at once.
     pub fn room(&self) -> u32
         ensures room { result ≡ self.now.room }
         ensures some { 1 ≤ result }
@@ -300,8 +301,9 @@ impl<'a> Crew<'a> {
         batch.lanes[at.place].meet(reader)
     }
 
-    /// Proves to the caller that `reader`, a reader of the row of processor `cpu`, has seen at most
-    /// the changes that were made. Does not allocate, and always returns `Ok`.
+    /// Synchronises with `reader`, a reader of the row of processor `cpu`. The contract then states
+    /// that the reader has seen at most the changes that were made. Does not allocate, and always
+    /// returns `Ok`.
     pub fn settle(&mut self, cpu: Cpu, reader: &mut ClockReader) -> Result<(), NoMemory>
         requires cpu { cpu.0 < length self.old.plans.plans }
         requires own { Some reader.old.row ≡ row_at self.old.rows cpu.0 }

@@ -10,18 +10,18 @@ use proc_plan::Plans;
 use psi_base::{Cpu, NoMemory};
 use std::alloc::Global;
 
-/// The most bytes for the stored times of ticks, unless a single tick needs more.
+/// The maximum size (bytes) of the stored times of ticks, unless a single tick needs more.
 const MOST_KEPT: u64 = 64_000_000;
 
-/// The most ticks that a crew advances by at once.
+/// The maximum number of ticks by which a crew advances at once.
 const MOST_AHEAD: u64 = 256;
 
 /// The size (bytes) of a group's eight times on one processor.
 const TIMES_BYTES: u64 = 64;
 
-/// Returns the most ticks that a crew advances by at once, for a trace with `moments` ticks. This
-/// is the number of ticks whose times fit into `MOST_KEPT` bytes, limited to `MOST_AHEAD` and
-/// `moments`, but at least one.
+/// Returns the maximum number of ticks by which a crew advances at once, for a trace with `moments`
+/// ticks. This is the number of ticks whose times fit into `MOST_KEPT` bytes, limited to
+/// `MOST_AHEAD` and `moments`, but at least one.
 pub(crate) fn room_for(cpus: u32, slots: u32, moments: u64) -> u32
     requires { cpus ≤ 64 }
     ensures room { result ≡ room_of cpus slots moments }

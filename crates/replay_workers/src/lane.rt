@@ -146,8 +146,9 @@ impl<'a> Lane<'a> {
         writer.meet(reader)
     }
 
-    /// Proves to the caller that `reader`, a reader of the processor's row, has seen at most the
-    /// changes that were made. Does not allocate, and always returns `Ok`.
+    /// Synchronises with `reader`, a reader of the processor's row. The contract then states that
+    /// the reader has seen at most the changes that were made. Does not allocate, and always
+    /// returns `Ok`.
     pub(crate) fn settle(&mut self, reader: &mut ClockReader) -> Result<(), NoMemory>
         requires { Some reader.old.row ≡ self.old.row }
         ensures ok { result ≡ Ok tt }
@@ -190,8 +191,8 @@ impl<'a> Lane<'a> {
         watcher.meet(writer, slot);
     }
 
-    /// Proves to the caller that the processor's watcher has seen at most the changes that were
-    /// made.
+    /// Synchronises with the processor's watcher. The contract then states that the watcher has
+    /// seen at most the changes that were made.
     pub(crate) fn settle_watcher(&mut self, watcher: &mut Watcher)
         requires { Some watcher.old.row ≡ self.old.row }
         ensures lane { self.new ≡ self.old }

@@ -1,4 +1,5 @@
-//! Finds the lane of a processor in the batches of the workers.
+//! Finds the lane of a processor in the batches of the workers. The processors are distributed over
+//! the workers in turn.
 ghost use Rattle.std.specs.Prelude.{◌≡◌, ◌+◌, ◌*◌, ◌<◌, ◌/◌, ◌%◌, length};
 ghost use Rattle.replay_workers.specs.Lanes.{batch_at, lane_at, lane_of};
 

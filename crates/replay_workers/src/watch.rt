@@ -154,7 +154,8 @@ impl Watcher {
         };
     }
 
-    /// Proves to the caller that this watcher has seen at most the changes that `writer` made.
+    /// Synchronises with the writer after an interval. The contract then states that this watcher
+    /// has seen at most the changes that `writer` made.
     pub(crate) fn settle(&mut self, writer: &mut ClockWriter<'_>)
         requires { self.old.row ≡ writer.old.row }
         ensures same { self.new ≡ self.old }

@@ -1,4 +1,5 @@
-//! The counts, the accounting and the clock of one group on one processor.
+//! The counts, the accounting and the clock of one group on one processor. The module `chains`
+//! finds the groups that a change affects.
 
 ghost use Rattle.std.specs.Prelude.{◌≡◌, ◌&&◌, ◌+◌, ◌<◌, ◌≤◌, ◌^◌};
 ghost use Rattle.psi_base.specs.declared.event.State.{State};

@@ -1,4 +1,5 @@
-//! Applies a change to the groups on its chains. A chain is a slot and its ancestors.
+//! Applies a change to the groups on its chains. A chain is a slot and its ancestors. A change has
+//! four chains: two for counts and two for the running tasks.
 
 ghost use Rattle.std.specs.Prelude.{◌≡◌, ◌&&◌, ◌⊎◌, ◌+◌, ◌==◌, ◌<◌, ◌≤◌, length, true, false, if◌then◌else◌, None, IfSome};
 ghost use Rattle.psi_base.specs.declared.event.State.{State};

@@ -1,4 +1,5 @@
-//! The clocks of all groups on one processor, and the function that applies a change to them.
+//! The clocks of all groups on one processor, and the function that applies a change to them. The
+//! module `chains` finds the groups that a change affects.
 
 ghost use Rattle.std.specs.Prelude.{◌≡◌, ℕ, ◌<◌, ◌≤◌, length, None, IfOk, IfSome};
 ghost use Rattle.psi_counts.specs.Clock.{IsInTime};

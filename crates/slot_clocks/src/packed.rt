@@ -1,4 +1,4 @@
-//! A change of a processor, packed into 16 bytes.
+//! A change of a processor, packed into 16 bytes. A plan stores changes in this form.
 
 ghost use Rattle.std.specs.Prelude.{◌≡◌, ◌<◌, ◌≤◌, None, Some, IfSome};
 ghost use Rattle.psi_counts.specs.Touch.{AreAtMost, HasSlotsBelow, IsOfOne};

@@ -1,4 +1,5 @@
-//! The running task of a processor, packed into two bytes.
+//! The running task of a processor, packed into two bytes. Packed changes store running tasks in
+//! this form.
 
 ghost use Rattle.std.specs.Prelude.{◌≡◌, ◌<◌, true, None, IfSome};
 ghost use Rattle.psi_counts.specs.Touch.{is_current_stalled};

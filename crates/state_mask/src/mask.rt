@@ -1,4 +1,5 @@
-//! A set of states, stored in a byte. The module `states` computes the states of a group.
+//! A set of states of a group, stored as the bits of a byte. The module `states` computes the
+//! states from counts of tasks.
 
 ghost use Rattle.std.specs.Prelude.{◌≡◌, ◌^◌};
 ghost use Rattle.psi_base.specs.declared.event.State.{State};

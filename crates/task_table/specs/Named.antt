@@ -1,4 +1,5 @@
--- Defines the task and the group that an act names, and the task that an act changes.
+-- Defines the task and the group that an act names, and the task that an act changes. An act is an
+-- event without its time.
 use Rattle.std.specs.Prelude.{◌≡◌, ℕ, ◌<◌, List, Option, None, Some, IfSome, slice_index_or, unwrap_or}
 use Rattle.psi_base.specs.declared.event.Cpu.{Cpu}
 use Rattle.psi_base.specs.declared.event.Pid.{Pid}
@@ -21,8 +22,8 @@ abbrev pub next_task : Tasks → Option Pid → Option Task
 next_task tasks None = None
 next_task tasks (Some pid) = task_of tasks pid.0
 
--- `named_task tasks act`: the live task with the pid that `act` names, or `None`. For a fork this
--- is an existing task with the new pid, and for a switch the next task to run.
+-- `named_task tasks act`: the live task with the pid that `act` names, or `None`. For a fork, this
+-- is an existing task with the new pid. For a switch, it is the next task to run.
 abbrev pub named_task : Tasks → Act → Option Task
 named_task tasks (act.Fork pid path cpu) = task_of tasks pid.0
 named_task tasks (act.Wake pid cpu) = task_of tasks pid.0

@@ -9,7 +9,7 @@ use psi_spec::Task;
 /// The tasks and the group of a legal event, in their state before the event.
 #[derive(Clone, Copy)]
 pub struct Finding {
-    /// The task with the pid that the act names. For a switch this is the next task to run.
+    /// The task with the pid that the act names. For a switch, this task is the next task to run.
     pub named: Option<Task>,
     /// The task whose counts the act changes.
     pub before: Option<Task>,

@@ -1,4 +1,5 @@
-//! A map from pids to tasks. Lookups of small pids are fast, because these tasks are in a list.
+//! A map from pids to tasks. Lookups of small pids are fast, because tasks with small pids are
+//! stored in a list. The other tasks are stored in a hash map.
 ghost use Rattle.std.specs.Prelude.{◌≡◌, ◌≤◌, IfOk, OnOk, OnErr, IsSome, None, length, replicate};
 ghost use Rattle.psi_spec.specs.World.{no_tasks, task_of, put, remove, most_tasks};
 ghost use Rattle.std.specs.FinMap as tasks_by;

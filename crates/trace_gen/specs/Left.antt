@@ -1,4 +1,5 @@
--- Defines the list of the events that a trace generator hasn't returned yet.
+-- Defines the list of the events that a trace generator hasn't returned yet, and the invariant of a
+-- generator.
 use Rattle.std.specs.Prelude.{◌≡◌, ℕ, ◌+◌, List, [], ◌++◌, Bool, if◌then◌else◌}
 use Rattle.psi_base.specs.declared.event.Act.{Act}
 use Rattle.psi_base.specs.declared.event.Event.{Event}

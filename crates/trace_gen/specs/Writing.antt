@@ -1,4 +1,5 @@
--- Defines the result of writing a generated text to a sink.
+-- Defines the result of writing a generated text to a sink: success, a failed write, or a lack of
+-- memory before the first write.
 use Rattle.std.specs.Prelude.{◌≡◌, ℕ, List, Option, Result, Ok, Err}
 use Rattle.std.specs.Io.KnownBytes.{Appends, Keeps}
 use Rattle.outside.specs.Outside.{AppendsPrefix, Increased}

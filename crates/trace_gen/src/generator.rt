@@ -1,4 +1,5 @@
-//! Generates the events of a trace, one by one. The module `text` writes them.
+//! Generates the events of a trace, one by one: first the groups and tasks, then random events,
+//! then the end. The module `text` writes the events.
 ghost use Rattle.std.specs.Prelude.{◌≡◌, ◌<◌, ◌≤◌, ◌^◌, IfOk, MatchOption, [], ◌∷◌};
 ghost use Rattle.run_spec.specs.Generated.{random_events, generated, next_random, next_event, next_of, running_act};
 ghost use Rattle.run_spec.specs.Generated.{random_event, next_state, stall_turn, started, way_of, woken};
