@@ -1,4 +1,5 @@
-//! A change of a processor, packed into 16 bytes. A plan stores changes in this form.
+//! A change of a processor, packed into 16 bytes. A plan stores millions of changes in this form,
+//! and [`PackedChange::change`] unpacks one.
 
 ghost use Rattle.std.specs.Prelude.{◌≡◌, ◌<◌, ◌≤◌, None, Some, IfSome};
 ghost use Rattle.psi_counts.specs.Touch.{AreAtMost, HasSlotsBelow, IsOfOne};

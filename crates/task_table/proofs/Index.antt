@@ -1,4 +1,4 @@
--- What the index of running tasks says, and that changes keep it.
+-- Proves that the list of running tasks stays correct (`IsIndex`) when tasks change.
 use Rattle.std.proofs.Common.{◌≡◌, ℕ, ◌<◌, ◌≤◌, List, [], ◌∷◌, refl, ap, ◌∙◌, sym, Bool, true, false, arith, cond, Option, None, Some, ◌==◌, is_some, length, slice_set, ◌⊎◌, ⊎_elim}
 use Rattle.std.specs.Prelude.{slice_index_or, find, ◌&&◌, if◌then◌else◌, IfSome}
 use Rattle.std.specs.Ordering.{nat_cmp}
@@ -23,16 +23,16 @@ use Rattle.task_table.specs.Stands.{IsIndex, passing, task_on, task_with}
 
 -- ---- the running task of a processor is the one in its place
 
--- a task with its number, if there is one
+-- Pairs a task with its pid, or keeps `None`.
 abbrev with_number : ℕ → Option Task → Option (ℕ × Task)
 with_number pid None = None
 with_number pid (Some task) = Some (pid, task)
 
--- an entry with a number is that number and its task
+-- An entry with a pid is the pair of the pid and its task.
 number_is : (pid : ℕ) (e : ℕ × Task) → (pid == e.0) ≡ true → Some (e.0, e.1) ≡ with_number pid (Some e.1)
 number_is pid e h = let same : pid ≡ e.0 = grind (arith, nat_tests) in rw same refl
 
--- a search by number finds what the map finds
+-- A search by pid in the entries finds the same task as the map.
 by_number : (es : List (ℕ × Task)) (pid : ℕ) → find (λ e. pid == e.0) es ≡ with_number pid (map.find nat_cmp pid es)
 by_number [] pid = refl
 by_number (e ∷ es) pid =
@@ -42,7 +42,7 @@ by_number (e ∷ es) pid =
     ] refl
     ∙ ap (λ b. with_number pid (cond b (Some e.1) (map.find nat_cmp pid es))) (sym (unsigned_tied pid e.0))
 
--- a search by a test that is another on each entry
+-- Searches by two tests that agree on each entry give the same result.
 same_find : (p q : ℕ × Task → Bool) (es : List (ℕ × Task)) → AllByRecursion (λ e. p e ≡ q e) es → find p es ≡ find q es
 same_find p q [] h = refl
 same_find p q (e ∷ es) h = ap (λ b. cond b (Some e) (find p es)) h.0 ∙ ap (cond (q e) (Some e)) (same_find p q es h.1)
@@ -52,7 +52,7 @@ none_found : (es : List (ℕ × Task)) → find (λ e. false) es ≡ None
 none_found [] = refl
 none_found (e ∷ es) = none_found es
 
--- a task that passes is there, and the test holds of it
+-- If an optional task passes a test, the task exists and the test is true of it.
 pub passed : (test : Task → Bool) (o : Option Task) (t : Task) → passing test o ≡ Some t → (o ≡ Some t) × (test t ≡ true)
 passed test None t h = cc h
 passed test (Some x) t h =
@@ -61,11 +61,11 @@ passed test (Some x) t h =
       | false ↦ λ fails none. cc none
     ] refl h
 
--- whether a task passes is its test
+-- A task passes a test exactly if the test is true of it.
 passes : (test : Task → Bool) (t : Task) → is_some (passing test (Some t)) ≡ test t
 passes test t = elim (test t) as (λ b. is_some (let o : Option Task = if b then Some t else None in o) ≡ b) [ true ↦ refl | false ↦ refl ]
 
--- a task in a place, under its own number
+-- A task in an entry is found under its own pid.
 own : (e : ℕ × Task) → task_with e.0 (Some e) ≡ Some e.1
 own e = rw (itself e.0) refl
 
@@ -74,18 +74,19 @@ abbrev numbered : ℕ → Option (ℕ × Task) → Bool
 numbered pid None = false
 numbered pid (Some e) = e.0 == pid
 
--- whether a place has the task with a number is whether it has the number
+-- An entry contains the task with a pid exactly if the entry has this pid.
 has_number : (pid : ℕ) (o : Option (ℕ × Task)) → is_some (task_with pid o) ≡ numbered pid o
 has_number pid None = refl
 has_number pid (Some e) = elim (e.0 == pid) as (λ b. is_some (let o : Option Task = if b then Some e.1 else None in o) ≡ b) [ true ↦ refl | false ↦ refl ]
 
--- on each entry, running on a processor and having the number in its place are one test
+-- For each entry of the map, the task is running on a processor exactly if the list of running
+-- tasks has its pid for that processor.
 tests : (running : List (Option (ℕ × Task))) (tasks : Tasks) → IsIndex running tasks → (cpu : ℕ) (es : List (ℕ × Task)) → AllByRecursion (λ e. task_of tasks e.0 ≡ Some e.1) es → AllByRecursion (λ e. is_running_on cpu e.1 ≡ numbered e.0 (slice_index_or running cpu None)) es
 tests running tasks index cpu [] h = tt
 tests running tasks index cpu (e ∷ es) h =
     (sym (passes (is_running_on cpu) e.1) ∙ ap (λ o. is_some (passing (is_running_on cpu) o)) (sym h.0) ∙ ap is_some (index.each e.0 cpu) ∙ has_number e.0 (slice_index_or running cpu None), tests running tasks index cpu es h.1)
 
--- a task in a place lives, and runs on that processor
+-- A task in the list of running tasks is live and running on the processor of its index.
 pub in_place : (running : List (Option (ℕ × Task))) (tasks : Tasks) → IsIndex running tasks → (cpu : ℕ) (e : ℕ × Task) → slice_index_or running cpu None ≡ Some e → (task_of tasks e.0 ≡ Some e.1) × (is_running_on cpu e.1 ≡ true)
 in_place running tasks index cpu e at = passed (is_running_on cpu) (task_of tasks e.0) e.1 (index.each e.0 cpu ∙ ap (task_with e.0) at ∙ own e)
 
@@ -94,18 +95,18 @@ search_place : (tasks : Tasks) (place : Option (ℕ × Task)) → IfSome place (
 search_place tasks None h = none_found (map.entries tasks)
 search_place tasks (Some e) h = by_number (map.entries tasks) e.0 ∙ ap (with_number e.0) (sym (map.get-entries tasks e.0) ∙ h)
 
--- the same of the place itself
+-- A task in the list of running tasks is the live task with its pid.
 there : (running : List (Option (ℕ × Task))) (tasks : Tasks) → IsIndex running tasks → (cpu : ℕ) (place : Option (ℕ × Task)) → slice_index_or running cpu None ≡ place → IfSome place (λ e. task_of tasks e.0 ≡ Some e.1)
 there running tasks index cpu None at = tt
 there running tasks index cpu (Some e) at = (in_place running tasks index cpu e at).0
 
--- the running task of a processor is the one in its place
+-- The running task of a processor is the task at the processor's index in the list.
 pub running_known : (running : List (Option (ℕ × Task))) (tasks : Tasks) → IsIndex running tasks → (cpu : ℕ) → running_on tasks cpu ≡ slice_index_or running cpu None
 running_known running tasks index cpu =
     same_find (λ e. is_running_on cpu e.1) (λ e. numbered e.0 (slice_index_or running cpu None)) (map.entries tasks) (tests running tasks index cpu (map.entries tasks) (found tasks))
     ∙ search_place tasks (slice_index_or running cpu None) (there running tasks index cpu (slice_index_or running cpu None) refl)
 
--- a processor with a task in its place has a place
+-- A processor with an entry in the list is one of the list's indexes.
 pub has_place : (running : List (Option (ℕ × Task))) (cpu : ℕ) (e : ℕ × Task) → slice_index_or running cpu None ≡ Some e → cpu < length running
 has_place running cpu e at =
     let case : (cpu < length running) ⊎ (length running ≤ cpu) = grind arith in
@@ -113,29 +114,31 @@ has_place running cpu e at =
 
 -- ---- changes keep the index
 
--- equal by the test, equal
+-- Numbers that pass the equality test are equal.
 same_number : (q pid : ℕ) → (q == pid) ≡ true → q ≡ pid
 same_number q pid h = grind (arith, nat_tests)
 
--- the test of numbers, turned round
+-- The equality test of two numbers is symmetric.
 flipped : (q pid : ℕ) → (q == pid) ≡ (pid == q)
 flipped q pid = grind (arith, nat_tests)
 
--- a place has each task under its number alone
+-- An entry contains a task only under the entry's own pid.
 with_is : (q pid : ℕ) (t : Task) → task_with q (Some (pid, t)) ≡ cond (q == pid) (Some t) None
 with_is q pid t = ap (λ b. cond b (Some t) None) (sym (flipped q pid))
 
--- the task of a number on a processor, after another or none was placed under one number
+-- Gives the task with a pid on a processor after a task (or `None`) was placed under another or the
+-- same pid.
 placed_on : (tasks : Tasks) (pid : ℕ) (new : Option Task) (q c : ℕ) → task_on (placed tasks pid new) q c ≡ cond (q == pid) (passing (is_running_on c) new) (task_on tasks q c)
 placed_on tasks pid new q c =
     ap (passing (is_running_on c)) (task_placed tasks pid new q)
     ∙ elim (q == pid) as (λ b. passing (is_running_on c) (cond b new (task_of tasks q)) ≡ cond b (passing (is_running_on c) new) (task_on tasks q c)) [ true ↦ refl | false ↦ refl ]
 
--- a task that runs on no processor, or none
+-- The optional task is running on no processor.
 abbrev pub IsOff : Option Task → Type 0
 IsOff o = (c : ℕ) → passing (is_running_on c) o ≡ None
 
--- if neither the old task of a number nor the new one is running, its place doesn't change
+-- If neither the old task with a pid nor its new state is running on a processor, the entry of this
+-- processor stays correct.
 stays : (tasks : Tasks) (pid : ℕ) (new : Option Task) (place : Option (ℕ × Task)) (c : ℕ) → passing (is_running_on c) (task_of tasks pid) ≡ None → passing (is_running_on c) new ≡ None → ((q : ℕ) → task_on tasks q c ≡ task_with q place) → (q : ℕ) → task_on (placed tasks pid new) q c ≡ task_with q place
 stays tasks pid new place c old_off new_off each q =
     placed_on tasks pid new q c
@@ -144,14 +147,15 @@ stays tasks pid new place c old_off new_off each q =
       | false ↦ λ h. each q
     ] refl
 
--- a task that doesn't run comes or changes
+-- The list stays correct if a task that isn't running is added, changed or removed.
 pub index_kept : (running : List (Option (ℕ × Task))) (tasks : Tasks) → IsIndex running tasks → (pid : ℕ) (new : Option Task) → IsOff (task_of tasks pid) → IsOff new → IsIndex running (placed tasks pid new)
 index_kept running tasks index pid new old_off new_off = record {
   each = λ q c. stays tasks pid new (slice_index_or running c None) c (old_off c) (new_off c) (λ k. index.each k c) q;
 }
 
--- One place, after the task of a number changes: if the place had no other task, it has the new one
--- if that is running there; elsewhere neither the old task nor the new one is running.
+-- `ChangesAt running tasks pid new cpu place`: replacing the task with a pid by `new` changes only
+-- the entry of processor `cpu`, to `place`. No other task is running there, and neither the old nor
+-- the new task is running on another processor.
 pub record ChangesAt (running : List (Option (ℕ × Task))) (tasks : Tasks) (pid : ℕ) (new : Option Task) (cpu : ℕ) (place : Option (ℕ × Task)) : Type 0 where
   pub room : cpu < length running
   pub free : (q : ℕ) → (q == pid) ≡ false → task_with q (slice_index_or running cpu None) ≡ None
@@ -159,7 +163,7 @@ pub record ChangesAt (running : List (Option (ℕ × Task))) (tasks : Tasks) (pi
   pub old_off : (c : ℕ) → (c == cpu) ≡ false → passing (is_running_on c) (task_of tasks pid) ≡ None
   pub new_off : (c : ℕ) → (c == cpu) ≡ false → passing (is_running_on c) new ≡ None
 
--- the task of a number changes in one place
+-- The list stays correct if one entry is updated for the changed task (`ChangesAt`).
 pub index_at : (running : List (Option (ℕ × Task))) (tasks : Tasks) → IsIndex running tasks → (pid : ℕ) (new : Option Task) (cpu : ℕ) (place : Option (ℕ × Task)) → ChangesAt running tasks pid new cpu place → IsIndex (slice_set running cpu place) (placed tasks pid new)
 index_at running tasks index pid new cpu place is = record {
   each = λ q c. ⊎_elim
@@ -176,36 +180,36 @@ index_at running tasks index pid new cpu place is = record {
 
 -- ---- the changes of a switch and of a task that keeps its processor
 
--- a false second test
+-- A conjunction with a false second part is false.
 pub and_false : (a b : Bool) → b ≡ false → (a && b) ≡ false
 and_false true b h = h
 and_false false b h = refl
 
--- a task that fails a test doesn't pass
+-- A task for which a test is false doesn't pass the test.
 fails : (test : Task → Bool) (t : Task) → test t ≡ false → passing test (Some t) ≡ None
 fails test t h = rw h refl
 
--- a task whose test holds passes
+-- A task for which a test is true passes the test.
 holds : (test : Task → Bool) (t : Task) → test t ≡ true → passing test (Some t) ≡ Some t
 holds test t h = rw h refl
 
--- a task that doesn't run is off
+-- A task whose mode isn't running is running on no processor.
 pub off_task : (t : Task) → is_running t.mode ≡ false → IsOff (Some t)
 off_task t off c = fails (is_running_on c) t (and_false (t.cpu.0 == c) (is_running t.mode) off)
 
--- so is the task of a number, if there is one
+-- A found task whose mode isn't running is running on no processor.
 pub off_found : (o : Option Task) (t : Task) → o ≡ Some t → is_running t.mode ≡ false → IsOff o
 off_found o t is off c = ap (passing (is_running_on c)) is ∙ off_task t off c
 
--- a missing one is off
+-- A missing task is running on no processor.
 pub off_none : (o : Option Task) → o ≡ None → IsOff o
 off_none o is c = ap (passing (is_running_on c)) is
 
--- a task that runs on one processor runs on no other
+-- A task that is running on one processor isn't running on another.
 one_place : (t : Task) (c cpu : ℕ) → is_running_on cpu t ≡ true → (c == cpu) ≡ false → is_running_on c t ≡ false
 one_place t c cpu h n = grind (arith, nat_tests)
 
--- the task on a processor leaves it
+-- The list stays correct if the task in an entry leaves its processor and the entry becomes empty.
 pub index_off : (running : List (Option (ℕ × Task))) (tasks : Tasks) → IsIndex running tasks → (cpu : ℕ) (e : ℕ × Task) → slice_index_or running cpu None ≡ Some e → (new : Option Task) → IsOff new → IsIndex (slice_set running cpu None) (placed tasks e.0 new)
 index_off running tasks index cpu e at new off =
     let is = in_place running tasks index cpu e at in
@@ -217,11 +221,11 @@ index_off running tasks index cpu e at new off =
       new_off = λ c h. off c;
     })
 
--- a running task in a place, under each number
+-- An entry with a running task gives this task for its pid, and no task for another pid.
 shown_here : (pid cpu : ℕ) (t : Task) → is_running_on cpu t ≡ true → (q : ℕ) → cond (q == pid) (passing (is_running_on cpu) (Some t)) None ≡ task_with q (Some (pid, t))
 shown_here pid cpu t runs q = ap (λ o. cond (q == pid) o None) (holds (is_running_on cpu) t runs) ∙ sym (with_is q pid t)
 
--- a task starts on an idle processor
+-- The list stays correct if a task starts on an idle processor.
 pub index_on : (running : List (Option (ℕ × Task))) (tasks : Tasks) → IsIndex running tasks → (cpu pid : ℕ) (new : Task) → cpu < length running → slice_index_or running cpu None ≡ None → IsOff (task_of tasks pid) → is_running_on cpu new ≡ true → IsIndex (slice_set running cpu (Some (pid, new))) (put tasks pid new)
 index_on running tasks index cpu pid new room at off runs =
     index_at running tasks index pid (Some new) cpu (Some (pid, new)) (record {
@@ -232,7 +236,7 @@ index_on running tasks index cpu pid new room at off runs =
       new_off = λ c h. fails (is_running_on c) new (one_place new c cpu runs h);
     })
 
--- a place has the task of a number that runs there
+-- The entry of a processor contains the task that is running there.
 placed_there : (running : List (Option (ℕ × Task))) (tasks : Tasks) → IsIndex running tasks → (cpu pid : ℕ) (t : Task) → task_of tasks pid ≡ Some t → is_running_on cpu t ≡ true → (place : Option (ℕ × Task)) → slice_index_or running cpu None ≡ place → place ≡ Some (pid, t)
 placed_there running tasks index cpu pid t is runs None at = cc (sym (holds (is_running_on cpu) t runs) ∙ ap (passing (is_running_on cpu)) (sym is) ∙ index.each pid cpu ∙ ap (task_with pid) at)
 placed_there running tasks index cpu pid t is runs (Some e) at =
@@ -242,7 +246,8 @@ placed_there running tasks index cpu pid t is runs (Some e) at =
       | false ↦ λ h none. cc none
     ] refl has
 
--- a task changes, and is running on the same processor as before, or on none as before
+-- The list stays correct if a task is replaced by a task that is running on the same processor, or
+-- if neither task is running.
 pub index_replaced : (running : List (Option (ℕ × Task))) (tasks : Tasks) → IsIndex running tasks → (pid : ℕ) (old new : Task) → task_of tasks pid ≡ Some old → ((c : ℕ) → is_running_on c new ≡ is_running_on c old) → IsIndex (if is_running new.mode then slice_set running new.cpu.0 (Some (pid, new)) else running) (put tasks pid new)
 index_replaced running tasks index pid old new is same =
     elim (is_running new.mode) as (λ b. is_running new.mode ≡ b → IsIndex (if b then slice_set running new.cpu.0 (Some (pid, new)) else running) (put tasks pid new)) [
@@ -261,13 +266,13 @@ index_replaced running tasks index pid old new is same =
           index_kept running tasks index pid (Some new) (λ c. ap (passing (is_running_on c)) is ∙ fails (is_running_on c) old (sym (same c) ∙ and_false (new.cpu.0 == c) (is_running new.mode) off)) new_off
     ] refl
 
--- such a task has a place at its processor
+-- The list has an entry for the processor of such a task.
 pub replaced_room : (running : List (Option (ℕ × Task))) (tasks : Tasks) → IsIndex running tasks → (pid : ℕ) (old new : Task) → task_of tasks pid ≡ Some old → ((c : ℕ) → is_running_on c new ≡ is_running_on c old) → is_running new.mode ≡ true → new.cpu.0 < length running
 replaced_room running tasks index pid old new is same runs =
     let here : is_running_on new.cpu.0 new ≡ true = rw (itself new.cpu.0) runs in
     has_place running new.cpu.0 (pid, old) (placed_there running tasks index new.cpu.0 pid old is (sym (same new.cpu.0) ∙ here) (slice_index_or running new.cpu.0 None) refl)
 
--- if no task is running and none is live, the list is right
+-- A list without running tasks is correct for a map without tasks.
 pub index_first : (running : List (Option (ℕ × Task))) → ((i : ℕ) → slice_index_or running i None ≡ None) → IsIndex running no_tasks
 index_first running none = record {
   each = λ pid cpu. ap (passing (is_running_on cpu)) (map.get-empty nat_cmp pid) ∙ ap (task_with pid) (sym (none cpu));
@@ -275,32 +280,32 @@ index_first running none = record {
 
 -- ---- which tasks run
 
--- a task that starts on its processor runs there
+-- A task that starts on its own processor is running there.
 pub starts : (t : Task) (cpu : ℕ) → t.cpu.0 ≡ cpu → is_running_on cpu (record t { mode = Running }) ≡ true
 starts t cpu same = rw (same, itself cpu) refl
 
--- a running task never leaves by idling
+-- A legal switch with a running task never uses the way `idle`.
 pub not_idle : (how : How) (e : ℕ × Task) → is_wrong how (Some e) ≡ false → how ≡ Idle → ⊥
 not_idle how e right idle = let wrong : true ≡ false = rw idle at right in cc wrong
 
--- a ready task doesn't run
+-- A ready task isn't running.
 pub ready_still : (m : Mode) → is_ready m ≡ true → is_running m ≡ false
 ready_still Running h = cc h
 ready_still Ready h = refl
 ready_still Blocked h = refl
 ready_still Waiting h = refl
 
--- what a task that is ready on a processor is
+-- A task that passes the test for being ready on a processor is ready and on that processor.
 ready_there : (o : Option Task) (cpu : ℕ) → is_some_and o (is_ready_on cpu) ≡ true → IfSome o (λ t. (t.cpu.0 ≡ cpu) × (is_ready t.mode ≡ true))
 ready_there None cpu h = tt
 ready_there (Some t) cpu h = (grind (arith, nat_tests), grind (arith, nat_tests))
 
--- a next task that was ready is ready when the running one left
+-- A next task that is ready on a processor has this processor and the mode ready.
 pub next_ready : (cpu : ℕ) (next : Option Pid) (tasks : Tasks) → IfSome next (λ _. is_some_and (next_task tasks next) (is_ready_on cpu) ≡ true) → IfSome (next_task tasks next) (λ t. (t.cpu.0 ≡ cpu) × (is_ready t.mode ≡ true))
 next_ready cpu None tasks h = tt
 next_ready cpu (Some pid) tasks h = ready_there (task_of tasks pid.0) cpu h
 
--- and is the same task
+-- The next task is the same before and after the running task leaves the processor.
 pub next_stays : (cpu : ℕ) (next : Option Pid) (tasks : Tasks) (how : How) → IfSome next (λ _. is_some_and (next_task tasks next) (is_ready_on cpu) ≡ true) → next_task (leave how tasks (running_on tasks cpu)) next ≡ next_task tasks next
 next_stays cpu None tasks how h = refl
 next_stays cpu (Some pid) tasks how h = ready_left tasks cpu how pid.0 h (running_on tasks cpu) refl

@@ -1,4 +1,4 @@
--- The numbers of live tasks in groups, as tasks come, change and go.
+-- Lemmas about the number of live tasks in each group when tasks are added, changed and removed.
 use Rattle.std.proofs.Common.{◌≡◌, ℕ, zero, suc, ◌+◌, ◌-◌, ◌<◌, ◌≤◌, List, [], ◌∷◌, refl, ap, ◌∙◌, sym, subst, true, false, arith, cond, Option, None, Some, ◌==◌, length, slice_set, ⊎_elim, ◌⊎◌}
 use Rattle.std.specs.Prelude.{slice_index_or, nat_lt}
 use Rattle.std.specs.Prelude.{map as list_map}
@@ -17,14 +17,14 @@ use Rattle.psi_counts.proofs.TouchCounts.{counted, counted_put, counted_remove, 
 use Rattle.psi_counts.proofs.LegalLaws.{chosen_fewer}
 use Rattle.task_table.specs.Stands.{AreMembers, is_of}
 
--- how many are in a group, as a sum
+-- The number of tasks in a group equals a count over the map of tasks.
 members_are : (members : List ℕ) (tasks : Tasks) → AreMembers members tasks → (slot : ℕ) → slice_index_or members slot 0 ≡ counted (is_of slot) tasks
 members_are members tasks are slot = are.each slot ∙ tallied (is_of slot) (map.values tasks)
 
 by_sums : (members : List ℕ) (tasks : Tasks) → ((slot : ℕ) → slice_index_or members slot 0 ≡ counted (is_of slot) tasks) → AreMembers members tasks
 by_sums members tasks each = record { each = λ slot. each slot ∙ sym (tallied (is_of slot) (map.values tasks)) }
 
--- a task of the same group in the place of another
+-- Replacing a task by a task of the same group changes no number.
 pub members_kept : (members : List ℕ) (tasks : Tasks) (pid : ℕ) (old new : Task) → AreMembers members tasks → task_of tasks pid ≡ Some old → new.slot ≡ old.slot → AreMembers members (put tasks pid new)
 members_kept members tasks pid old new are is same = by_sums members (put tasks pid new) (λ slot.
     let before = members_are members tasks are slot in
@@ -32,7 +32,7 @@ members_kept members tasks pid old new are is same = by_sums members (put tasks 
     let alike : one (is_of slot new) ≡ one (is_of slot old) = ap (λ (s : Slot). one (s.0 == slot)) same in
     omega (arith, before, by, alike))
 
--- a task that comes
+-- Adding a task increases the number of its group by one.
 pub members_more : (members : List ℕ) (tasks : Tasks) (pid : ℕ) (task : Task) → AreMembers members tasks → task_of tasks pid ≡ None → task.slot.0 < length members → AreMembers (slice_set members task.slot.0 (slice_index_or members task.slot.0 0 + 1)) (put tasks pid task)
 members_more members tasks pid task are none room = by_sums _ (put tasks pid task) (λ slot.
     let by = rw none at (counted_put (is_of slot) tasks pid task) in
@@ -49,7 +49,7 @@ members_more members tasks pid task are none room = by_sums _ (put tasks pid tas
     omega (arith, there, before, by, not_in_it))
     (eqb_tells slot task.slot.0))
 
--- a group of a task that lives has one
+-- The number for a live task's group is at least one.
 pub some_member : (members : List ℕ) (tasks : Tasks) (pid : ℕ) (task : Task) → AreMembers members tasks → task_of tasks pid ≡ Some task → 0 < slice_index_or members task.slot.0 0
 some_member members tasks pid task are is =
     let by = rw is at (counted_remove (is_of task.slot.0) tasks pid) in
@@ -59,14 +59,14 @@ some_member members tasks pid task are is =
 past_none : (members : List ℕ) (slot : ℕ) → length members ≤ slot → slice_index_or members slot 0 ≡ 0
 past_none members slot past = get_or_past members slot 0 past
 
--- and a place in the list
+-- The list of numbers has an entry for the group of a live task.
 pub member_room : (members : List ℕ) (tasks : Tasks) (pid : ℕ) (task : Task) → AreMembers members tasks → task_of tasks pid ≡ Some task → task.slot.0 < length members
 member_room members tasks pid task are is =
     let some = some_member members tasks pid task are is in
     let case : (task.slot.0 < length members) ⊎ (length members ≤ task.slot.0) = grind arith in
     ⊎_elim (λ room. room) (λ past. absurd (omega (arith, some, past_none members task.slot.0 past))) case
 
--- a task that goes
+-- Removing a task decreases the number of its group by one.
 pub members_less : (members : List ℕ) (tasks : Tasks) (pid : ℕ) (task : Task) → AreMembers members tasks → task_of tasks pid ≡ Some task → AreMembers (slice_set members task.slot.0 (slice_index_or members task.slot.0 0 - 1)) (remove tasks pid)
 members_less members tasks pid task are is = by_sums _ (remove tasks pid) (λ slot.
     let by = rw is at (counted_remove (is_of slot) tasks pid) in
@@ -85,7 +85,7 @@ members_less members tasks pid task are is = by_sums _ (remove tasks pid) (λ sl
     omega (arith, there, before, by, not_in_it))
     (eqb_tells slot task.slot.0))
 
--- a task put after a removal of the same number is put
+-- Storing a task after removing its pid gives the same map as storing it directly.
 put_again : (tasks : Tasks) (pid : ℕ) (new : Task) → put (remove tasks pid) pid new ≡ put tasks pid new
 put_again tasks pid new = same_tasks (put (remove tasks pid) pid new) (put tasks pid new) (λ q.
     get_put (remove tasks pid) pid new q
@@ -95,7 +95,7 @@ put_again tasks pid new = same_tasks (put (remove tasks pid) pid new) (put tasks
     ] refl
     ∙ sym (get_put tasks pid new q))
 
--- a task that comes from one group to another
+-- Moving a task decreases the number of its old group and increases the number of its new group.
 pub members_moved : (members : List ℕ) (tasks : Tasks) (pid : ℕ) (task new : Task) (less more : List ℕ) → AreMembers members tasks → task_of tasks pid ≡ Some task → new.slot.0 < length members
     → less ≡ slice_set members task.slot.0 (slice_index_or members task.slot.0 0 - 1) → length less ≡ length members → more ≡ slice_set less new.slot.0 (slice_index_or less new.slot.0 0 + 1) → AreMembers more (put tasks pid new)
 members_moved members tasks pid task new less more are is room less_is same more_is =
@@ -103,14 +103,14 @@ members_moved members tasks pid task new less more are is room less_is same more
     let none : task_of (remove tasks pid) pid ≡ None = get_remove tasks pid pid ∙ ap (λ b. cond b None (task_of tasks pid)) (itself pid) in
     rw (more_is, ← put_again tasks pid new) (members_more less (remove tasks pid) pid new gone none (omega (arith, room, same)))
 
--- no group has more tasks than live
+-- The number of tasks in a group is at most the limit of live tasks.
 pub members_few : (members : List ℕ) (tasks : Tasks) (slot : ℕ) → AreMembers members tasks → map.len tasks ≤ 65536 → slice_index_or members slot 0 ≤ 65536
 members_few members tasks slot are few =
     let some = chosen_fewer (is_of slot) (map.values tasks) in
     let all : length (map.values tasks) ≡ map.len tasks = length-map (map.entries tasks) (λ e. e.1) ∙ sym (map.len-entries tasks) in
     omega (arith, are.each slot, some, all, few)
 
--- after a task left a group, no group has more
+-- After a task left a group, the numbers are still at most the limit of live tasks.
 pub fewer_members : (members less : List ℕ) (place slot : ℕ) → less ≡ slice_set members place (slice_index_or members place 0 - 1) → place < length members → slice_index_or members slot 0 ≤ 65536 → slice_index_or less slot 0 ≤ 65536
 fewer_members members less place slot is room few = ⊎_elim
     (λ same.
@@ -121,11 +121,11 @@ fewer_members members less place slot is room few = ⊎_elim
     omega (arith, there, few))
     (eqb_tells slot place)
 
--- room for more groups changes no number
+-- Extending the list of numbers for more groups changes no number.
 pub members_same : (members more : List ℕ) (tasks : Tasks) → ((slot : ℕ) → slice_index_or more slot 0 ≡ slice_index_or members slot 0) → AreMembers members tasks → AreMembers more tasks
 members_same members more tasks same are = record { each = λ slot. same slot ∙ are.each slot }
 
--- the test of a group's number
+-- A group has a task exactly if its number isn't 0.
 pub manned : (members : List ℕ) (tasks : Tasks) (slot : ℕ) → AreMembers members tasks → nat_lt 0 (slice_index_or members slot 0) ≡ has_member tasks (Some slot)
 manned members tasks slot are = ap (nat_lt 0) (are.each slot) ∙ sym (any_counted (is_of slot) (map.values tasks))
 
@@ -133,16 +133,16 @@ none_is : (tasks : List Task) → list_any (λ task. is_slot None (Some task.slo
 none_is [] = refl
 none_is (task ∷ tasks) = none_is tasks
 
--- a path that finds none
+-- If no live group has a path, no task is in the group with this path.
 pub unmanned : (tasks : Tasks) (o : Option ℕ) (found : Option Slot) → found ≡ as_slot o → found ≡ None → has_member tasks o ≡ false
 unmanned tasks None found is none = none_is (map.values tasks)
 unmanned tasks (Some n) found is none = absurd (cc (is, none))
 
--- a list with another number in a place is as long
+-- Storing a number in a list leaves the length of the list unchanged.
 pub set_length : (members : List ℕ) (place n : ℕ) → length (slice_set members place n) ≡ length members
 set_length members place n = length-set members place n
 
--- in one group there is no task at first
+-- A new list has one group without tasks.
 pub no_members : AreMembers (0 ∷ []) no_tasks
 no_members = record {
   each = λ slot. elim slot as (λ n. slice_index_or (0 ∷ []) n 0 ≡ how_many (is_of n) (map.values no_tasks)) [

@@ -1,4 +1,4 @@
--- The clauses of the table show that it is a player.
+-- Proves that the table is a player, from the contracts of its methods.
 use Rattle.std.proofs.Common.{◌≡◌, List, ◌+◌, [], ◌∷◌, ◌++◌, length, ap, ◌∙◌, sym, arith, subst, None, Some}
 use Rattle.std.specs.Prelude.{Result, Ok, Err}
 use Rattle.psi_base.specs.declared.event.Event.{Event}
@@ -15,11 +15,11 @@ lines_from : (w : World) (events : List Event) → (after_from w events).lines �
 lines_from w [] = omega arith
 lines_from w (event ∷ events) = omega (arith, lines_from (after_event w event) events)
 
--- a world counts the events before it
+-- The world after events has counted all events.
 pub lines_of : (events : List Event) → (after events).lines ≡ length events
 lines_of events = omega (arith, lines_from first_world events)
 
--- the table's clause implies the player's
+-- The contract of the table implies the contract of a player.
 pub table_takes : (old new : TableView) (event : Event) (result : Result (Unit {0}) (Fault Cause)) → PlaysEvent old event new result → PlayerTakes (IsPlayed old.limits old.world) (IsPlayed new.limits new.world) event result
 table_takes old new event (Ok x) plays = λ limits events played.
     let legal : cause_of limits old.world event ≡ None = subst (λ l. cause_of l old.world event ≡ None) played.limits_are plays.legal in

@@ -1,4 +1,5 @@
--- The running task of a processor: any task known to be running there is the one found.
+-- Proves that a search for the running task of a processor finds each task known to be running
+-- there.
 use Rattle.std.proofs.Common.{◌≡◌, ℕ, ◌≤◌, List, [], ◌∷◌, refl, ap, ◌∙◌, sym, arith, cond, Bool, true, false, Option, Some, ◌==◌, length, map}
 use Rattle.std.specs.Prelude.{filter, find, is_some}
 use Rattle.std.specs.Ordering.{nat_cmp}
@@ -9,11 +10,11 @@ use Rattle.psi_spec.specs.declared.machine.Task.{Task}
 use Rattle.psi_spec.specs.World.{Tasks, is_running_on, running_on, task_of}
 use Rattle.psi_counts.specs.Touch.{RunsOnce}
 
--- the task of a number, in the first or the second part
+-- A search by pid in a nonempty list returns the first entry or searches the rest of the list.
 here_or_after : (pid : ℕ) (e : ℕ × Task) (es : List (ℕ × Task)) (o : Option Task) → tasks_by.find nat_cmp pid (e ∷ es) ≡ o → cond (pid == e.0) (Some e.1) (tasks_by.find nat_cmp pid es) ≡ o
 here_or_after pid e es o is = ap (λ b. cond b (Some e.1) (tasks_by.find nat_cmp pid es)) (sym (unsigned_tied pid e.0)) ∙ is
 
--- a task that passes a test and has a number is found by the test, or another is
+-- If the task with a pid passes a test, a search by this test finds an entry.
 found_if : (test : Task → Bool) (es : List (ℕ × Task)) (pid : ℕ) (task : Task) → tasks_by.find nat_cmp pid es ≡ Some task → test task ≡ true → is_some (find (λ e. test e.1) es) ≡ true
 found_if test [] pid task is passes = absurd (cc is)
 found_if test (e ∷ es) pid task is passes =
@@ -26,15 +27,15 @@ found_if test (e ∷ es) pid task is passes =
           ] (here_or_after pid e es (Some task) is)
     ] refl
 
--- if a task is running on a processor, a search finds some task
+-- If a task is running on a processor, a search for the running task finds a task.
 pub runs_there : (tasks : Tasks) (pid : ℕ) (task : Task) (cpu : ℕ) → task_of tasks pid ≡ Some task → is_running_on cpu task ≡ true → is_some (running_on tasks cpu) ≡ true
 runs_there tasks pid task cpu is runs = found_if (is_running_on cpu) (tasks_by.entries tasks) pid task (sym (tasks_by.get-entries tasks pid) ∙ is) runs
 
--- how many entries pass
+-- Returns the number of entries whose tasks pass the test.
 abbrev passing : (Task → Bool) → List (ℕ × Task) → ℕ
 passing test es = length (filter test (map (λ e. e.1) es))
 
--- a task that passes and has a number is one of them
+-- If the task with a pid passes a test, at least one entry passes the test.
 counted_if : (test : Task → Bool) (es : List (ℕ × Task)) (pid : ℕ) (task : Task) → tasks_by.find nat_cmp pid es ≡ Some task → test task ≡ true → 1 ≤ passing test es
 counted_if test [] pid task is passes = absurd (cc is)
 counted_if test (e ∷ es) pid task is passes =
@@ -47,11 +48,12 @@ counted_if test (e ∷ es) pid task is passes =
           ] (here_or_after pid e es (Some task) is)
     ] refl
 
--- numbers that a test shows equal
+-- Numbers that pass the equality test are equal.
 same_number : (a b : ℕ) → (a == b) ≡ true → b ≡ a
 same_number a b is = grind (arith, nat_tests)
 
--- if at most one entry passes, the entry found by the test has the number of any task that passes
+-- If at most one entry passes a test, a search by the test finds the entry of each task that passes
+-- it.
 only_found : (test : Task → Bool) (es : List (ℕ × Task)) (pid : ℕ) (task : Task) (e : ℕ × Task) → tasks_by.find nat_cmp pid es ≡ Some task → test task ≡ true → find (λ e. test e.1) es ≡ Some e → passing test es ≤ 1 → e.0 ≡ pid
 only_found test [] pid task e is passes found once = absurd (cc is)
 only_found test (x ∷ es) pid task e is passes found once =
@@ -69,6 +71,6 @@ only_found test (x ∷ es) pid task e is passes found once =
           ] (here_or_after pid x es (Some task) is)
     ] refl found once
 
--- the task found on a processor is any task known to be running there
+-- The task found on a processor has the pid of each task known to be running there.
 pub only_runs : (tasks : Tasks) → RunsOnce tasks → (cpu pid : ℕ) (task : Task) (e : ℕ × Task) → task_of tasks pid ≡ Some task → is_running_on cpu task ≡ true → running_on tasks cpu ≡ Some e → e.0 ≡ pid
 only_runs tasks once cpu pid task e is runs found = only_found (is_running_on cpu) (tasks_by.entries tasks) pid task e (sym (tasks_by.get-entries tasks pid) ∙ is) runs found (once cpu)

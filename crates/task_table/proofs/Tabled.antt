@@ -1,4 +1,4 @@
--- The tasks that a list and a table of entries in any order have.
+-- Lemmas about a map of tasks that consists of a list and of entries in any order (`listed_tasks`).
 use Rattle.std.proofs.Common.{◌≡◌, ℕ, zero, suc, ◌+◌, ◌-◌, ◌<◌, ◌≤◌, List, [], ◌∷◌, ◌++◌, refl, ap, ◌∙◌, sym, true, false, arith, cond, Option, None, Some, nat_eq, ◌==◌, length, replicate, take, drop, slice_set, is_some, ⊎_elim}
 use Rattle.std.specs.Prelude.{slice_index_or}
 use Rattle.std.specs.Ordering.{nat_cmp}
@@ -16,16 +16,16 @@ use Rattle.task_table.specs.Listed.{listed_from, listed_tasks}
 
 -- ---- look-ups
 
--- the two searches by number are one
+-- Two definitions of a search by pid give the same result.
 find_entry : (es : List (ℕ × Task)) (q : ℕ) → map.find nat_cmp q es ≡ lookup (nat_eq q) es
 find_entry [] q = refl
 find_entry (e ∷ es) q = ap (λ b. cond b (Some e.1) (map.find nat_cmp q es)) (unsigned_tied q e.0) ∙ ap (cond (q == e.0) (Some e.1)) (find_entry es q)
 
--- the task under a number of entries alone is the first entry's with it
+-- In a map made of entries, the task with a pid is the task of the first entry with this pid.
 get_entry : (es : List (ℕ × Task)) (q : ℕ) → task_of (map.from_entries es) q ≡ lookup (nat_eq q) es
 get_entry es q = map.get-from_entries nat_cmp_total es q ∙ find_entry es q
 
--- the task under the number of a place is the one in it
+-- A task whose pid has an index in the list is the task at this index.
 get_within : (first : ℕ) (listed : List (Option Task)) (others : Tasks) (i : ℕ) → i < length listed → task_of (listed_from first listed others) (first + i) ≡ slice_index_or listed i None
 get_within first [] others i below = absurd (omega arith)
 get_within first (task ∷ listed) others zero below =
@@ -39,7 +39,7 @@ get_within first (task ∷ listed) others (suc i) below =
     ∙ ap (task_of (listed_from (first + 1) listed others)) moved
     ∙ get_within (first + 1) listed others i (omega arith)
 
--- the task under a number after those of the places is among the others
+-- A task whose pid is past the end of the list is one of the other tasks.
 get_beyond : (first : ℕ) (listed : List (Option Task)) (others : Tasks) (q : ℕ) → first + length listed ≤ q → task_of (listed_from first listed others) q ≡ task_of others q
 get_beyond first [] others q past = refl
 get_beyond first (task ∷ listed) others q past =
@@ -48,23 +48,23 @@ get_beyond first (task ∷ listed) others q past =
     ∙ ap (λ b. cond b task (task_of (listed_from (first + 1) listed others) q)) there
     ∙ get_beyond (first + 1) listed others q (omega arith)
 
--- the task under a number for which the list has a place
+-- If the list has an index for a pid, the task with the pid is the task at the index.
 pub get_listed : (listed : List (Option Task)) (es : List (ℕ × Task)) (q : ℕ) → q < length listed → task_of (listed_tasks listed es) q ≡ slice_index_or listed q None
 get_listed listed es q below =
     let same : q ≡ 0 + q = omega arith in
     ap (task_of (listed_tasks listed es)) same ∙ get_within 0 listed (map.from_entries es) q below
 
--- the task under a number for which the list has none
+-- If the list has no index for a pid, the task with the pid is found among the entries.
 pub get_other : (listed : List (Option Task)) (es : List (ℕ × Task)) (q : ℕ) → length listed ≤ q → task_of (listed_tasks listed es) q ≡ lookup (nat_eq q) es
 get_other listed es q past = get_beyond 0 listed (map.from_entries es) q (omega (arith, past)) ∙ get_entry es q
 
 -- ---- changes
 
--- the test of numbers, turned round
+-- The equality test of two numbers is symmetric.
 flip : (k q : ℕ) → (k == q) ≡ (q == k)
 flip k q = nat_eq_equiv.symm k q
 
--- another task, or none, in a place
+-- Storing a task (or `None`) at an index of the list places the task in the map.
 pub placed_listed : (listed : List (Option Task)) (es : List (ℕ × Task)) (k : ℕ) (task : Option Task) → k < length listed → listed_tasks (slice_set listed k task) es ≡ placed (listed_tasks listed es) k task
 placed_listed listed es k task room = same_tasks (listed_tasks (slice_set listed k task) es) (placed (listed_tasks listed es) k task) (λ q.
     ⊎_elim
@@ -83,7 +83,7 @@ placed_listed listed es k task room = same_tasks (listed_tasks (slice_set listed
     ∙ sym (task_placed (listed_tasks listed es) k task q))
     (cases_lt q (length listed)))
 
--- entries that differ by another task, or none, under a number for which the list has no place
+-- Changing the entry of a pid past the end of the list places the task in the map.
 pub placed_other : (listed : List (Option Task)) (es fs : List (ℕ × Task)) (k : ℕ) (task : Option Task) → length listed ≤ k → ((q : ℕ) → lookup (nat_eq q) fs ≡ cond (k == q) task (lookup (nat_eq q) es)) → listed_tasks listed fs ≡ placed (listed_tasks listed es) k task
 placed_other listed es fs k task beyond h = same_tasks (listed_tasks listed fs) (placed (listed_tasks listed es) k task) (λ q.
     ⊎_elim
@@ -101,11 +101,11 @@ placed_other listed es fs k task beyond h = same_tasks (listed_tasks listed fs) 
     ∙ sym (task_placed (listed_tasks listed es) k task q))
     (cases_lt q (length listed)))
 
--- no task is found if there is none
+-- A map without tasks has no task with any pid.
 lacks : (q : ℕ) → task_of no_tasks q ≡ None
 lacks q = map.get-empty nat_cmp q
 
--- no task is in empty places and no entries
+-- A list of empty entries and no other entries form a map without tasks.
 pub none_in : (places : ℕ) (listed : List (Option Task)) (es : List (ℕ × Task)) → listed ≡ replicate places None → es ≡ [] → listed_tasks listed es ≡ no_tasks
 none_in places listed es empty none = same_tasks (listed_tasks listed es) no_tasks (λ q.
     ⊎_elim
@@ -116,33 +116,33 @@ none_in places listed es empty none = same_tasks (listed_tasks listed es) no_tas
     (λ past. get_other listed es q past ∙ rw none refl ∙ sym (lacks q))
     (cases_lt q (length listed)))
 
--- so the count of their tasks is 0
+-- The number of tasks in such a map is 0.
 pub count_none : (places : ℕ) (listed : List (Option Task)) (es : List (ℕ × Task)) → listed ≡ replicate places None → es ≡ [] → 0 ≡ map.len (listed_tasks listed es)
 count_none places listed es empty none = rw (none_in places listed es empty none) (sym (map.len-empty nat_cmp Task))
 
--- a list that replaces another of the same length replaces all of it
+-- Overwriting a list with a list of the same length gives the new list.
 pub whole : (size : ℕ) (new old : List (Option Task)) → size ≡ length new → take size (new ++ drop (length new) old) ≡ new
 whole size new old same = rw same (take-append_seam new (drop (length new) old))
 
 -- ---- how many there are
 
--- one more task after a task was put under a new number
+-- Adding a task with a new pid increases the number of tasks by one.
 pub count_more : (count : ℕ) (tasks after : Tasks) (k : ℕ) (task : Task) → count ≡ map.len tasks → is_some (task_of tasks k) ≡ false → after ≡ put tasks k task → count + 1 ≡ map.len after
 count_more count tasks after k task counts none is = rw (is, counts) (sym (map.len-insert nat_cmp_total tasks k task ∙ ap (λ b. cond b (map.len tasks) (map.len tasks + 1)) none))
 
--- as many after a task was put in the place of another
+-- Replacing a task leaves the number of tasks unchanged.
 pub count_put : (count : ℕ) (tasks after : Tasks) (k : ℕ) (task : Task) → count ≡ map.len tasks → is_some (task_of tasks k) ≡ true → after ≡ put tasks k task → count ≡ map.len after
 count_put count tasks after k task counts some is = rw (is, counts) (sym (map.len-insert nat_cmp_total tasks k task ∙ ap (λ b. cond b (map.len tasks) (map.len tasks + 1)) some))
 
--- one less after the task under a number was removed
+-- Removing a task decreases the number of tasks by one.
 pub count_less : (count : ℕ) (tasks after : Tasks) (k : ℕ) → count ≡ map.len tasks → is_some (task_of tasks k) ≡ true → after ≡ remove tasks k → count - 1 ≡ map.len after
 count_less count tasks after k counts some is = rw (is, counts) (sym (map.len-remove nat_cmp_total tasks k ∙ ap (λ b. cond b (map.len tasks - 1) (map.len tasks)) some))
 
--- the same number of tasks if there was none to remove
+-- Removing a pid without a task leaves the number of tasks unchanged.
 pub count_kept : (count : ℕ) (tasks after : Tasks) (k : ℕ) → count ≡ map.len tasks → is_some (task_of tasks k) ≡ false → after ≡ remove tasks k → count ≡ map.len after
 count_kept count tasks after k counts none is = rw (is, counts) (sym (map.len-remove nat_cmp_total tasks k ∙ ap (λ b. cond b (map.len tasks - 1) (map.len tasks)) none))
 
--- there is a task if one is found
+-- If a task is found, the number of tasks is at least one.
 pub count_some : (count : ℕ) (tasks : Tasks) (k : ℕ) → count ≡ map.len tasks → is_some (task_of tasks k) ≡ true → 1 ≤ count
 count_some count tasks k counts some =
     ⊎_elim

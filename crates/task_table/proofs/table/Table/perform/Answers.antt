@@ -16,7 +16,7 @@ touch_of-requires-clause-plain c =
     let slot = c.slot.ensures ∙ ap slot_or_root c.requires.group_is in
     unswitched c.args.self.now.world.groups (names c.args.event.now.act).switched (sym (c.account_of-account.ensures c.args.self.now.world.groups slot) ∙ c.in_default-account.is)
 
--- all that is promised of the touch by a task or by interrupts
+-- The promised properties of the touch of an act that switches no accounting.
 known : (c : goal.After-touch_of) → HasContent c.args.self.now.limits c.args.self.now.world c.args.event.now c.touch_of.result
 known c =
     let running = c.self.inside.running.items in

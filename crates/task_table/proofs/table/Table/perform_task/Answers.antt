@@ -5,7 +5,7 @@ use Rattle.task_table.proofs.TaskActLaws.{leaves_rest}
 use Rattle.task_table.proofs.Touching.{HasContent, known_played}
 use Rattle.task_table.proofs.table.Table.perform_task.Goals as goal
 
--- all that is promised of the touch
+-- The promised properties of the touch of a task act.
 known : (c : goal.After-touch_of) → HasContent c.args.self.now.limits c.args.self.now.world (as_event c.args.at c.args.act) c.touch_of.result
 known c =
     let running = c.self.inside.running.items in
