@@ -1,4 +1,4 @@
--- How many live children a group has.
+-- Lemmas about the number of live children of a group.
 use Rattle.std.proofs.Common.{◌≡◌, ℕ, zero, suc, ◌+◌, ◌≤◌, List, [], ◌∷◌, ◌++◌, refl, ap, Bool, true, false, arith, Option, None, Some, nat_lt, length}
 use Rattle.std.specs.Prelude.{◌&&◌, ◌||◌, if◌then◌else◌, slice_get, slice_set, slice_index_or}
 use Rattle.std.proofs.lemmas.Bool.Decides.{nat_tests}
@@ -9,16 +9,16 @@ use Rattle.psi_spec.specs.Refusal.{is_slot, has_child}
 use Rattle.psi_spec.specs.Stall.{number_of_slot, parents_of}
 use Rattle.group_tree.specs.Tree.{count_children}
 
--- a group counts as a live child of a slot
+-- Returns 1 if the group is a live child of the slot, otherwise 0.
 abbrev pub one : ℕ → GroupLife → ℕ
 one slot group = if is_live group && is_slot (Some slot) group.parent then 1 else 0
 
--- a group counts once at most
+-- A number that is 1 or 0 by a test is at most 1.
 once : (b : Bool) → (if b then 1 else 0) ≤ 1
 once true = omega arith
 once false = omega arith
 
--- one appended group
+-- Appending a group adds the group to the count if it is a live child of the slot.
 pub count_following : (groups : List GroupLife) (group : GroupLife) (slot : ℕ) → count_children (groups ++ group ∷ []) slot ≡ count_children groups slot + one slot group
 count_following [] group slot = refl
 count_following (first ∷ groups) group slot =
@@ -26,7 +26,7 @@ count_following (first ∷ groups) group slot =
     let goal : (count_children (groups ++ group ∷ []) slot + one slot first) ≡ (count_children groups slot + one slot first) + one slot group = omega (arith, rest) in
     goal
 
--- no more children than groups
+-- A group has at most as many live children as there are groups.
 pub count_few : (groups : List GroupLife) (slot : ℕ) → count_children groups slot ≤ length groups
 count_few [] slot = omega arith
 count_few (group ∷ groups) slot =
@@ -35,17 +35,17 @@ count_few (group ∷ groups) slot =
     let goal : count_children groups slot + one slot group ≤ length (group ∷ groups) = omega (arith, rest, here) in
     goal
 
--- a slot by the test is that slot
+-- A slot that passes the test for a number has this number.
 pub the_slot : (o : Option Slot) (n : ℕ) → is_slot (Some n) o ≡ true → number_of_slot o ≡ Some n
 the_slot None n is = cc is
 the_slot (Some slot) n is = let same : slot.0 ≡ n = grind (arith, nat_tests) in ap Some same
 
--- a second test that fails
+-- A conjunction with a false second part is false.
 and_false : (a b : Bool) → b ≡ false → (a && b) ≡ false
 and_false true b h = h
 and_false false b h = refl
 
--- a group whose parent is another isn't counted
+-- A group with another parent isn't counted.
 not_counted : (slot : ℕ) (group : GroupLife) → (number_of_slot group.parent ≡ Some slot → ⊥) → one slot group ≡ 0
 not_counted slot group other =
     elim (is_slot (Some slot) group.parent) as (λ b. is_slot (Some slot) group.parent ≡ b → one slot group ≡ 0) [
@@ -53,7 +53,7 @@ not_counted slot group other =
       | false ↦ λ is. ap (λ b. if b then 1 else 0) (and_false (is_live group) (is_slot (Some slot) group.parent) is)
     ] refl
 
--- a slot that is no parent has no children
+-- A slot that is the parent of no group has no live children.
 pub count_none : (groups : List GroupLife) (slot : ℕ) → ((at : ℕ) → slice_index_or (parents_of groups) at None ≡ Some slot → ⊥) → count_children groups slot ≡ 0
 count_none [] slot none = refl
 count_none (group ∷ groups) slot none =
@@ -62,7 +62,7 @@ count_none (group ∷ groups) slot none =
     let goal : count_children groups slot + one slot group ≡ 0 = omega (arith, rest, here) in
     goal
 
--- a different group in a slot
+-- Replacing a group subtracts the old group from the count and adds the new group.
 pub count_set : (groups : List GroupLife) (at : ℕ) (old new : GroupLife) (slot : ℕ) → slice_get groups at ≡ Some old → count_children (slice_set groups at new) slot + one slot old ≡ count_children groups slot + one slot new
 count_set [] at old new slot is = absurd (cc is)
 count_set (group ∷ groups) zero old new slot is =
@@ -74,17 +74,17 @@ count_set (group ∷ groups) (suc at) old new slot is =
     let goal : (count_children (slice_set groups at new) slot + one slot group) + one slot old ≡ (count_children groups slot + one slot group) + one slot new = omega (arith, rest) in
     goal
 
--- a test of a count by one more
+-- A test for a positive count can be split when the count increases by 1 or 0.
 some_more : (b : Bool) (n : ℕ) (any : Bool) → any ≡ nat_lt 0 n → (b || any) ≡ nat_lt 0 (n + (if b then 1 else 0))
 some_more true n any is = grind (arith, nat_tests)
 some_more false n any is = grind (arith, nat_tests)
 
--- there is a live child if the count isn't 0
+-- A group has a live child exactly if its count isn't 0.
 pub some_child : (groups : List GroupLife) (slot : ℕ) → has_child groups (Some slot) ≡ nat_lt 0 (count_children groups slot)
 some_child [] slot = refl
 some_child (group ∷ groups) slot = some_more (is_live group && is_slot (Some slot) group.parent) (count_children groups slot) (has_child groups (Some slot)) (some_child groups slot)
 
--- a group counts among all
+-- A live child in the list is included in the count of its parent.
 pub count_at : (groups : List GroupLife) (at : ℕ) (group : GroupLife) (slot : ℕ) → slice_get groups at ≡ Some group → one slot group ≤ count_children groups slot
 count_at [] at group slot is = absurd (cc is)
 count_at (first ∷ groups) zero group slot is =

@@ -1,4 +1,4 @@
--- Live groups in the order of their paths.
+-- Proves that the map from paths to slots has the live groups in the order of their paths.
 use Rattle.std.proofs.Common.{◌≡◌, ℕ, ◌+◌, ◌<◌, ◌≤◌, List, [], ◌∷◌, refl, ap, ◌∙◌, sym, Bool, true, false, Bor, length, map, drop, get_or}
 use Rattle.std.specs.Prelude.{not, if◌then◌else◌, is_some}
 use Rattle.std.specs.Ordering.{nat_cmp}
@@ -16,17 +16,17 @@ use Rattle.group_tree.specs.Tree.{slot_at, paths_and_slots}
 
 -- ---- a map's entries
 
--- the order of the paths that are lent
+-- Compares two borrowed paths by their bytes.
 abbrev pub by_path : Bor (List ℕ) → Bor (List ℕ) → Ordering
 by_path x y = slice_cmp nat_cmp x.now y.now
 
--- the choice of three that putting an entry makes
+-- Selects one of three values by the result of a comparison.
 abbrev ordered : {A : Type 0} → Ordering → A → A → A → A
 ordered Less a b c = a
 ordered Equal a b c = b
 ordered Greater a b c = c
 
--- an entry comes to the same place by its name
+-- Inserting an entry with a borrowed path is the same as inserting it with the bytes of the path.
 named_put : (es : List (Bor (List ℕ) × Slot)) (k : Bor (List ℕ)) (v : Slot) → paths_and_slots (insert_entry by_path es k v) ≡ fin.put (slice_cmp nat_cmp) k.now v.0 (paths_and_slots es)
 named_put [] k v = refl
 named_put (e ∷ es) k v =
@@ -38,11 +38,11 @@ named_put (e ∷ es) k v =
 
 -- ---- from the last group to the first
 
--- the live groups from a slot on, in order
+-- Returns the live groups with slots from `slot` on, in the order of their paths.
 abbrev pub live_rest : List GroupLife → ℕ → List (List ℕ × ℕ)
 live_rest groups slot = in_order (live_from slot (drop slot groups))
 
--- a slot more, by the group in it
+-- Adds the group in one more slot to the live groups with greater slots.
 rest_step : (groups : List GroupLife) (slot : ℕ) (life : GroupLife) → slot < length groups → life ≡ get_or groups slot life → (gone : Bool) → is_some life.gone ≡ gone → live_rest groups slot ≡ (if not gone then fin.put (slice_cmp nat_cmp) life.path slot (live_rest groups (slot + 1)) else live_rest groups (slot + 1))
 rest_step groups slot life room is true gone =
     ap (λ gs. in_order (live_from slot gs)) (drop_more groups slot life room ∙ ap (λ (g : GroupLife). g ∷ drop (slot + 1) groups) (sym is))
@@ -51,11 +51,11 @@ rest_step groups slot life room is false gone =
     ap (λ gs. in_order (live_from slot gs)) (drop_more groups slot life room ∙ ap (λ (g : GroupLife). g ∷ drop (slot + 1) groups) (sym is))
     ∙ ap (λ b. in_order (if not b then (life.path, slot) ∷ live_from (slot + 1) (drop (slot + 1) groups) else live_from (slot + 1) (drop (slot + 1) groups))) gone
 
--- a removed group changes nothing
+-- Passing a removed group leaves the map correct.
 pub past_removed : (groups : List GroupLife) (slot : ℕ) (life : GroupLife) (es : List (Bor (List ℕ) × Slot)) → slot < length groups → life ≡ get_or groups slot life → is_some life.gone ≡ true → paths_and_slots es ≡ live_rest groups (slot + 1) → paths_and_slots es ≡ live_rest groups slot
 past_removed groups slot life es room is gone rest = rest ∙ sym (rest_step groups slot life room is true gone)
 
--- a live group comes to its place
+-- Inserting a live group leaves the map correct.
 pub past_live : (groups : List GroupLife) (slot : ℕ) (life : GroupLife) (es : List (Bor (List ℕ) × Slot)) (key : Bor (List ℕ)) → slot < length groups → life ≡ get_or groups slot life → is_some life.gone ≡ false → key.now ≡ life.path → paths_and_slots es ≡ live_rest groups (slot + 1) → paths_and_slots (insert_entry by_path es key (slot_at slot)) ≡ live_rest groups slot
 past_live groups slot life es key room is live same rest =
     named_put es key (slot_at slot)
@@ -63,13 +63,13 @@ past_live groups slot life es key room is live same rest =
     ∙ ap (fin.put (slice_cmp nat_cmp) life.path slot) rest
     ∙ sym (rest_step groups slot life room is false live)
 
--- past the last group there is none
+-- There are no live groups past the last slot.
 pub none_left : (groups : List GroupLife) (n : ℕ) → length groups ≤ n → live_rest groups n ≡ []
 none_left groups n past = ap (λ gs. in_order (live_from n gs)) (drop_all n groups past)
 
 -- ---- the slots alone
 
--- the slots of pairs, by their names
+-- The slots of the pairs are the values of the map, in the order of the paths.
 pub slots_of : (es : List (Bor (List ℕ) × Slot)) → map (λ (pair : List ℕ × ℕ). slot_at pair.1) (paths_and_slots es) ≡ values_of es
 slots_of [] = refl
 slots_of (e ∷ es) = ap (λ slots. e.1 ∷ slots) (slots_of es)

@@ -1,4 +1,4 @@
--- Slots in the order of their paths.
+-- Proves that sorting all slots by path gives the order that psi_spec defines.
 use Rattle.std.proofs.Common.{◌≡◌, ℕ, ◌+◌, ◌<◌, List, [], ◌∷◌, refl, ap, ◌∙◌, subst, arith, length, map}
 use Rattle.std.specs.Prelude.{IsPermutation, IsSortedByKey}
 use Rattle.std.specs.List.{range_with_len}
@@ -12,12 +12,12 @@ use Rattle.psi_spec.specs.Groups.{path_at}
 use Rattle.psi_spec.specs.LegalGroups.{IsPathOrder}
 use Rattle.group_tree.specs.Tree.{numbers_of, slot_at}
 
--- numbers as slots are the numbers
+-- Converting numbers to slots and back gives the same numbers.
 same_numbers : (ns : List ℕ) → numbers_of (map slot_at ns) ≡ ns
 same_numbers [] = refl
 same_numbers (n ∷ ns) = ap (λ rest. n ∷ rest) (same_numbers ns)
 
--- all slots, sorted by their paths, are such an order
+-- All slots, sorted by their paths, are in the path order.
 pub path_order_is : (groups : List GroupLife) (slots sorted : List Slot) → slots ≡ map slot_at (range_with_len 0 (length groups)) → IsPermutation slots sorted
     → IsSortedByKey (λ (slot : Slot). path_at groups slot.0) (slice_cmp nat_cmp) sorted → IsPathOrder groups (numbers_of sorted)
 path_order_is groups slots sorted all same order =

@@ -47,7 +47,7 @@ same_find : (p q : ℕ × Task → Bool) (es : List (ℕ × Task)) → AllByRecu
 same_find p q [] h = refl
 same_find p q (e ∷ es) h = ap (λ b. cond b (Some e) (find p es)) h.0 ∙ ap (cond (q e) (Some e)) (same_find p q es h.1)
 
--- a search for nothing finds nothing
+-- A search by a test that always fails finds nothing.
 none_found : (es : List (ℕ × Task)) → find (λ e. false) es ≡ None
 none_found [] = refl
 none_found (e ∷ es) = none_found es
@@ -69,7 +69,7 @@ passes test t = elim (test t) as (λ b. is_some (let o : Option Task = if b then
 own : (e : ℕ × Task) → task_with e.0 (Some e) ≡ Some e.1
 own e = rw (itself e.0) refl
 
--- the number in a place
+-- Whether an optional entry has this pid.
 abbrev numbered : ℕ → Option (ℕ × Task) → Bool
 numbered pid None = false
 numbered pid (Some e) = e.0 == pid
@@ -90,7 +90,7 @@ tests running tasks index cpu (e ∷ es) h =
 pub in_place : (running : List (Option (ℕ × Task))) (tasks : Tasks) → IsIndex running tasks → (cpu : ℕ) (e : ℕ × Task) → slice_index_or running cpu None ≡ Some e → (task_of tasks e.0 ≡ Some e.1) × (is_running_on cpu e.1 ≡ true)
 in_place running tasks index cpu e at = passed (is_running_on cpu) (task_of tasks e.0) e.1 (index.each e.0 cpu ∙ ap (task_with e.0) at ∙ own e)
 
--- a search for the number in a place finds what is there
+-- A search for the pid of a list entry finds this entry.
 search_place : (tasks : Tasks) (place : Option (ℕ × Task)) → IfSome place (λ e. task_of tasks e.0 ≡ Some e.1) → find (λ e. numbered e.0 place) (map.entries tasks) ≡ place
 search_place tasks None h = none_found (map.entries tasks)
 search_place tasks (Some e) h = by_number (map.entries tasks) e.0 ∙ ap (with_number e.0) (sym (map.get-entries tasks e.0) ∙ h)
