@@ -1,4 +1,4 @@
--- The clocks of a processor over one change of its plan.
+-- Proves that the clocks of a processor stay correct when one change of the plan is made.
 use Rattle.std.proofs.Common.{◌≡◌, ℕ, ◌+◌, ◌≤◌, ◌<◌, ◌^◌, refl, sym, ap, ◌∙◌, subst, arith, length, List, zero, suc, Option, None, Some, IfSome, if◌then◌else◌, Bool, true, false}
 use Rattle.std.specs.Prelude.{slice_get, slice_index_or}
 use Rattle.std.proofs.lemmas.List.{length-map, length-replicate}
@@ -19,7 +19,7 @@ use Rattle.proc_plan.specs.Clocks.{AreClocks}
 
 -- ---- the first clocks
 
--- they are those after no change
+-- New clocks are correct before the first change.
 pub first_are : (plan : PlanView) → IsPlan plan → AreClocks plan (first_clocks (length plan.parents)) 0
 first_are plan whole = record {
   whole = whole;
@@ -39,11 +39,11 @@ first_are plan whole = record {
 
 -- ---- before a change
 
--- the clocks' own list of parents is as long as the plan's
+-- The list of parents that the clocks use is as long as the plan's list of parents.
 pub as_many_parents : (parents : List (Option Slot)) (plan : PlanView) → parent_numbers parents ≡ plan.parents → length plan.parents ≡ length parents
 as_many_parents parents plan same = sym (ap length same) ∙ length-map parents number_of_slot
 
--- the running task is in a slot that the plan knows
+-- The slot of the running task is a slot of the plan.
 pub current_below : (plan : PlanView) (k : ℕ) → IsPlan plan → k ≤ length plan.changes → IfSome (current_after plan k) (λ running. running.0.0 < length plan.parents)
 current_below plan zero whole within = tt
 current_below plan (suc k) whole within =
@@ -52,14 +52,14 @@ current_below plan (suc k) whole within =
     let next : suc k ≡ k + 1 = omega arith in
     subst (λ o. IfSome o (λ (running : Slot × Bool). running.0.0 < length plan.parents)) (sym (ap (current_after plan) next ∙ (current_by_change plan k (slice_index_or plan.changes k none) is).0)) (whole.slots k (slice_index_or plan.changes k none) is).current
 
--- each mask has the states that its counts imply
+-- The mask of each clock has the states that follow from its counts.
 pub known : (plan : PlanView) (clocks : ClocksView) (k : ℕ) → AreClocks plan clocks k → AreReported plan.parents clocks
 unfolding holds_after
 known plan clocks k are slot state =
     (are.each slot).mask state
     ∙ sym (rw (are.counts slot, are.ons slot, are.current) (let same : holds_after state plan slot k ≡ holds_after state plan slot k = refl in same))
 
--- at most one task more is counted for a slot
+-- A change of one task adds at most 1 to each count of a slot.
 one_more : (parents : List (Option ℕ)) (slot : ℕ) (side : Option (Slot × Counts)) → IfSome side (λ part. AreAtMost 1 part.1) → AreAtMost 1 (on_chain parents slot side)
 one_more parents slot None few = record { io = omega arith; stalled = omega arith; running = omega arith; stalled_running = omega arith }
 one_more parents slot (Some part) few = picked (is_under parents part.0.0 slot) part.1 few
@@ -71,7 +71,7 @@ one_more parents slot (Some part) few = picked (is_under parents part.0.0 slot) 
 fits_in : (old minus plus new : ℕ) → new + minus ≡ old + plus → old ≤ 65536 → plus ≤ 1 → (minus ≤ old + plus) × (old + plus < 2 ^ 32)
 fits_in old minus plus new is few one = (omega (arith, is), omega (arith, few, one))
 
--- the counts of each slot can follow the change
+-- The counts that the next change adds and subtracts can be applied to each slot.
 pub can_follow : (plan : PlanView) (clocks : ClocksView) (k : ℕ) (change : Change) → AreClocks plan clocks k → slice_get plan.changes k ≡ Some change → AllCanFollow plan.parents change clocks
 can_follow plan clocks k change are is slot =
     let next = counts_by_change plan are.whole.fits slot k change is in
@@ -90,11 +90,11 @@ can_follow plan clocks k change are is slot =
 only_one : (old minus plus one other : ℕ) → one + minus ≡ old + plus → other + minus ≡ old + plus → one ≡ other
 only_one old minus plus one other a b = omega (arith, a, b)
 
--- counts that follow the same change are the same
+-- Applying the same change to the same counts gives the same counts.
 same_follow : (old minus plus one other : Counts) → Follows old minus plus one → Follows old minus plus other → one ≡ other
 same_follow old minus plus one other a b = counts_are one other.io other.stalled other.running other.stalled_running (only_one _ _ _ _ _ a.io b.io) (only_one _ _ _ _ _ a.stalled b.stalled) (only_one _ _ _ _ _ a.running b.running) (only_one _ _ _ _ _ a.stalled_running b.stalled_running)
 
--- how making a change updates the clocks
+-- `AreMade plan change old new`: making the change updated the clocks from `old` to `new`.
 pub record AreMade (plan : PlanView) (change : Change) (old new : ClocksView) : Type 0 where
   pub room : length new.cells ≡ length old.cells
   pub counts : AllFollow plan.parents change old new
@@ -105,7 +105,7 @@ pub record AreMade (plan : PlanView) (change : Change) (old new : ClocksView) : 
   pub current : new.current ≡ change.current
   pub last : new.last ≡ change.at
 
--- they are those after one change more
+-- After one more change was made, the clocks are correct after this change.
 pub next_clocks : (plan : PlanView) (old new : ClocksView) (k : ℕ) (change : Change) → AreClocks plan old k → slice_get plan.changes k ≡ Some change → AreMade plan change old new → AreClocks plan new (k + 1)
 unfolding holds_after
 next_clocks plan old new k change are is made =

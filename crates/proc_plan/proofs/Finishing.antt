@@ -1,4 +1,4 @@
--- The plans of a planner represent the events that it took.
+-- Proves that the plans of a planner represent the events that the planner took.
 use Rattle.std.proofs.Common.{◌≡◌, ℕ, ◌<◌, List, [], ◌∷◌, length, map, refl, sym, ap, ◌∙◌, subst, arith}
 use Rattle.std.specs.Prelude.{Option, Some}
 use Rattle.std.specs.List.{All}
@@ -19,25 +19,25 @@ use Rattle.psi_spec.proofs.Following.{last_end}
 use Rattle.proc_plan.specs.Plans.{ArePlans, EndedIsAccepted, HasTaken, IsPlanner, PlannerView, PlansAreOfEvents, PlansView, Represent, changes_at, plan_at, plan_over, plans_view}
 use Rattle.proc_plan.specs.Room.{ChangesView, lists_of}
 
--- the plan that is made for a processor
+-- The plan built for a processor is `plan_of` of the events taken.
 plan_is : (planner : PlannerView) (limits : Limits) (events : List Event) (groups : List GroupLife) (cpu : ℕ) → HasTaken planner limits events → groups ≡ planner.table.world.groups → cpu < limits.cpus → plan_over groups (changes_at planner cpu) ≡ plan_of cpu events
 plan_is planner limits events groups cpu taken same below =
     ap (λ gs. plan_over gs (changes_at planner cpu)) (same ∙ ap (λ (w : World). w.groups) taken.world) ∙ ap (plan_over (after events).groups) (taken.changes cpu below)
 
--- each is whole
+-- Each built plan satisfies the invariant of plans.
 pub all_whole : (planner : PlannerView) (limits : Limits) (events : List Event) (groups : List GroupLife) → IsPlanner planner → HasTaken planner limits events → groups ≡ planner.table.world.groups → All (λ changes. IsPlan (plan_over groups changes)) planner.changes
 all_whole planner limits events groups is taken same = λ k d room.
     let below : k < limits.cpus = omega (arith, room, is.each, ap (λ (l : Limits). l.cpus) taken.limits_are) in
     subst (λ changes. IsPlan (plan_over groups changes)) (get_or_default planner.changes k [] d room)
     (subst IsPlan (sym (plan_is planner limits events groups k taken same below)) (plan_is_whole limits events taken.legal taken.short taken.counted.1 k))
 
--- each of the changes as they are listed
+-- Each list of changes gives a valid plan, also together with its reserved memory.
 pub all_listed : (groups : List GroupLife) (changes : List ChangesView) → All (λ list. IsPlan (plan_over groups list)) (lists_of changes) → All (λ (changes : ChangesView). IsPlan (plan_over groups changes.list)) changes
 all_listed groups changes all = λ k d room.
     let same = get_or-map (λ (changes : ChangesView). changes.list) changes k d d.list room in
     subst (λ list. IsPlan (plan_over groups list)) same (all k d.list (omega (arith, room, length-map changes (λ (changes : ChangesView). changes.list))))
 
--- what a planner gives at the end
+-- Returns the plans that a planner builds at the end.
 abbrev pub finished : PlannerView → List GroupLife → PlansView
 finished planner groups = plans_view (map (plan_over groups) planner.changes) groups planner.triggers planner.sides planner.table.world.last
 
@@ -82,7 +82,7 @@ somes_same (change ∷ one) (next ∷ other) same =
     let rest = somes_same one other (cc same) in
     rw (here, rest) refl
 
--- the plans that represent events are the plans of these events
+-- If plans represent events, the plan of each processor is `plan_of` of these events.
 pub standing_plans : PlansAreOfEvents
 standing_plans plans cpus events represents cpu below =
     let changes = somes_same (plan_at plans cpu).changes (changes_from cpu first_world events) (represents.changes cpu below ∙ sym (changes_are_numbered cpu events).0) in
@@ -91,7 +91,7 @@ standing_plans plans cpus events represents cpu below =
 
 -- ---- a whole trace
 
--- the events taken make up a trace if they ended it
+-- If the trace has ended, the events taken are a complete trace.
 pub ended_is_accepted : EndedIsAccepted
 ended_is_accepted planner limits events taken ended = record {
   fit = taken.fit;

@@ -1,4 +1,4 @@
--- The results of a plan's methods.
+-- Proves the results of the methods of a plan.
 use Rattle.std.proofs.Common.{◌≡◌, ℕ, zero, suc, ◌+◌, ◌-◌, ◌≤◌, ◌<◌, List, length, refl, sym, ap, ◌∙◌, subst, arith, Bool, true, false, Option, None, Some, IsSome, IfSome, ◌==◌}
 use Rattle.std.specs.Prelude.{nat_le, slice_get, slice_index_or, ◌↔◌}
 use Rattle.std.specs.Option.{option_or}
@@ -19,13 +19,13 @@ use Rattle.proc_plan.proofs.Upward.{at_itself}
 
 -- ---- times
 
--- the time of the change at a place
+-- The time of the change at index `i` is the time of change i + 1 of the plan.
 pub moment_at : (plan : PlanView) (i : ℕ) (d : Change) → i < length plan.changes → (slice_index_or plan.changes i d).at ≡ last_change plan (i + 1)
 moment_at plan i d room =
     let next : i + 1 ≡ suc i = omega arith in
     sym (get_or-map (λ (change : Change). change.at) plan.changes i d 0 room) ∙ sym (ap (last_change plan) next)
 
--- times never fall from change to change
+-- The times of the changes of a plan never decrease.
 rises : (plan : PlanView) → AreInOrder plan → (i n : ℕ) → i + n ≤ length plan.changes → last_change plan i ≤ last_change plan (i + n)
 rises plan order i zero room = let same : last_change plan i ≡ last_change plan (i + 0) = ap (last_change plan) (let e : i ≡ i + 0 = omega arith in e) in omega (arith, same)
 rises plan order i (suc n) room =
@@ -37,7 +37,7 @@ rises plan order i (suc n) room =
 earlier : (one other at : ℕ) → one ≤ other → nat_le other at ≡ true → nat_le one at ≡ true
 earlier one other at low is = grind (arith, nat_tests)
 
--- those up to a time come first
+-- The changes up to a time come before all later changes.
 pub come_first : (plan : PlanView) (at : ℕ) → AreInOrder plan → IsPartitionedBy (λ (change : Change). nat_le change.at at) plan.changes
 come_first plan at order i j d low room up =
     let later = rises plan order (i + 1) (j - i) (omega (arith, low, room)) in
@@ -57,8 +57,8 @@ last_before plan at (suc k) d room early =
     let same : last_change plan (suc k) ≡ last_change plan (k + 1) = ap (last_change plan) (let e : suc k ≡ k + 1 = omega arith in e) in
     omega (arith, here, same, moment_at plan k d (omega (arith, room)))
 
--- The place after them is the number of changes up to the time: the change before it isn't later,
--- and the next one is.
+-- `IsUntil plan at k`: `k` is the number of changes up to the time `at` (ns). Change `k` isn't
+-- later than `at`, and the next change is later.
 pub record IsUntil (plan : PlanView) (at k : ℕ) : Type 0 where
   pub until : k ≡ changes_up_to plan at
   pub within : k ≤ length plan.changes
@@ -89,8 +89,8 @@ current_off : (parents : List (Option ℕ)) (slot : ℕ) (current : Option (Slot
 current_off parents slot None off = refl
 current_off parents slot (Some running) off = off
 
--- a slot that isn't on the first chain of a change isn't on that of the counts it subtracts, nor is
--- its accounting switched
+-- If a slot isn't on the first chain of a change, the change neither subtracts counts from the slot
+-- nor switches its accounting.
 account_off : (parents : List (Option ℕ)) (slot : ℕ) (account : Option (Slot × Bool)) (minus : Option (Slot × Counts)) → IfSome account (λ _. minus ≡ None) → leads_to parents (number_of_slot (option_or (slot_in account) (slot_in minus))) slot ≡ false
     → (is_part_in parents slot minus ≡ false) × (is_account_of slot account ≡ false)
 account_off parents slot None minus none off = (part_off parents slot minus off, refl)
@@ -111,11 +111,11 @@ no_minus change is = alone change.account is.account
     alone None is = tt
     alone (Some account) is = is.0.0
 
--- the change at a place is one
+-- Two changes at the same index of a plan are equal.
 pub same_change : (plan : PlanView) (k : ℕ) (one other : Change) → slice_get plan.changes k ≡ Some one → slice_get plan.changes k ≡ Some other → one ≡ other
 same_change plan k one other is too = let same : Some one ≡ Some other = sym is ∙ too in cc same
 
--- a change is aside of each slot that is on none of its chains
+-- A change doesn't affect a slot that is on none of its chains.
 pub others_aside : (plan : PlanView) (k : ℕ) (starts : List (Option Slot)) (one : Change) → slice_get plan.changes k ≡ Some one → IsOfOne one → AreConcerned plan k starts → OthersAreAside plan k starts
 others_aside plan k starts one there is_one are slot change is off =
     let of_one : IsOfOne change = subst IsOfOne (same_change plan k one change there is) is_one in
@@ -131,7 +131,7 @@ others_aside plan k starts one there is_one are slot change is off =
 
 -- ---- parents
 
--- the root alone has no parent
+-- A slot has no parent exactly if it is the root's slot.
 pub root_alone : (parents : List (Option ℕ)) (slot : ℕ) (parent : Option Slot) → AreOlder parents → HaveParents parents → slot < length parents → number_of_slot parent ≡ slice_index_or parents slot None → (parent ≡ None) ↔ (slot ≡ 0)
 root_alone parents zero None older parented room is = (λ none. refl, λ root. refl)
 root_alone parents zero (Some parent) older parented room is = absurd (let low = older 0 parent.0 (sym is) in omega (arith, low))

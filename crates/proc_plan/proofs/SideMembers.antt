@@ -1,4 +1,4 @@
--- What sides imply about the tasks in a group, and about slots.
+-- Proves that sides determine the number of tasks in each group, and that their slots exist.
 use Rattle.std.proofs.Common.{◌≡◌, ℕ, ◌+◌, ◌≤◌, ◌<◌, List, [], ◌∷◌, ◌++◌, refl, sym, ap, ◌∙◌, subst, arith, Bool, true, false, Option, None, Some, length, ⊎_elim}
 use Rattle.std.specs.Prelude.{count_by, map, ◌==◌, All, IfSome, if◌then◌else◌}
 use Rattle.std.specs.List.{AllByRecursion}
@@ -36,19 +36,20 @@ use Rattle.proc_plan.specs.SideLaws.{comes, goes, slot_of_side, MembersAreKnown,
 
 -- ---- comings and goings
 
--- the numbers of sides by which a task joins a group and leaves it
+-- Returns the number of sides in which a task joins a group, and the number in which a task leaves
+-- it.
 abbrev comings : ℕ → List Side → ℕ
 comings slot sides = count_by (λ (side : Side). comes slot side.what) sides
 
 abbrev goings : ℕ → List Side → ℕ
 goings slot sides = count_by (λ (side : Side). goes slot side.what) sides
 
--- a group, if there is one, is this one
+-- Whether an optional group is the group in this slot.
 abbrev is_group : ℕ → Option Slot → Bool
 is_group slot None = false
 is_group slot (Some group) = group.0 == slot
 
--- no side of a sample is of a task that joins
+-- In the side of a memory sample or a preference, no task joins a group.
 sample_comings : (slot at : ℕ) (groups : List GroupLife) (a : Act) → comings slot (sample_by at groups a) ≡ 0
 sample_comings slot at groups (act.Group path) = refl
 sample_comings slot at groups _ = refl
@@ -60,7 +61,8 @@ sample_goings slot at groups _ = refl
 same_group : (old new slot : ℕ) → (old == new) ≡ true → one (old == slot) ≡ one (new == slot)
 same_group old new slot is = ⊎_elim (λ same. ap (λ n. one (n == slot)) same.1) (λ other. absurd (cc (is, other.0))) (eqb_tells old new)
 
--- a passage has a side for the group that its task leaves and a side for the group that it joins
+-- The sides of a moving task have one side for the group that the task leaves and one for the group
+-- that it joins, unless both are the same group.
 passage_shows : (at slot : ℕ) (old new : Option Slot) → comings slot (passage at old new) + one (is_group slot old) ≡ goings slot (passage at old new) + one (is_group slot new)
 passage_shows at slot None None = refl
 passage_shows at slot None (Some new) = omega arith
@@ -71,7 +73,7 @@ passage_shows at slot (Some old) (Some new) =
       | false ↦ λ _. omega arith
     ] refl
 
--- a task is in a group
+-- A task is in a group exactly if the slot of its group is the slot of the group.
 member_group : (slot : ℕ) (o : Option Task) → is_some_and o (is_of slot) ≡ is_group slot (group_of o)
 member_group slot None = refl
 member_group slot (Some task) = refl
@@ -112,7 +114,7 @@ members_are_known limits events legal slot =
 
 -- ---- slots
 
--- a side's slot is below n
+-- `IsOn n side`: the slot of the side is less than `n`.
 abbrev IsOn : ℕ → Side → Type 0
 IsOn slots side = IfSome (slot_of_side side.what) (λ slot. slot.0 < slots)
 
@@ -139,7 +141,7 @@ passage_on at slots None (Some new) from to = (to, tt)
 passage_on at slots (Some old) None from to = (from, tt)
 passage_on at slots (Some old) (Some new) from to = elim (old.0 == new.0) as (λ b. AllByRecursion (IsOn slots) (if b then [] else went at old ++ came at new)) [ true ↦ tt | false ↦ (from, (to, tt)) ]
 
--- the sides of a legal event are on slots that there are
+-- The slots in the sides of a legal event exist.
 event_on : (limits : Limits) (events : List Event) (event : Event) → AreLegal limits first_world (events ++ event ∷ []) → All (IsOn (length (after events).groups)) (sides_by (after events) event)
 event_on limits events event legal =
     let w : World = after events in

@@ -1,4 +1,4 @@
--- Sides, one event after the other.
+-- Proves that the sides of a trace are in order of time, one event at a time.
 use Rattle.std.proofs.Common.{◌≡◌, ℕ, List, [], ◌∷◌, ◌++◌, refl, true, false, Option, None, Some}
 use Rattle.std.specs.Prelude.{◌==◌, if◌then◌else◌}
 use Rattle.std.specs.List.{AllByRecursion}
@@ -16,7 +16,7 @@ use Rattle.proc_plan.specs.SideLaws.{SidesUpTo, SidesAreInOrder}
 
 -- ---- times
 
--- sides at one time
+-- `AtOnce at sides`: all sides have the time `at` (ns).
 abbrev AtOnce : ℕ → List Side → Type 0
 AtOnce at sides = AllByRecursion (λ (side : Side). side.at ≡ at) sides
 

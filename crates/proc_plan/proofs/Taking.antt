@@ -1,4 +1,4 @@
--- What a planner has taken after one event more.
+-- Proves what a planner has taken after one more event.
 use Rattle.std.proofs.Common.{◌≡◌, ℕ, ◌<◌, ◌≤◌, List, [], ◌∷◌, ◌++◌, length, refl, sym, ap, ◌∙◌, subst, arith, Bool, true, false, Option, None, Some, IsSome, IfSome, append_assoc, take, drop}
 use Rattle.std.proofs.Math.Seq.{take-append_seam}
 use Rattle.std.specs.Prelude.{if◌then◌else◌, ◌==◌, Result, Ok, Err}
@@ -34,34 +34,36 @@ use Rattle.psi_spec.specs.Collected.{values_from, trigger_by}
 use Rattle.psi_spec.specs.Within.{listed}
 use Rattle.proc_plan.specs.Sides.{sides_by}
 
--- what a slice of all items wrote is what is there
+-- Overwriting a list with a list of the same length gives the new list.
 pub written : {A : Type 0} (n : ℕ) (new old : List A) → length new ≡ n → take n (new ++ drop (length new) old) ≡ new
 written n new old same = subst (λ m. take m (new ++ drop (length new) old) ≡ new) same (take-append_seam new (drop (length new) old))
 
 -- ---- one event more
 
--- the values of one more event are appended
+-- Appending an event appends its values to the values of the earlier events.
 values_from-push : {A : Type 0} (shows : World → Event → List A) (w : World) (events : List Event) (event : Event) → values_from shows w (events ++ event ∷ []) ≡ values_from shows w events ++ shows (after_from w events) event
 values_from-push shows w [] event = append-nil (shows w event)
 values_from-push shows w (first ∷ events) event = ap (λ rest. shows w first ++ rest) (values_from-push shows (after_event w first) events event) ∙ sym (append_assoc (shows w first) (values_from shows (after_event w first) events) (shows (after_from (after_event w first) events) event))
 
--- events followed by a legal event are legal
+-- If events are legal and a further event is legal after them, the events with the further event
+-- are legal.
 pub legal_push : (limits : Limits) (w : World) (events : List Event) (event : Event) → AreLegal limits w events → cause_of limits (after_from w events) event ≡ None → AreLegal limits w (events ++ event ∷ [])
 legal_push limits w [] event legal allowed = (allowed, tt)
 legal_push limits w (first ∷ events) event legal allowed = (legal.0, legal_push limits (after_event w first) events event legal.1 allowed)
 
--- events can be spelled if all of them, and one more event after them, can be
+-- If events and a further event can be written as lines, so can the list with the further event.
 pub fit_push : (events : List Event) (event : Event) → AllFit events → Fits event → AllFit (events ++ event ∷ [])
 fit_push [] event all fits = (fits, tt)
 fit_push (first ∷ events) event all fits = (all.0, fit_push events event all.1 fits)
 
 -- ---- causes against an event
 
--- it is the cause against it in the planner's own world
+-- The first cause against an event after the events taken is the first cause in the planner's own
+-- world.
 pub cause_in : (planner : PlannerView) (limits : Limits) (events : List Event) (event : Event) → HasTaken planner limits events → cause_of limits (after events) event ≡ cause_of planner.table.limits planner.table.world event
 cause_in planner limits events event taken = rw (taken.limits_are, taken.world) refl
 
--- so the fault of the event there is its fault
+-- A correct fault in the planner's own world is a correct fault after the events taken.
 pub fault_in : (planner : PlannerView) (limits : Limits) (events : List Event) (event : Event) (fault : Fault Cause) → HasTaken planner limits events → IsGroupFault (cause_of planner.table.limits planner.table.world event) fault → IsGroupFault (cause_of limits (after events) event) fault
 fault_in planner limits events event fault taken is = subst (λ why. IsGroupFault why fault) (sym (cause_in planner limits events event taken)) is
 
@@ -86,18 +88,19 @@ known_or : (cpus cpu : ℕ) (one : Option (Cpu × Change)) (other : Option Chang
 known_or cpus cpu None other below rest some = rest some
 known_or cpus cpu (Some one) other below rest some = picked (one.0.0 == cpu) cpus cpu one other below rest refl some
 
--- a processor in a touch is one of the processors of its changes
+-- Each processor with a change in the touch exists.
 known_below : (touch : Touch) (cpus cpu : ℕ) → AllTouched (λ cpu change. cpu < cpus) touch → IsSome (change_by_cpu touch cpu) → cpu < cpus
 known_below touch cpus cpu all some = known_or cpus cpu touch.first (known_first cpu touch.second None) all.0 (known_or cpus cpu touch.second None all.1 (λ none. cc none)) some
 
--- a touch that switches no accounting has the event's change of each processor
+-- If an event switches no accounting, each change in its touch is the change that the event makes
+-- on the processor.
 known_plainly : (cpus : ℕ) (w : World) (event : Event) (touch : Touch) (cpu : ℕ) → IsTouch cpus w event touch → cpu < cpus → (account : Option (Slot × Bool)) → touch.account ≡ account → IsSome (change_by_cpu touch cpu) → IsSome (change_of w event cpu)
 known_plainly cpus w event touch cpu is below None none some =
     subst (λ (o : Option Change). IsSome o) (ap (λ g. account_first event.at (shown (running_on (after_event w event).tasks cpu)) g (change_by_cpu touch cpu)) (sym none) ∙ is.known cpu below) some
 known_plainly cpus w event touch cpu is below (Some account) there some =
     subst (λ (o : Option Change). IsSome o) (ap (λ g. account_first event.at (shown (running_on (after_event w event).tasks cpu)) g (change_by_cpu touch cpu)) (sym there) ∙ is.known cpu below) refl
 
--- there is room for the changes of a legal event if there is room for its act
+-- If memory is reserved for an act, it is reserved for each change in the touch of the event.
 pub room_for : (w : World) (event : Event) (touch : Touch) (task : Option Task) (changes : List ChangesView) (cpus : ℕ) → task ≡ before w.tasks event.act → IsTouch cpus w event touch → AllTouched (λ cpu change. cpu < cpus) touch → length changes ≡ cpus → HasRoomFor event.act task changes
     → (cpu : ℕ) → IsSome (change_by_cpu touch cpu) → HasRoom changes cpu
 room_for w event touch task changes cpus same is all each room cpu some =
@@ -105,7 +108,7 @@ room_for w event touch task changes cpus same is all each room cpu some =
     let here = touched_here w event cpu (known_plainly cpus w event touch cpu is below touch.account refl some) in
     room cpu (ap (λ t. touched event.act t cpu) same ∙ here) (omega (arith, below, each))
 
--- there is room on every processor if it switches accounting
+-- If memory is reserved for an act that switches accounting, it is reserved on every processor.
 pub room_for_all : (w : World) (event : Event) (touch : Touch) (task : Option Task) (changes : List ChangesView) (cpus : ℕ) → task ≡ before w.tasks event.act → IsTouch cpus w event touch → length changes ≡ cpus → HasRoomFor event.act task changes
     → IsSome touch.account → (cpu : ℕ) → HasRoomWithin changes cpu
 room_for_all w event touch task changes cpus same is each room some cpu below =
@@ -131,7 +134,7 @@ lower_slots change low high fewer below = record {
   account = lower_slot change.account low high fewer below.account;
 }
 
--- the slots of changes are as few as groups may be
+-- The slots in the changes of a touch are less than the maximum number of groups.
 pub slots_fit : (limits : Limits) (w : World) (touch : Touch) → IsLegalWorld limits w → AllTouched (λ cpu change. HasSlotsBelow (length w.groups) change) touch → AllTouched (λ cpu change. HasSlotsBelow most_groups change) touch
 slots_fit limits w touch legal below = (fitting touch.first below.0, fitting touch.second below.1)
   where
@@ -139,7 +142,7 @@ slots_fit limits w touch legal below = (fitting touch.first below.0, fitting tou
     fitting None low = tt
     fitting (Some one) low = lower_slots one.1 (length w.groups) most_groups legal.groups.few low
 
--- so are those of the changes that switch accounting
+-- The slots in the changes that switch accounting are less than the maximum number of groups.
 pub account_slots_fit : (limits : Limits) (w : World) (event : Event) (touch : Touch) → cause_of limits w event ≡ None → IsLegalWorld limits w → IsTouch limits.cpus w event touch
     → IfSome touch.account (λ account. (cpu : ℕ) → cpu < limits.cpus → HasSlotsBelow most_groups (account_change event.at (shown (running_on (after_event w event).tasks cpu)) account))
 account_slots_fit limits w event touch allowed legal is = fitting touch.account refl
@@ -153,7 +156,8 @@ account_slots_fit limits w event touch allowed legal is = fitting touch.account 
 
 -- ---- one step
 
--- what is known of a planner after an event that it took
+-- `HasStepped old new event touch trigger first second`: the state of a planner after it took an
+-- event, with the event's touch, trigger and sides.
 pub record HasStepped (old new : PlannerView) (event : Event) (touch : Touch) (trigger : Option TriggerSpec) (first second : Option Side) : Type 0 where
   pub fits : Fits event
   pub played : HasPlayed old.table event new.table
@@ -202,7 +206,7 @@ taken_more old new event touch trigger first second limits events step taken =
 
 -- ---- the planner as a player
 
--- the planner's clause implies the player's
+-- The contract of the planner implies the contract of a player.
 pub planner_takes : (old new : PlannerView) (event : Event) (result : Result (Unit {0}) (Fault Cause)) → PlannerTakes old new event result → PlayerTakes (HasTaken old) (HasTaken new) event result
 planner_takes old new event (Ok x) takes = takes
 planner_takes old new event (Err (fault.Refused why)) takes = takes

@@ -1,4 +1,5 @@
--- A task act adds changes alone: no trigger, and no side if no task exits by it.
+-- Proves that a task act adds only changes: it sets no trigger, and has no side unless a task
+-- exits.
 use Rattle.std.proofs.Common.{◌≡◌, ℕ, List, [], refl, ap, true, false, Option, None, Some}
 use Rattle.psi_base.specs.declared.event.How.{How}
 use Rattle.psi_base.specs.declared.event.How.TheVariants.{Preempt, Sleep, IoWait, Exit, Idle}
@@ -21,19 +22,19 @@ no_trigger at groups (task_act.Stall pid) = refl
 no_trigger at groups (task_act.Unstall pid) = refl
 no_trigger at groups (task_act.Migrate pid cpu) = refl
 
--- a task that stays in its group neither leaves nor comes
+-- A task that stays in its group neither leaves nor joins a group.
 stays : (at : ℕ) (old new : Option Task) → group_of new ≡ group_of old → [] ≡ passage at (group_of old) (group_of new)
 stays at None None same = refl
 stays at (Some old) (Some new) same = let slot : new.slot ≡ old.slot = cc same in rw (slot, itself old.slot.0) refl
 stays at None (Some new) same = absurd (cc same)
 stays at (Some old) None same = absurd (cc same)
 
--- a task that is changed stays in its group
+-- A task changed by a function that keeps its slot stays in its group.
 changed_stays : (at : ℕ) (f : Task → Task) → ((t : Task) → (f t).slot ≡ t.slot) → (old : Option Task) → [] ≡ passage at (group_of old) (group_of (changed f old))
 changed_stays at f keeps None = refl
 changed_stays at f keeps (Some t) = stays at (Some t) (Some (f t)) (ap (λ slot. Some slot) (keeps t))
 
--- so does a task that leaves its processor without exiting
+-- A task that leaves its processor without exiting stays in its group.
 left_stays : (at : ℕ) (how : How) → is_exit how ≡ false → (old : Option Task) → [] ≡ passage at (group_of old) (group_of (left_if how old))
 left_stays at how stay None = refl
 left_stays at Preempt stay (Some t) = stays at (Some t) (Some t) refl

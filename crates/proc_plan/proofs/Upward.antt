@@ -1,4 +1,4 @@
--- A walk up from a slot to the root.
+-- Lemmas about a walk from a slot up to the root.
 use Rattle.std.proofs.Common.{◌≡◌, ℕ, zero, suc, ◌<◌, List, refl, sym, arith, true, false, Option, None, Some}
 use Rattle.std.specs.Prelude.{slice_index_or, ◌==◌}
 use Rattle.std.proofs.lemmas.Bool.Decides.{nat_tests}
@@ -10,21 +10,21 @@ use Rattle.psi_spec.proofs.GroupLaws.{ancestors_older}
 use Rattle.slot_clocks.specs.Clocks.{parent_numbers}
 use Rattle.slot_clocks.specs.Walk.{height}
 
--- the parent of a slot by its number
+-- The number of a slot's parent is the same in the list of slots and in the list of numbers.
 pub parent_number : (parents : List (Option Slot)) (slot : ℕ) → number_of_slot (slice_index_or parents slot None) ≡ slice_index_or (parent_numbers parents) slot None
 parent_number parents slot = sym (get_or-map number_of_slot parents slot None)
 
--- a number is itself
+-- Each number passes the equality test with itself.
 itself : (n : ℕ) → (n == n) ≡ true
 itself n = grind (arith, nat_tests)
 
--- a slot leads to itself
+-- Each slot is under itself.
 pub at_itself : (parents : List (Option ℕ)) (slot : ℕ) → is_under parents slot slot ≡ true
 unfolding is_under
 at_itself parents zero = refl
 at_itself parents (suc slot) = rw (itself (suc slot)) refl
 
--- a parent doesn't lead to its child
+-- The parent of a slot doesn't lead to the slot.
 pub not_below : (parents : List (Option ℕ)) (place : ℕ) (o : Option ℕ) → AreOlder parents → slice_index_or parents place None ≡ o → leads_to parents o place ≡ false
 not_below parents place None older is = refl
 not_below parents place (Some parent) older is =
@@ -34,7 +34,7 @@ not_below parents place (Some parent) older is =
       | false ↦ λ _. refl
     ] refl
 
--- the walk comes to a lower height
+-- Each step of the walk decreases the height.
 pub falls : (parents : List (Option Slot)) (slot : Slot) → AreOlder (parent_numbers parents) → height (slice_index_or parents slot.0 None) < height (Some slot)
 falls parents slot older = by_option (slice_index_or parents slot.0 None) (sym (parent_number parents slot.0))
   where

@@ -7,8 +7,8 @@ use Rattle.slot_clocks.specs.Walk.{height}
 use Rattle.proc_plan.specs.Clocks.{irq_at, irq_taken}
 use Rattle.proc_plan.proofs.irqs.climb.Given as goal
 
--- adding the time from the walk's place gives each group the same as adding it from the running
--- task's group
+-- Adding the time from the current slot of the walk up gives each group the same total as adding it
+-- from the running task's group up.
 abbrev pub invariant-up : goal.invariant-up
 invariant-up l = record {
   room : length l.times ≡ length l.fn.times;

@@ -4,7 +4,8 @@ use Rattle.psi_spec.specs.World.{running_on}
 use Rattle.proc_plan.specs.Room.{HasRoomWithin, changes_in}
 use Rattle.proc_plan.proofs.room.add_account.Given as goal
 
--- the processors before this one have the change, and the others are as they were
+-- The processors before this one have the change, and the lists of the other processors are
+-- unchanged.
 abbrev pub invariant-cpus : goal.invariant-cpus
 invariant-cpus l = record {
   each : length l.changes ≡ length l.fn.changes;
