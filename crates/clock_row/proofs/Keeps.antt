@@ -1,4 +1,4 @@
--- Each step keeps the rule of a row.
+-- Proves that each step preserves the invariant of a row.
 use Rattle.std.proofs.Common.{◌≡◌, ℕ, zero, suc, ◌+◌, ◌*◌, ◌-◌, ◌/◌, ◌%◌, ◌<◌, ◌≤◌, eqb, ◌≢◌, Bool, true, false, List, [], ◌∷◌, get_or, set, sym, refl, ap, ◌∙◌, subst, ⊎_elim, arith, le_refl, add-one}
 use mathlib.Core.Option.{some, some-injective, some-ne-none}
 use lib.ListN.{get_elem?}
@@ -37,7 +37,7 @@ even_rests : (changing : Bool) (count : ℕ) → (2 * count + open_bit changing)
 even_rests true count e = absurd (omega arith)
 even_rests false count e = refl
 
--- if the number grows, or is odd now, no open try begins with it
+-- If the sequence number increases, or is now odd, an open try still knows its loaded words.
 tries_stay : (n m : ℕ) (before after : List ℕ) → n ≤ m → (m % 2 ≡ 0 → n < m) → (a : Attempt) → KnowsLoaded n before a → KnowsLoaded m after a
 tries_stay n m before after more grows Closed k = tt
 tries_stay n m before after more grows (Open first loaded) k = let even : first % 2 ≡ 0 = k.0 in let below : first ≤ n = k.1 in (
@@ -64,15 +64,15 @@ others_know seat w w' plan more grows other apart (Reader r) k = let a : 2 * r.s
   tries_stay (sequence w) (sequence w') w.body w'.body more grows r.attempt k.2,
 )
 
--- the seat of a writer's view is the writer's
+-- The seat with the writer's view is the writer's seat.
 mine : (s : RowState) (id : ℕ) (v : View) (w : WriterView) → v ≡ Writer w → HoldsRule s → get_elem? s.views id ≡ some v → IsWholeRow id w s
 mine s id v w is r at = let known = subst (Knows r.0 r.1 id) is (r.2.each id v at) in subst (λ (z : ℕ × WriterView). IsWholeRow z.0 z.1 s) (λ i. (sym known.0 i, sym known.1 i)) r.2
 
--- a reader's seat isn't the writer's
+-- The seat of a reader isn't the writer's seat.
 guest : (s : RowState) (r : HoldsRule s) (id : ℕ) (v : View) (q : ReaderView) → v ≡ Reader q → get_elem? s.views id ≡ some v → id ≢ r.0
 guest s r id v q is at e = let here : get_elem? s.views r.0 ≡ some (Writer r.1) = r.2.here in cc
 
--- nor is a note's
+-- The seat of a note isn't the writer's seat.
 note_apart : (s : RowState) (r : HoldsRule s) (other : ℕ) (n : Note) → get_elem? s.views other ≡ some (Noted n) → other ≢ r.0
 note_apart s r other n at e = let here : get_elem? s.views r.0 ≡ some (Writer r.1) = r.2.here in cc
 
@@ -81,7 +81,7 @@ reader_knows s r id v q is at = subst (Knows r.0 r.1 id) is (r.2.each id v at)
 
 -- ---- what a step leaves of the rule
 
--- a store of the writer
+-- A store by the writer preserves the invariant.
 writer_steps : (s : RowState) (id : ℕ) (w w' : WriterView) → IsWholeRow id w s → (i x : ℕ) (cs : List (ℕ × Unit {0})) → set (sequence w ∷ w.body) i x ≡ sequence w' ∷ w'.body → w'.plan ≡ w.plan
     → sequence w ≤ sequence w' → (sequence w' % 2 ≡ 0 → sequence w < sequence w') → 2 * w'.known ≤ sequence w' → (w'.changing ≡ false → AreClockWords w'.plan w'.count w'.body)
     → HoldsRule (stepped s i x id cs (Writer w') keeps)
@@ -97,11 +97,12 @@ writer_steps s id w w' r i x cs words plan more grows reported rest = (
   },
 )
 
--- a load changes only the seat's view of the row
+-- A load changes only the view of the seat, not the words of the row.
 unchanged : (s : RowState) (i id : ℕ) (cs : List (ℕ × Unit {0})) (v : View) → get_elem? s.views id ≡ some v → stepped s i (get_or s.words i 0) id cs v keeps ≡ s
 unchanged s i id cs v at = λ k. record { words = set-get_or s.words i 0 k; homes = s.homes; views = set_again s.views id v at k }
 
--- a load of a seat other than the writer's, whose view becomes v
+-- A load by a seat other than the writer's preserves the invariant, if the new view of the seat is
+-- correct.
 guest_steps : (s : RowState) (r : HoldsRule s) (i id : ℕ) (cs : List (ℕ × Unit {0})) (v : View) → id ≢ r.0 → Knows r.0 r.1 id v → HoldsRule (stepped s i (get_or s.words i 0) id cs v keeps)
 guest_steps s r i id cs v other knows = let row = r.2 in (
   r.0,
@@ -187,8 +188,8 @@ ended_knows : (seat : ℕ) (now : WriterView) (id n first : ℕ) (q : ReaderView
 ended_knows seat now id n first q number k true is = let e : n ≡ first = eqb-true n first is in (k.0, omega arith, tt)
 ended_knows seat now id n first q number k false is = (k.0, k.1, tt)
 
--- if the number is the first of a try, no change is open, and the current words are those that were
--- loaded
+-- If the sequence number is still the number with which a try began, no change is open, and the
+-- loaded words are the current words.
 stood_together : (seat : ℕ) (now : WriterView) (s : RowState) (n first : ℕ) (plan : PlanView) (loaded : List (ℕ × ℕ)) → IsWholeRow seat now s → n ≡ sequence now → plan ≡ now.plan → KnowsLoaded (sequence now) now.body (Open first loaded) → n ≡ first
     → StoodTogether plan (first / 2) loaded
 stood_together seat now s n first plan loaded row number same k e = let even : first % 2 ≡ 0 = k.0 in let whole : sequence now ≡ first = sym number ∙ e in

@@ -1,4 +1,4 @@
--- What was loaded in a try.
+-- Lemmas about the words that a reader loaded in a try.
 use Rattle.std.proofs.Common.{◌≡◌, ℕ, Bool, true, false, eqb, ◌%◌, ◌+◌, ◌*◌, ◌<◌, ◌≤◌, List, ◌∷◌, get_or, get_or-set_same, get_or-set_other, set, length, drop, refl, sym, ap, ◌∙◌, subst, arith, length-take, length-drop}
 use mathlib.Core.Logic.{dite}
 use native.Mathlib.Decide.{ℕ_discrete}
@@ -34,13 +34,13 @@ begun_by_plan false n r = refl
 pub begun_plan : (n : ℕ) (r : ReaderView) → (try_begun n r).plan ≡ r.plan
 begun_plan n r = begun_by_plan (eqb (n % 2) 0) n r
 
--- a word was loaded in a try that went on since a first view
+-- Loading one more word continues a try that has continued since an earlier view.
 pub loaded_view : (new old first : View) (p x : ℕ) → new ≡ Reader (loaded_at p x (as_reader old)) → old ≡ Reader (with_attempt (as_reader old).attempt (as_reader first))
     → new ≡ Reader (with_attempt (as_reader new).attempt (as_reader first))
 loaded_view new old first p x e held = e ∙ (ap (λ (z : ReaderView). Reader (with_attempt (loaded_too p x (as_reader old).attempt) z)) (ap as_reader held)
     ∙ ap (λ (a : Attempt). Reader (with_attempt a (as_reader first))) (sym (ap (λ (v : View). (as_reader v).attempt) e)))
 
--- a try that went on twice went on
+-- A try that continued twice has continued since the first view.
 pub loaded_twice : (new old first : View) → new ≡ Reader (with_attempt (as_reader new).attempt (as_reader old)) → old ≡ Reader (with_attempt (as_reader old).attempt (as_reader first))
     → new ≡ Reader (with_attempt (as_reader new).attempt (as_reader first))
 loaded_twice new old first e held = e ∙ ap (λ (v : View). Reader (with_attempt (as_reader new).attempt (as_reader v))) held
@@ -50,11 +50,12 @@ loaded_try new old f p x e is = let now : new ≡ Open f ((p, x) ∷ loaded_in o
 
 -- ---- one clock more
 
--- the words of a slot that were loaded
+-- If nine words were loaded from a slot, they are the slot's words in each list of words that
+-- agrees with the loaded values.
 pub slot_was : (loaded : List (ℕ × ℕ)) (slot : ℕ) (words body : List ℕ) → WereLoaded loaded (9 * slot) 9 words → length words ≡ 9 → 9 * slot + 9 ≤ length body → Agrees body loaded → words ≡ words_at body slot
 slot_was loaded slot words body were wide room agrees = words_are 9 (9 * slot) words body wide room (were body agrees)
 
--- the slot's words are in each list of words in which they are a clock's
+-- A clock with the words loaded from a slot was loaded from the slot.
 pub clock_was : (loaded : List (ℕ × ℕ)) (slot : ℕ) (words : List ℕ) (clock : ClockView) → WereLoaded loaded (9 * slot) 9 words → length words ≡ 9 → (AreWordsOfClock words → words_of clock ≡ words) → ClockWasLoaded loaded slot clock
 clock_was loaded slot words clock were wide is body agrees are =
     let nine = nine_words (words_at body slot) are in let taken = length-take 9 (drop (9 * slot) body) in let dropped = length-drop (9 * slot) body in
@@ -69,12 +70,12 @@ clocks_next loaded more i clock clocks stays inside new old slot below = dite (�
 
 -- ---- words loaded together
 
--- the words of a slot that were loaded together are its clock
+-- Words that were loaded from a slot at the same time are a clock of the slot.
 pub sample_words : (plan : PlanView) (slot k : ℕ) (loaded : List (ℕ × ℕ)) (words : List ℕ) → slot < length plan.parents → StoodTogether plan k loaded → WereLoaded loaded (9 * slot) 9 words → length words ≡ 9 → AreClock plan slot k words
 sample_words plan slot k loaded words below stood were wide = let all = stood.1.wide in
     subst (AreClock plan slot k) (sym (slot_was loaded slot words stood.0 were wide (omega (arith, all, below)) stood.2)) (stood.1.each slot below)
 
--- a clock whose words are the clock of a slot is that slot's clock
+-- A clock whose words are a clock of a slot is a clock of this slot.
 pub same_words : (plan : PlanView) (slot k : ℕ) (words : List ℕ) (clock : ClockView) → AreClock plan slot k words → words_of clock ≡ words → IsClock clock plan slot k
 same_words plan slot k words clock are is = subst (λ (c : ClockView). IsClock c plan slot k) (sym (words_show_clock clock are.0 (is ∙ are.1))) are.2
 

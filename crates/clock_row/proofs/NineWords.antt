@@ -1,4 +1,4 @@
--- The nine words of a slot in the words of all slots.
+-- Lemmas about the nine words of a slot within the words of all slots.
 use Rattle.std.proofs.Common.{◌≡◌, ℕ, add-one, ◌+◌, ◌-◌, ◌*◌, ◌<◌, ◌≤◌, ◌⊎◌, List, [], ◌∷◌, ◌++◌, get_or, get_or-set_same, set, length, take, drop, replicate, refl, sym, ap, ◌∙◌, inl, inr, ⊎_elim, arith, length-take, length-drop, length-set, length-append, bit_and, ◌%◌}
 use Rattle.std.proofs.lemmas.Nat.{and_mask}
 use lib.Seq.{set-get_or}
@@ -11,7 +11,7 @@ use Rattle.clock_row.specs.Words.{AreClock, AreClockWords, ArePut, mask_at, word
 
 -- ---- words at a place
 
--- nine words that are equal at each index
+-- A list that equals nine words at each index equals these nine words.
 pub words_are : (n from : ℕ) (xs body : List ℕ) → length xs ≡ n → from + n ≤ length body → ((i : ℕ) → i < n → get_or xs i 0 ≡ get_or body (from + i) 0) → xs ≡ take n (drop from body)
 words_are n from xs body wide room each = let a = length-take n (drop from body) in let b = length-drop from body in
     ext_get_or 0 xs (take n (drop from body)) (omega arith) (λ i l. each i (omega arith) ∙ sym (get_or-take n (drop from body) i 0 (omega arith) ∙ get_or-drop from body i 0))
@@ -26,7 +26,7 @@ put_elsewhere n from a xs before after p apart room = let same = p.wide in let w
 
 -- ---- a clock's words
 
--- the mask follows the seven times
+-- The word after the seven times is the mask.
 mask_after : (times : List ℕ) (mask start : ℕ) → length times ≡ 7 → get_or (times ++ mask ∷ start ∷ []) 7 0 ≡ mask
 mask_after (a ∷ b ∷ c ∷ d ∷ e ∷ f ∷ g ∷ []) mask start seven = refl
 mask_after [] mask start seven = absurd (omega (arith, seven))
@@ -38,26 +38,26 @@ mask_after (a ∷ b ∷ c ∷ d ∷ e ∷ []) mask start seven = absurd (omega (
 mask_after (a ∷ b ∷ c ∷ d ∷ e ∷ f ∷ []) mask start seven = absurd (omega (arith, seven))
 mask_after (a ∷ b ∷ c ∷ d ∷ e ∷ f ∷ g ∷ h ∷ more) mask start seven = absurd (omega (arith, seven))
 
--- so it does in the words of a slot
+-- The mask of a slot is the word with index 7 of the slot's nine words.
 mask_in : (body : List ℕ) (slot : ℕ) → mask_at body slot ≡ get_or (words_at body slot) 7 0
 mask_in body slot = sym (get_or-drop (9 * slot) body 7 0) ∙ sym (get_or-take 9 (drop (9 * slot) body) 7 0 (omega arith))
 
 pub mask_is : (body : List ℕ) (slot : ℕ) (clock : ClockView) → words_at body slot ≡ words_of clock → IsWholeClock clock → mask_at body slot ≡ clock.mask
 mask_is body slot clock are whole = mask_in body slot ∙ (ap (λ (words : List ℕ). get_or words 7 0) are ∙ mask_after clock.times clock.mask clock.start whole.times)
 
--- the same words have the same mask
+-- Slots with the same nine words have the same mask.
 pub masks_same : (one other : List ℕ) (slot : ℕ) → words_at one slot ≡ words_at other slot → mask_at one slot ≡ mask_at other slot
 masks_same one other slot same = mask_in one slot ∙ (ap (λ (words : List ℕ). get_or words 7 0) same ∙ sym (mask_in other slot))
 
--- clocks that represent a slot after the same changes have the same mask
+-- Two clocks of a slot after the same changes have the same mask.
 pub same_mask : (one other : ClockView) (plan : PlanView) (slot k : ℕ) → IsClock one plan slot k → IsClock other plan slot k → one.mask ≡ other.mask
 same_mask one other plan slot k a b = masks_are_their_states one.mask other.mask a.whole.mask b.whole.mask (λ state. a.mask state ∙ sym (b.mask state))
 
--- words of a clock that represents a slot are words of a clock
+-- The words of a clock of a slot are the words of a clock.
 pub clock_words : (plan : PlanView) (slot k : ℕ) (words : List ℕ) → AreClock plan slot k words → AreWordsOfClock words
 clock_words plan slot k words are = (are.0, are.1, are.2.whole)
 
--- zeros are a clock before the first change
+-- Before the first change, zeros are a clock of each slot.
 pub zeros_are : (plan : PlanView) → AreClockWords plan 0 (replicate (9 * length plan.parents) 0)
 zeros_are plan = record {
   wide = length-replicate (9 * length plan.parents) 0;
@@ -67,7 +67,7 @@ zeros_are plan = record {
 
 -- ---- any nine words with a small mask
 
--- are words of a clock
+-- Nine words whose mask is less than 128 are the words of a clock.
 pub whole_words : (words : List ℕ) → length words ≡ 9 → get_or words 7 0 < 128 → AreWordsOfClock words
 whole_words (a ∷ b ∷ c ∷ d ∷ e ∷ f ∷ g ∷ mask ∷ start ∷ []) nine small = (record { times = a ∷ b ∷ c ∷ d ∷ e ∷ f ∷ g ∷ []; mask = mask; start = start }, refl, record { times = refl; mask = small })
 whole_words [] nine small = absurd (omega (arith, nine))
@@ -81,7 +81,7 @@ whole_words (a ∷ b ∷ c ∷ d ∷ e ∷ f ∷ g ∷ []) nine small = absurd (
 whole_words (a ∷ b ∷ c ∷ d ∷ e ∷ f ∷ g ∷ h ∷ []) nine small = absurd (omega (arith, nine))
 whole_words (a ∷ b ∷ c ∷ d ∷ e ∷ f ∷ g ∷ h ∷ i ∷ j ∷ more) nine small = absurd (omega (arith, nine))
 
--- the bits of a mask are all that a word has below 128
+-- The lower seven bits of a word are its remainder modulo 128.
 small_bits : (n : ℕ) → bit_and n 127 ≡ n % 128
 small_bits n = and_mask n 7
 
@@ -90,7 +90,7 @@ masked_whole words nine = whole_words (set words 7 (bit_and (get_or words 7 0) 1
     (let here : get_or (set words 7 (bit_and (get_or words 7 0) 127)) 7 0 ≡ bit_and (get_or words 7 0) 127 = get_or-set_same words 7 (bit_and (get_or words 7 0) 127) 0 (omega (arith, nine)) in
     let bits = small_bits (get_or words 7 0) in omega (arith, here, bits))
 
--- those of a clock have no others
+-- The mask of a clock has no other bits than the lower seven.
 pub masked_same : (words : List ℕ) → AreWordsOfClock words → set words 7 (bit_and (get_or words 7 0) 127) ≡ words
 masked_same words are =
     let mask : get_or words 7 0 ≡ are.0.mask = ap (λ (ws : List ℕ). get_or ws 7 0) are.1 ∙ mask_after are.0.times are.0.mask are.0.start are.2.times in
@@ -105,7 +105,7 @@ nine_words words are = let suffix = length-append are.0.times (are.0.mask ∷ ar
 pub nine_of : (clock : ClockView) → IsWholeClock clock → length (words_of clock) ≡ 9
 nine_of clock whole = nine_words (words_of clock) (clock, refl, whole)
 
--- the words of a row at its start: the sequence number, and nine for each slot
+-- The words of a new row are the sequence number and nine words for each slot, all zero.
 pub row_of_zeros : (slots n : ℕ) → slots ≡ n → ◌≡◌ {A = List ℕ} (0 ∷ replicate (9 * n) 0) (replicate (9 * slots + 1) 0)
 row_of_zeros slots n same = rw add-one (ap (λ (k : ℕ). 0 ∷ replicate (9 * k) 0) (sym same))
 

@@ -1,4 +1,4 @@
--- The update of slots during a change.
+-- Proves that a row's words stay correct while the slots of a change are updated.
 use Rattle.std.proofs.Common.{◌≡◌, ◌≢◌, ℕ, zero, suc, ◌+◌, ◌*◌, ◌^◌, ◌<◌, ◌≤◌, ◌⊎◌, ◌||◌, eqb, Bool, true, false, List, [], ◌∷◌, length, refl, sym, ap, ◌∙◌, subst, inl, inr, ⊎_elim, arith}
 use Rattle.std.specs.Prelude.{IfSome, None, Option, Some, slice_get, slice_index_or}
 use Rattle.std.specs.Option.{option_or}
@@ -34,7 +34,8 @@ use Rattle.clock_row.proofs.NineWords.{mask_is, masks_same, nine_of, put_elsewhe
 
 -- ---- one slot
 
--- if the mask is that after the change, the words of a slot during the change are a clock after it
+-- If the mask of a slot is already the mask after the change, the slot's words are a clock after
+-- the change.
 pub stays_done : (plan : PlanView) (k slot : ℕ) (body : List ℕ) (clock : ClockView) → IsPlan plan → k < length plan.changes → slot < length plan.parents → AreOnTheWay plan k body → IsClock clock plan slot (k + 1) → mask_at body slot ≡ clock.mask
     → AreClock plan slot (k + 1) (words_at body slot)
 stays_done plan k slot body clock whole room below way is mask = ⊎_elim
@@ -44,7 +45,7 @@ stays_done plan k slot body clock whole room below way is mask = ⊎_elim
     (λ (new : AreClock plan slot (k + 1) (words_at body slot)). new)
     (way.each slot below)
 
--- the words of a slot were put there
+-- After the words of a clock were stored for a slot, the slot has these words.
 words_there : (plan : PlanView) (k slot : ℕ) (clock : ClockView) (before after : List ℕ) → slot < length plan.parents → AreOnTheWay plan k before → IsClock clock plan slot (k + 1) → ArePut (9 * slot) 9 (words_of clock) before after
     → words_at after slot ≡ words_of clock
 words_there plan k slot clock before after below way is put = let wide = way.wide in sym (put_there 9 (9 * slot) (words_of clock) before after put (nine_of clock is.whole) (omega (arith, wide, below)))
@@ -53,7 +54,7 @@ pub slot_done : (plan : PlanView) (k slot : ℕ) (clock : ClockView) (before aft
     → AreClock plan slot (k + 1) (words_at after slot)
 slot_done plan k slot clock before after below way is put = (clock, words_there plan k slot clock before after below way is put, is)
 
--- the words of another slot are unchanged
+-- Storing the words of one slot leaves the words of other slots unchanged.
 pub others_stay : (plan : PlanView) (k slot : ℕ) (words before after : List ℕ) → slot < length plan.parents → AreOnTheWay plan k before → ArePut (9 * slot) 9 words before after → (other : ℕ) → other < length plan.parents → other ≢ slot
     → words_at after other ≡ words_at before other
 others_stay plan k slot words before after below way put other inside apart = let wide = way.wide in
@@ -89,7 +90,7 @@ slot_turns plan k slot clock before after below way is put other_mask =
 pub goes_nowhere : (plan : PlanView) (k : ℕ) (body : List ℕ) → GoesOn plan k body body
 goes_nowhere plan k body = record { each = λ slot below. inl refl; done = λ slot below was. was }
 
--- a slot that is updated twice has one mask after the change
+-- Two updates of a slot in one change have the effect of one update.
 twice : (plan : PlanView) (k slot : ℕ) (a b c : List ℕ) → StaysOrTurns plan k slot a b → StaysOrTurns plan k slot b c → StaysOrTurns plan k slot a c
 twice plan k slot a b c one two = ⊎_elim
     (λ (same : words_at b slot ≡ words_at a slot). ⊎_elim
@@ -109,27 +110,27 @@ goes_twice plan k a b c one two = record {
   done = λ slot below was. two.done slot below (one.done slot below was);
 }
 
--- after steps of a change, slots with the same mask have the same words
+-- After any part of a change, a slot with the same mask has the same words.
 pub stay_by_mask : (plan : PlanView) (k : ℕ) (before after : List ℕ) → GoesOn plan k before after → StayByMask plan before after
 stay_by_mask plan k before after goes slot below same = ⊎_elim
     (λ (words : words_at after slot ≡ words_at before slot). words)
     (λ (turned : (mask_at after slot ≡ mask_at before slot → ⊥) × AreClock plan slot (k + 1) (words_at after slot)). absurd (turned.0 same))
     (goes.each slot below)
 
--- when a change opens, the words of each slot are a clock before it
+-- When a change opens, the words of each slot are a clock before the change.
 pub way_begins : (plan : PlanView) (k : ℕ) (body : List ℕ) → AreClockWords plan k body → AreOnTheWay plan k body
 way_begins plan k body are = record { wide = are.wide; each = λ slot below. inl (are.each slot below) }
 
 -- ---- seats
 
--- a seat that stored words has the same view apart from these
+-- After a seat stored words, only the words in its view have changed.
 pub stored_view : (before after : RowSeat) → HasStored before after → writer_on after ≡ with_body (writer_on after).body (writer_on before)
 stored_view before after stored = ap as_writer stored
 
 pub stored_twice : (a b c : RowSeat) → HasStored a b → HasStored b c → HasStored a c
 stored_twice a b c one two = two ∙ ap (λ (w : WriterView). Writer (with_body (writer_on c).body w)) (stored_view a b one)
 
--- a seat with the view of another stored nothing
+-- A seat whose view is unchanged has stored nothing.
 pub stored_nothing : (before after : RowSeat) → IsWriter before → after.me.0 ≡ before.me.0 → HasStored before after
 stored_nothing before after is same = same ∙ (is ∙ ap (λ (v : View). Writer (with_body (as_writer v).body (writer_on before))) (sym same))
 
@@ -149,7 +150,7 @@ turning_on row before after was seat stored way =
       way = subst (λ (z : PlanView × ℕ). AreOnTheWay z.0 z.1 (writer_on after).body) (λ i. (sym plan i, sym count i)) way;
     }
 
--- a slot that was done is still done after the seat stored more words
+-- A slot with a clock after the change still has one after more words were stored.
 pub done_on : (before after : RowSeat) (slot : ℕ) → HasStored before after → AreClock (writer_on before).plan slot ((writer_on before).count + 1) (words_at (writer_on after).body slot) → IsDone after slot
 done_on before after slot stored done =
     let is = stored_view before after stored in
@@ -182,7 +183,7 @@ either_of : (a b : Bool) → (a || b) ≡ true → (a ≡ true) ⊎ (b ≡ true)
 either_of true b is = inl refl
 either_of false b is = inr is
 
--- a slot on the chain from another up is that one, or is on the chain from its parent up
+-- A slot on the chain of another slot is this other slot or is on the chain of its parent.
 pub chain_up : (parents : List (Option ℕ)) (low : Slot) (parent : Option Slot) (high : ℕ) → AreOlder parents → number_of_slot parent ≡ slice_index_or parents low.0 None → leads_to parents (number_of_slot (Some low)) high ≡ true
     → (low.0 ≡ high) ⊎ (leads_to parents (number_of_slot parent) high ≡ true)
 chain_up parents low parent high older is leads = ⊎_elim
@@ -190,7 +191,7 @@ chain_up parents low parent high older is leads = ⊎_elim
     (λ (above : leads_to parents (slice_index_or parents low.0 None) high ≡ true). inr (ap (λ (o : Option ℕ). leads_to parents o high) is ∙ above))
     (either_of (eqb low.0 high) (leads_to parents (slice_index_or parents low.0 None) high) (sym (by_step parents low.0 high older) ∙ leads))
 
--- a parent is older
+-- The parent of a slot has a smaller number.
 pub parent_below : (parents : List (Option ℕ)) (low : ℕ) (parent : Option Slot) → AreOlder parents → number_of_slot parent ≡ slice_index_or parents low None → IfSome parent (λ slot. slot.0 < low)
 parent_below parents low None older is = tt
 parent_below parents low (Some slot) older is = older low slot.0 (sym is)
@@ -200,7 +201,7 @@ parent_below parents low (Some slot) older is = older low slot.0 (sym is)
 some_change : (plan : PlanView) (k : ℕ) → k < length plan.changes → (change : Change) × (slice_get plan.changes k ≡ Some change)
 some_change plan k room = let none : Change = record { at = 0; minus = None; plus = None; current = None; irq = 0; account = None } in (slice_index_or plan.changes k none, slice_get-get_or plan.changes k none room)
 
--- a property of four elements holds for all in their list
+-- A property of four elements holds for all elements of their list.
 all_four : (P : Option Slot → Type 0) (a b c d : Option Slot) → P a → P b → P c → P d → All P (a ∷ b ∷ c ∷ d ∷ [])
 all_four P a b c d of_a of_b of_c of_d zero x inside = of_a
 all_four P a b c d of_a of_b of_c of_d (suc zero) x inside = of_b
@@ -208,7 +209,7 @@ all_four P a b c d of_a of_b of_c of_d (suc (suc zero)) x inside = of_c
 all_four P a b c d of_a of_b of_c of_d (suc (suc (suc zero))) x inside = of_d
 all_four P a b c d of_a of_b of_c of_d (suc (suc (suc (suc n)))) x inside = absurd (omega (arith, inside))
 
--- if P holds for a list's first element and for its rest, it holds for all
+-- A property of a list's first element and of its other elements holds for all elements.
 all_more : (P : Option Slot → Type 0) (first : Option Slot) (rest : List (Option Slot)) → P first → All P rest → All P (first ∷ rest)
 all_more P first rest here suffix zero x inside = here
 all_more P first rest here suffix (suc i) x inside = suffix i x (omega (arith, inside))
@@ -228,7 +229,7 @@ true_or_false : (b : Bool) → (b ≡ true) ⊎ (b ≡ false)
 true_or_false true = inl refl
 true_or_false false = inr refl
 
--- a change doesn't affect the words of a slot on none of its chains
+-- A slot on none of the change's chains already has a clock after the change.
 aside_done : (plan : PlanView) (k slot : ℕ) (body : List ℕ) (starts : List (Option Slot)) → IsPlan plan → k < length plan.changes → slot < length plan.parents → AreOnTheWay plan k body → OthersAreAside plan k starts → IsOnNone plan.parents starts slot
     → AreClock plan slot (k + 1) (words_at body slot)
 aside_done plan k slot body starts whole room below way aside none = ⊎_elim
@@ -238,11 +239,11 @@ aside_done plan k slot body starts whole room below way aside none = ⊎_elim
     (λ (new : AreClock plan slot (k + 1) (words_at body slot)). new)
     (way.each slot below)
 
--- each slot of a chain is done
+-- `AllDone plan k body start`: each slot on the chain of `start` has a clock after change k + 1.
 abbrev pub AllDone : PlanView → ℕ → List ℕ → Option Slot → Type 0
 AllDone plan k body start = (slot : ℕ) → slot < length plan.parents → leads_to plan.parents (number_of_slot start) slot ≡ true → AreClock plan slot (k + 1) (words_at body slot)
 
--- a slot is on one of the chains, or on none
+-- A slot is on one of the chains or on none of them.
 one_or_none : (parents : List (Option ℕ)) (starts : List (Option Slot)) (slot : ℕ) → ((start : Option Slot) × ((P : Option Slot → Type 0) → All P starts → P start) × (leads_to parents (number_of_slot start) slot ≡ true)) ⊎ IsOnNone parents starts slot
 one_or_none parents [] slot = inr (λ i x inside. absurd (omega (arith, inside)))
 one_or_none parents (start ∷ starts) slot = ⊎_elim
@@ -253,7 +254,7 @@ one_or_none parents (start ∷ starts) slot = ⊎_elim
     (one_or_none parents starts slot))
     (true_or_false (leads_to parents (number_of_slot start) slot))
 
--- the words of each slot are a clock once the chains are done
+-- Once all slots on the chains have a clock after the change, so has each slot.
 pub all_done : (plan : PlanView) (k : ℕ) (body : List ℕ) (starts : List (Option Slot)) → IsPlan plan → k < length plan.changes → AreOnTheWay plan k body → OthersAreAside plan k starts → All (AllDone plan k body) starts → AreClockWords plan (k + 1) body
 all_done plan k body starts whole room way aside done = record {
   wide = way.wide;
@@ -263,7 +264,7 @@ all_done plan k body starts whole room way aside done = record {
       (one_or_none plan.parents starts slot);
 }
 
--- the chains of a change begin at slots of the plan
+-- The chains of a change start at slots of the plan.
 pub starts_below : (plan : PlanView) (k : ℕ) (starts : List (Option Slot)) → IsPlan plan → k < length plan.changes → AreConcerned plan k starts → AreBelow (length plan.parents) starts
 starts_below plan k starts whole room are =
     let change = some_change plan k room in
@@ -286,7 +287,7 @@ chain_stays before after start turned done slot below leads =
 
 -- ---- a change
 
--- once it is open, the slots may be updated
+-- Opening a change establishes the precondition for updating slots.
 pub turning_begins : (row : TableId) (before after : RowSeat) (plan : PlanView) (clocks : OnPlan) → IsWriterEnd row before plan clocks → clocks.made < length plan.changes → IsSameSeat before after → after.me.0 ≡ Writer (change_opened (writer_on before)) → IsTurning row after
 turning_begins row before after plan clocks was room seat view =
     let is : writer_on after ≡ change_opened (writer_on before) = ap as_writer view in
@@ -304,7 +305,7 @@ turning_begins row before after plan clocks was room seat view =
           (subst (λ (z : PlanView × WriterView). AreClockWords z.0 z.1.count z.1.body) (λ i. (plan_is i, sym is i)) was.words);
     }
 
--- the plan and the count of a writer's seat don't change while slots are updated
+-- Updating slots changes neither the plan nor the number of changes in the writer's view.
 pub turned_from : (row : TableId) (before begun after : RowSeat) (plan : PlanView) (clocks : OnPlan) (k : ℕ) → IsWriterEnd row before plan clocks → k ≡ clocks.made → begun.me.0 ≡ Writer (change_opened (writer_on before)) → HasTurned begun after
     → (plan ≡ (writer_on after).plan) × (k ≡ (writer_on after).count)
 turned_from row before begun after plan clocks k was count view turned =
@@ -313,7 +314,7 @@ turned_from row before begun after plan clocks k was count view turned =
       count ∙ (was.clocks_made ∙ sym (ap (λ (w : WriterView). w.count) at_last ∙ ap (λ (w : WriterView). w.count) at_open)),
     )
 
--- once the chains are done, the words of each slot are a clock after the change
+-- Once the chains are updated, the words of each slot are a clock after the change.
 pub change_done : (row : TableId) (before begun after : RowSeat) (plan : PlanView) (clocks : OnPlan) (k : ℕ) (starts : List (Option Slot)) → IsWriterEnd row before plan clocks → k ≡ clocks.made → begun.me.0 ≡ Writer (change_opened (writer_on before))
     → HasTurned begun after → IsTurning row after → OthersAreAside plan k starts → ChainsAreDone after starts → AreClockWords plan (k + 1) (writer_on after).body
 change_done row before begun after plan clocks k starts was count view turned turning aside done =

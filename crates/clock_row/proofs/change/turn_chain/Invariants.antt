@@ -7,7 +7,7 @@ use Rattle.clock_row.specs.Seats.{writer_on}
 use Rattle.clock_row.specs.Turning.{HasTurned, IsDone, IsTurning}
 use Rattle.clock_row.proofs.change.turn_chain.Given as goal
 
--- each slot of the chain is done, or is still on the way up
+-- Each slot of the chain is updated, or is on the rest of the chain.
 abbrev pub invariant-up : goal.invariant-up
 invariant-up l = record {
   turning : IsTurning l.board.shared.table_id l.seat;

@@ -4,7 +4,7 @@ use Rattle.clock_row.specs.Seats.{writer_on}
 use Rattle.clock_row.specs.Turning.{ChainIsDone, HasTurned, IsTurning}
 use Rattle.clock_row.proofs.change.turn_chains.Given as goal
 
--- the chains that the loop came to are done
+-- The chains that the loop has passed are updated.
 abbrev pub invariant-chains : goal.invariant-chains
 invariant-chains l = record {
   turning : IsTurning l.board.shared.table_id l.seat;
