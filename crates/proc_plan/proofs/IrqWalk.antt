@@ -17,8 +17,8 @@ use Rattle.proc_plan.proofs.Upward.{at_itself, not_below, parent_number}
 
 -- ---- the walk up from the running task's group
 
--- At the current slot of the walk the time is added now; for the slots already passed it was added
--- before.
+-- A slot that received the time and was passed by the walk has the same total as a slot that is
+-- still on the walk and will receive the time.
 one_time : (on : Bool) (time irq : ℕ) → (time + (if on then irq else 0)) + (if on && false then irq else 0) ≡ time + (if on && true then irq else 0)
 one_time true time irq = omega arith
 one_time false time irq = omega arith
