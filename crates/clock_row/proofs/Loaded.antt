@@ -70,12 +70,12 @@ clocks_next loaded more i clock clocks stays inside new old slot below = dite (�
 
 -- ---- words loaded together
 
--- Words that were loaded from a slot at the same time are a clock of the slot.
+-- Words that were loaded from a slot at the same time represent a clock of the slot.
 pub sample_words : (plan : PlanView) (slot k : ℕ) (loaded : List (ℕ × ℕ)) (words : List ℕ) → slot < length plan.parents → StoodTogether plan k loaded → WereLoaded loaded (9 * slot) 9 words → length words ≡ 9 → AreClock plan slot k words
 sample_words plan slot k loaded words below stood were wide = let all = stood.1.wide in
     subst (AreClock plan slot k) (sym (slot_was loaded slot words stood.0 were wide (omega (arith, all, below)) stood.2)) (stood.1.each slot below)
 
--- A clock whose words are a clock of a slot is a clock of this slot.
+-- A clock whose words represent a clock of a slot is a clock of this slot.
 pub same_words : (plan : PlanView) (slot k : ℕ) (words : List ℕ) (clock : ClockView) → AreClock plan slot k words → words_of clock ≡ words → IsClock clock plan slot k
 same_words plan slot k words clock are is = subst (λ (c : ClockView). IsClock c plan slot k) (sym (words_show_clock clock are.0 (is ∙ are.1))) are.2
 

@@ -53,11 +53,11 @@ masks_same one other slot same = mask_in one slot ∙ (ap (λ (words : List ℕ)
 pub same_mask : (one other : ClockView) (plan : PlanView) (slot k : ℕ) → IsClock one plan slot k → IsClock other plan slot k → one.mask ≡ other.mask
 same_mask one other plan slot k a b = masks_are_their_states one.mask other.mask a.whole.mask b.whole.mask (λ state. a.mask state ∙ sym (b.mask state))
 
--- The words of a clock of a slot are the words of a clock.
+-- Words that represent a clock of a slot are the words of a clock.
 pub clock_words : (plan : PlanView) (slot k : ℕ) (words : List ℕ) → AreClock plan slot k words → AreWordsOfClock words
 clock_words plan slot k words are = (are.0, are.1, are.2.whole)
 
--- Before the first change, zeros are a clock of each slot.
+-- Before the first change, zeros represent the clock of each slot.
 pub zeros_are : (plan : PlanView) → AreClockWords plan 0 (replicate (9 * length plan.parents) 0)
 zeros_are plan = record {
   wide = length-replicate (9 * length plan.parents) 0;

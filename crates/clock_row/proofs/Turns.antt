@@ -34,8 +34,8 @@ use Rattle.clock_row.proofs.NineWords.{mask_is, masks_same, nine_of, put_elsewhe
 
 -- ---- one slot
 
--- If the mask of a slot is already the mask after the change, the slot's words are a clock after
--- the change.
+-- If the mask of a slot is already the mask after the change, the slot's words represent its clock
+-- after the change.
 pub stays_done : (plan : PlanView) (k slot : ℕ) (body : List ℕ) (clock : ClockView) → IsPlan plan → k < length plan.changes → slot < length plan.parents → AreOnTheWay plan k body → IsClock clock plan slot (k + 1) → mask_at body slot ≡ clock.mask
     → AreClock plan slot (k + 1) (words_at body slot)
 stays_done plan k slot body clock whole room below way is mask = ⊎_elim
@@ -117,7 +117,7 @@ stay_by_mask plan k before after goes slot below same = ⊎_elim
     (λ (turned : (mask_at after slot ≡ mask_at before slot → ⊥) × AreClock plan slot (k + 1) (words_at after slot)). absurd (turned.0 same))
     (goes.each slot below)
 
--- When a change opens, the words of each slot are a clock before the change.
+-- When a change opens, the words of each slot represent the slot's clock before the change.
 pub way_begins : (plan : PlanView) (k : ℕ) (body : List ℕ) → AreClockWords plan k body → AreOnTheWay plan k body
 way_begins plan k body are = record { wide = are.wide; each = λ slot below. inl (are.each slot below) }
 
@@ -314,7 +314,7 @@ turned_from row before begun after plan clocks k was count view turned =
       count ∙ (was.clocks_made ∙ sym (ap (λ (w : WriterView). w.count) at_last ∙ ap (λ (w : WriterView). w.count) at_open)),
     )
 
--- Once the chains are updated, the words of each slot are a clock after the change.
+-- Once the chains are updated, the words of each slot represent the slot's clock after the change.
 pub change_done : (row : TableId) (before begun after : RowSeat) (plan : PlanView) (clocks : OnPlan) (k : ℕ) (starts : List (Option Slot)) → IsWriterEnd row before plan clocks → k ≡ clocks.made → begun.me.0 ≡ Writer (change_opened (writer_on before))
     → HasTurned begun after → IsTurning row after → OthersAreAside plan k starts → ChainsAreDone after starts → AreClockWords plan (k + 1) (writer_on after).body
 change_done row before begun after plan clocks k starts was count view turned turning aside done =

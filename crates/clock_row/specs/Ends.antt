@@ -22,8 +22,8 @@ pub record ReaderEnd : Type 0 where
   pub knows : ReaderView
 
 -- The invariant of a writer between two calls. The row has a sequence number and nine words for
--- each slot of the plan. No change is open, and the words of each slot are a clock. The writer's
--- own `clocks` have made the same changes of the same plan.
+-- each slot of the plan. No change is open, and the words of each slot represent the slot's clock.
+-- The writer's own `clocks` have made the same changes of the same plan.
 pub record IsWriterEnd (row : TableId) (seat : RowSeat) (plan : PlanView) (clocks : OnPlan) : Type 0 where
   pub on_row : seat.table_id ≡ row
   pub wide : row.words ≡ 9 * length plan.parents + 1

@@ -51,7 +51,7 @@ Knows seat writer other (Reader reader) =
 -- `IsWholeRow seat writer row`: the writer of `row` has the seat `seat` and the view `writer`. The
 -- row's words are the sequence number and the words in the writer's view. The view of each seat is
 -- correct. The number of changes reported to the writer is at most the number in the row. If no
--- change is open, the words of each slot are a clock after the changes in the row.
+-- change is open, the words of each slot represent the slot's clock after the changes in the row.
 pub record IsWholeRow (seat : ℕ) (writer : WriterView) (row : RowState) : Type 0 where
   pub here : get_elem? row.views seat ≡ some (Writer writer)
   pub words : row.words ≡ sequence writer ∷ writer.body

@@ -179,8 +179,8 @@ with_note view note = view
 
 -- ---- laws: each step preserves the invariant of every row that satisfies it
 
--- Law of the start: a new row satisfies the invariant, if its words are a clock of each slot before
--- the first change.
+-- Law of the start: a new row satisfies the invariant, if its words represent the clock of each
+-- slot before the first change.
 abbrev pub StartHolds : Type 0
 StartHolds =
     (plan : PlanView) (body : List ℕ) → AreClockWords plan 0 body → HoldsRule (opening (0 ∷ body) [] (Writer (writer_at_start plan body)))
@@ -198,8 +198,8 @@ abbrev pub PutKeeps : Type 0
 PutKeeps = (slots id : ℕ) (me : Sitter) (writer : WriterView) (place word : ℕ) → me.0 ≡ Writer writer → writer.changing ≡ true →
     Allows HoldsRule slots id me (place + 1) (λ _. word) (λ _. Puts (step slots (place + 1) word 0 none) me word)
 
--- Law of step 3: if a change is open and the words of each slot are a clock after it, the writer
--- may store the next even sequence number.
+-- Law of step 3: if a change is open and the words of each slot represent the slot's clock after
+-- it, the writer may store the next even sequence number.
 abbrev pub CloseKeeps : Type 0
 CloseKeeps =
     (slots id : ℕ) (me : Sitter) (writer : WriterView) (number : ℕ) → me.0 ≡ Writer writer → number ≡ 2 * writer.count + 2

@@ -11,7 +11,8 @@ use Rattle.clock_row.specs.Words.{AreClock, AreOnTheWay, GoesOn, words_at}
 use Rattle.clock_row.specs.Seats.{HasStored, IsSameSeat, IsWriter, RowSeat, writer_on}
 
 -- `IsTurning row seat`: a change of the row is open. The row has a sequence number and nine words
--- for each slot of the plan. The words of each slot are a clock either before or after the change.
+-- for each slot of the plan. The words of each slot represent the slot's clock either before or
+-- after the change.
 pub record IsTurning (row : TableId) (seat : RowSeat) : Type 0 where
   pub on_row : seat.table_id ≡ row
   pub wide : row.words ≡ 9 * length (writer_on seat).plan.parents + 1
@@ -29,19 +30,19 @@ pub record HasTurned (before after : RowSeat) : Type 0 where
   pub stored : HasStored before after
   pub goes : GoesOn (writer_on before).plan (writer_on before).count (writer_on before).body (writer_on after).body
 
--- `IsDone seat slot`: the words of the slot are a clock after the open change.
+-- `IsDone seat slot`: the words of the slot represent its clock after the open change.
 abbrev pub IsDone : RowSeat → ℕ → Type 0
 IsDone seat slot = AreClock (writer_on seat).plan slot ((writer_on seat).count + 1) (words_at (writer_on seat).body slot)
 
--- `ChainIsDone seat start`: the words of `start` and of each of its ancestors are a clock after the
--- open change. Always holds if `start` is `None`.
+-- `ChainIsDone seat start`: the words of `start` and of each of its ancestors represent the slot's
+-- clock after the open change. Always holds if `start` is `None`.
 abbrev pub ChainIsDone : RowSeat → Option Slot → Type 0
 ChainIsDone seat start =
     (slot : ℕ) → slot < length (writer_on seat).plan.parents
     → leads_to (writer_on seat).plan.parents (number_of_slot start) slot ≡ true → IsDone seat slot
 
 -- `ChainsAreDone seat starts`: the words of each slot in `starts`, and of each of its ancestors,
--- are a clock after the open change.
+-- represent the slot's clock after the open change.
 abbrev pub ChainsAreDone : RowSeat → List (Option Slot) → Type 0
 ChainsAreDone seat starts = All (ChainIsDone seat) starts
 

@@ -14,13 +14,13 @@ words_at body slot = take 9 (drop (9 * slot) body)
 abbrev pub mask_at : List ℕ → ℕ → ℕ
 mask_at body slot = slice_index body (9 * slot + 7)
 
--- `AreClock plan slot k words`: the nine words are a clock of the slot after the first k changes of
--- the plan.
+-- `AreClock plan slot k words`: the nine words represent a clock of the slot after the first k
+-- changes of the plan.
 abbrev pub AreClock : PlanView → ℕ → ℕ → List ℕ → Type 0
 AreClock plan slot k words = (clock : ClockView) × (words ≡ words_of clock) × IsClock clock plan slot k
 
--- `AreClockWords plan k body`: the row has nine words for each slot of the plan, and they are a
--- clock of the slot after the first k changes.
+-- `AreClockWords plan k body`: the row has nine words for each slot of the plan, and they represent
+-- a clock of the slot after the first k changes.
 pub record AreClockWords (plan : PlanView) (k : ℕ) (body : List ℕ) : Type 0 where
   pub wide : length body ≡ 9 * length plan.parents
   pub each : (slot : ℕ) → slot < length plan.parents → AreClock plan slot k (words_at body slot)
@@ -34,14 +34,14 @@ StayByMask plan before after =
     (slot : ℕ) → slot < length plan.parents → mask_at after slot ≡ mask_at before slot → words_at after slot ≡ words_at before slot
 
 -- `StaysOrTurns plan k slot before after`: either the words of the slot are unchanged, or the mask
--- changed and the words are a clock of the slot after k changes.
+-- changed and the words represent a clock of the slot after k changes.
 abbrev pub StaysOrTurns : PlanView → ℕ → ℕ → List ℕ → List ℕ → Type 0
 StaysOrTurns plan k slot before after =
     (words_at after slot ≡ words_at before slot) ⊎ ((mask_at after slot ≡ mask_at before slot → ⊥)
     × AreClock plan slot k (words_at after slot))
 
--- While change k + 1 is open, the words of each slot are a clock after k changes or after k + 1
--- changes.
+-- While change k + 1 is open, the words of each slot represent the slot's clock after k changes or
+-- after k + 1 changes.
 pub record AreOnTheWay (plan : PlanView) (k : ℕ) (body : List ℕ) : Type 0 where
   pub wide : length body ≡ 9 * length plan.parents
   pub each : (slot : ℕ) → slot < length plan.parents
@@ -68,8 +68,8 @@ abbrev pub Agrees : List ℕ → List (ℕ × ℕ) → Type 0
 Agrees body [] = Unit {0}
 Agrees body (loaded ∷ more) = (slice_index body loaded.0 ≡ loaded.1) × Agrees body more
 
--- `StoodTogether plan k loaded`: all loaded values occur in one list of words, and these words are
--- clocks after the first k changes.
+-- `StoodTogether plan k loaded`: all loaded values occur in one list of words, and these words
+-- represent the clocks after the first k changes.
 abbrev pub StoodTogether : PlanView → ℕ → List (ℕ × ℕ) → Type 0
 StoodTogether plan k loaded = (body : List ℕ) × AreClockWords plan k body × Agrees body loaded
 

@@ -16,7 +16,7 @@ use proc_plan::{PlainClocks, Plan, ProcClocks};
 use psi_base::Slot;
 
 // Stores the clock of `slot` after the open change. If the change doesn't affect the slot's mask,
-// nothing is stored, because the slot's words are also a clock after the change.
+// nothing is stored, because the slot's words also represent its clock after the change.
 fn turn_slot(board: &Board, seat: &mut RowSeat, slot: Slot, clock: &Clock)
     requires turning { IsTurning board.now.shared.table_id seat.old }
     requires slot { slot.0 < length (writer_on seat.old).plan.parents }

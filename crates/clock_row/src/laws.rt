@@ -23,7 +23,8 @@ pub fn law_put()
 {}
 
 /// Step 3 preserves the invariant: the writer stores the next even sequence number, which closes
-/// the change. Only this step requires that the words of each slot are a clock again.
+/// the change. Only this step requires that the words of each slot represent the slot's clock
+/// again.
 pub fn law_close()
     ensures { CloseKeeps }
 {}

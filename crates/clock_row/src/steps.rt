@@ -41,7 +41,7 @@ pub(crate) fn put_word(board: &Board, seat: &mut RowSeat, place: usize, word: u6
 }
 
 /// Closes the writer's open change. `count` is the number of changes made before it. Precondition:
-/// the words of each slot are a clock after this change.
+/// the words of each slot represent the slot's clock after this change.
 pub(crate) fn close_change(board: &Board, seat: &mut RowSeat, count: u64)
     requires board { seat.old.table_id ≡ board.now.shared.table_id }
     requires words { 0 < board.now.shared.table_id.words }

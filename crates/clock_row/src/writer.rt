@@ -97,9 +97,9 @@ impl<'a> ProcClocks for ClockWriter<'a> {
         self.clocks.count()
     }
 
-    /// Makes the next change of the plan. After the call the nine words of each slot are a clock
-    /// after the change. The words of a slot whose mask doesn't change stay the same. Does not
-    /// allocate, and doesn't wait for readers.
+    /// Makes the next change of the plan. After the call the nine words of each slot represent the
+    /// slot's clock after the change. The words of a slot whose mask doesn't change stay the same.
+    /// Does not allocate, and doesn't wait for readers.
     fn apply(&mut self)
         requires { self.old.knows.count < length self.old.knows.plan.changes }
         ensures plan { self.new.knows.plan ≡ self.old.knows.plan }

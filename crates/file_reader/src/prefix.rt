@@ -16,7 +16,7 @@ pub enum FileFault {
     NoFile,
     /// A read failed.
     ReadFault,
-    /// Out of memory.
+    /// Memory ran out.
     NoMemory(NoMemory),
 }
 

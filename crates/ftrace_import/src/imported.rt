@@ -157,8 +157,8 @@ impl Imported {
 }
 
 /// Imports the ftrace text in a file, and returns an iterator that lends its events. Fails with
-/// `Refused` at the first rejected line, with the first cause against it. Allocates about 24 bytes
-/// for each event.
+/// `Refused` at the first rejected line, with the first cause for rejecting it. Allocates about 24
+/// bytes for each event.
 pub fn read_import<S: Shelf>(
     alloc: Global,
     shelf: &mut S,

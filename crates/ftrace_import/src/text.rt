@@ -25,13 +25,13 @@ const MOST_LINES: u32 = 16_000_000;
 /// Why an import fails.
 #[derive(Clone, Copy, Debug, PartialEq, Eq)]
 pub enum ImportFault {
-    /// A line is rejected, with the first cause against it. Lines are numbered from 1.
+    /// A line is rejected, with the first cause for rejecting it. Lines are numbered from 1.
     Refused { line: u32, cause: ImportCause },
     /// The shelf has no file with this name.
     NoFile,
     /// A read failed.
     ReadFault,
-    /// Out of memory.
+    /// Memory ran out.
     NoMemory(NoMemory),
 }
 
@@ -243,7 +243,7 @@ pub fn gather<S: Shelf>(
 }
 
 /// Imports the ftrace text in a file, and returns its events, including the end of the trace. Fails
-/// with `Refused` at the first rejected line, with the first cause against it.
+/// with `Refused` at the first rejected line, with the first cause for rejecting it.
 ///
 /// No program of this repository calls this function. The programs call
 /// [`read_import`](crate::read_import), which lends the same events one by one and needs a third of

@@ -102,8 +102,8 @@ is_none : (o : Option ℕ) → is_some o ≡ false → o ≡ None
 is_none None h = refl
 is_none (Some n) h = cc h
 
--- If there is no cause against creating a group, the groups with the new group are possible in a
--- legal world.
+-- If there is no cause for rejecting the creation of a group, the groups with the new group are
+-- possible in a legal world.
 pub may_add : (groups : List GroupLife) (path : List ℕ) (at : ℕ) → add_cause groups path ≡ None → AreGroups groups → AreGroups (groups ++ new_group groups path at ∷ [])
 may_add groups path at none are =
     elim (nat_le 1024 (length groups)) as (λ few. nat_le 1024 (length groups) ≡ few → (if few then Some cause.TooManyGroups else (if is_some (slot_of groups path) then Some cause.GroupExists else (if not (is_some (slot_of groups (parent_path path))) then Some cause.NoParent else None))) ≡ None → AreGroups (groups ++ new_group groups path at ∷ [])) [
@@ -236,7 +236,8 @@ pub slot_back : (o : Option ℕ) (found : Option Slot) → found ≡ as_slot o �
 slot_back None found is slot some = absurd (cc (is, some))
 slot_back (Some n) found is slot some = let same : (let s : Slot = record { 0 = n } in s) ≡ slot = cc (is, some) in ap (λ (s : Slot). let o : Option ℕ = Some s.0 in o) same
 
--- If there is no cause against switching the accounting of a group, the group isn't the root.
+-- If there is no cause for rejecting a switch of the accounting of a group, the group isn't the
+-- root.
 pub not_root : (groups : List GroupLife) (path : List ℕ) → pressure_cause groups path ≡ None → is_root path ≡ false
 not_root groups path none =
     elim (is_some (slot_of groups path)) as (λ b. (if not b then Some cause.UnknownGroup else (if is_root path then Some cause.RootPressure else None)) ≡ None → is_root path ≡ false) [

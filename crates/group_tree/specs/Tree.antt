@@ -16,23 +16,23 @@ use Rattle.psi_spec.specs.LegalGroups.{AreGroups}
 
 -- ---- causes
 
--- `add_cause groups path`: the first cause against creating a group with this path: 1,024 groups
--- were created, a live group has the path, or no live group has the parent path.
+-- `add_cause groups path`: the first cause for rejecting the creation of a group with this path:
+-- 1,024 groups were created, a live group has the path, or no live group has the parent path.
 abbrev pub add_cause : List GroupLife → List ℕ → Option Cause
 add_cause groups path =
     if nat_le most_groups (length groups) then Some cause.TooManyGroups else
     if has_group groups (Some path) then Some cause.GroupExists else
     if lacks_parent groups (Some path) then Some cause.NoParent else None
 
--- `remove_cause groups path`: the first cause against removing the group with this path: no live
--- group has the path, or the group is the root or has a live child.
+-- `remove_cause groups path`: the first cause for rejecting the removal of the group with this
+-- path: no live group has the path, or the group is the root or has a live child.
 abbrev pub remove_cause : List GroupLife → List ℕ → Option Cause
 remove_cause groups path =
     if lacks_group groups (Some path) then Some cause.UnknownGroup else
     if is_root path || has_child groups (slot_of groups path) then Some cause.GroupBusy else None
 
--- `pressure_cause groups path`: the first cause against switching the accounting of the group with
--- this path: no live group has the path, or the group is the root.
+-- `pressure_cause groups path`: the first cause for rejecting a switch of the accounting of the
+-- group with this path: no live group has the path, or the group is the root.
 abbrev pub pressure_cause : List GroupLife → List ℕ → Option Cause
 pressure_cause groups path =
     if lacks_group groups (Some path) then Some cause.UnknownGroup else

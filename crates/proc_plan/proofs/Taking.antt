@@ -58,8 +58,8 @@ fit_push (first ∷ events) event all fits = (all.0, fit_push events event all.1
 
 -- ---- causes against an event
 
--- The first cause against an event after the events taken is the first cause in the planner's own
--- world.
+-- The first cause for rejecting an event after the events taken is the first cause in the planner's
+-- own world.
 pub cause_in : (planner : PlannerView) (limits : Limits) (events : List Event) (event : Event) → HasTaken planner limits events → cause_of limits (after events) event ≡ cause_of planner.table.limits planner.table.world event
 cause_in planner limits events event taken = rw (taken.limits_are, taken.world) refl
 

@@ -129,8 +129,8 @@ abbrev pub limits_by : ℕ → ℕ → Limits
 limits_by cpus latest = record { cpus = cpus; latest = latest }
 
 -- `IsRefusedAt limits events line why`: the trace is rejected at its first illegal event, with the
--- first cause `why` against it. The line number is the number of events before the illegal event
--- plus two.
+-- first cause `why` for rejecting it. The line number is the number of events before the illegal
+-- event plus two.
 pub record IsRefusedAt (limits : Limits) (events : List Event) (line : ℕ) (why : Cause) : Type 0 where
   pub prefix : List Event
   pub event : Event
@@ -226,8 +226,8 @@ abbrev pub HasTrace : PlannerView → Type 0
 HasTrace planner = (limits : Limits) × (events : List Event) × HasTaken planner limits events
 
 -- `PlannerTakes old new event result`: on success, the event is legal after the events taken so
--- far, and the planner has taken it. Otherwise the fault is the first cause against the event, or
--- `NoMemory` if there is no cause.
+-- far, and the planner has taken it. Otherwise the fault is the first cause for rejecting the
+-- event, or `NoMemory` if there is no cause.
 abbrev pub PlannerTakes : PlannerView → PlannerView → Event → Result (Unit {0}) (Fault Cause) → Type 0
 PlannerTakes old new event (Ok x) = (limits : Limits) (events : List Event) → HasTaken old limits events →
     (cause_of limits (after events) event ≡ None) × HasTaken new limits (events ++ event ∷ []) × (length events < most_events)

@@ -93,10 +93,10 @@ impl Plans {
     /// Splits a trace with `cpus` processors (1 to 64). `latest` is the latest time (ns) that an
     /// event may have.
     ///
-    /// Fails with `Refused` at the first illegal event, with the first cause against it. The event
-    /// with index `i` (from 0) is reported at line `i + 2`. If all events are legal but the last
-    /// event isn't the end of the trace, the cause is `NoEnd`, reported at the line after the last
-    /// event.
+    /// Fails with `Refused` at the first illegal event, with the first cause for rejecting it. The
+    /// event with index `i` (from 0) is reported at line `i + 2`. If all events are legal but the
+    /// last event isn't the end of the trace, the cause is `NoEnd`, reported at the line after the
+    /// last event.
     pub fn build(
         alloc: Global,
         cpus: u32,

@@ -35,7 +35,7 @@ pub enum LineFault {
     NoFile,
     /// A read failed.
     ReadFault,
-    /// Out of memory.
+    /// Memory ran out.
     NoMemory(NoMemory),
 }
 

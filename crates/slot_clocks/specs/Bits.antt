@@ -25,6 +25,6 @@ running_at (suc slot) stalled = Some (slot_by slot, stalled)
 abbrev pub running_by : ℕ → Option (Slot × Bool)
 running_by number = running_at (number / 2) (number % 2 == 1)
 
--- A number represents a task in a memory stall exactly if the number is odd.
+-- `IsRunning number`: `number` represents a task in a memory stall exactly if `number` is odd.
 abbrev pub IsRunning : ℕ → Type 0
 IsRunning number = is_current_stalled (running_by number) ≡ (number % 2 == 1)

@@ -21,15 +21,16 @@ use Rattle.task_table.specs.Causes.{act_cause, event_cause, fork_cause, groups_c
 use Rattle.task_table.specs.Named.{group_with, next_task, slot_or_root, slot_with}
 use Rattle.psi_base.specs.declared.event.Slot.{Slot}
 
--- Splits the causes against removing a group into the causes of the tree and the cause of live
--- tasks.
+-- Splits the causes for rejecting the removal of a group into the causes of the tree and the cause
+-- of live tasks.
 busy_parts : (a b c d : Bool) → (if a then Some cause.UnknownGroup else if b || c || d then Some cause.GroupBusy else None) ≡ or_cause (if a then Some cause.UnknownGroup else if b || c then Some cause.GroupBusy else None) (if d then Some cause.GroupBusy else None)
 busy_parts true b c d = refl
 busy_parts false true c d = refl
 busy_parts false false true d = refl
 busy_parts false false false d = refl
 
--- Splits the causes against a switch into the causes against the next task and the other causes.
+-- Splits the causes for rejecting a switch into the causes for rejecting the next task and the
+-- other causes.
 either : (a b c : Bool) (rest : Option Cause) → (if a then Some cause.UnknownTask else if b then Some cause.BadCpu else if c then Some cause.NotReady else rest) ≡ or_cause (if a then Some cause.UnknownTask else if b then Some cause.BadCpu else if c then Some cause.NotReady else None) rest
 either true b c rest = refl
 either false true c rest = refl
@@ -40,13 +41,13 @@ switch_parts : (cpus : ℕ) (tasks : Tasks) (cpu : ℕ) (next : Option Pid) (res
 switch_parts cpus tasks cpu None rest = either false (nat_le cpus cpu) false rest
 switch_parts cpus tasks cpu (Some pid) rest = either (not (is_some (task_of tasks pid.0))) (nat_le cpus cpu) (not (is_some_and (task_of tasks pid.0) (is_ready_on cpu))) rest
 
--- Two lists of causes that start with the causes against any event are equal if the rests are
+-- Two lists of causes that start with the causes for rejecting any event are equal if the rests are
 -- equal.
 before_act : (a b c d : Bool) (rest other : Option Cause) → rest ≡ other → (if a then Some cause.AfterEnd else if b then Some cause.TimeBack else if c then Some cause.TimeTooLate else if d then Some cause.TooManyEvents else rest) ≡ (if a then Some cause.AfterEnd else if b then Some cause.TimeBack else if c then Some cause.TimeTooLate else if d then Some cause.TooManyEvents else other)
 before_act a b c d rest other same = rw same refl
 
--- The causes against an event in one list: first the causes against any event, then the causes
--- against its act.
+-- The causes for rejecting an event in one list: first the causes for rejecting any event, then the
+-- causes for rejecting its act.
 abbrev in_a_row : Limits → World → ℕ → Act → Option Cause
 in_a_row limits w at a =
     if w.ended then Some cause.AfterEnd else if nat_lt at w.last then Some cause.TimeBack else if nat_lt limits.latest at then Some cause.TimeTooLate else if nat_le 4000000 w.lines then Some cause.TooManyEvents else
@@ -59,7 +60,7 @@ by_verb limits w at (act.Remove path) = before_act w.ended (nat_lt at w.last) (n
 by_verb limits w at (act.Switch cpu next how) = before_act w.ended (nat_lt at w.last) (nat_lt limits.latest at) (nat_le 4000000 w.lines) _ _ (switch_parts limits.cpus w.tasks cpu.0 next (how_cause how (running_on w.tasks cpu.0)))
 by_verb limits w at _ = refl
 
--- Splits a list of causes into the causes against any event and the other causes.
+-- Splits a list of causes into the causes for rejecting any event and the other causes.
 row_parts : (a b c d : Bool) (rest : Option Cause) → (if a then Some cause.AfterEnd else if b then Some cause.TimeBack else if c then Some cause.TimeTooLate else if d then Some cause.TooManyEvents else rest)
     ≡ or_cause (if a then Some cause.AfterEnd else if b then Some cause.TimeBack else if c then Some cause.TimeTooLate else if d then Some cause.TooManyEvents else None) rest
 row_parts true b c d rest = refl
@@ -68,22 +69,22 @@ row_parts false false true d rest = refl
 row_parts false false false true rest = refl
 row_parts false false false false rest = refl
 
--- `cause_of` equals `event_cause`: the causes against any event at its time, then the causes
--- against the act.
+-- `cause_of` equals `event_cause`: the causes for rejecting any event at its time, then the causes
+-- for rejecting the act.
 pub first_is : (limits : Limits) (w : World) (event : Event) → cause_of limits w event ≡ event_cause limits w event
 first_is limits w event = by_verb limits w event.at event.act ∙ row_parts w.ended (nat_lt event.at w.last) (nat_lt limits.latest event.at) (nat_le 4000000 w.lines) _
 
--- A cause against any event at this time is the first cause against the event.
+-- A cause for rejecting any event at this time is the first cause for rejecting the event.
 pub first_of_line : (limits : Limits) (w : World) (event : Event) (why : Cause) → line_cause limits w event.at ≡ Some why → cause_of limits w event ≡ Some why
 first_of_line limits w event why h = first_is limits w event ∙ ap (λ first. or_cause first (act_cause limits.cpus w.groups w.tasks w.irqs w.triggers w.pressures event.at event.act)) h
 
--- If there is no cause against any event at this time, the first cause against the event is the
--- first cause against its act.
+-- If there is no cause for rejecting any event at this time, the first cause for rejecting the
+-- event is the first cause for rejecting its act.
 pub first_of_verb : (limits : Limits) (w : World) (event : Event) → line_cause limits w event.at ≡ None → cause_of limits w event ≡ act_cause limits.cpus w.groups w.tasks w.irqs w.triggers w.pressures event.at event.act
 first_of_verb limits w event h = first_is limits w event ∙ ap (λ first. or_cause first (act_cause limits.cpus w.groups w.tasks w.irqs w.triggers w.pressures event.at event.act)) h
 
--- The first cause against an event is the first cause against its act, if the trace hasn't ended
--- and the time and the number of events are within their limits.
+-- The first cause for rejecting an event is the first cause for rejecting its act, if the trace
+-- hasn't ended and the time and the number of events are within their limits.
 pub first_of_act : (limits : Limits) (w : World) (event : Event) → w.ended ≡ false → w.last ≤ event.at → event.at ≤ limits.latest → w.lines < 4000000 → cause_of limits w event ≡ act_cause limits.cpus w.groups w.tasks w.irqs w.triggers w.pressures event.at event.act
 first_of_act limits w event running forward early room =
     let on_time : nat_lt event.at w.last ≡ false = grind (arith, nat_tests) in
@@ -112,24 +113,26 @@ no_causes : (first other : Option Cause) → or_cause first other ≡ None → (
 no_causes None other h = (refl, h)
 no_causes (Some why) other h = cc h
 
--- There is no cause against the act of a legal event.
+-- There is no cause for rejecting the act of a legal event.
 pub let_through : (limits : Limits) (w : World) (event : Event) → cause_of limits w event ≡ None → act_cause limits.cpus w.groups w.tasks w.irqs w.triggers w.pressures event.at event.act ≡ None
 let_through limits w event h = (no_causes (line_cause limits w event.at) _ (sym (first_is limits w event) ∙ h)).1
 
--- If there is no cause against an act, there is no cause that depends only on the tree of groups.
+-- If there is no cause for rejecting an act, there is no cause that depends only on the tree of
+-- groups.
 pub groups_through : (cpus : ℕ) (groups : List GroupLife) (tasks : Tasks) (irqs : List ℕ) (triggers pressures at : ℕ) (a : Act) → act_cause cpus groups tasks irqs triggers pressures at a ≡ None → groups_cause groups a ≡ None
 groups_through cpus groups tasks irqs triggers pressures at (act.Group path) h = h
 groups_through cpus groups tasks irqs triggers pressures at (act.Remove path) h = (no_causes (remove_cause groups path) _ h).0
 groups_through cpus groups tasks irqs triggers pressures at (act.Pressure path on) h = (past (nat_le 65536 pressures) cause.TooManyPressures (pressure_cause groups path) h).1
 groups_through cpus groups tasks irqs triggers pressures at _ h = refl
 
--- The properties of a switch against which there is no cause.
+-- The properties of a switch without a cause for rejecting it.
 pub record MaySwitch (cpus cpu : ℕ) (next : Option Pid) (task : Option Task) (how : How) (running : Option (ℕ × Task)) : Type 0 where
   pub room : nat_le cpus cpu ≡ false
   pub ready : IfSome next (λ _. is_some_and task (is_ready_on cpu) ≡ true)
   pub leaves : is_wrong how running ≡ false
 
--- If there is no cause against the next task, the processor exists and the task is ready there.
+-- If there is no cause for rejecting the next task, the processor exists and the task is ready
+-- there.
 may_run : (cpus cpu : ℕ) (next : Option Pid) (task : Option Task) → next_cause cpus cpu next task ≡ None → (nat_le cpus cpu ≡ false) × IfSome next (λ _. is_some_and task (is_ready_on cpu) ≡ true)
 may_run cpus cpu None task h = ((past (nat_le cpus cpu) cause.BadCpu None h).0, tt)
 may_run cpus cpu (Some pid) task h =

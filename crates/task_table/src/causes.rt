@@ -289,9 +289,9 @@ fn account_refused(tree: &Tree, pressures: u32, path: &Path) -> Option<Cause>
     tree.pressure_cause(path)
 }
 
-/// Returns the cause against an `irq` line at the time `at` (ns) which states that interrupts took
-/// `ns` (ns) on processor `cpu`, or `None` if the line is legal. `irqs` lists the time (ns) of each
-/// processor's last `irq` line.
+/// Returns the cause for rejecting an `irq` line at the time `at` (ns) which states that interrupts
+/// took `ns` (ns) on processor `cpu`, or `None` if the line is legal. `irqs` lists the time (ns) of
+/// each processor's last `irq` line.
 fn irq_refused(irqs: &[Ns], cpus: usize, at: Ns, cpu: Cpu, ns: u64) -> Option<Cause>
     ensures { result ≡ irq_cause cpus irqs.now at cpu ns }
 {

@@ -179,7 +179,7 @@ impl Table {
     }
 
     /// Checks only the time `at` (ns) of an event and the state of the trace. Returns the first
-    /// cause against any event at that time, or `None`.
+    /// cause for rejecting any event at that time, or `None`.
     #[tactic(auto, using(std::proofs::lemmas::Bool::Decides::nat_tests))]
     #[inline(always)]
     fn line_refused(&self, at: Ns) -> Option<Cause>
@@ -203,9 +203,9 @@ impl Table {
         None
     }
 
-    /// Returns the first cause against an event, or `None` if the event is legal. Precondition: the
-    /// act isn't a task act. `named` is the task with the pid that the act names, and `group` is
-    /// the slot of the live group with the path that the act names.
+    /// Returns the first cause for rejecting an event, or `None` if the event is legal.
+    /// Precondition: the act isn't a task act. `named` is the task with the pid that the act names,
+    /// and `group` is the slot of the live group with the path that the act names.
     #[inline(always)]
     fn refused(&self, event: &Event, named: Option<Task>, group: Option<Slot>) -> Option<Cause>
         requires other { is_task_act event.now.act ≡ false }
@@ -269,8 +269,8 @@ impl Table {
         })
     }
 
-    /// Returns the first cause against an event, or `None` if the event is legal. No program of
-    /// this repository calls this function.
+    /// Returns the first cause for rejecting an event, or `None` if the event is legal. No program
+    /// of this repository calls this function.
     pub fn check(&self, event: &Event) -> Option<Cause>
         ensures cause { result ≡ cause_of self.now.limits self.now.world event.now }
         ensures room { IfNone result (self.now.world.lines < most_events) }

@@ -29,7 +29,7 @@ pub enum TraceFault {
     NoFile,
     /// A read failed.
     ReadFault,
-    /// Out of memory.
+    /// Memory ran out.
     NoMemory(NoMemory),
 }
 

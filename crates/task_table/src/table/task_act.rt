@@ -147,8 +147,8 @@ fn touch_of(at: Ns, act: TaskAct, changed: TaskUpdate, running: &[Running]) -> T
 }
 
 impl Table {
-    /// Returns the first cause against a task act at a time (ns), or `None` if the act is legal.
-    /// `named` is the task with the pid that the act names.
+    /// Returns the first cause for rejecting a task act at a time (ns), or `None` if the act is
+    /// legal. `named` is the task with the pid that the act names.
     #[inline(always)]
     fn refused_task(&self, at: Ns, act: TaskAct, named: Option<Task>) -> Option<Cause>
         requires { named ≡ named_task self.now.world.tasks (as_act act) }
