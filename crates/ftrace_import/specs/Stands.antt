@@ -24,9 +24,9 @@ limits cpus = limits_of default_tick cpus
 abbrev pub IsCalm : Tasks → Type 0
 IsCalm tasks = (q : ℕ) → is_some_and (task_of tasks q) (λ t. t.stalled) ≡ false
 
--- `Stands cpus at room w`: the invariant of a world in an import at the time `at` (ns), if `room`
--- more events are to come. The world is legal, no task is in a memory stall, the root is the only
--- group, and the trace hasn't ended.
+-- `Stands cpus at room w`: the invariant of a world in an import at the time `at` (ns), after which
+-- at least `room` more events are allowed. The world is legal, no task is in a memory stall, the
+-- root is the only group, and the trace hasn't ended.
 pub record Stands (cpus at room : ℕ) (w : World) : Type 0 where
   pub counted : IsCpuCount cpus
   pub legal : IsLegalWorld (limits cpus) w

@@ -33,12 +33,12 @@ has_path [] = false
 has_path (path ∷ ks) = true
 has_path (k ∷ ks) = has_path ks
 
--- Whether there is a verb, and one of its fields is a path.
+-- Whether the optional verb exists and one of its fields is a path.
 abbrev pub takes_path : Option Verb → Bool
 takes_path None = false
 takes_path (Some verb) = has_path (kinds_of verb)
 
--- Whether the first word is one of the verbs, and one of the verb's fields is a path.
+-- Whether the first word is one of the verbs and one of the fields of this verb is a path.
 abbrev pub names_path : List Verb → List (List ℕ) → Bool
 names_path verbs [] = false
 names_path verbs (text ∷ words) = takes_path (verb_of verbs text)

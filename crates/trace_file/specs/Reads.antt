@@ -236,9 +236,9 @@ pub record ReadsLine {A : Type 0} (known : Option (List ℕ)) (old new : Reader)
   pub counted : read_now + old.at ≡ bytes_read + new.at
   pub place : new.at ≤ furthest old.number
 
--- `KeepsLines known old new result`: reading the next line removes at most that line from the
--- remaining lines. If a read failed, no line was removed and no complete line is buffered. If a
--- line is rejected, it is the line with the reader's number.
+-- `KeepsLines known old new result`: the number of the next line plus the number of remaining lines
+-- stays the same when a line is read. If a read failed, no line was removed and no complete line is
+-- buffered. If a line is rejected, it is the line with the reader's number.
 pub record KeepsLines {A : Type 0} (known : Option (List ℕ)) (old new : Reader) (result : Result A TraceFault) : Type 0 where
   pub lines : (bytes : List ℕ) → known ≡ Some bytes → new.number + line_count (left new bytes) ≡ old.number + line_count (left old bytes)
   pub failed : IsErrOf result ReadFault → (new.number ≡ old.number)
