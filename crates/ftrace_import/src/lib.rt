@@ -1,4 +1,4 @@
-//! The import of ftrace text. It parses the marked lines (switches, wakeups and migrations) and
+//! The import of ftrace text: parses the marked lines (switches, wakeups and migrations), and
 //! converts them to the events of a trace.
 //!
 //! The crate doesn't write the trace. It has no groups but the root, to which all tasks belong.

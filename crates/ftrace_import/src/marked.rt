@@ -3,7 +3,6 @@
 //!
 //! The head of a line is the part before the mark, and the tail is the part after it. The module
 //! `deeds` computes what a line does to the tasks.
-//! for the tasks is in `deeds`.
 ghost use Rattle.std.specs.Prelude.{◌≡◌, ◌≤◌, IfSome, IsNone, None, length, option_map};
 ghost use Rattle.import_spec.specs.Places.{first_place};
 ghost use Rattle.import_spec.specs.Marked.{begins_marked, if_formed, mark_of, migration_in, read_line, seen_in, sighting_of, switch_in, wakeup_in};

@@ -25,7 +25,8 @@ const MOST_LINES: u32 = 16_000_000;
 /// Why an import fails.
 #[derive(Clone, Copy, Debug, PartialEq, Eq)]
 pub enum ImportFault {
-    /// A line is rejected, with the first cause for rejecting it. Lines are numbered from 1.
+    /// A line was rejected. `cause` is the first cause for rejecting it, and lines are numbered
+    /// from 1.
     Refused { line: u32, cause: ImportCause },
     /// The shelf has no file with this name.
     NoFile,

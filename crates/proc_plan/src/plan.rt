@@ -24,7 +24,6 @@ use std::marker::Model;
 /// All slots in a change exist. A parent has a smaller slot than its child. After any number of the
 /// changes, each count of each slot is from 0 to 65,536, and the total interrupt time is at most
 /// the time of the last change.
-/// the time of the last change.
 #[derive(Drop)]
 pub struct Plan {
     changes: Changes,

@@ -1,5 +1,5 @@
-//! Reads the lines of a shelf's file. The pieces in which the shelf returns the file's bytes don't
-//! matter. A shelf is the trait for input files. This crate doesn't parse the lines; its users do
+//! Reads the lines of a file on a shelf, for any pieces in which the shelf returns the file's
+//! bytes. A shelf is the trait for input files. This crate doesn't parse the lines; its users do
 //! (`trace_file`, `ftrace_import`).
 //!
 //! A line ends with a newline (byte 10) and has at most 512 bytes before it. [`Lines::next`]

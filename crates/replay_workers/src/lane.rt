@@ -24,7 +24,6 @@ use std::marker::Model;
 /// The clocks of one processor, and the times of all groups at the last ticks by which the lane
 /// advanced. In contracts a lane consists of the processor, the row that holds the clocks (or
 /// `None`), the plan, the number of changes made, and the stored times.
-/// changes made, and the stored times.
 #[derive(Drop)]
 pub(crate) struct Lane<'a> {
     cpu: Cpu,

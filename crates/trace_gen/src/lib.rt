@@ -1,4 +1,4 @@
-//! Generates large, valid traces. Each trace is determined by the few numbers of its shape, so it
+//! Generates large, valid traces, which a few numbers (the *shape*) determine, so that each trace
 //! can be reproduced.
 //!
 //! [`Generator`] returns the events one by one, [`generate`] writes the text of the trace, and
