@@ -66,7 +66,7 @@ pub record Step (cpus at room : ℕ) (w : World) (what : Act) : Type 0 where
   pub legal : cause_of (limits cpus) w (event_at at what) ≡ None
   pub later : Stands cpus at room (after_event w (event_at at what))
 
--- the step for an act to which no cause of its kind applies
+-- An act without a cause for rejecting it is a legal step of the import.
 pub step_is : (cpus at room : ℕ) (w : World) (what : Act) → Stands cpus at (room + 1) w → act_cause cpus w.groups w.tasks w.irqs w.triggers w.pressures at what ≡ None → ActFits what → IsAmong (phrase_of what).verb (verbs_of One)
     → groups_after at w.groups what ≡ w.groups → ends what ≡ false → IsCalm (tasks_after w.groups w.tasks what) → Step cpus at room w what
 step_is cpus at room w what so none fits known same goes calm =
@@ -111,11 +111,11 @@ goes_then cpus at mid room w what acts step rest = record {
   later = rest.later;
 }
 
--- a single act
+-- A single legal step is a list of legal steps.
 pub goes_one : (cpus at room : ℕ) (w : World) (what : Act) → Step cpus at room w what → Goes cpus at room w (what ∷ [])
 goes_one cpus at room w what step = goes_then cpus at room room w what [] step (goes_none cpus at room _ step.later)
 
--- some acts, followed by others
+-- Two lists of legal steps, one after the other, are a list of legal steps.
 pub goes_on : (cpus at mid room : ℕ) (w : World) (xs ys : List Act) → Goes cpus at mid w xs → Goes cpus at room (after_from w (events_at at xs)) ys → Goes cpus at room w (xs ++ ys)
 goes_on cpus at mid room w [] ys prefix rest = rest
 goes_on cpus at mid room w (x ∷ xs) ys prefix rest =

@@ -90,7 +90,8 @@ fault_number at lines.NoFile number because same is = absurd (cc is)
 fault_number at lines.ReadFault number because same is = absurd (cc is)
 fault_number at (lines.NoMemory none) number because same is = absurd (cc is)
 
--- the number of remaining lines after the call, from the contract of a borrowed line
+-- Reading a line keeps the sum of the next line's number and the number of remaining lines
+-- (`KeepsLines`), by the contract of a borrowed line.
 keeps_lines : {A : Type 0} (files : Option Files) (bytes_read read_now : ℕ) (old new : Reader) (lent : Result (Option (Bor (List ℕ))) LineFault) (result : Result A ImportFault) → LendsLine files bytes_read read_now old new lent → (IsErrOf result import.ReadFault → lent ≡ Err lines.ReadFault)
     → ((number : ℕ) (why : ImportCause) → IsErrOf result (import.Refused number why) → number ≡ old.number) → KeepsLines (content_of files old.name) old new result
 keeps_lines files bytes_read read_now old new lent result lends only at = record {
@@ -99,11 +100,11 @@ keeps_lines files bytes_read read_now old new lent result lends only at = record
   refused = at;
 }
 
--- the number of remaining lines if a line was taken, or there is none
+-- `KeepsLines` holds if a line was taken, or if no line remains.
 pub taken_keeps : {A : Type 0} (files : Option Files) (bytes_read read_now : ℕ) (old new : Reader) (lent : Result (Option (Bor (List ℕ))) LineFault) (x : A) → LendsLine files bytes_read read_now old new lent → KeepsLines (content_of files old.name) old new (Ok x)
 taken_keeps files bytes_read read_now old new lent x lends = keeps_lines files bytes_read read_now old new lent (Ok x) lends (λ is. absurd (cc is)) (λ number why is. absurd (cc is))
 
--- the number of remaining lines if the line was read and rejected
+-- `KeepsLines` holds if the line was read and rejected.
 pub faulted_keeps : {A : Type 0} (files : Option Files) (bytes_read read_now : ℕ) (old new : Reader) (lent : Result (Option (Bor (List ℕ))) LineFault) (why : Fault ImportCause) (found : ImportFault) → LendsLine files bytes_read read_now old new lent → IsLineFault old.number why found
     → KeepsLines {A = A} (content_of files old.name) old new (Err found)
 faulted_keeps files bytes_read read_now old new lent why found lends faults =
@@ -111,7 +112,7 @@ faulted_keeps files bytes_read read_now old new lent why found lends faults =
     (λ is. absurd (line_was_read old.number why found faults (err_same found import.ReadFault is)))
     (λ number because is. line_number old.number why found number because faults (err_same found (import.Refused number because) is))
 
--- the number of remaining lines if the line can't be read
+-- `KeepsLines` holds if the line can't be read.
 pub unread_keeps : {A : Type 0} (files : Option Files) (bytes_read read_now : ℕ) (old new : Reader) (lent : Result (Option (Bor (List ℕ))) LineFault) (why : LineFault) (found : ImportFault) → LendsLine files bytes_read read_now old new lent → lent ≡ Err why → IsNumbered old.number (lent_line old.number lent) → found ≡ import_fault why
     → KeepsLines {A = A} (content_of files old.name) old new (Err found)
 unread_keeps files bytes_read read_now old new lent why found lends is numbered from =
@@ -122,7 +123,7 @@ unread_keeps files bytes_read read_now old new lent why found lends is numbered 
 no_newline : (buffered : List ℕ) → buffered ≡ [] → HasNoNewline buffered (length buffered)
 no_newline buffered none = rw none (λ k below. absurd (omega (arith, below)))
 
--- the check that nothing follows the last line consumes no line
+-- The check that nothing follows the last line consumes no line.
 look_keeps : {A : Type 0} (known : Option (List ℕ)) (old new : Reader) (result : Result A ImportFault) → ((bytes : List ℕ) → known ≡ Some bytes → left new bytes ≡ left old bytes) → new.number ≡ old.number → (IsErrOf result import.ReadFault → new.buffered ≡ [])
     → ((number : ℕ) (why : ImportCause) → IsErrOf result (import.Refused number why) → number ≡ old.number) → KeepsLines known old new result
 look_keeps known old new result same number none at = record {
@@ -134,7 +135,7 @@ look_keeps known old new result same number none at = record {
 pub ended_keeps : {A : Type 0} (known : Option (List ℕ)) (old new : Reader) (x : A) → ((bytes : List ℕ) → known ≡ Some bytes → left new bytes ≡ left old bytes) → new.number ≡ old.number → KeepsLines known old new (Ok x)
 ended_keeps known old new x same number = look_keeps known old new (Ok x) same number (λ is. absurd (cc is)) (λ number why is. absurd (cc is))
 
--- the number of remaining lines if more bytes follow, so that the text is rejected
+-- `KeepsLines` holds if bytes follow the last allowed line, so that the text is rejected.
 pub many_keeps : {A : Type 0} (known : Option (List ℕ)) (old new : Reader) (line : ℕ) (had : ImportCause) → ((bytes : List ℕ) → known ≡ Some bytes → left new bytes ≡ left old bytes) → new.number ≡ old.number → line ≡ old.number → KeepsLines {A = A} known old new (Err (import.Refused line had))
 many_keeps {A} known old new line had same number at =
     look_keeps {A = A} known old new (Err (import.Refused line had)) same number (λ is. absurd (cc is))
@@ -147,7 +148,7 @@ no_refusal lines.NoFile number because reads is = absurd (cc is)
 no_refusal lines.ReadFault number because reads is = absurd (cc is)
 no_refusal (lines.NoMemory none) number because reads is = absurd (cc is)
 
--- the number of remaining lines if the check fails
+-- `KeepsLines` holds if the check for further bytes fails.
 pub unseen_keeps : {A : Type 0} (known : Option (List ℕ)) (old new : Reader) (seen : Result Bool LineFault) (why : LineFault) (found : ImportFault) → ((bytes : List ℕ) → known ≡ Some bytes → left new bytes ≡ left old bytes) → new.number ≡ old.number → (IsErrOf seen lines.ReadFault → new.buffered ≡ []) → IsReadFault seen → seen ≡ Err why → found ≡ import_fault why
     → KeepsLines {A = A} known old new (Err found)
 unseen_keeps {A} known old new seen why found same number none reads is from =

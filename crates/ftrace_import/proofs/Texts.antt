@@ -63,7 +63,8 @@ events_many : (cpus : ℕ) (reached : Reached) (number : ℕ) (line : List ℕ) 
 unfolding yield_of_line
 events_many cpus reached number line many = rw (high_number number many) refl
 
--- the result of a text that begins with a complete line
+-- If a text begins with a complete line, its result is the line's result followed by the result of
+-- the rest.
 at_line : (cpus : ℕ) (reached : Reached) (number : ℕ) (bytes line suffix : List ℕ) (r : Result LineEvents ImportCause) → number ≤ 16000000 → BeginsWithLine bytes line suffix → events_of_line cpus reached line ≡ r → rest_from cpus reached number bytes ≡ or_refused_line number r (λ next. rest_from cpus next (number + 1) suffix)
 at_line cpus reached number bytes line suffix r few begins is =
     ap (rest_from cpus reached number) begins.whole ∙ rest_line cpus reached number line suffix begins.one
@@ -97,7 +98,7 @@ some_bytes bytes some is = let none = ap length is in absurd (omega (arith, some
 refusal_at : (reached : Reached) (number : ℕ) (why : ImportCause) (o : Option ImportCause) → o ≡ Some why → ends_or reached number o ≡ Err (import_refused number why)
 refusal_at reached number why o is = ap (ends_or reached number) is
 
--- the result of a text that ends inside a line
+-- A text that ends inside a line is rejected with the cause `Cut`.
 rest_cut : (cpus : ℕ) (reached : Reached) (number : ℕ) (bytes : List ℕ) → number ≤ 16000000 → IsCut bytes → rest_from cpus reached number bytes ≡ Err (import_refused number cause.Cut)
 rest_cut cpus reached number bytes few is =
     rest_last cpus reached number bytes is.none
@@ -119,7 +120,7 @@ rest_long cpus reached number bytes few is = ⊎_elim
     ∙ ap (λ r. or_refused_line number r (λ next. rest_from cpus next (number + 1) c.suffix)) (events_long cpus reached number c.line few (long_first bytes c is)))
     (cut 10 bytes)
 
--- the result if bytes follow the greatest number of lines
+-- A text with bytes after the maximum number of lines is rejected with `TooManyLines`.
 pub rest_many : (cpus : ℕ) (reached : Reached) (number : ℕ) (bytes : List ℕ) → 16000000 < number → bytes ≢ [] → rest_from cpus reached number bytes ≡ Err (import_refused number cause.TooManyLines)
 rest_many cpus reached number bytes many some = ⊎_elim
     (λ none.
@@ -205,7 +206,7 @@ fault_here cpus number old before suffix known why so found bytes shows =
     faulted (events_by old.kept.items) (rest_from cpus (reached_in old) number (suffix bytes)) (rest_from cpus unreached 1 (before bytes)) why (so.read bytes shows)
     (subst (λ n. RefusalOf why (rest_from n (reached_in old) number (suffix bytes))) so.cpus_are (found bytes shows))
 
--- the result if no further line follows
+-- If no further line follows, the stored events and the end are the result of the whole text.
 pub ends_here : (cpus number : ℕ) (old : Gathering) (before suffix : List ℕ → List ℕ) (known : Option (List ℕ)) → SoFar cpus number old before suffix known → ((bytes : List ℕ) → known ≡ Some bytes → rest_from old.cpus (reached_in old) number (suffix bytes) ≡ Ok (end_at (reached_in old) ∷ []))
     → (bytes : List ℕ) → known ≡ Some bytes → rest_from cpus unreached 1 (before bytes) ≡ Ok (whole_events old)
 ends_here cpus number old before suffix known so found bytes shows =

@@ -71,12 +71,12 @@ turned_off cpus at room w cpu how (Some e) so there found some leaves =
 
 -- ---- the acts that change the running task
 
--- the acts if a task is running
+-- If a task is running on the processor, one switch makes the next task run there.
 turned_some : (cpus at room : ℕ) (w : World) (cpu : Cpu) (next : Option Pid) (how : How) → Stands cpus at (room + 1) w → cpu.0 < cpus → IsNext w.tasks cpu.0 next → is_some (running_on w.tasks cpu.0) ≡ true → Leaves how → Turned cpus at room cpu next w (act.Switch cpu next how ∷ [])
 turned_some cpus at room w cpu None how so there ready some leaves = turned_off cpus at room w cpu how (running_on w.tasks cpu.0) so there refl some leaves
 turned_some cpus at room w cpu (Some pid) how so there ready some leaves = turned_to cpus at room w cpu pid how so there ready (leaves (running_on w.tasks cpu.0) some)
 
--- the acts if no task is running
+-- If no task is running on the processor, the acts of a start make the next task run there.
 turned_none : (cpus at have room : ℕ) (w : World) (cpu : Cpu) (next : Option Pid) → Stands cpus at have w → length (start_acts cpu next) + room ≤ have → cpu.0 < cpus → IsNext w.tasks cpu.0 next → is_some (running_on w.tasks cpu.0) ≡ false → Turned cpus at room cpu next w (start_acts cpu next)
 turned_none cpus at have room w cpu None so few there ready none = record {
   goes = goes_none cpus at room w (less_room cpus at have room w so (omega (arith, few)));
@@ -84,7 +84,7 @@ turned_none cpus at have room w cpu None so few there ready none = record {
 }
 turned_none cpus at have room w cpu (Some pid) so few there ready none = turned_to cpus at room w cpu pid Idle (less_room cpus at have (room + 1) w so (omega (arith, few))) there ready none
 
--- the acts that change the running task, depending on whether a task is running
+-- Returns the acts that change the running task. They depend on whether a task is running.
 abbrev pub turn_by : Bool → Cpu → Option Pid → How → List Act
 turn_by some cpu next how = cond some (act.Switch cpu next how ∷ []) (start_acts cpu next)
 
@@ -98,7 +98,7 @@ leaves_by : (tasks : Tasks) (cpu : Cpu) (previous : Option Pid) (how : How) → 
 leaves_by tasks cpu previous how leaves =
     elim (runs_there tasks cpu previous) as (λ b. Leaves (cond b how Preempt)) [ true ↦ leaves | false ↦ λ o some. rw some refl ]
 
--- the next task runs on the processor already
+-- If the next task already runs on the processor, no act is needed.
 turned_already : (cpus at have room : ℕ) (w : World) (cpu : Cpu) (next : Option Pid) → Stands cpus at have w → room ≤ have → runs_there w.tasks cpu next ≡ true → Turned cpus at room cpu next w []
 turned_already cpus at have room w cpu None so few runs = absurd (cc runs)
 turned_already cpus at have room w cpu (Some pid) so few runs = record {
@@ -106,12 +106,13 @@ turned_already cpus at have room w cpu (Some pid) so few runs = record {
   runs = runner_is w.tasks so.legal.once cpu.0 pid runs;
 }
 
--- the world after some acts, followed by others
+-- The world after two lists of acts is the world after the second list, starting from the world
+-- after the first list.
 pub events_after : (at : ℕ) (w : World) (xs ys : List Act) → after_from w (events_at at (xs ++ ys)) ≡ after_from (after_from w (events_at at xs)) (events_at at ys)
 events_after at w xs ys = ap (after_from w) (map-append (event_at at) xs ys) ∙ after_from-append w (events_at at xs) (events_at at ys)
 
--- the acts that bring the next task to the processor, followed by the acts that change the running
--- task
+-- The acts that make the next task ready on the processor, followed by the acts that change the
+-- running task, make the next task run there.
 turned_in : (cpus at have room : ℕ) (w : World) (cpu : Cpu) (next : Option Pid) (how : How) → Stands cpus at have w → length (next_acts w.tasks cpu next ++ turn_by (is_some (running_on w.tasks cpu.0)) cpu next how) + room ≤ have → cpu.0 < cpus → IfSome next IsPid → Leaves how
     → IfSome next (λ pid. task_of w.tasks pid.0 ≡ None → tasks_by.len w.tasks < 65536) → runs_there w.tasks cpu next ≡ false → Turned cpus at room cpu next w (next_acts w.tasks cpu next ++ turn_by (is_some (running_on w.tasks cpu.0)) cpu next how)
 turned_in cpus at have room w cpu None how so few there is leaves space off = turned cpus at have room w cpu None how (is_some (running_on w.tasks cpu.0)) so few there tt refl leaves
@@ -127,7 +128,7 @@ turned_in cpus at have room w cpu (Some pid) how so few there is leaves space of
       runs = subst (λ (v : World). runner v.tasks cpu.0 ≡ Some pid) (sym (events_after at w prefix turn)) then.runs;
     }
 
--- all acts of a switch
+-- The acts of a switch make the next task run on the processor.
 pub turns : (cpus at have room : ℕ) (w : World) (cpu : Cpu) (previous next : Option Pid) (how : How) → Stands cpus at have w → length (switch_acts w.tasks cpu previous next how) + room ≤ have → cpu.0 < cpus → IfSome next IsPid → Leaves how
     → (runs_there w.tasks cpu next ≡ false → IfSome next (λ pid. task_of w.tasks pid.0 ≡ None → tasks_by.len w.tasks < 65536)) → Turned cpus at room cpu next w (switch_acts w.tasks cpu previous next how)
 turns cpus at have room w cpu previous next how so few there is leaves space =

@@ -50,7 +50,8 @@ end_runs cpus reached so =
 end_ends : (cpus : ℕ) (reached : Reached) → IsUnderWay cpus reached → Ends cpus reached.world (end_at reached ∷ [])
 end_ends cpus reached so = record { run = end_runs cpus reached so; ends = ([], reached.moment, refl) }
 
--- the events of a line, followed by legal events that end with the end
+-- If legal events that end with the end follow the events of a line, all of them are legal events
+-- that end with the end.
 pub then_ends : (cpus : ℕ) (reached : Reached) (line_events : LineEvents) (rest : List Event) → Gives cpus reached line_events → Ends cpus line_events.reached.world rest → Ends cpus reached.world (line_events.events ++ rest)
 then_ends cpus reached line_events rest gives suffix = record {
   run = run_on cpus reached.world line_events.events rest (record { fit = gives.fit; known = gives.known; legal = gives.legal }) (subst (λ (w : World). Run cpus w rest) gives.world suffix.run);

@@ -46,8 +46,8 @@ world_after cpus reached line line_events prefix there is =
 
 -- ---- a line of a text
 
--- the import of a text that begins with a complete line: the line's events, followed by the events
--- of the rest
+-- `Splits cpus reached number line rest events`: the text begins with the complete line `line`, and
+-- its events are the line's events followed by the events of the rest.
 record Splits (cpus : ℕ) (reached : Reached) (number : ℕ) (line : List ℕ) (rest : List (List ℕ)) (events : List Event) : Type 0 where
   line_events : LineEvents
   suffix : List Event

@@ -25,13 +25,13 @@ fills bytes at buffered n old new before buffer grew prefix room reads =
       end = λ none. drop_of_length-le bytes (reads.end none (omega (arith, length-drop buffered buffer)));
     }
 
--- the first buffered bytes, as a slice of the buffer
+-- The first `count` buffered bytes are a slice of the buffer.
 pub takes : (buffer : List ℕ) (start end count : ℕ) → start + count ≤ end → take (start + count - start) (drop start buffer) ≡ take count (take (end - start) (drop start buffer))
 takes buffer start end count inside =
     let same : start + count - start ≡ count = omega arith in
     rw same (sym (take-take count (end - start) (drop start buffer) (omega arith)))
 
--- the buffered bytes after the returned ones, as a slice of the buffer
+-- The buffered bytes after the first `count` bytes are a slice of the buffer.
 pub skips : (buffer : List ℕ) (start end count : ℕ) → start + count ≤ end → take (end - (start + count)) (drop (start + count) buffer) ≡ drop count (take (end - start) (drop start buffer))
 skips buffer start end count inside =
     let more : end - start ≡ count + (end - (start + count)) = omega arith in

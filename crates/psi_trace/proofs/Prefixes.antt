@@ -37,7 +37,7 @@ no_digits bytes = record {
   value = refl;
 }
 
--- one more digit
+-- Appending a digit to a parsed number multiplies the number by 10 and adds the digit.
 pub digit_more : (bytes : List ℕ) (count next number digit : ℕ) → next ≡ count + 1 → AreDigits bytes number count → count < length bytes → IsDigit (get_or bytes count 0) digit → AreDigits bytes (number * 10 + digit) next
 digit_more bytes count next number digit is are inside one =
     let more = take_more bytes count 0 inside in
@@ -47,7 +47,8 @@ digit_more bytes count next number digit is are inside one =
       value = rw more (value_after-snoc 0 (take count bytes) (get_or bytes count 0) ∙ ap (λ n. n * 10 + (get_or bytes count 0 - 48)) are.value);
     })
 
--- four more digits, as four times one digit
+-- Appending four digits to a parsed number multiplies the number by 10,000 and adds the value of
+-- the digits.
 pub four_more : (bytes : List ℕ) (count number four : ℕ) → AreDigits bytes number count → count + 4 ≤ length bytes → AreFour bytes count four → AreDigits bytes (number * 10000 + four) (count + 4)
 four_more bytes count number four are inside is =
     let one = digit_more bytes count (count + 1) number is.a (omega arith) are (omega (arith, inside)) is.first in
@@ -183,7 +184,8 @@ unstall_prefix at pid fields rest fits is_pid is = record {
   whole = one_field (decimal at) (codes "unstall") (decimal pid.0) fields rest is;
 }
 
--- the number of bytes in the line of an event that the bytes begin with
+-- The length of the line at the start of the bytes is the number of bytes before the rest, minus
+-- one for the newline.
 pub counted_prefix : (bytes : List ℕ) (event : Event) (rest : List ℕ) → BeginsWithEvent bytes event rest → BeginsBufferWith bytes event (length bytes - length rest - 1)
 counted_prefix bytes event rest begins =
     let text = spelling event in

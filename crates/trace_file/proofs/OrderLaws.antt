@@ -17,27 +17,29 @@ use Rattle.trace_file.specs.Reads.{IsTraceFault, shelf_fault, shelf_fault_in, tr
 use Rattle.trace_file.specs.declared.trace.TraceFault.{TraceFault}
 use Rattle.trace_file.specs.declared.trace.TraceFault.TheVariants.{Refused, NoFile, ReadFault, NoMemory}
 
--- the reads end at offset `q` if they end at `p` and these are equal
+-- If the reads end at offset `p` and `p` equals `q`, the reads end at offset `q`.
 pub place_is : (name : List ℕ) (from : Progress) (p q : ℕ) (before now : List ReadCall) → ReadsFrom name from before now (Next p) → p ≡ q → ReadsFrom name from before now (Next q)
 place_is name from p q before now reads is = subst (λ n. ReadsFrom name from before now (Next n)) is reads
 
--- without a read, the offset is unchanged
+-- If nothing is read, the offset is unchanged.
 pub stays_there : (name : List ℕ) (at place : ℕ) (log : List ReadCall) → place ≡ at → ReadsFrom name (Next at) log log (Next place)
 stays_there name at place log is = place_is name (Next at) at place log log (no_reads name (Next at) log) (sym is)
 
--- the order of reads without a fault, after which a line is rejected
+-- If a line is rejected after reads without a fault, the reads of the file are in order and report
+-- no fault.
 pub refused_order : (name : List ℕ) (at : ℕ) (progress : Progress) (before now : List ReadCall) (refusal : Refusal) (found : TraceFault) → ReadsFrom name (Next at) before now progress → fault_in progress ≡ None → found ≡ Refused refusal
     → ReadsFile name at before now (shelf_fault found)
 refused_order name at progress before now refusal found reads none is =
     subst (λ f. ReadsFile name at before now (shelf_fault f)) (sym is) (subst (λ f. ReadsFile name at before now f) none (file_read name at before now progress reads))
 
--- the order of reads without a fault, after which a line has a fault that isn't a read's
+-- If a line has a fault that isn't a fault of a read, the reads before it are in order and report
+-- no fault.
 pub faulted_order : (name : List ℕ) (at place line : ℕ) (before now : List ReadCall) (why : Fault Cause) (found : TraceFault) → ReadsFrom name (Next at) before now (Next place) → IsTraceFault line why found → ReadsFile name at before now (shelf_fault found)
 faulted_order name at place line before now (fault.Refused cause) found reads is = refused_order name at (Next place) before now _ found reads refl is
 faulted_order name at place line before now (fault.NoMemory none) found reads is =
     subst (λ f. ReadsFile name at before now (shelf_fault f)) (sym is) (file_read name at before now (Next place) reads)
 
--- the order of reads that end with the fault of a line that can't be read
+-- If a line can't be read, the reads of the file are in order and end with the line's fault.
 pub unread_order : (name : List ℕ) (at place : ℕ) (before now : List ReadCall) (cut : Cause) (why : LineFault) (found : TraceFault) → ReadsFrom name (Next at) before now (progress_by_fault place why) → found ≡ trace_fault cut why
     → ReadsFile name at before now (shelf_fault found)
 unread_order name at place before now cut (lines.TooLong n) found reads is = subst (λ f. ReadsFile name at before now (shelf_fault f)) (sym is) (file_read name at before now _ reads)
