@@ -23,7 +23,7 @@ use Rattle.ftrace_import.proofs.Runs.{RunsAsBefore, rests, runs_put}
 use Rattle.ftrace_import.specs.Stands.{Stands}
 use Rattle.ftrace_import.proofs.Steps.{Goes, Step, event_at, goes_none, goes_one, goes_then, later_in, step_make, step_migrate, step_switch, step_wake}
 
--- the invariant of an import for fewer further events
+-- The invariant of an import for fewer further events.
 pub less_room : (cpus at have room : ℕ) (w : World) → Stands cpus at have w → room ≤ have → Stands cpus at room w
 less_room cpus at have room w so few = let all = so.few in later_in cpus at have at room w so (omega arith) so.early (omega (arith, few, all))
 
@@ -34,18 +34,18 @@ pub record Comes (cpus at room : ℕ) (cpu : Cpu) (pid : Pid) (w : World) (acts 
   pub same : RunsAsBefore cpu.0 w.tasks (after_from w (events_at at acts)).tasks
   pub ready : is_some_and (task_of (after_from w (events_at at acts)).tasks pid.0) (is_ready_on cpu.0) ≡ true
 
--- a task that was put into the map is found
+-- A task that was put into the map is found.
 put_there : (tasks : Tasks) (k : ℕ) (t : Task) → task_of (put tasks k t) k ≡ Some t
 put_there tasks k t = get_put tasks k t k ∙ ap (λ b. cond b (Some t) (task_of tasks k)) (itself k)
 
 pub changed_is : (tasks : Tasks) (k : ℕ) (f : Task → Task) (t : Task) → task_of tasks k ≡ Some t → change tasks k f ≡ put tasks k (f t)
 changed_is tasks k f t is = ap (change_to tasks k f) is
 
--- a ready task that was put into the map is found ready on its processor
+-- A ready task that was put into the map is found ready on its processor.
 ready_there : (tasks : Tasks) (k cpu : ℕ) (t : Task) → t.cpu.0 ≡ cpu → is_ready t.mode ≡ true → is_some_and (task_of (put tasks k t) k) (is_ready_on cpu) ≡ true
 ready_there tasks k cpu t there ready = rw (put_there tasks k t, there, itself cpu, ready) refl
 
--- one act that puts the task, ready, on the processor
+-- One act that puts the task, ready, on the processor.
 comes_by : (cpus at room : ℕ) (cpu : Cpu) (pid : Pid) (w : World) (what : Act) (t : Task) → Step cpus at room w what → (after_event w (event_at at what)).tasks ≡ put w.tasks pid.0 t
     → is_some_and (task_of w.tasks pid.0) (is_running_on cpu.0) ≡ false → t.cpu.0 ≡ cpu.0 → t.mode ≡ Ready → Comes cpus at room cpu pid w (what ∷ [])
 comes_by cpus at room cpu pid w what t step is off there mode = record {
@@ -72,24 +72,24 @@ ready_off Waiting h = refl
 ready_off Ready h = refl
 ready_off Running h = absurd (cc h)
 
--- creating the task brings it to the processor
+-- Creating the task brings it to the processor.
 pub comes_made : (cpus at room : ℕ) (cpu : Cpu) (pid : Pid) (w : World) → Stands cpus at (room + 1) w → IsPid pid → cpu.0 < cpus → task_of w.tasks pid.0 ≡ None → tasks_by.len w.tasks < 65536 → Comes cpus at room cpu pid w (made pid cpu ∷ [])
 comes_made cpus at room cpu pid w so is there none space =
     comes_by cpus at room cpu pid w (made pid cpu) (new_task w.groups (codes "/") cpu.0) (step_make cpus at room w pid cpu so is there none space) refl (off_none (task_of w.tasks pid.0) cpu.0 none) refl refl
 
--- waking the task brings it to the processor
+-- Waking the task brings it to the processor.
 pub comes_woken : (cpus at room : ℕ) (cpu : Cpu) (pid : Pid) (w : World) (task : Task) → Stands cpus at (room + 1) w → IsPid pid → cpu.0 < cpus → task_of w.tasks pid.0 ≡ Some task → is_active task.mode ≡ false → Comes cpus at room cpu pid w (act.Wake pid cpu ∷ [])
 comes_woken cpus at room cpu pid w task so is there live sleeps =
     comes_by cpus at room cpu pid w (act.Wake pid cpu) (prepared_changes cpu.0 task) (step_wake cpus at room w pid cpu task so is there live sleeps) (changed_is w.tasks pid.0 (prepared_changes cpu.0) task live)
     (off_some (task_of w.tasks pid.0) task cpu.0 live (asleep_off task.mode sleeps)) refl refl
 
--- migrating a ready task brings it to the processor
+-- Migrating a ready task brings it to the processor.
 pub comes_moved : (cpus at room : ℕ) (cpu : Cpu) (pid : Pid) (w : World) (task : Task) → Stands cpus at (room + 1) w → IsPid pid → cpu.0 < cpus → task_of w.tasks pid.0 ≡ Some task → is_ready task.mode ≡ true → Comes cpus at room cpu pid w (act.Migrate pid cpu ∷ [])
 comes_moved cpus at room cpu pid w task so is there live ready =
     comes_by cpus at room cpu pid w (act.Migrate pid cpu) (prepared_changes cpu.0 task) (step_migrate cpus at room w pid cpu task so is there live ready) (changed_is w.tasks pid.0 (prepared_changes cpu.0) task live)
     (off_some (task_of w.tasks pid.0) task cpu.0 live (ready_off task.mode ready)) refl refl
 
--- a task that is ready on the processor needs no act
+-- A task that is ready on the processor needs no act.
 comes_ready : (cpus at room : ℕ) (cpu : Cpu) (pid : Pid) (w : World) (task : Task) → Stands cpus at room w → task_of w.tasks pid.0 ≡ Some task → is_ready task.mode ≡ true → (task.cpu.0 == cpu.0) ≡ true → Comes cpus at room cpu pid w []
 comes_ready cpus at room cpu pid w task so live ready there = record {
   goes = goes_none cpus at room w so;
@@ -99,11 +99,11 @@ comes_ready cpus at room cpu pid w task so live ready there = record {
 
 -- ---- a task that runs on another processor
 
--- the processor of a live task exists
+-- The processor of a live task exists.
 place_of : (cpus at room : ℕ) (w : World) → Stands cpus at room w → (k : ℕ) (t : Task) → task_of w.tasks k ≡ Some t → t.cpu.0 < cpus
 place_of cpus at room w so k t is = let here = so.legal.within k in (rw is at here).0
 
--- after a task is preempted, it is ready on its processor
+-- After a task is preempted, it is ready on its processor.
 pulled_by : (tasks : Tasks) → RunsOnce tasks → (k cpu : ℕ) (t : Task) → task_of tasks k ≡ Some t → is_running_on cpu t ≡ true → (o : Option (ℕ × Task)) → running_on tasks cpu ≡ o → leave Preempt tasks o ≡ put tasks k (record t { mode = Ready })
 pulled_by tasks once k cpu t is runs None found = let some = runs_there tasks k t cpu is runs in absurd (cc (some, ap is_some found))
 pulled_by tasks once k cpu t is runs (Some e) found =

@@ -18,23 +18,23 @@ use Rattle.import_spec.proofs.PlaceLaws.{first_is, first_none, last_is, last_non
 
 -- ---- texts
 
--- bytes don't begin with a text whose first byte differs
+-- Bytes don't begin with a text whose first byte differs.
 pub begins_other : (text rest : List ℕ) → 0 < length text → (get_or text 0 0 == get_or rest 0 0) ≡ false → begins_with text rest ≡ false
 begins_other [] rest some other = absurd (omega (arith, some))
 begins_other (c ∷ cs) [] some other = refl
 begins_other (c ∷ cs) (x ∷ xs) some other = rw other refl
 
--- the first byte of the rest is the byte at its index
+-- The first byte of the rest is the byte at its index.
 pub prefix : (bytes : List ℕ) (at : ℕ) → get_or (drop at bytes) 0 0 ≡ get_or bytes at 0
 prefix bytes at = let same : at + 0 ≡ at = omega arith in get_or-drop at bytes 0 0 ∙ ap (λ n. get_or bytes n 0) same
 
 -- ---- places
 
--- a byte that a search passed over differs from the byte that is sought
+-- A byte that a search passed over differs from the byte that is sought.
 pub passed_by : (sought byte : ℕ) → (is_byte sought byte ≡ true → ⊥) → byte ≢ sought
 passed_by sought byte off same = off (eq-eqb byte sought same)
 
--- one more index at which a test fails
+-- One more index at which a test fails.
 pub none_down : (test : List ℕ → Bool) (bytes : List ℕ) (at below high : ℕ) → at ≡ below + 1 → NonePasses test bytes at high → test (drop below bytes) ≡ false → NonePasses test bytes below high
 none_down test bytes at below high next none here k low under =
     elim (k == below) as (λ b. (k == below) ≡ b → test (drop k bytes) ≡ false) [
@@ -63,7 +63,7 @@ none_passed text bytes low high some inside off none k from under =
       | inr late ↦ none k late under
     ]
 
--- nothing begins after the last byte
+-- Nothing begins after the last byte.
 pub none_at_end : (test : List ℕ → Bool) (bytes : List ℕ) (at : ℕ) → length bytes ≤ at → NonePasses test bytes at (length bytes)
 none_at_end test bytes at end k low under = absurd (omega (arith, end, low, under))
 
@@ -80,7 +80,7 @@ first_found test bytes at inside none here = first_is test bytes at (record { in
 pub first_missing : (test : List ℕ → Bool) (bytes : List ℕ) (at : ℕ) → length bytes ≤ at → NonePasses test bytes 0 at → first_place test bytes ≡ None
 first_missing test bytes at end none = first_none test bytes (λ k low under. none k low (omega (arith, under, end)))
 
--- a text that occurs in bytes isn't longer than they are
+-- A text that occurs in bytes isn't longer than they are.
 begins_fits : (text rest : List ℕ) → begins_with text rest ≡ true → length text ≤ length rest
 begins_fits [] rest is = omega arith
 begins_fits (c ∷ cs) [] is = absurd (cc is)
@@ -95,11 +95,11 @@ text_fits text bytes at inside is = let fits = begins_fits text (drop at bytes) 
 
 -- ---- runs of bytes that pass a test
 
--- a run with one more byte
+-- A run with one more byte.
 pub run_more : (p : ℕ → Bool) (bytes : List ℕ) (count : ℕ) → count < length bytes → p (get_or bytes count 0) ≡ true → prefix_len p (drop count bytes) ≡ 1 + prefix_len p (drop (count + 1) bytes)
 run_more p bytes count inside passes = rw (drop_more bytes count 0 inside, passes) refl
 
--- a run ends at a byte that fails the test
+-- A run ends at a byte that fails the test.
 pub run_stops : (p : ℕ → Bool) (bytes : List ℕ) (count : ℕ) → count < length bytes → p (get_or bytes count 0) ≡ false → prefix_len p (drop count bytes) ≡ 0
 run_stops p bytes count inside fails = rw (drop_more bytes count 0 inside, fails) refl
 
@@ -110,7 +110,7 @@ pub ruleset runs = (run_more, run_stops, run_ends)
 
 -- ---- numbers
 
--- the value of digits after a number below a bound is below a larger bound
+-- The value of digits after a number below a bound is below a larger bound.
 value_low : (ds : List ℕ) (n m : ℕ) → all_ascii_digits ds ≡ true → n < m → value_after n ds < m * 10 ^ length ds
 value_low [] n m digits low = omega (arith, low)
 value_low (d ∷ ds) n m digits low =

@@ -28,19 +28,19 @@ use Rattle.ftrace_import.proofs.Whole.{end_runs, ends_after, run_on}
 
 -- ---- deeds one by one
 
--- a deed (a stored act) that creates no task doesn't change whether the rest creates one
+-- A deed (a stored act) that creates no task doesn't change whether the rest creates one.
 pub making_on : (kept : List Kept) (at : ℕ) (one : Kept) → at < length kept → one ≡ slice_index_or kept at one → is_some (names (act_by one.deed)).new_task ≡ false → make_task (acts_in (drop at kept)) ≡ make_task (acts_in (drop (at + 1) kept))
 making_on kept at one inside is none = rw (drop_more kept at one inside, sym is, none) refl
 
--- a deed that creates a task
+-- A deed that creates a task.
 pub making_one : (kept : List Kept) (at : ℕ) (one : Kept) → at < length kept → one ≡ slice_index_or kept at one → is_some (names (act_by one.deed)).new_task ≡ true → make_task (acts_in (drop at kept)) ≡ true
 making_one kept at one inside is some = rw (drop_more kept at one inside, sym is, some) refl
 
--- no deed is left, so none creates a task
+-- No deed is left, so none creates a task.
 pub making_end : (kept : List Kept) (at : ℕ) → length kept ≤ at → make_task (acts_in (drop at kept)) ≡ false
 making_end kept at end = rw (drop_of_length-le kept end) refl
 
--- the next event is legal, and the events after it are legal in the world after it
+-- The next event is legal, and the events after it are legal in the world after it.
 pub legal_next : (l : Limits) (w : World) (kept : List Kept) (at : ℕ) (one : Kept) → at < length kept → one ≡ slice_index_or kept at one → AreLegal l w (events_by (drop at kept)) → (cause_of l w (event_by one) ≡ None) × AreLegal l (after_event w (event_by one)) (events_by (drop (at + 1) kept))
 legal_next l w kept at one inside is legal =
     let same : drop at kept ≡ one ∷ drop (at + 1) kept = drop_more kept at one inside ∙ ap (λ (x : Kept). x ∷ drop (at + 1) kept) (sym is) in
@@ -56,7 +56,7 @@ world_end w kept at end = rw (drop_of_length-le kept end) refl
 
 -- ---- the state between lines
 
--- the invariant holds before the first line
+-- The invariant holds before the first line.
 pub gathered_none : (g : Gathering) → IsCpuCount g.cpus → g.table.limits ≡ limits g.cpus → reached_in g ≡ unreached → g.kept.items ≡ [] → IsGathered g
 gathered_none g counted limits_are fresh none = record {
   limits_are = limits_are;
@@ -65,7 +65,7 @@ gathered_none g counted limits_are fresh none = record {
   after_them = ap (λ (r : Reached). r.world) fresh ∙ sym (ap (λ ks. after_from first_world (events_by ks)) none);
 }
 
--- the invariant holds after a line
+-- The invariant holds after a line.
 pub taken_events : (cpus : ℕ) (old new : Gathering) (line_events : LineEvents) → IsGathered old → new.cpus ≡ old.cpus → new.table.limits ≡ old.table.limits → events_by new.kept.items ≡ events_by old.kept.items ++ line_events.events → reached_in new ≡ line_events.reached
     → Gives old.cpus (reached_in old) line_events → IsGathered new
 taken_events cpus old new line_events so same limits_same kept reached gives = record {
@@ -112,7 +112,7 @@ sighted old at what first moment before cpu part new begins moved needed count s
   kept = kept;
 }
 
--- the stored events don't become fewer
+-- The stored events don't become fewer.
 pub kept_longer : (old new : List Kept) (events : List Event) (before : ℕ) → before ≡ length old → events_by new ≡ events_by old ++ events → before ≤ length new
 kept_longer old new events before is kept =
     let all = sym (length-map new event_by) ∙ ap length kept ∙ length-append (events_by old) events in
@@ -161,7 +161,7 @@ sighted_taken old now at what moment before cpu part is so seen none cpus first 
 
 -- ---- all lines
 
--- the events of an import and its end are legal from the first world
+-- The events of an import and its end are legal from the first world.
 pub all_end : (cpus : ℕ) (g : Gathering) → IsGathered g → g.cpus ≡ cpus → Ends cpus first_world (whole_events g)
 all_end cpus g so is =
     subst (λ n. Ends n first_world (whole_events g)) is (record {

@@ -17,7 +17,7 @@ one_kept old new at deed is = ap events_by is ∙ map-append event_by old (recor
 pub none_kept : (old : List Kept) (at : ℕ) → events_by old ≡ events_by old ++ events_at at []
 none_kept old at = sym (append-nil (events_by old))
 
--- storing some acts and then others stores all of them
+-- Storing some acts and then others stores all of them.
 pub both_kept : (old mid new : List Kept) (at : ℕ) (xs ys : List Act) → events_by mid ≡ events_by old ++ events_at at xs → events_by new ≡ events_by mid ++ events_at at ys → events_by new ≡ events_by old ++ events_at at (xs ++ ys)
 both_kept old mid new at xs ys first then =
     then ∙ ap (λ es. es ++ events_at at ys) first ∙ append_assoc (events_by old) (events_at at xs) (events_at at ys) ∙ ap (λ es. events_by old ++ es) (sym (map-append _ xs ys))
@@ -25,16 +25,16 @@ both_kept old mid new at xs ys first then =
 pub two_kept : (old mid new : List Kept) (at : ℕ) (x y : Act) → events_by mid ≡ events_by old ++ events_at at (x ∷ []) → events_by new ≡ events_by mid ++ events_at at (y ∷ []) → events_by new ≡ events_by old ++ events_at at (x ∷ y ∷ [])
 two_kept old mid new at x y first then = both_kept old mid new at (x ∷ []) (y ∷ []) first then
 
--- the optional task of a search result has a value exactly if the search result has
+-- The optional task of a search result has a value exactly if the search result has.
 pub some_part : (o : Option (ℕ × Task)) → is_some (task_part o) ≡ is_some o
 some_part None = refl
 some_part (Some e) = refl
 
--- the events that were appended to the stored ones
+-- The events that were appended to the stored ones.
 pub kept_new : (old new : List Kept) (events : List Event) → events_by new ≡ events_by old ++ events → events_by (drop (length old) new) ≡ events
 kept_new old new events is = sym (drop-map event_by (length old) new) ∙ ap (drop (length old)) is ∙ drop_at (events_by old) events (length old) (length-map old event_by)
 
--- the acts of the stored events are the acts of the events that they represent
+-- The acts of the stored events are the acts of the events that they represent.
 pub acts_of_events : (kept : List Kept) → acts_in kept ≡ map (λ (e : Event). e.act) (events_by kept)
 acts_of_events [] = refl
 acts_of_events (one ∷ kept) = ap (λ acts. act_by one.deed ∷ acts) (acts_of_events kept)

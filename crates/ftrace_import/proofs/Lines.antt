@@ -33,7 +33,7 @@ use Rattle.ftrace_import.proofs.Sights.{line_seen}
 
 -- ---- no cause of rejection
 
--- no cause of rejection applies to the acts at trace time `moment` (ns)
+-- No cause of rejection applies to the acts at trace time `moment` (ns).
 record Pass (cpus : ℕ) (w : World) (moment : ℕ) (cpu : Cpu) (acts : List Act) : Type 0 where
   there : cpu.0 < cpus
   early : moment ≤ 2000000000000000
@@ -64,13 +64,13 @@ pass cpus w moment cpu acts is =
       few = grind (arith, nat_tests);
     }
 
--- equal results have equal values
+-- Equal results have equal values.
 ok_same : (x y : LineEvents) → (let r : Result LineEvents ImportCause = Ok x in r) ≡ Ok y → x ≡ y
 ok_same x y is = cc is
 
 -- ---- a wakeup
 
--- the acts are legal, and the task isn't blocked after them
+-- The acts are legal, and the task isn't blocked after them.
 pub record Wakes (cpus at : ℕ) (pid : Pid) (w : World) (acts : List Act) : Type 0 where
   pub goes : Goes cpus at 0 w acts
   pub awake : is_some_and (task_of (after_from w (events_at at acts)).tasks pid.0) (λ task. is_active task.mode) ≡ true
@@ -102,7 +102,7 @@ moves cpus at have cpu pid w (Some task) so few is there live =
 
 -- ---- a switch
 
--- if the next task isn't live, the acts of the switch create it
+-- If the next task isn't live, the acts of the switch create it.
 makes_next : (w : World) (cpu : Cpu) (previous next : Option Pid) (how : How) → (make_task (switch_acts w.tasks cpu previous next how) ≡ true → tasks_by.len w.tasks < 65536) → IfSome next (λ pid. task_of w.tasks pid.0 ≡ None → tasks_by.len w.tasks < 65536)
 makes_next w cpu previous None how space = tt
 makes_next w cpu previous (Some pid) how space = λ none. space (rw none refl)
@@ -119,11 +119,11 @@ goes cpus at w (seen.Switch cpu previous next how) so is pass = (switches cpus a
 goes cpus at w (seen.Wakeup pid cpu) so is pass = (wakes cpus at _ cpu pid w (task_of w.tasks pid.0) so (omega arith) is pass.there refl pass.space).goes
 goes cpus at w (seen.Migration pid cpu) so is pass = moves cpus at _ cpu pid w (task_of w.tasks pid.0) so (omega arith) is pass.there refl
 
--- the invariant holds at the time of a line, with room for its events
+-- The invariant holds at the time of a line, with room for its events.
 placed_at : (cpus : ℕ) (reached : Reached) (at : ℕ) (cpu : Cpu) (acts : List Act) → IsUnderWay cpus reached → Pass cpus reached.world (line_moment reached at) cpu acts → Stands cpus (line_moment reached at) (length acts) reached.world
 placed_at cpus reached at cpu acts so pass = later_in cpus reached.moment 0 (line_moment reached at) (length acts) reached.world so (omega arith) pass.early pass.few
 
--- the events of a line can be spelled and are legal, and the import's invariant holds after them
+-- The events of a line can be spelled and are legal, and the import's invariant holds after them.
 pub record Gives (cpus : ℕ) (reached : Reached) (line_events : LineEvents) : Type 0 where
   pub fit : AllFit line_events.events
   pub known : AreKnown (verbs_of One) line_events.events
@@ -154,7 +154,7 @@ gives cpus reached line line_events so found = gives_by cpus reached line line_e
 
 -- ---- laws of one line
 
--- after a switch, the next task runs
+-- After a switch, the next task runs.
 switch_or : (cpus : ℕ) (reached : Reached) (at : ℕ) (cpu : Cpu) (previous next : Option Pid) (how : How) (line_events : LineEvents) → IsUnderWay cpus reached → IfSome next IsPid × Leaves how → (o : Option ImportCause)
     → acts_cause cpus reached.world (line_moment reached at) cpu (switch_acts reached.world.tasks cpu previous next how) ≡ o → events_or reached at (line_moment reached at) (switch_acts reached.world.tasks cpu previous next how) o ≡ Ok line_events → runner line_events.reached.world.tasks cpu.0 ≡ next
 switch_or cpus reached at cpu previous next how line_events so is (Some why) none found = absurd (cc found)
@@ -168,7 +168,7 @@ pub switch_runs : (cpus : ℕ) (reached : Reached) (at : ℕ) (cpu : Cpu) (previ
 unfolding line_events_at
 switch_runs cpus reached at cpu previous next how line_events so is found = switch_or cpus reached at cpu previous next how line_events so is _ refl found
 
--- after a wakeup, the task isn't blocked
+-- After a wakeup, the task isn't blocked.
 wakeup_or : (cpus : ℕ) (reached : Reached) (at : ℕ) (pid : Pid) (cpu : Cpu) (line_events : LineEvents) → IsUnderWay cpus reached → IsPid pid → (o : Option ImportCause)
     → acts_cause cpus reached.world (line_moment reached at) cpu (wakeup_acts pid cpu (task_of reached.world.tasks pid.0)) ≡ o → events_or reached at (line_moment reached at) (wakeup_acts pid cpu (task_of reached.world.tasks pid.0)) o ≡ Ok line_events
     → is_some_and (task_of line_events.reached.world.tasks pid.0) (λ task. is_active task.mode) ≡ true
@@ -185,7 +185,7 @@ wakeup_wakes cpus reached at pid cpu line_events so is found = wakeup_or cpus re
 
 -- ---- the result of a line, by its cause of rejection
 
--- the result of a line that isn't rejected
+-- The result of a line that isn't rejected.
 abbrev pub line_events_after : Reached → ℕ → Seen → LineEvents
 line_events_after reached at what = record {
   events = events_at (line_moment reached at) (acts_of reached.world.tasks what);
@@ -196,7 +196,7 @@ line_events_after reached at what = record {
   };
 }
 
--- the cause of rejection of a line with this content at this time, or `None`
+-- The cause of rejection of a line with this content at this time, or `None`.
 abbrev pub cause_at : ℕ → Reached → ℕ → Seen → Option ImportCause
 cause_at cpus reached at what = acts_cause cpus reached.world (line_moment reached at) (needed_cpu what) (acts_of reached.world.tasks what)
 

@@ -12,7 +12,7 @@ use Rattle.ftrace_import.specs.declared.marked.ShortMark.{ShortMark}
 use Rattle.ftrace_import.specs.Bytes.{IsFirstMark, mark_parts, parted}
 use Rattle.ftrace_import.proofs.Bytes.{begins_other, prefix, passed_by}
 
--- bytes that don't begin with a colon don't begin with a mark
+-- Bytes that don't begin with a colon don't begin with a mark.
 unmarked : (rest : List ℕ) → (58 == get_or rest 0 0) ≡ false → mark_of rest ≡ None
 unfolding mark_of
 unmarked rest other =
@@ -21,7 +21,7 @@ unmarked rest other =
 no_colon : (line : List ℕ) (at : ℕ) → get_or line at 0 ≢ 58 → mark_of (drop at line) ≡ None
 no_colon line at other = unmarked (drop at line) (ne_eqb 58 (get_or (drop at line) 0 0) (λ same. other (sym (prefix line at) ∙ sym same)))
 
--- there is a mark here
+-- There is a mark here.
 pub marked_here : (o : Option Mark) (short : ShortMark) → option_map mark_parts o ≡ Some short → is_some o ≡ true
 marked_here None short is = absurd (cc is)
 marked_here (Some m) short is = refl
@@ -30,7 +30,7 @@ pub unmarked_here : (o : Option Mark) → option_map mark_parts o ≡ None → i
 unmarked_here None is = refl
 unmarked_here (Some m) is = absurd (cc is)
 
--- no mark begins at a byte that the search for a colon passed over
+-- No mark begins at a byte that the search for a colon passed over.
 pub none_before : (line rest : List ℕ) (from count : ℕ) → rest ≡ drop from line → Nowhere (Passes (is_byte 58) rest) 0 count → NonePasses begins_marked line 0 from → NonePasses begins_marked line 0 (from + count)
 none_before line rest from count is off none k low under =
     elim (cases_lt k from) [

@@ -16,17 +16,17 @@ use Rattle.ftrace_import.specs.Gathers.{IsLineFault, import_fault, shelf_fault, 
 use Rattle.ftrace_import.specs.declared.text.ImportFault.{ImportFault}
 use Rattle.ftrace_import.specs.declared.text.ImportFault.TheVariants as import
 
--- the reads end at offset `q` if they end at `p` and these are equal
+-- The reads end at offset `q` if they end at `p` and these are equal.
 pub place_is : (name : List ℕ) (from : Progress) (p q : ℕ) (before now : List ReadCall) → ReadsFrom name from before now (Next p) → p ≡ q → ReadsFrom name from before now (Next q)
 place_is name from p q before now reads is = subst (λ n. ReadsFrom name from before now (Next n)) is reads
 
--- the order of reads after which a line is rejected, or has another fault that isn't a failed read
+-- The order of reads after which a line is rejected, or has another fault that isn't a failed read.
 pub faulted_order : (name : List ℕ) (at place line : ℕ) (before now : List ReadCall) (why : Fault ImportCause) (found : ImportFault) → ReadsFrom name (Next at) before now (Next place) → IsLineFault line why found
     → ReadsFile name at before now (shelf_fault found)
 faulted_order name at place line before now (fault.Refused cause) found reads is = subst (λ f. ReadsFile name at before now (shelf_fault f)) (sym is) (file_read name at before now (Next place) reads)
 faulted_order name at place line before now (fault.NoMemory none) found reads is = subst (λ f. ReadsFile name at before now (shelf_fault f)) (sym is) (file_read name at before now (Next place) reads)
 
--- the order of reads that end with the fault of a line that can't be read
+-- The order of reads that end with the fault of a line that can't be read.
 pub unread_order : (name : List ℕ) (at place : ℕ) (before now : List ReadCall) (why : LineFault) (found : ImportFault) → ReadsFrom name (Next at) before now (progress_by_fault place why) → found ≡ import_fault why
     → ReadsFile name at before now (shelf_fault found)
 unread_order name at place before now (lines.TooLong n) found reads is = subst (λ f. ReadsFile name at before now (shelf_fault f)) (sym is) (file_read name at before now _ reads)
@@ -35,7 +35,7 @@ unread_order name at place before now lines.NoFile found reads is = subst (λ f.
 unread_order name at place before now lines.ReadFault found reads is = subst (λ f. ReadsFile name at before now (shelf_fault f)) (sym is) (file_read name at before now _ reads)
 unread_order name at place before now (lines.NoMemory none) found reads is = subst (λ f. ReadsFile name at before now (shelf_fault f)) (sym is) (file_read name at before now _ reads)
 
--- if memory ran out before the first read, the log is unchanged
+-- If memory ran out before the first read, the log is unchanged.
 pub nothing_read : {A : Type 0} → (name : List ℕ) (log : List ReadCall) (none : token.NoMemory) (result : Result A ImportFault) → IsErr result → IsErrAnd result (λ e. e ≡ import.NoMemory none) → ReadsFile name 0 log log (shelf_fault_in result)
 nothing_read name log none (Ok value) failed same = cc
 nothing_read name log none (Err found) failed same =

@@ -26,7 +26,7 @@ calm_placed tasks calm k x is q = rw (task_placed tasks k x q) (elim (q == k) as
 pub calm_put : (tasks : Tasks) → IsCalm tasks → (k : ℕ) (t : Task) → t.stalled ≡ false → IsCalm (put tasks k t)
 calm_put tasks calm k t is = calm_placed tasks calm k (Some t) is
 
--- a live task isn't in a memory stall
+-- A live task isn't in a memory stall.
 pub calm_task : (tasks : Tasks) → IsCalm tasks → (k : ℕ) (t : Task) → task_of tasks k ≡ Some t → t.stalled ≡ false
 calm_task tasks calm k t is = let here = calm k in rw is at here
 
@@ -52,14 +52,14 @@ calm_start tasks calm (Some pid) = calm_change tasks calm pid.0 (λ task. record
 pub calm_switch : (tasks : Tasks) → IsCalm tasks → (cpu : ℕ) (next : Option Pid) (how : How) → IsCalm (start next (leave how tasks (running_on tasks cpu)))
 calm_switch tasks calm cpu next how = calm_start (leave how tasks (running_on tasks cpu)) (calm_leave tasks calm cpu how (running_on tasks cpu) refl) next
 
--- the running task isn't in a memory stall
+-- The running task isn't in a memory stall.
 pub calm_running : (tasks : Tasks) → IsCalm tasks → (cpu : ℕ) (o : Option (ℕ × Task)) → running_on tasks cpu ≡ o → is_some_and (task_part o) (λ t. t.stalled) ≡ false
 calm_running tasks calm cpu None is = refl
 calm_running tasks calm cpu (Some e) is = calm_task tasks calm e.0 e.1 (running_found tasks cpu e is).0
 
 -- ---- the running task
 
--- the same tasks run on a processor before and after
+-- The same tasks run on a processor before and after.
 abbrev pub RunsAsBefore : ℕ → Tasks → Tasks → Type 0
 RunsAsBefore cpu before now = (q : ℕ) → is_some_and (task_of now q) (is_running_on cpu) ≡ is_some_and (task_of before q) (is_running_on cpu)
 
@@ -70,7 +70,7 @@ runs_put cpu tasks k t off rests q =
       | false ↦ λ _. refl
     ] refl)
 
--- a processor has a running task if a given task runs on it
+-- A processor has a running task if a given task runs on it.
 runs_if : (tasks : Tasks) (cpu q : ℕ) → is_some_and (task_of tasks q) (is_running_on cpu) ≡ true → is_some (running_on tasks cpu) ≡ true
 runs_if tasks cpu q runs =
     elim (task_of tasks q) as (λ o. task_of tasks q ≡ o → is_some_and o (is_running_on cpu) ≡ true → is_some (running_on tasks cpu) ≡ true) [
@@ -78,7 +78,7 @@ runs_if tasks cpu q runs =
       | Some t ↦ λ is r. runs_there tasks q t cpu is r
     ] refl runs
 
--- a processor has a running task if it had one before
+-- A processor has a running task if it had one before.
 runs_on : (cpu : ℕ) (before now : Tasks) → RunsAsBefore cpu before now → (o : Option (ℕ × Task)) → running_on before cpu ≡ o → is_some o ≡ true → is_some (running_on now cpu) ≡ true
 runs_on cpu before now same None is some = absurd (cc some)
 runs_on cpu before now same (Some e) is some =
@@ -90,14 +90,14 @@ either_way true b one other = one refl
 either_way false true one other = sym (other refl)
 either_way false false one other = refl
 
--- a processor has a running task exactly if it had one before
+-- A processor has a running task exactly if it had one before.
 pub same_runs : (cpu : ℕ) (before now : Tasks) → RunsAsBefore cpu before now → is_some (running_on now cpu) ≡ is_some (running_on before cpu)
 same_runs cpu before now same =
     either_way (is_some (running_on before cpu)) (is_some (running_on now cpu))
     (runs_on cpu before now same (running_on before cpu) refl)
     (runs_on cpu now before (λ q. sym (same q)) (running_on now cpu) refl)
 
--- the running task of a processor is the task that is known to run there
+-- The running task of a processor is the task that is known to run there.
 runner_in : (tasks : Tasks) → RunsOnce tasks → (cpu : ℕ) (pid : Pid) (task : Task) → task_of tasks pid.0 ≡ Some task → is_running_on cpu task ≡ true → (o : Option (ℕ × Task)) → running_on tasks cpu ≡ o → option_map (λ (e : ℕ × Task). let pid : Pid = record { 0 = e.0 } in pid) o ≡ Some pid
 runner_in tasks once cpu pid task is runs None found = let some = runs_there tasks pid.0 task cpu is runs in absurd (cc (some, ap is_some found))
 runner_in tasks once cpu pid task is runs (Some e) found = ap (λ n. let o : Option Pid = Some (record { 0 = n }) in o) (only_runs tasks once cpu pid.0 task e is runs found)
@@ -109,7 +109,7 @@ runner_is tasks once cpu pid runs =
       | Some t ↦ λ is r. runner_in tasks once cpu pid t is r (running_on tasks cpu) refl
     ] refl runs
 
--- if no running task is found, the processor has none
+-- If no running task is found, the processor has none.
 pub no_runner : (tasks : Tasks) (cpu : ℕ) (o : Option (ℕ × Task)) → running_on tasks cpu ≡ o → is_some o ≡ false → runner tasks cpu ≡ None
 no_runner tasks cpu None is none = ap (option_map (λ (e : ℕ × Task). let pid : Pid = record { 0 = e.0 } in pid)) is
 no_runner tasks cpu (Some e) is none = absurd (cc none)
@@ -119,7 +119,7 @@ no_runner tasks cpu (Some e) is none = absurd (cc none)
 pub rests : (cpu : ℕ) (t : Task) → is_running t.mode ≡ false → is_running_on cpu t ≡ false
 rests cpu t off = elim (t.cpu.0 == cpu) as (λ b. (b && is_running t.mode) ≡ false) [ true ↦ off | false ↦ refl ]
 
--- a task that left its processor doesn't run there
+-- A task that left its processor doesn't run there.
 left_rests : (cpu : ℕ) (how : How) (e : ℕ × Task) → is_wrong how (Some e) ≡ false → is_some_and (left_by how e.1) (is_running_on cpu) ≡ false
 left_rests cpu Preempt e right = rests cpu (record e.1 { mode = Ready }) refl
 left_rests cpu Sleep e right = rests cpu (record e.1 { mode = Blocked }) refl
@@ -127,7 +127,7 @@ left_rests cpu IoWait e right = rests cpu (record e.1 { mode = Waiting }) refl
 left_rests cpu Exit e right = refl
 left_rests cpu Idle e right = absurd (cc right)
 
--- after the running task left, no task runs on the processor
+-- After the running task left, no task runs on the processor.
 none_after : (tasks : Tasks) → RunsOnce tasks → (cpu : ℕ) (how : How) (e : ℕ × Task) → running_on tasks cpu ≡ Some e → is_wrong how (Some e) ≡ false → (q : ℕ) → is_some_and (task_of (placed tasks e.0 (left_by how e.1)) q) (is_running_on cpu) ≡ false
 none_after tasks once cpu how e found right q =
     rw (task_placed tasks e.0 (left_by how e.1) q) (elim (q == e.0) as (λ b. (q == e.0) ≡ b → is_some_and (cond b (left_by how e.1) (task_of tasks q)) (is_running_on cpu) ≡ false) [

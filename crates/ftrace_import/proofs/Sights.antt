@@ -19,7 +19,7 @@ use Rattle.import_spec.specs.Tails.{cpu_in, field_in, how_in, if_small, is_space
 use Rattle.import_spec.specs.Marked.{Marked, if_formed, marked_of, migration_in, read_line, read_marked, seen_in, sighting_of, switch_in, wakeup_in}
 use Rattle.ftrace_import.specs.Stands.{IsSeen, Leaves}
 
--- a sequence of two steps succeeds only if both do
+-- A sequence of two steps succeeds only if both do.
 pub record Bound {A B : Type 0} (o : Option A) (f : A → Option B) (y : B) : Type 0 where
   pub value : A
   pub first : o ≡ Some value
@@ -29,7 +29,7 @@ pub bound : {A B : Type 0} (o : Option A) (f : A → Option B) (y : B) → (o >>
 bound None f y is = absurd (cc is)
 bound (Some x) f y is = record { value = x; first = refl; then = is }
 
--- equal options have equal values
+-- Equal options have equal values.
 pub some_same : {A : Type 0} (x y : A) → Some x ≡ Some y → x ≡ y
 some_same x y is = cc is
 
@@ -107,7 +107,7 @@ sighting_seen line sighting is =
     let what = bound (seen_in line.kind cpu.value line.tail) _ sighting cpu.then in
     subst (λ (s : Sighting). IsSeen s.seen) (some_same _ sighting what.then) (kind_seen line.kind cpu.value line.tail what.value what.first)
 
--- the content of a line that was parsed is the content of its mark, head and tail
+-- The content of a line that was parsed is the content of its mark, head and tail.
 if_seen : (line : Marked) (sighting : Sighting) (o : Option Sighting) → sighting_of line ≡ o → (let r : Result (Option Sighting) ImportCause = if_formed o in r) ≡ Ok (Some sighting) → IsSeen sighting.seen
 if_seen line sighting None is found = absurd (cc found)
 if_seen line sighting (Some other) is found = sighting_seen line sighting (is ∙ cc found)

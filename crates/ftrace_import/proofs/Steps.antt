@@ -29,7 +29,7 @@ use Rattle.ftrace_import.proofs.Runs.{calm_change, calm_put, calm_running, calm_
 
 -- ---- the invariant of the world
 
--- the invariant holds in the first world
+-- The invariant holds in the first world.
 pub first_in : (cpus : ℕ) → IsCpuCount cpus → Stands cpus 0 0 first_world
 first_in cpus counted = record {
   counted = counted;
@@ -42,7 +42,7 @@ first_in cpus counted = record {
   few = omega arith;
 }
 
--- the invariant holds at a later time, and for fewer further events
+-- The invariant holds at a later time, and for fewer further events.
 pub later_in : (cpus at room now few : ℕ) (w : World) → Stands cpus at room w → at ≤ now → now ≤ 2000000000000000 → w.lines + few ≤ 3999999 → Stands cpus now few w
 later_in cpus at room now few w so later early left = record {
   counted = so.counted;
@@ -55,11 +55,11 @@ later_in cpus at room now few w so later early left = record {
   few = left;
 }
 
--- the event with this act at time `at` (ns)
+-- The event with this act at time `at` (ns).
 abbrev pub event_at : ℕ → Act → Event
 event_at at what = record { at = at; act = what }
 
--- the act can be spelled and is legal, and the invariant holds after it
+-- The act can be spelled and is legal, and the invariant holds after it.
 pub record Step (cpus at room : ℕ) (w : World) (what : Act) : Type 0 where
   pub fits : Fits (event_at at what)
   pub known : IsKnown (verbs_of One) (event_at at what)
@@ -92,8 +92,8 @@ step_is cpus at room w what so none fits known same goes calm =
 
 -- ---- several acts
 
--- the acts, all at one time, can be spelled and are legal in their order, and the invariant holds
--- after them
+-- The acts, all at one time, can be spelled and are legal in their order, and the invariant holds
+-- after them.
 pub record Goes (cpus at room : ℕ) (w : World) (acts : List Act) : Type 0 where
   pub fit : AllFit (events_at at acts)
   pub known : AreKnown (verbs_of One) (events_at at acts)
@@ -130,7 +130,7 @@ goes_on cpus at mid room w (x ∷ xs) ys prefix rest =
 
 -- ---- the acts of an import
 
--- the number of an existing processor can be spelled, and the test for a missing processor fails
+-- The number of an existing processor can be spelled, and the test for a missing processor fails.
 there_is : (cpus cpu : ℕ) → cpu < cpus → nat_le cpus cpu ≡ false
 there_is cpus cpu room = grind (arith, nat_tests)
 
@@ -144,7 +144,7 @@ root_is_path = refl
 not_full : (live : ℕ) → live < 65536 → nat_le 65536 live ≡ false
 not_full live room = grind (arith, nat_tests)
 
--- creating a task is legal
+-- Creating a task is legal.
 pub step_make : (cpus at room : ℕ) (w : World) (pid : Pid) (cpu : Cpu) → Stands cpus at (room + 1) w → IsPid pid → cpu.0 < cpus → task_of w.tasks pid.0 ≡ None → tasks_by.len w.tasks < 65536 → Step cpus at room w (made pid cpu)
 step_make cpus at room w pid cpu so is there none space =
     let groups = so.groups in
@@ -154,7 +154,7 @@ step_make cpus at room w pid cpu so is there none space =
     (inr (inr (inr (inr (inr (inr (inl refl)))))))
     refl refl (calm_put w.tasks so.calm pid.0 _ refl)
 
--- waking a blocked task is legal
+-- Waking a blocked task is legal.
 pub step_wake : (cpus at room : ℕ) (w : World) (pid : Pid) (cpu : Cpu) (task : Task) → Stands cpus at (room + 1) w → IsPid pid → cpu.0 < cpus → task_of w.tasks pid.0 ≡ Some task → is_active task.mode ≡ false → Step cpus at room w (act.Wake pid cpu)
 step_wake cpus at room w pid cpu task so is there live sleeps =
     step_is cpus at room w (act.Wake pid cpu) so
@@ -163,7 +163,7 @@ step_wake cpus at room w pid cpu task so is there live sleeps =
     (inr (inl refl))
     refl refl (calm_change w.tasks so.calm pid.0 (prepared_changes cpu.0) (λ t. refl) (task_of w.tasks pid.0) refl)
 
--- migrating a ready task is legal
+-- Migrating a ready task is legal.
 pub step_migrate : (cpus at room : ℕ) (w : World) (pid : Pid) (cpu : Cpu) (task : Task) → Stands cpus at (room + 1) w → IsPid pid → cpu.0 < cpus → task_of w.tasks pid.0 ≡ Some task → is_ready task.mode ≡ true → Step cpus at room w (act.Migrate pid cpu)
 step_migrate cpus at room w pid cpu task so is there live ready =
     step_is cpus at room w (act.Migrate pid cpu) so
@@ -172,7 +172,7 @@ step_migrate cpus at room w pid cpu task so is there live ready =
     (inr (inr (inr (inr (inl refl)))))
     refl refl (calm_change w.tasks so.calm pid.0 (prepared_changes cpu.0) (λ t. refl) (task_of w.tasks pid.0) refl)
 
--- the next task, if there is one, is ready on the processor
+-- The next task, if there is one, is ready on the processor.
 abbrev pub IsNext : Tasks → ℕ → Option Pid → Type 0
 IsNext tasks cpu next = IfSome next (λ pid. IsPid pid × (is_some_and (task_of tasks pid.0) (is_ready_on cpu) ≡ true))
 
@@ -180,8 +180,8 @@ some_ready : (o : Option Task) (cpu : ℕ) → is_some_and o (is_ready_on cpu) �
 some_ready None cpu ready = absurd (cc ready)
 some_ready (Some t) cpu ready = refl
 
--- a switch is legal: the running task leaves and the next task starts, or the next task starts on
--- an idle processor
+-- A switch is legal: the running task leaves and the next task starts, or the next task starts on
+-- an idle processor.
 pub step_switch : (cpus at room : ℕ) (w : World) (cpu : Cpu) (next : Option Pid) (how : How) → Stands cpus at (room + 1) w → cpu.0 < cpus → IsNext w.tasks cpu.0 next → is_wrong how (running_on w.tasks cpu.0) ≡ false → Step cpus at room w (act.Switch cpu next how)
 step_switch cpus at room w cpu None how so there ready right =
     let calm = calm_running w.tasks so.calm cpu.0 (running_on w.tasks cpu.0) refl in

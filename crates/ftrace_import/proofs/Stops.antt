@@ -46,7 +46,7 @@ or_refused-line : (number : ℕ) (line_events : Result LineEvents ImportCause) (
 or_refused-line number (Ok line_events) suffix refusal later is = later line_events.reached (followed-err line_events.events (suffix line_events.reached) refusal is)
 or_refused-line number (Err why) suffix refusal later is = same_number number why refusal is
 
--- the lines from number `number` are rejected at this line or at a later line
+-- The lines from number `number` are rejected at this line or at a later line.
 from_line : (cpus : ℕ) (reached : Reached) (number : ℕ) (parts : List (List ℕ)) (refusal : Refused) → import_from cpus reached number parts ≡ Err refusal → number ≤ refusal.line
 unfolding import_from
 from_line cpus reached number [] refusal is = absurd (cc is)
@@ -63,7 +63,7 @@ err_same found other is = cc is
 same_fault : (lent : Result (Option (Bor (List ℕ))) LineFault) (why : LineFault) → lent ≡ Err why → why ≡ lines.ReadFault → lent ≡ Err lines.ReadFault
 same_fault lent why is read = is ∙ ap (λ f. let r : Result (Option (Bor (List ℕ))) LineFault = Err f in r) read
 
--- a line that was read has no read fault
+-- A line that was read has no read fault.
 line_was_read : (line : ℕ) (why : Fault ImportCause) (found : ImportFault) → IsLineFault line why found → found ≡ import.ReadFault → ⊥
 line_was_read line (fault.Refused cause) found is read = absurd (cc (sym is ∙ read))
 line_was_read line (fault.NoMemory none) found is read = absurd (cc (sym is ∙ read))
@@ -75,7 +75,7 @@ line_number : (line : ℕ) (why : Fault ImportCause) (found : ImportFault) (numb
 line_number line (fault.Refused had) found number because is at = refusal_number line number had because (sym is ∙ at)
 line_number line (fault.NoMemory none) found number because is at = absurd (cc (sym is ∙ at))
 
--- if the fault of the import is a failed read, so is the fault of the line
+-- If the fault of the import is a failed read, so is the fault of the line.
 read_failed : (why : LineFault) → import_fault why ≡ import.ReadFault → why ≡ lines.ReadFault
 read_failed (lines.TooLong n) is = absurd (cc is)
 read_failed (lines.Cut n) is = absurd (cc is)
@@ -164,7 +164,7 @@ known_keeps files files_now name name_now old new result same named keeps =
 
 -- ---- all lines
 
--- reading stops at the line that the reader has reached
+-- Reading stops at the line that the reader has reached.
 pub stops_here : (A : Type 0) (cpus : ℕ) (g : Gathering) (known : Option (List ℕ)) (first old new : Reader) (bytes_read read_before read_now : ℕ) (found : ImportFault) → first.number ≡ 1 → first.buffered ≡ [] → first.at ≡ 0 → read_before + first.at ≡ bytes_read + old.at → read_now + old.at ≡ read_before + new.at → new.at ≤ furthest old.number
     → ((bytes : List ℕ) → known ≡ Some bytes → old.number + line_count (left old bytes) ≡ first.number + line_count (left first bytes))
     → SoFar cpus old.number g (left first) (left old) known → KeepsLines {A = Bool} known old new (Err found) → StopsAtRefusal {A = A} (rest_from cpus unreached 1) known bytes_read read_now (Err found)

@@ -104,7 +104,7 @@ rest_cut cpus reached number bytes few is =
     rest_last cpus reached number bytes is.none
     ∙ refusal_at reached number cause.Cut (tail_cause number bytes) (rest_some number bytes cause.Cut (some_bytes bytes is.some) (rw (low_number number few, short_line (length bytes) is.short) refl))
 
--- a line whose first 513 bytes contain no newline has more than 512 bytes
+-- A line whose first 513 bytes contain no newline has more than 512 bytes.
 long_first : (bytes : List ℕ) (c : Cut 10 bytes) → IsTooLong bytes → 513 ≤ length c.line
 long_first bytes c is =
     let case : (513 ≤ length c.line) ⊎ (length c.line < 513) = grind arith in
@@ -193,7 +193,7 @@ one_more cpus number old new before suffix later known so taken = record {
       ∙ ap (events_followed (events_by old.kept.items)) (sym here) ∙ so.read bytes shows;
 }
 
--- the fault of a line is the fault of the whole text
+-- The fault of a line is the fault of the whole text.
 faulted : (events : List Event) (rest whole : Answer) (why : ImportFault) → events_followed events rest ≡ whole → RefusalOf why rest → RefusalOf why whole
 faulted events rest whole (import.Refused number cause) is found = sym is ∙ ap (events_followed events) found
 faulted events rest whole import.NoFile is found = tt
@@ -214,12 +214,12 @@ ends_here cpus number old before suffix known so found bytes shows =
 
 -- ---- a whole text
 
--- the import of a text is the import of the remaining bytes from line 1
+-- The import of a text is the import of the remaining bytes from line 1.
 whole : (cpus : ℕ) (bytes : List ℕ) → import_of cpus bytes ≡ rest_from cpus unreached 1 bytes
 unfolding import_of
 whole cpus bytes = refl
 
--- the reader before the first line of a file
+-- The reader before the first line of a file.
 abbrev pub fresh_reader : List ℕ → Reader
 fresh_reader name = record { name = name; number = 1; buffered = []; at = 0 }
 

@@ -26,7 +26,7 @@ use Rattle.ftrace_import.specs.Stands.{Leaves, Stands}
 use Rattle.ftrace_import.proofs.Steps.{Goes, IsNext, event_at, goes_none, goes_on, goes_one, step_switch}
 use Rattle.ftrace_import.proofs.Arrivals.{changed_is, comes, less_room}
 
--- the acts are legal, and after them the next task, or none, runs on the processor
+-- The acts are legal, and after them the next task, or none, runs on the processor.
 pub record Turned (cpus at room : ℕ) (cpu : Cpu) (next : Option Pid) (w : World) (acts : List Act) : Type 0 where
   pub goes : Goes cpus at room w acts
   pub runs : runner (after_from w (events_at at acts)).tasks cpu.0 ≡ next
@@ -36,7 +36,7 @@ pub record Turned (cpus at room : ℕ) (cpu : Cpu) (next : Option Pid) (w : Worl
 put_there : (tasks : Tasks) (k : ℕ) (t : Task) → task_of (put tasks k t) k ≡ Some t
 put_there tasks k t = get_put tasks k t k ∙ ap (λ b. cond b (Some t) (task_of tasks k)) (itself k)
 
--- a task that was ready on a processor runs there after it is started
+-- A task that was ready on a processor runs there after it is started.
 started_from : (tasks : Tasks) (cpu : ℕ) (how : How) (k : ℕ) (o : Option Task) → task_of tasks k ≡ o → is_some_and o (is_ready_on cpu) ≡ true → is_some_and (task_of (start (Some (record { 0 = k })) (leave how tasks (running_on tasks cpu))) k) (is_running_on cpu) ≡ true
 started_from tasks cpu how k None is ready = absurd (cc ready)
 started_from tasks cpu how k (Some t) is ready =
@@ -49,7 +49,7 @@ started_from tasks cpu how k (Some t) is ready =
 started : (tasks : Tasks) (cpu : ℕ) (how : How) (pid : Pid) → is_some_and (task_of tasks pid.0) (is_ready_on cpu) ≡ true → is_some_and (task_of (start (Some pid) (leave how tasks (running_on tasks cpu))) pid.0) (is_running_on cpu) ≡ true
 started tasks cpu how pid ready = started_from tasks cpu how pid.0 (task_of tasks pid.0) refl ready
 
--- one switch, after which the next task runs
+-- One switch, after which the next task runs.
 turned_to : (cpus at room : ℕ) (w : World) (cpu : Cpu) (pid : Pid) (how : How) → Stands cpus at (room + 1) w → cpu.0 < cpus → IsNext w.tasks cpu.0 (Some pid) → is_wrong how (running_on w.tasks cpu.0) ≡ false → Turned cpus at room cpu (Some pid) w (act.Switch cpu (Some pid) how ∷ [])
 turned_to cpus at room w cpu pid how so there next right =
     let step = step_switch cpus at room w cpu (Some pid) how so there next right in
@@ -58,7 +58,7 @@ turned_to cpus at room w cpu pid how so there next right =
       runs = runner_is (after_event w (event_at at (act.Switch cpu (Some pid) how))).tasks step.later.legal.once cpu.0 pid (started w.tasks cpu.0 how pid next.1);
     }
 
--- one switch, after which no task runs
+-- One switch, after which no task runs.
 turned_off : (cpus at room : ℕ) (w : World) (cpu : Cpu) (how : How) (o : Option (ℕ × Task)) → Stands cpus at (room + 1) w → cpu.0 < cpus → running_on w.tasks cpu.0 ≡ o → is_some o ≡ true → Leaves how → Turned cpus at room cpu None w (act.Switch cpu None how ∷ [])
 turned_off cpus at room w cpu how None so there found some leaves = absurd (cc some)
 turned_off cpus at room w cpu how (Some e) so there found some leaves =

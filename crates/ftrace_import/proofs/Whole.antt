@@ -22,7 +22,7 @@ use Rattle.ftrace_import.proofs.Lines.{Gives, gives, switch_runs, wakeup_wakes}
 
 -- ---- legal events in sequence
 
--- legal events, followed by legal events, are legal events
+-- Legal events, followed by legal events, are legal events.
 pub run_on : (cpus : ℕ) (w : World) (xs ys : List Event) → Run cpus w xs → Run cpus (after_from w xs) ys → Run cpus w (xs ++ ys)
 run_on cpus w [] ys prefix rest = rest
 run_on cpus w (x ∷ xs) ys prefix rest =
@@ -30,11 +30,11 @@ run_on cpus w (x ∷ xs) ys prefix rest =
     let suffix = run_on cpus (after_event w x) xs ys inner rest in
     record { fit = (prefix.fit.0, suffix.fit); known = (prefix.known.0, suffix.known); legal = (prefix.legal.0, suffix.legal) }
 
--- a list that ends with the end still does so after other events are prepended
+-- A list that ends with the end still does so after other events are prepended.
 pub ends_after : (xs ys : List Event) → EndsLast ys → EndsLast (xs ++ ys)
 ends_after xs ys ends = (xs ++ ends.0, ends.1, ap (λ zs. xs ++ zs) ends.2 ∙ sym (append_assoc xs ends.0 (record { at = ends.1; act = act.End } ∷ [])))
 
--- the end of an import can be spelled and is legal
+-- The end of an import can be spelled and is legal.
 pub end_runs : (cpus : ℕ) (reached : Reached) → IsUnderWay cpus reached → Run cpus reached.world (end_at reached ∷ [])
 end_runs cpus reached so =
     let early = so.early in
@@ -58,8 +58,8 @@ then_ends cpus reached line_events rest gives suffix = record {
   ends = ends_after line_events.events rest suffix.ends;
 }
 
--- a complete line that isn't rejected isn't too long, and its number is at most the greatest number
--- of lines
+-- A complete line that isn't rejected isn't too long, and its number is at most the greatest number
+-- of lines.
 pub events_whole : (cpus : ℕ) (reached : Reached) (number : ℕ) (line : List ℕ) (line_events : LineEvents) → yield_of_line cpus reached number line ≡ Ok line_events → events_of_line cpus reached line ≡ Ok line_events
 unfolding yield_of_line
 events_whole cpus reached number line line_events is =
@@ -115,7 +115,7 @@ imported_is_trace cpus bytes events versions counted is first =
       accepted = record { fit = all.run.fit; legal = all.run.legal; ends = all.ends };
     }
 
--- lines that aren't rejected preserve the import's invariant
+-- Lines that aren't rejected preserve the import's invariant.
 after_if : (cpus : ℕ) (reached suffix : Reached) (line : List ℕ) (next : Reached → Option Reached) → IsUnderWay cpus reached → (r : Result LineEvents ImportCause) → events_of_line cpus reached line ≡ r
     → ((now : Reached) → IsUnderWay cpus now → next now ≡ Some suffix → IsUnderWay cpus suffix) → after_events r next ≡ Some suffix → IsUnderWay cpus suffix
 after_if cpus reached suffix line next so (Err why) found goes is = absurd (cc is)
@@ -126,7 +126,7 @@ under_way cpus [] reached suffix so is = subst (λ (r : Reached). IsUnderWay cpu
 under_way cpus (line ∷ lines) reached suffix so is =
     after_if cpus reached suffix line (λ now. reached_by cpus now lines) so (events_of_line cpus reached line) refl (λ now under. under_way cpus lines now suffix under) is
 
--- a marked line: its result is that of its content, whose values are in range
+-- A marked line: its result is that of its content, whose values are in range.
 record ReportedLine (cpus : ℕ) (reached : Reached) (sighting : Sighting) (line_events : LineEvents) : Type 0 where
   seen : IsSeen sighting.seen
   gives : line_events_at cpus reached sighting.at sighting.seen ≡ Ok line_events

@@ -39,7 +39,7 @@ world_following : (cpus : ℕ) (reached : Reached) (line : List ℕ) (line_event
 unfolding events_of_line
 world_following cpus reached line line_events is = world_by cpus reached line_events (read_line line) is
 
--- the world after a line is the world after the earlier events and the line's events
+-- The world after a line is the world after the earlier events and the line's events.
 world_after : (cpus : ℕ) (reached : Reached) (line : List ℕ) (line_events : LineEvents) (prefix : List Event) → reached.world ≡ after prefix → events_of_line cpus reached line ≡ Ok line_events → line_events.reached.world ≡ after (prefix ++ line_events.events)
 world_after cpus reached line line_events prefix there is =
     world_following cpus reached line line_events is ∙ ap (λ (w : World). after_from w line_events.events) there ∙ sym (after_from-append first_world prefix line_events.events)
@@ -73,7 +73,7 @@ splits cpus reached number line (next ∷ parts) events some is = splits_if cpus
 
 -- ---- a line after other lines
 
--- like `IsWritten`, but from the progress `begun`, after the events before it
+-- Like `IsWritten`, but from the progress `begun`, after the events before it.
 record WrittenFrom (cpus : ℕ) (begun : Reached) (lines : List (List ℕ)) (line : List ℕ) (events : List Event) : Type 0 where
   prefix : List Event
   suffix : List Event

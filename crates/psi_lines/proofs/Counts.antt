@@ -10,11 +10,11 @@ use Rattle.psi_lines.specs.declared.lines.Line.{Line}
 use Rattle.psi_lines.specs.declared.lines.LineFault.{LineFault}
 use Rattle.psi_lines.specs.declared.lines.LineFault.TheVariants.{TooLong, Cut, NoFile, ReadFault, NoMemory}
 
--- one more byte in the first part doesn't change the number of parts
+-- One more byte in the first part doesn't change the number of parts.
 onto-length : (byte : ℕ) (parts : List (List ℕ)) → HasFirst parts → length (onto_first byte parts) ≡ length parts
 onto-length byte parts has = rw has.2 refl
 
--- one more byte adds a line exactly if it is a newline
+-- One more byte adds a line exactly if it is a newline.
 count-cons : (byte : ℕ) (bytes : List ℕ) → line_count (byte ∷ bytes) ≡ cond (byte == 10) 1 0 + line_count bytes
 unfolding parts_at
 count-cons byte bytes =
@@ -23,8 +23,8 @@ count-cons byte bytes =
       | false ↦ let same = onto-length byte (parts_at 10 bytes) (first_part 10 bytes) in omega (arith, same)
     ]
 
--- two lists of bytes, joined, have one line less than both together, because the line at the seam
--- is one line
+-- Two lists of bytes, joined, have one line less than both together, because the line at the seam
+-- is one line.
 pub count-append : (xs ys : List ℕ) → line_count (xs ++ ys) + 1 ≡ line_count xs + line_count ys
 unfolding parts_at
 count-append [] ys = omega arith
@@ -34,11 +34,11 @@ count-append (byte ∷ xs) ys =
     let rest = count-append xs ys in
     omega (arith, whole, prefix, rest)
 
--- there is at least one line
+-- There is at least one line.
 count-some : (bytes : List ℕ) → 1 ≤ line_count bytes
 count-some bytes = let has = first_part 10 bytes in rw has.2 (omega arith)
 
--- a shorter prefix doesn't have more lines
+-- A shorter prefix doesn't have more lines.
 pub count-prefix : (bytes : List ℕ) (n m : ℕ) → n ≤ m → line_count (take n bytes) ≤ line_count (take m bytes)
 count-prefix bytes n m few =
     let same = ap line_count (take-take n m bytes few) in
@@ -47,17 +47,18 @@ count-prefix bytes n m few =
     let some = count-some (drop n (take m bytes)) in
     omega (arith, same, seam, whole, some)
 
--- bytes without a newline are a single line
+-- Bytes without a newline are a single line.
 pub count-none : (bytes : List ℕ) → HasNoNewline bytes (length bytes) → line_count bytes ≡ 1
 count-none bytes none = ap length (parts_at-all 10 bytes none)
 
--- after a line is returned, one line less remains
+-- After a line is returned, one line less remains.
 pub count-line : (bytes line after : List ℕ) → BeginsWithLine bytes line after → line_count bytes ≡ 1 + line_count after
 count-line bytes line after begins =
     let same : line_count bytes ≡ length (line ∷ parts_at 10 after) = ap line_count begins.whole ∙ ap length (parts_at-line 10 line after begins.one) in
     omega (arith, same)
 
--- reading a line doesn't change the sum of the next line's number and the number of remaining lines
+-- Reading a line doesn't change the sum of the next line's number and the number of remaining
+-- lines.
 pub lines_stay : (bytes : List ℕ) (old new : Reader) (result : Result (Option Line) LineFault) → NextOf bytes old new result → new.number ≡ number_after old.number result → new.number + line_count (left new bytes) ≡ old.number + line_count (left old bytes)
 lines_stay bytes old new (Ok (Some line)) next number = let one = count-line (left old bytes) line.bytes (left new bytes) next.0 in omega (arith, one, number)
 lines_stay bytes old new (Ok None) next number = rw (number, next.0, next.1) refl
@@ -67,8 +68,8 @@ lines_stay bytes old new (Err NoFile) next number = rw (number, next) refl
 lines_stay bytes old new (Err ReadFault) next number = rw (number, next.0) refl
 lines_stay bytes old new (Err (NoMemory none)) next number = rw (number, next) refl
 
--- if no complete line is buffered, the line with the reader's number is the last line in the bytes
--- that were read
+-- If no complete line is buffered, the line with the reader's number is the last line in the bytes
+-- that were read.
 pub lines_read : (bytes : List ℕ) (reader : Reader) → reader.number + line_count (left reader bytes) ≡ 1 + line_count bytes → HasNoNewline reader.buffered (length reader.buffered) → line_count (take reader.at bytes) ≡ reader.number
 lines_read bytes reader stay none =
     let seam = count-append reader.buffered (drop reader.at bytes) in

@@ -9,13 +9,13 @@ use Rattle.std.proofs.Math.Seq.{take-add}
 use Rattle.outside.specs.Outside.{ReadsBytes}
 use Rattle.psi_lines.specs.Next.{FillsBytes}
 
--- bytes that were read at an offset, followed by the bytes after them, are the bytes from that
--- offset
+-- Bytes that were read at an offset, followed by the bytes after them, are the bytes from that
+-- offset.
 read_on : (old chunk bytes : List ℕ) (at n : ℕ) → take n chunk ≡ take n (drop at bytes) → (old ++ take n chunk) ++ drop (at + n) bytes ≡ old ++ drop at bytes
 read_on old chunk bytes at n same =
     append_assoc old (take n chunk) (drop (at + n) bytes) ∙ ap (λ xs. old ++ xs) (ap (λ xs. xs ++ drop (at + n) bytes) same ∙ ap (λ xs. take n (drop at bytes) ++ xs) (sym (drop-drop n at bytes)) ∙ take-append-drop n (drop at bytes))
 
--- a read into a buffer appends the bytes that it returned to the buffered bytes
+-- A read into a buffer appends the bytes that it returned to the buffered bytes.
 pub fills : (bytes : List ℕ) (at buffered n : ℕ) (old new before buffer : List ℕ) → new ≡ take (buffered + n) buffer → take buffered buffer ≡ old → buffered < length buffer
     → ReadsBytes bytes at n before (drop buffered buffer) → FillsBytes bytes at old new n
 fills bytes at buffered n old new before buffer grew prefix room reads =
@@ -37,12 +37,12 @@ skips buffer start end count inside =
     let more : end - start ≡ count + (end - (start + count)) = omega arith in
     rw more (rw drop-take (rw drop-drop refl))
 
--- if bytes are buffered, bytes remain
+-- If bytes are buffered, bytes remain.
 pub some_left : (buffered rest : List ℕ) → 0 < length buffered → buffered ++ rest ≡ [] → ⊥
 some_left [] rest some none = absurd (omega arith)
 some_left (byte ∷ buffered) rest some none = cc
 
--- a line at the start of the buffered bytes is the first of the remaining lines
+-- A line at the start of the buffered bytes is the first of the remaining lines.
 pub line_begins : (buffered rest whole line after : List ℕ) (count : ℕ) → count < length buffered → count ≤ 512 → slice_index buffered count ≡ 10 → HasNoNewline buffered count → buffered ++ rest ≡ whole
     → line ≡ take count buffered → after ≡ drop (count + 1) buffered → BeginsWithLine whole line (after ++ rest)
 line_begins buffered rest whole line after count inside short newline none same is goes =

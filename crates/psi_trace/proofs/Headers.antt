@@ -18,11 +18,11 @@ pub header-before : (version n : ℕ) → header version n ≡ before_cpus versi
 unfolding header
 header-before version n = refl
 
--- the bytes before the number of processors in the first version
+-- The bytes before the number of processors in the first version.
 abbrev pub first_before : List ℕ
 first_before = codes "psitrace 1 cpus="
 
--- the bytes before the number of processors in the second version
+-- The bytes before the number of processors in the second version.
 abbrev pub second_before : List ℕ
 second_before = codes "psitrace 2 cpus="
 
@@ -32,28 +32,28 @@ before-first version is = ap before_cpus is ∙ ap (λ digits. codes "psitrace "
 pub before-second : (version : ℕ) → version ≡ 2 → before_cpus version ≡ second_before
 before-second version is = ap before_cpus is ∙ ap (λ digits. codes "psitrace " ++ digits ++ codes " cpus=") (decimal_digit 2 (omega arith))
 
--- a header of the first version is its prefix and a number
+-- A header of the first version is its prefix and a number.
 pub header-prefix : (n : ℕ) → header 1 n ≡ first_before ++ decimal n
 header-prefix n = header-before 1 n ∙ ap (λ bytes. bytes ++ decimal n) (before-first 1 refl)
 
--- a header of the first version has at most 36 bytes
+-- A header of the first version has at most 36 bytes.
 pub header_short : (n : ℕ) → n < 2 ^ 64 → length (header 1 n) ≤ 36
 header_short n fits = rw (header-prefix n) (let short = decimal_short n fits in omega (arith, short))
 
 -- ---- prefixes
 
--- a line that begins with a known prefix is the prefix and the rest
+-- A line that begins with a known prefix is the prefix and the rest.
 pub with_prefix : (line prefix rest known : List ℕ) → prefix ≡ known → bytes_eq (take (length prefix) line) prefix ≡ true → rest ≡ drop (length prefix) line → line ≡ known ++ rest
 with_prefix line prefix rest known same starts is =
     sym (take-append-drop (length prefix) line) ∙ ap (λ bytes. bytes ++ drop (length prefix) line) ((bytes_eq-Decides (take (length prefix) line) prefix).0 starts) ∙ ap (λ bytes. prefix ++ bytes) (sym is) ∙ ap (λ bytes. bytes ++ rest) same
 
--- a line that doesn't begin with a known prefix isn't the prefix and any rest
+-- A line that doesn't begin with a known prefix isn't the prefix and any rest.
 without_prefix : (line prefix known rest : List ℕ) → prefix ≡ known → bytes_eq (take (length prefix) line) prefix ≡ false → line ≢ known ++ rest
 without_prefix line prefix known rest same other is =
     let starts : take (length prefix) line ≡ prefix = ap (take (length prefix)) is ∙ ap (λ bytes. take (length bytes) (known ++ rest)) same ∙ take-append_seam known rest ∙ sym same in
     let equal = (bytes_eq-Decides (take (length prefix) line) prefix).1 starts in cc
 
--- a line with neither prefix isn't a header
+-- A line with neither prefix isn't a header.
 pub no_prefix_of : (line one two : List ℕ) → one ≡ first_before → two ≡ second_before → bytes_eq (take (length one) line) one ≡ false → bytes_eq (take (length two) line) two ≡ false → (version n : ℕ) → IsVersion version → line ≢ header version n
 no_prefix_of line one two first second not_first not_second version n is spelled = ⊎_elim
     (λ same. without_prefix line one first_before (decimal n) first not_first (spelled ∙ header-before version n ∙ ap (λ bytes. bytes ++ decimal n) (before-first version same)))
@@ -69,12 +69,12 @@ among : (version : Version) → IsAmong version versions
 among One = inl refl
 among Two = inr (inl refl)
 
--- the number of a version is 1 or 2
+-- The number of a version is 1 or 2.
 pub is_version : (version : Version) → IsVersion (version_number version)
 is_version One = inl refl
 is_version Two = inr refl
 
--- a header with 1 to 64 processors is accepted
+-- A header with 1 to 64 processors is accepted.
 pub header_of-some : (line : List ℕ) (version n : ℕ) → IsVersion version → line ≡ header version n → 1 ≤ n → n ≤ 64 → header_of versions line ≡ Some (header_with version n)
 header_of-some line version n known is low high =
     (headers_spelled versions line (header_with version n)).1 (among (version_of version), low, high, is ∙ ap (λ number. header number n) (sym (number_again version known)))
@@ -94,7 +94,7 @@ prefix_same : (prefix xs ys : List ℕ) → prefix ++ xs ≡ prefix ++ ys → xs
 prefix_same [] xs ys is = is
 prefix_same (byte ∷ prefix) xs ys is = prefix_same prefix xs ys cc
 
--- lines of the two versions differ in their tenth byte
+-- Lines of the two versions differ in their tenth byte.
 versions_differ : (xs ys : List ℕ) → first_before ++ xs ≡ second_before ++ ys → ⊥
 versions_differ xs ys is = let bytes : 49 ≡ 50 = ap (λ text. get_or text 9 0) is in omega (arith, bytes)
 
@@ -112,12 +112,12 @@ same_suffix version other xs ys is also same =
     also)
     is
 
--- a line isn't a header if no number follows its prefix
+-- A line isn't a header if no number follows its prefix.
 pub header_of-wrong : (line : List ℕ) (version : ℕ) (rest : List ℕ) → IsVersion version → line ≡ before_cpus version ++ rest → ((n : ℕ) → n < 2 ^ 64 → rest ≡ decimal n → ⊥) → header_of versions line ≡ None
 header_of-wrong line version rest known cut none =
     header_of-none line (λ other n is low high spelled. none n (omega (arith, high)) (same_suffix version other rest (decimal n) known is (sym cut ∙ spelled ∙ header-before other n)))
 
--- a line isn't a header if its number of processors isn't between 1 and 64
+-- A line isn't a header if its number of processors isn't between 1 and 64.
 pub header_of-other : (line : List ℕ) (version n : ℕ) (rest : List ℕ) → IsVersion version → line ≡ before_cpus version ++ rest → rest ≡ decimal n → n < 2 ^ 64 → (1 ≤ n → 64 < n) → header_of versions line ≡ None
 header_of-other line version n rest known cut is fits out =
     header_of-none line (λ other m also low high spelled.

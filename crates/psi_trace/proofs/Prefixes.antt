@@ -74,15 +74,15 @@ below_four bytes count number four below is =
     let all = below_more (count + 3) (count + 4) (((number * 10 + is.a) * 10 + is.b) * 10 + is.c) is.d _ (omega arith) three is.fourth in
     omega (arith, all, is.value)
 
--- a number of fewer than 19 digits has room for one more digit in 64 bits
+-- A number of fewer than 19 digits has room for one more digit in 64 bits.
 pub has_room : (count number : ℕ) → number < 10 ^ count → count < 19 → number < 10 ^ 18
 has_room count number below few = let most = pow-le-pow_right {n = 10} (omega arith) {i = count} {j = 18} (omega (arith, few)) in omega (arith, below, most)
 
--- a number of at most 15 digits has room for four more digits in 64 bits
+-- A number of at most 15 digits has room for four more digits in 64 bits.
 pub has_room_for_four : (count number : ℕ) → number < 10 ^ count → count ≤ 15 → number < 10 ^ 15
 has_room_for_four count number below few = let most = pow-le-pow_right {n = 10} (omega arith) {i = count} {j = 15} few in omega (arith, below, most)
 
--- a number of four digits is at most 9999
+-- A number of four digits is at most 9999.
 pub four_small : (bytes : List ℕ) (place four : ℕ) → AreFour bytes place four → four ≤ 9999
 four_small bytes place four is = omega (arith, is.value, is.first.is, is.first.high, is.second.is, is.second.high, is.third.is, is.third.high, is.fourth.is, is.fourth.high)
 
@@ -100,13 +100,13 @@ number_prefix bytes number count end are some first fits inside is =
     sym (take-append-drop count bytes) ∙ ap (λ xs. xs ++ drop count bytes) (spelled_digits bytes number count are some first fits)
     ∙ ap (λ xs. decimal number ++ xs) (drop_more bytes count 0 inside ∙ ap (λ byte. byte ∷ drop (count + 1) bytes) is)
 
--- if the number before a byte is 0, the bytes begin with the digit 0 and that byte
+-- If the number before a byte is 0, the bytes begin with the digit 0 and that byte.
 pub zero_prefix : (bytes rest : List ℕ) (number end : ℕ) → number ≡ 0 → bytes ≡ decimal number ++ end ∷ rest → bytes ≡ 48 ∷ end ∷ rest
 zero_prefix bytes rest number end zero is = is ∙ ap (λ n. decimal n ++ end ∷ rest) zero ∙ ap (λ ds. ds ++ end ∷ rest) (decimal_digit 0 (omega arith))
 
 -- ---- a verb
 
--- bytes that begin with a verb are the verb and its fields
+-- Bytes that begin with a verb are the verb and its fields.
 pub verb_prefix : (bytes prefix fields verb : List ℕ) → prefix ≡ verb → bytes_eq (take (length prefix) bytes) prefix ≡ true → fields ≡ drop (length prefix) bytes → bytes ≡ verb ++ fields
 verb_prefix bytes prefix fields verb same starts suffix =
     sym (take-append-drop (length prefix) bytes) ∙ ap (λ xs. xs ++ drop (length prefix) bytes) ((bytes_eq-Decides (take (length prefix) bytes) prefix).0 starts) ∙ ap (λ xs. prefix ++ xs) (sym suffix) ∙ ap (λ xs. xs ++ fields) same
@@ -116,7 +116,7 @@ verb_prefix bytes prefix fields verb same starts suffix =
 joined-more : (word next : List ℕ) (words : List (List ℕ)) (rest : List ℕ) → joined (word ∷ next ∷ words) ++ rest ≡ word ++ 32 ∷ (joined (next ∷ words) ++ rest)
 joined-more word next words rest = append_assoc word (32 ∷ joined (next ∷ words)) rest
 
--- a line of a verb with one, two or three fields is its words joined by spaces
+-- A line of a verb with one, two or three fields is its words joined by spaces.
 pub one_field : (time verb first fields rest : List ℕ) → fields ≡ first ++ 10 ∷ rest → time ++ 32 ∷ (verb ++ 32 ∷ fields) ≡ joined (time ∷ verb ∷ first ∷ []) ++ 10 ∷ rest
 one_field time verb first fields rest is =
     ap (λ xs. time ++ 32 ∷ (verb ++ 32 ∷ xs)) is

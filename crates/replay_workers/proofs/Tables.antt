@@ -12,7 +12,7 @@ use Rattle.proc_plan.specs.Plans.{PlansView, Represent, plan_at}
 use Rattle.proc_plan.proofs.Finishing.{standing_plans}
 use Rattle.replay_workers.specs.Crew.{TableIsOfEvents, times_by}
 
--- the times of a processor's plan are the stall times there, and the interrupt time
+-- The times of a processor's plan are the stall times there, and the interrupt time.
 times_are : (limits : Limits) (cpus : ℕ) (events : List Event) (plans : PlansView) (slot cpu at : ℕ) → AreLegal limits first_world events → Represent plans cpus events → cpu < cpus → times_by (plan_at plans cpu) slot at ≡ times_until cpu slot events at
 times_are limits cpus events plans slot cpu at legal represents below =
     let in_states = planned_until limits events legal cpu slot at in

@@ -12,7 +12,7 @@ use Rattle.replay_workers.proofs.Steps.{each_more}
 
 -- ---- numbers
 
--- numbers that never decrease, start at or above `low` and end at `last`
+-- Numbers that never decrease, start at or above `low` and end at `last`.
 abbrev pub Rises : ℕ → List ℕ → ℕ → Type 0
 Rises low [] last = low ≡ last
 Rises low (number ∷ numbers) last = (low ≤ number) × Rises number numbers last
@@ -21,19 +21,19 @@ rises_next : (low last number : ℕ) (numbers : List ℕ) → Rises low numbers 
 rises_next low last number [] rises later = (omega (arith, rises, later), refl)
 rises_next low last number (one ∷ more) rises later = (rises.0, rises_next one last number more rises.1 later)
 
--- rising numbers lie within their bounds
+-- Rising numbers lie within their bounds.
 pub rises_within : (low last : ℕ) (numbers : List ℕ) → Rises low numbers last → RiseWithin low numbers last
 rises_within low last [] rises = omega (arith, rises)
 rises_within low last (one ∷ more) rises = (rises.0, rises_within one last more rises.1)
 
--- rising numbers lie within wider bounds, too
+-- Rising numbers lie within wider bounds, too.
 pub rise_wider : (low high higher : ℕ) (numbers : List ℕ) → high ≤ higher → RiseWithin low numbers high → RiseWithin low numbers higher
 rise_wider low high higher [] above rise = omega (arith, above, rise)
 rise_wider low high higher (one ∷ more) above rise = (rise.0, rise_wider one high higher more above rise.1)
 
 -- ---- tries
 
--- further tries that met a change don't change the samples
+-- Further tries that met a change don't change the samples.
 tried_more : (counts : List ℕ) (last : ℕ) (got : List ℕ) (met more : ℕ) → Tried counts last got met → Tried counts last got (met + more)
 tried_more [] last got met more tried = tried
 tried_more (count ∷ counts) last got met more tried =
@@ -71,11 +71,11 @@ is_tried_next counts low last count start before after rises all one = (
   tried_next counts low last count all.0 one.0 all.1 one.1 rises all.4 one.4,
 )
 
--- a reader that makes no try takes no sample
+-- A reader that makes no try takes no sample.
 pub none_tried : (low : ℕ) (reader : ReaderView) → IsTried [] low reader reader
 none_tried low reader = ([], 0, sym (append-nil reader.got), omega arith, refl)
 
--- tries count from the same totals, whether they are compared with `old` or with `before`
+-- Tries count from the same totals, whether they are compared with `old` or with `before`.
 pub tried_since : (counts : List ℕ) (low : ℕ) (old before after : ReaderView) → before.got ≡ old.got → before.met ≡ old.met → IsTried counts low before after → IsTried counts low old after
 tried_since counts low old before after got met tried = (
   tried.0,

@@ -20,7 +20,7 @@ use Rattle.replay_workers.proofs.Dealt.{clocks_are, clocks_many, gone_at, gone_t
 use Rattle.plan_laws.proofs.PlanTimes.{changes_more}
 use Rattle.replay_workers.proofs.Tries.{no_clocks, no_tries, rise_wider, tried_since}
 
--- overwriting a prefix with `new` gives a list that begins with `new`
+-- Overwriting a prefix with `new` gives a list that begins with `new`.
 pub written_back : {X : Type 0} (xs new : List X) (n : ℕ) → n ≡ length new → take n (new ++ drop (length new) xs) ≡ new
 written_back xs new n size = rw size (take-append_seam new (drop (length new) xs))
 
@@ -45,7 +45,7 @@ has_watched lane_old lane_new slot old met new one two settled =
       };
     }
 
--- the watchers took their samples while the lanes made changes
+-- The watchers took their samples while the lanes made changes.
 pub have_watched : (lanes_old lanes_new : List (List LaneView)) (slot : ℕ) (old met new : List WatcherView) → HaveMet slot lanes_old old met → HaveSampled slot met new → AreSettled lanes_new new → HaveWatched slot lanes_old lanes_new old new
 have_watched lanes_old lanes_new slot old met new is sampled settled = record {
   many = sampled.many ∙ is.many;
@@ -57,7 +57,7 @@ have_watched lanes_old lanes_new slot old met new is sampled settled = record {
 
 -- ---- the watchers of a crew
 
--- only existing processors are watched
+-- Only existing processors are watched.
 pub watched_below : (plans : PlansView) (lanes : List (List LaneView)) (requested : ℕ) (watchers : List WatcherView) (cpu : ℕ) → AreWatchers plans lanes requested watchers → cpu < length watchers → cpu < length plans.plans
 watched_below plans lanes requested watchers cpu are below =
     let case : (requested ≡ 0) ⊎ (0 < requested) = grind arith in
@@ -66,7 +66,7 @@ watched_below plans lanes requested watchers cpu are below =
     (λ some. omega (arith, below, are.all some))
     case
 
--- each watcher of a crew watches the lane of its processor
+-- Each watcher of a crew watches the lane of its processor.
 pub are_watching : (plans : PlansView) (lanes : List (List LaneView)) (ticks : Ticks) (out room requested : ℕ) (watchers : List WatcherView) → AreLanes plans lanes ticks out room → AreWatchers plans lanes requested watchers → AreWatching lanes watchers
 are_watching plans lanes ticks out room requested watchers is are = λ k below.
     let inside = watched_below plans lanes requested watchers k are below in
@@ -78,14 +78,14 @@ are_watching plans lanes ticks out room requested watchers is are = λ k below.
       plan = own.plan ∙ sym (lane_is plans lanes ticks out room k is inside).plan;
     }
 
--- the plan of each watcher has all slots of the crew's plans
+-- The plan of each watcher has all slots of the crew's plans.
 pub have_slot : (plans : PlansView) (lanes : List (List LaneView)) (ticks : Ticks) (out room requested slot : ℕ) (watchers : List WatcherView) → AreLanes plans lanes ticks out room → AreWatchers plans lanes requested watchers → slot < length plans.lives → HaveSlot slot watchers
 have_slot plans lanes ticks out room requested slot watchers is are known = λ k below.
     let inside = watched_below plans lanes requested watchers k are below in
     let slots = (lane_is plans lanes ticks out room k is inside).slots in
     subst (λ (plan : PlanView). slot < length plan.parents) (sym (are.each k below).plan) (omega (arith, known, slots))
 
--- the watchers still belong to the lanes after the lanes advanced by ticks
+-- The watchers still belong to the lanes after the lanes advanced by ticks.
 pub watchers_stay : (plans : PlansView) (lanes_old lanes_new : List (List LaneView)) (before ticks : Ticks) (out room requested : ℕ) (old new : List WatcherView) → AreLanes plans lanes_old before out room → HaveAllGone ticks lanes_old lanes_new
     → AreWatchers plans lanes_old requested old → length new ≡ length old → ((k : ℕ) → k < length old → IsSameWatcher (watcher_at old k) (watcher_at new k)) → AreWatchers plans lanes_new requested new
 watchers_stay plans lanes_old lanes_new before ticks out room requested old new is gone are many same = record {
@@ -109,22 +109,22 @@ watchers_stay plans lanes_old lanes_new before ticks out room requested old new 
 watch_found : (watchers : List WatcherView) (cpu : ℕ) → watch_at (map watch_seen watchers) cpu ≡ watch_seen (watcher_at watchers cpu)
 watch_found watchers cpu = get_or-map watch_seen watchers cpu no_watcher
 
--- watchers without samples show none
+-- Watchers without samples show none.
 no_samples : (watchers : List WatcherView) → ((k : ℕ) → k < length watchers → (watcher_at watchers k).samples ≡ []) → (cpu : ℕ) → (watch_at (map watch_seen watchers) cpu).samples ≡ []
 no_samples watchers none cpu =
     let case : (cpu < length watchers) ⊎ (length watchers ≤ cpu) = grind arith in
     ap (λ (watch : WatchView). watch.samples) (watch_found watchers cpu)
     ∙ ⊎_elim (λ below. none cpu below) (λ beyond. ap (λ (watcher : WatcherView). watcher.samples) (get_or-eq_default watchers no_watcher beyond)) case
 
--- watchers that discarded their samples show none
+-- Watchers that discarded their samples show none.
 pub none_sampled : (old new : List WatcherView) → HaveCleared old new → (cpu : ℕ) → (watch_at (map watch_seen new) cpu).samples ≡ []
 none_sampled old new cleared = no_samples new (λ k below. (cleared.each k (omega (arith, below, cleared.many))).none)
 
--- new watchers show no samples
+-- New watchers show no samples.
 pub new_unsampled : (lanes : List (List LaneView)) (cpus requested : ℕ) (watchers : List WatcherView) → AreNewWatchers lanes cpus requested watchers → (cpu : ℕ) → (watch_at (map watch_seen watchers) cpu).samples ≡ []
 new_unsampled lanes cpus requested watchers new = no_samples watchers (λ k below. (new.each k below).none)
 
--- if `requested` is 0, taking no sample is enough
+-- If `requested` is 0, taking no sample is enough.
 nothing_requested : (plan : PlanView) (slot requested before now : ℕ) (watch : WatchView) → requested ≡ 0 → watch.samples ≡ [] → before ≤ now → IsSampled plan slot requested before now watch watch
 nothing_requested plan slot requested before now watch zero none forward = record {
   many = ap length none ∙ sym zero;
@@ -134,7 +134,7 @@ nothing_requested plan slot requested before now watch zero none forward = recor
   few = omega arith;
 }
 
--- a processor has made at least as many changes after the ticks as before
+-- A processor has made at least as many changes after the ticks as before.
 made_more : (plans : PlansView) (old new : List (List LaneView)) (before ticks : Ticks) (out room cpu : ℕ) → AreLanes plans old before out room → ticks.count ≤ room → AreNotPast plans (clocks_of old (length plans.plans)) ticks.first → HaveAllGone ticks old new → cpu < length plans.plans
     → (clocks_at (clocks_of old (length plans.plans)) cpu).made ≤ (clocks_at (clocks_of new (length plans.plans)) cpu).made
 made_more plans old new before ticks out room cpu is within not_past gone below =
@@ -144,7 +144,7 @@ made_more plans old new before ticks out room cpu is within not_past gone below 
     let later = changes_more plan ticks.first (last_of ticks) (omega arith) in
     omega (arith, early, late, later)
 
--- the samples of a crew's watchers are what contracts see after an interval
+-- The samples of a crew's watchers are what contracts see after an interval.
 pub are_sampled : (plans : PlansView) (lanes_old lanes_new : List (List LaneView)) (before ticks : Ticks) (out room requested : ℕ) (slot : Slot) (old new : List WatcherView) (ready : ℕ) → IsCrew plans lanes_old before out room requested old → ticks.count ≤ room
     → AreNotPast plans (clocks_of lanes_old (length plans.plans)) ticks.first → HaveAllGone ticks lanes_old lanes_new → HaveWatched slot.0 lanes_old lanes_new old new
     → AreSampled (Some slot) (crew_of plans lanes_old before out room requested old) (crew_of plans lanes_new ticks ready room requested new)
@@ -180,11 +180,11 @@ are_sampled plans lanes_old lanes_new before ticks out room requested slot old n
 
 -- ---- a new crew
 
--- each lane of a new crew exists
+-- Each lane of a new crew exists.
 pub new_there : (plans : PlansView) (lanes : List (List LaneView)) (room cpu : ℕ) → AreLanes plans lanes no_ticks 0 room → cpu < length plans.plans → IsLaneThere lanes cpu
 new_there plans lanes room cpu is below = record { some = is.some; place = lane_there plans lanes no_ticks 0 room cpu is below }
 
--- new watchers of all processors, or no watchers if `requested` is 0, are the watchers of a crew
+-- New watchers of all processors, or no watchers if `requested` is 0, are the watchers of a crew.
 pub watchers_new : (plans : PlansView) (lanes : List (List LaneView)) (room cpus requested : ℕ) (watchers : List WatcherView) → AreLanes plans lanes no_ticks 0 room → (requested ≡ 0 → cpus ≡ 0) → (0 < requested → cpus ≡ length plans.plans) → AreNewWatchers lanes cpus requested watchers
     → AreWatchers plans lanes requested watchers
 watchers_new plans lanes room cpus requested watchers is none all new = record {

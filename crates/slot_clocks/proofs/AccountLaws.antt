@@ -16,20 +16,20 @@ use Rattle.slot_clocks.specs.Clocks.{AreUpTo, CanFollow, IsUpTo, MaskShows, Stay
 use Rattle.slot_clocks.specs.Walk.{AreOnWith, CanClimb, IsApart, IsOnWith, IsTurned, chains_of}
 use Rattle.slot_clocks.proofs.StartLaws.{may_start, starts_low}
 
--- the accounting of a slot doesn't change if another slot's accounting is switched
+-- The accounting of a slot doesn't change if another slot's accounting is switched.
 apart_stays : (slot : ℕ) (on : Bool) (account : Option (Slot × Bool)) → IsApart account slot → on_with slot on account ≡ on
 apart_stays slot on None apart = refl
 apart_stays slot on (Some account) apart =
     let other : (account.0.0 == slot) ≡ false = grind (arith, nat_tests, apart) in
     ap (λ b. if b then account.1 else on) other
 
--- the mask of a group whose accounting isn't switched still has the states of its counts
+-- The mask of a group whose accounting isn't switched still has the states of its counts.
 pub known_apart : (parents : List (Option ℕ)) (current : Option (Slot × Bool)) (account : Option (Slot × Bool)) (slot : ℕ) (old middle : Cell) → IsOnWith account slot old middle → IsApart account slot → MaskShows parents current slot old → MaskShows parents current slot middle
 known_apart parents current account slot old middle is apart known =
     let on : middle.on ≡ old.on = is.on ∙ apart_stays slot old.on account apart in
     rw (is.clock, is.counts, on) known
 
--- a clock that satisfies `IsUpTo` at a time satisfies it at each later time
+-- A clock that satisfies `IsUpTo` at a time satisfies it at each later time.
 up_later : (last at : ℕ) → last ≤ at → (clock : ClockView) → IsUpTo last clock → IsUpTo at clock
 up_later last at low clock is = record {
   whole = is.whole;
@@ -41,7 +41,7 @@ up_later last at low clock is = record {
     time_later true time start last at low started within = omega (arith, low, started, within)
     time_later false time start last at low started within = omega (arith, low, within)
 
--- after the switch of accounting, the rest of the change can be applied to the groups
+-- After the switch of accounting, the rest of the change can be applied to the groups.
 pub can_climb : (parents : List (Option Slot)) (current : Option (Slot × Bool)) (change : Change) (last : ℕ) (olds middles : List Cell)
     → AreOlder (parent_numbers parents) → HasSlotsBelow (length parents) change → IfSome current (λ running. running.0.0 < length parents) → IfSome change.account (λ _. change.minus ≡ None) → length parents ≤ length olds
     → ((slot : ℕ) → MaskShows (parent_numbers parents) current slot (cell_in olds slot)) → ((slot : ℕ) → CanFollow (cell_in olds slot).counts (on_chain (parent_numbers parents) slot change.minus) (on_chain (parent_numbers parents) slot change.plus))
@@ -57,7 +57,7 @@ can_climb parents current change last olds middles older slots below alone room 
   early = early;
 }
 
--- the effect of the switch and of the walk after it is the effect of the whole change
+-- The effect of the switch and of the walk after it is the effect of the whole change.
 pub turned_since : (parents : List (Option ℕ)) (change : Change) (slot : ℕ) (old middle new : Cell) → IsOnWith change.account slot old middle → IsTurned parents change slot middle new →
     (Follows old.counts (on_chain parents slot change.minus) (on_chain parents slot change.plus) new.counts)
     × (new.on ≡ on_with slot old.on change.account)

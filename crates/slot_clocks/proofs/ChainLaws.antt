@@ -8,7 +8,7 @@ use Rattle.psi_spec.specs.LegalGroups.{AreOlder, leads_to}
 use Rattle.psi_spec.proofs.GroupLaws.{ancestors_older, by_step}
 use Rattle.slot_clocks.specs.Walk.{height, passed, reaches}
 
--- the parent of a slot; `None` if it has none
+-- The parent of a slot; `None` if it has none.
 abbrev parent_of : List (Option ℕ) → ℕ → Option ℕ
 parent_of parents slot = slice_index_or parents slot None
 
@@ -18,7 +18,7 @@ not_true : (b : Bool) → (b ≡ true → ⊥) → b ≡ false
 not_true true denied = absurd (denied refl)
 not_true false denied = refl
 
--- a greater slot isn't on the chain of a smaller slot
+-- A greater slot isn't on the chain of a smaller slot.
 no_higher : (parents : List (Option ℕ)) (low high : ℕ) → AreOlder parents → low < high → is_under parents low high ≡ false
 no_higher parents low high older below = not_true (is_under parents low high) (λ is. omega (arith, below, ancestors_older parents low high older is))
 
@@ -31,14 +31,14 @@ under_itself parents slot older =
     let same : (slot == slot) ≡ true = grind (arith, nat_tests) in
     by_step parents slot slot older ∙ either_true (slot == slot) (leads_to parents (parent_of parents slot) slot) same
 
--- the chain of a slot contains the same slots as the chain from the slot's height
+-- The chain of a slot contains the same slots as the chain from the slot's height.
 leads : (parents : List (Option ℕ)) (place : Option Slot) (high : ℕ) → leads_to parents (number_of_slot place) high ≡ reaches parents (height place) high
 leads parents None high = refl
 leads parents (Some place) high = refl
 
 -- ---- heights on a chain
 
--- from a height that is at most a slot's height, the slot is reached only if the heights are equal
+-- From a height that is at most a slot's height, the slot is reached only if the heights are equal.
 pub reaches_at : (parents : List (Option ℕ)) (place slot : ℕ) → AreOlder parents → place ≤ slot + 1 → reaches parents place slot ≡ (place == slot + 1)
 reaches_at parents zero slot older within = let apart : (0 == slot + 1) ≡ false = grind (arith, nat_tests) in sym apart
 reaches_at parents (suc p) slot older within =
@@ -57,7 +57,7 @@ passed_by true parents (suc p) parent slot other older is apart here =
     let up : parent_of parents p ≡ number_of_slot parent = ap (parent_of parents) same ∙ sym is in
     sym (by_step parents p other older ∙ ap (λ b. b || leads_to parents (parent_of parents p) other) apart_too ∙ ap (λ o. leads_to parents o other) up ∙ leads parents parent other)
 
--- passing a slot doesn't change whether another slot is reached
+-- Passing a slot doesn't change whether another slot is reached.
 pub reaches_passed : (parents : List (Option ℕ)) (place : ℕ) (parent : Option Slot) (slot other : ℕ) → AreOlder parents → number_of_slot parent ≡ parent_of parents slot → other ≢ slot → reaches parents (passed (slot + 1) (height parent) place) other ≡ reaches parents place other
 reaches_passed parents place parent slot other older is apart = passed_by (place == slot + 1) parents place parent slot other older is apart refl
 
@@ -71,18 +71,18 @@ parent_height : (parents : List (Option ℕ)) (parent : Option Slot) (slot : ℕ
 parent_height parents None slot older is = omega arith
 parent_height parents (Some p) slot older is = omega (arith, older slot p.0 (sym is))
 
--- a chain that has passed a slot is at a lower height
+-- A chain that has passed a slot is at a lower height.
 pub passed_height : (parents : List (Option ℕ)) (place : ℕ) (parent : Option Slot) (slot : ℕ) → AreOlder parents → number_of_slot parent ≡ parent_of parents slot → place ≤ slot + 1 → passed (slot + 1) (height parent) place ≤ slot
 passed_height parents place parent slot older is within = lower_by (place == slot + 1) place (height parent) slot (parent_height parents parent slot older is) within refl
 
--- a chain at a lower height than a slot's isn't at the slot
+-- A chain at a lower height than a slot's isn't at the slot.
 pub not_at : (place slot : ℕ) → place ≤ slot → (place == slot + 1) ≡ false
 not_at place slot below = grind (arith, nat_tests, below)
 
--- a chain at the height of a slot reaches the slot
+-- A chain at the height of a slot reaches the slot.
 pub stands : (parents : List (Option ℕ)) (place slot : ℕ) → AreOlder parents → place ≡ slot + 1 → reaches parents place slot ≡ true
 stands parents place slot older is = let at : place ≡ suc slot = omega (arith, is) in ap (λ n. reaches parents n slot) at ∙ under_itself parents slot older
 
--- a chain at height 0, after the root, reaches no slot
+-- A chain at height 0, after the root, reaches no slot.
 pub ended : (parents : List (Option ℕ)) (place slot : ℕ) → place ≡ 0 → reaches parents place slot ≡ false
 ended parents place slot is = ap (λ n. reaches parents n slot) is

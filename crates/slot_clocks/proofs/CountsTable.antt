@@ -5,19 +5,19 @@ use Rattle.std.proofs.lemmas.Bool.Decides.{nat_tests}
 use Rattle.psi_counts.specs.declared.changes.Counts.{Counts}
 use Rattle.slot_clocks.specs.Bits.{counts_by}
 
--- the four counts of a table from an index on
+-- The four counts of a table from an index on.
 abbrev row_at : List ℕ → ℕ → Counts
 row_at table place = record { io = slice_index_or table place 0; stalled = slice_index_or table (place + 1) 0; running = slice_index_or table (place + 2) 0; stalled_running = slice_index_or table (place + 3) 0 }
 
 abbrev is_same_row : Counts → Counts → Bool
 is_same_row one other = (one.io == other.io) && ((one.stalled == other.stalled) && ((one.running == other.running) && (one.stalled_running == other.stalled_running)))
 
--- whether the first rows of a table are the counts that their indexes represent
+-- Whether the first rows of a table are the counts that their indexes represent.
 unfoldable pub are_rows : List ℕ → ℕ → Bool
 are_rows table zero = true
 are_rows table (suc bits) = is_same_row (row_at table (4 * bits)) (counts_by bits) && are_rows table bits
 
--- the table in the code
+-- The table in the code.
 abbrev pub counts_table : List ℕ
 counts_table =
     0 ∷ 0 ∷ 0 ∷ 0 ∷ 1 ∷ 0 ∷ 0 ∷ 0 ∷ 0 ∷ 1 ∷ 0 ∷ 0 ∷ 1 ∷ 1 ∷ 0 ∷ 0 ∷ 0 ∷ 0 ∷ 1 ∷ 0 ∷ 1 ∷ 0 ∷ 1 ∷ 0 ∷ 0 ∷ 1 ∷ 1 ∷ 0 ∷ 1 ∷ 1 ∷ 1 ∷ 0

@@ -11,12 +11,12 @@ use Rattle.slot_clocks.specs.Walk.{MayStart, MayStartAt, chains_of, height, slot
 
 -- ---- each walk at its slot
 
--- a chain may start at the slot that the change names
+-- A chain may start at the slot that the change names.
 at_slot : {A : Type 0} (side : Option (Slot × A)) → MayStartAt side (height (slot_in side))
 at_slot None = tt
 at_slot (Some pair) = refl
 
--- the first chain may start at the switched slot, or else at the slot whose counts are subtracted
+-- The first chain may start at the switched slot, or else at the slot whose counts are subtracted.
 at_account : (account : Option (Slot × Bool)) (minus : Option (Slot × Counts)) → MayStartAt account (height (option_or (slot_in account) (slot_in minus)))
 at_account None minus = tt
 at_account (Some switched) minus = refl
@@ -26,7 +26,7 @@ at_minus account None alone = tt
 at_minus None (Some part) alone = refl
 at_minus (Some switched) (Some part) alone = absurd (cc alone)
 
--- the chains of a change may start at the slots that the change names
+-- The chains of a change may start at the slots that the change names.
 pub may_start : (current : Option (Slot × Bool)) (change : Change) → IfSome change.account (λ _. change.minus ≡ None) → MayStart current change (chains_of current change)
 may_start current change alone = record {
   account = at_account change.account change.minus;
@@ -38,19 +38,19 @@ may_start current change alone = record {
 
 -- ---- walks that start together
 
--- a chain whose first height is `other`, or 0 because it has no slot, may start at height `other`
+-- A chain whose first height is `other`, or 0 because it has no slot, may start at height `other`.
 moved : {A : Type 0} (side : Option (Slot × A)) (place other : ℕ) → MayStartAt side place → (place ≡ 0) ⊎ (place ≡ other) → MayStartAt side other
 moved None place other at either = tt
 moved (Some pair) place other at (inl nowhere) = absurd (cc (at, nowhere))
 moved (Some pair) place other at (inr same) = sym same ∙ at
 
--- the chain of the task that ran may start at any height if the running task and its stall don't
--- change
+-- The chain of the task that ran may start at any height if the running task and its stall don't
+-- change.
 moved_before : (current : Option (Slot × Bool)) (change : Change) (stays : Bool) (other : ℕ) → (stays ≡ true → current ≡ change.current) → ((if stays then 0 else height (slot_in current)) ≡ 0) ⊎ ((if stays then 0 else height (slot_in current)) ≡ other) → MayStartAt current other ⊎ (current ≡ change.current)
 moved_before current change true other same either = inr (same refl)
 moved_before current change false other same either = inl (moved current (height (slot_in current)) other (at_slot current) either)
 
--- the chains of a change may start at one height, if each chain is at this height or has no slot
+-- The chains of a change may start at one height, if each chain is at this height or has no slot.
 pub start_together : (current : Option (Slot × Bool)) (change : Change) (stays : Bool) (other : ℕ) → (stays ≡ true → current ≡ change.current) → IfSome change.account (λ _. change.minus ≡ None) → (chains : Chains) → chains ≡ chains_of current change
     → (chains.minus ≡ 0) ⊎ (chains.minus ≡ other) → (chains.plus ≡ 0) ⊎ (chains.plus ≡ other) → ((if stays then 0 else chains.before) ≡ 0) ⊎ ((if stays then 0 else chains.before) ≡ other)
     → MayStart current change (record { minus = other; plus = other; before = other; after = chains.after })
@@ -74,7 +74,7 @@ first_low : (account : Option (Slot × Bool)) (minus : Option (Slot × Counts)) 
 first_low None minus slots below part_below = side_low minus slots part_below
 first_low (Some switched) minus slots below part_below = omega (arith, below)
 
--- each chain of a change starts at an existing slot
+-- Each chain of a change starts at an existing slot.
 pub starts_low : (current : Option (Slot × Bool)) (change : Change) (slots : ℕ) → HasSlotsBelow slots change → IfSome current (λ running. running.0.0 < slots) → top (chains_of current change) ≤ slots
 starts_low current change slots below running =
     let minus = first_low change.account change.minus slots below.account below.minus in

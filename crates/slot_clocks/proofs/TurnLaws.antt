@@ -18,21 +18,21 @@ use Rattle.slot_clocks.proofs.ChainLaws.{stands}
 
 -- ---- the parts of a change at a group
 
--- the counts of a part that apply to a slot: all of them if the part's chain reaches the slot,
--- otherwise none
+-- The counts of a part that apply to a slot: all of them if the part's chain reaches the slot,
+-- otherwise none.
 pub chain_is : (parents : List (Option ℕ)) (slot : ℕ) (side : Option (Slot × Counts)) (place : ℕ) (here : Bool) → MayStartAt side place → reaches parents place slot ≡ here → on_chain parents slot side ≡ (if here then counts_in side else no_counts)
 chain_is parents slot None place true start reached = refl
 chain_is parents slot None place false start reached = refl
 chain_is parents slot (Some part) place here start reached = ap (λ b. if b then part.1 else no_counts) (ap (λ (h : ℕ). reaches parents h slot) (sym start) ∙ reached)
 
--- the running task is in a group exactly if its chain reaches the group's slot
+-- The running task is in a group exactly if its chain reaches the group's slot.
 pub current_is : (parents : List (Option ℕ)) (slot : ℕ) (current : Option (Slot × Bool)) (here : Bool) → reaches parents (height (slot_in current)) slot ≡ here → is_current_in parents slot current ≡ here
 current_is parents slot None here reached = reached
 current_is parents slot (Some running) here reached = reached
 
 -- ---- groups that the walk doesn't reach
 
--- if the running task isn't in the group, its stall doesn't matter
+-- If the running task isn't in the group, its stall doesn't matter.
 known_off : (state : State) (counts : Counts) (one other : Bool) → shows state counts false one ≡ shows state counts false other
 known_off IoSome counts one other = refl
 known_off IoFull counts one other = refl
@@ -45,12 +45,12 @@ known_off Nonidle counts one other = refl
 follows_none : (counts : Counts) → Follows counts no_counts no_counts counts
 follows_none counts = record { io = refl; stalled = refl; running = refl; stalled_running = refl }
 
--- if a running task's chain doesn't reach a group, the task isn't in the group
+-- If a running task's chain doesn't reach a group, the task isn't in the group.
 not_in : (parents : List (Option ℕ)) (slot : ℕ) (current : Option (Slot × Bool)) (place : ℕ) → MayStartAt current place → reaches parents place slot ≡ false → is_current_in parents slot current ≡ false
 not_in parents slot None place start reached = refl
 not_in parents slot (Some running) place start reached = ap (λ (h : ℕ). reaches parents h slot) (sym start) ∙ reached
 
--- if the first chain doesn't reach a group, the group's accounting isn't switched
+-- If the first chain doesn't reach a group, the group's accounting isn't switched.
 pub is_apart : (parents : List (Option ℕ)) (slot : ℕ) (account : Option (Slot × Bool)) (place : ℕ) → AreOlder parents → MayStartAt account place → reaches parents place slot ≡ false → IsApart account slot
 is_apart parents slot None place older start reached = tt
 is_apart parents slot (Some account) place older start reached = λ same. cc (reached, stands parents place slot older (place_is place account.0.0 slot start same))
@@ -58,7 +58,7 @@ is_apart parents slot (Some account) place older start reached = λ same. cc (re
     place_is : (place number slot : ℕ) → place ≡ suc number → slot ≡ number → place ≡ slot + 1
     place_is place number slot is same = omega (arith, is, same)
 
--- a group that no chain of a change reaches is unchanged
+-- A group that no chain of a change reaches is unchanged.
 pub stays_turned : (parents : List (Option ℕ)) (current : Option (Slot × Bool)) (change : Change) (starts : Chains) (slot : ℕ) (cell : Cell) → MayStart current change starts → reaches parents starts.minus slot ≡ false → reaches parents starts.plus slot ≡ false
     → reaches parents starts.before slot ≡ false → reaches parents starts.after slot ≡ false → AreOlder parents → (IsApart change.account slot → MaskShows parents current slot cell) → IsUpTo change.at cell.clock → IsTurned parents change slot cell cell
 stays_turned parents current change starts slot cell start minus plus before after older known_apart up_to =

@@ -20,14 +20,14 @@ use Rattle.slot_clocks.proofs.TurnLaws.{chain_is, current_is, is_apart, stays_tu
 
 -- ---- the progress of a walk
 
--- no chain reaches the slot from its current height
+-- No chain reaches the slot from its current height.
 pub record IsNotPast (parents : List (Option ℕ)) (chains : Chains) (slot : ℕ) : Type 0 where
   pub minus : reaches parents chains.minus slot ≡ false
   pub plus : reaches parents chains.plus slot ≡ false
   pub before : reaches parents chains.before slot ≡ false
   pub after : reaches parents chains.after slot ≡ false
 
--- the slot is reached by the same chains from their current heights as from their first heights
+-- The slot is reached by the same chains from their current heights as from their first heights.
 pub record IsAhead (parents : List (Option ℕ)) (starts chains : Chains) (slot : ℕ) : Type 0 where
   pub minus : reaches parents chains.minus slot ≡ reaches parents starts.minus slot
   pub plus : reaches parents chains.plus slot ≡ reaches parents starts.plus slot
@@ -39,13 +39,13 @@ pub record IsAhead (parents : List (Option ℕ)) (starts chains : Chains) (slot 
 abbrev pub IsWalked : List (Option ℕ) → Change → Chains → Chains → ℕ → Cell → Cell → Type 0
 IsWalked parents change starts chains slot old now = (IsTurned parents change slot old now × IsNotPast parents chains slot) ⊎ ((now ≡ old) × IsAhead parents starts chains slot)
 
--- at first the walk has visited no group
+-- At first the walk has visited no group.
 pub none_walked : (parents : List (Option ℕ)) (change : Change) (starts : Chains) (slot : ℕ) (cell : Cell) → IsWalked parents change starts starts slot cell cell
 none_walked parents change starts slot cell = inr (refl, record { minus = refl; plus = refl; before = refl; after = refl })
 
 -- ---- the next slot of a walk
 
--- the height of each chain is at most `limit`
+-- The height of each chain is at most `limit`.
 pub record AreWithin (chains : Chains) (limit : ℕ) : Type 0 where
   pub minus : chains.minus ≤ limit
   pub plus : chains.plus ≤ limit
@@ -58,7 +58,7 @@ within_top chains limit is = record { minus = omega (arith, is); plus = omega (a
 some_top : (a b c d limit : ℕ) → max (max a b) (max c d) ≡ limit → (a ≡ limit) ⊎ ((b ≡ limit) ⊎ ((c ≡ limit) ⊎ (d ≡ limit)))
 some_top a b c d limit is = grind (arith, is)
 
--- the walk hasn't visited the slot at the greatest height
+-- The walk hasn't visited the slot at the greatest height.
 not_after_it : (parents : List (Option ℕ)) (chains : Chains) (slot : ℕ) → AreOlder parents → top chains ≡ slot + 1 → IsNotPast parents chains slot → ⊥
 not_after_it parents chains slot older is suffix =
     ⊎_elim
@@ -76,7 +76,7 @@ pub ahead_at_top : (parents : List (Option ℕ)) (change : Change) (starts chain
 ahead_at_top parents change starts chains slot old now older is (inl done) = absurd (not_after_it parents chains slot older is done.1)
 ahead_at_top parents change starts chains slot old now older is (inr ahead) = ahead
 
--- the part of a change at a slot, by which chains are at the slot's height
+-- The part of a change at a slot, by which chains are at the slot's height.
 pub record IsShare (parents : List (Option ℕ)) (change : Change) (chains : Chains) (here slot : ℕ) : Type 0 where
   pub minus : on_chain parents slot change.minus ≡ (if chains.minus == here then counts_in change.minus else no_counts)
   pub plus : on_chain parents slot change.plus ≡ (if chains.plus == here then counts_in change.plus else no_counts)
@@ -96,7 +96,7 @@ share_at_top parents current change starts chains here slot older start at is ah
 
 -- ---- one step of the walk
 
--- after the walk passed the slot at the greatest height, no chain reaches it
+-- After the walk passed the slot at the greatest height, no chain reaches it.
 after_passed : (parents : List (Option ℕ)) (chains : Chains) (parent : Option Slot) (slot : ℕ) → AreOlder parents → number_of_slot parent ≡ slice_index_or parents slot None → top chains ≡ slot + 1 → IsNotPast parents (all_passed (slot + 1) (height parent) chains) slot
 after_passed parents chains parent slot older up is =
     let within = within_top chains (slot + 1) is in
@@ -110,7 +110,7 @@ after_passed parents chains parent slot older up is =
       after = off chains.after within.after;
     }
 
--- whether another slot was visited doesn't change when the walk passes a slot
+-- Whether another slot was visited doesn't change when the walk passes a slot.
 other_walked : (parents : List (Option ℕ)) (change : Change) (starts chains : Chains) (parent : Option Slot) (slot other : ℕ) (old now : Cell) → AreOlder parents → number_of_slot parent ≡ slice_index_or parents slot None → other ≢ slot
     → IsWalked parents change starts chains other old now → IsWalked parents change starts (all_passed (slot + 1) (height parent) chains) other old now
 other_walked parents change starts chains parent slot other old now older up apart (inl done) = inl (
@@ -150,8 +150,8 @@ walked_past parents change starts chains parent slot olds nows new older up is r
     (other_walked parents change starts chains parent slot other (cell_in olds other) (cell_in nows other) older up apart (walked other)))
     (same_or_other other slot)
 
--- if the change was applied to the group at the greatest height and the walk passed it, each group
--- is still visited or unchanged
+-- If the change was applied to the group at the greatest height and the walk passed it, each group
+-- is still visited or unchanged.
 pub walked_on : (parents : List (Option ℕ)) (change : Change) (starts chains : Chains) (parent : Option Slot) (here slot : ℕ) (olds nows : List Cell) (new : Cell) → AreOlder parents → number_of_slot parent ≡ slice_index_or parents slot None → here ≡ slot + 1 → top chains ≡ here → slot < length nows
     → IsTurned parents change slot (cell_in olds slot) new → ((other : ℕ) → IsWalked parents change starts chains other (cell_in olds other) (cell_in nows other))
     → (other : ℕ) → IsWalked parents change starts (all_passed here (height parent) chains) other (cell_in olds other) (cell_in (slice_set nows slot new) other)
@@ -159,7 +159,7 @@ walked_on parents change starts chains parent here slot olds nows new older up a
     subst (λ h. IsWalked parents change starts (all_passed h (height parent) chains) other (cell_in olds other) (cell_in (slice_set nows slot new) other)) (sym at)
     (walked_past parents change starts chains parent slot olds nows new older up (is ∙ at) room turned walked other)
 
--- passing the slot at the greatest height lowers the greatest height
+-- Passing the slot at the greatest height lowers the greatest height.
 pub top_passed : (parents : List (Option ℕ)) (chains : Chains) (parent : Option Slot) (here slot : ℕ) → AreOlder parents → number_of_slot parent ≡ slice_index_or parents slot None → here ≡ slot + 1 → top chains ≡ here → top (all_passed here (height parent) chains) ≤ slot
 top_passed parents chains parent here slot older up at is =
     let within = within_top chains (slot + 1) (is ∙ at) in
@@ -168,7 +168,7 @@ top_passed parents chains parent here slot older up at is =
 
 -- ---- the end of the walk
 
--- after the walk passed the root, the change was applied to each group
+-- After the walk passed the root, the change was applied to each group.
 pub all_walked : (parents : List (Option ℕ)) (current : Option (Slot × Bool)) (change : Change) (starts chains : Chains) (slot : ℕ) (old now : Cell) → AreOlder parents → MayStart current change starts → top chains ≡ 0 → (IsApart change.account slot → MaskShows parents current slot old) → IsUpTo change.at old.clock
     → IsWalked parents change starts chains slot old now → IsTurned parents change slot old now
 all_walked parents current change starts chains slot old now older start is known up_to (inl done) = done.0
@@ -182,7 +182,7 @@ all_walked parents current change starts chains slot old now older start is know
     (sym ahead.1.after ∙ ended parents chains.after slot (omega (arith, within.after)))
     older known up_to)
 
--- chains that are at one height are still at one height after they passed a slot
+-- Chains that are at one height are still at one height after they passed a slot.
 pub together_passed : (here parent : ℕ) (chains : Chains) → AreTogether chains → AreTogether (all_passed here parent chains)
 together_passed here parent chains are = record { plus = ap (passed here parent) are.plus; before = ap (passed here parent) are.before }
 
@@ -191,13 +191,13 @@ together_passed here parent chains are = record { plus = ap (passed here parent)
 pub parent_number : (parents : List (Option Slot)) (slot : ℕ) → number_of_slot (slice_index_or parents slot None) ≡ slice_index_or (parent_numbers parents) slot None
 parent_number parents slot = sym (get_or-map number_of_slot parents slot None)
 
--- the cell of an existing slot, whatever default is used for missing slots
+-- The cell of an existing slot, whatever default is used for missing slots.
 pub cell_here : (cells : List Cell) (slot : ℕ) (other : Cell) → slot < length cells → slice_index_or cells slot other ≡ cell_in cells slot
 cell_here cells slot other room = get_or_default cells slot other zero_cell room
 
 -- ---- a group that the walk visits
 
--- the effect of a change on the group that the walk visits, from the parts that apply to it
+-- The effect of a change on the group that the walk visits, from the parts that apply to it.
 pub turned_here : (parents : List (Option ℕ)) (change : Change) (chains : Chains) (here slot : ℕ) (old now new : Cell) → IsShare parents change chains here slot → now ≡ old
     → Follows now.counts (if chains.minus == here then counts_in change.minus else no_counts) (if chains.plus == here then counts_in change.plus else no_counts) new.counts
     → new.on ≡ now.on → ClockFollows now.clock change.at new.clock → StaysByMask now.clock new.clock → IsUpTo change.at new.clock → ((state : State) → mask_holds new.clock.mask state ≡ (new.on && shows state new.counts (chains.after == here) (is_current_stalled change.current))) → IsTurned parents change slot old new
@@ -212,7 +212,7 @@ turned_here parents change chains here slot old now new share same counts on clo
   known = λ state. known state ∙ ap (λ runs. new.on && shows state new.counts runs (is_current_stalled change.current)) (sym share.after);
 }
 
--- the group's counts can follow the parts that apply to it
+-- The group's counts can follow the parts that apply to it.
 pub can_turn : (parents : List (Option ℕ)) (change : Change) (chains : Chains) (here slot : ℕ) (old now : Cell) → IsShare parents change chains here slot → now ≡ old → CanFollow old.counts (on_chain parents slot change.minus) (on_chain parents slot change.plus)
     → CanFollow now.counts (if chains.minus == here then counts_in change.minus else no_counts) (if chains.plus == here then counts_in change.plus else no_counts)
 can_turn parents change chains here slot old now share same fits =
@@ -220,8 +220,8 @@ can_turn parents change chains here slot old now share same fits =
     (subst (λ p. CanFollow old.counts (if chains.minus == here then counts_in change.minus else no_counts) p) share.plus
     (subst (λ m. CanFollow old.counts m (on_chain parents slot change.plus)) share.minus fits))
 
--- if the running task doesn't change, the group's mask has the states of its counts after the
--- change
+-- If the running task doesn't change, the group's mask has the states of its counts after the
+-- change.
 pub known_at_place : (parents : List (Option ℕ)) (current : Option (Slot × Bool)) (change : Change) (chains : Chains) (here slot : ℕ) (old now : Cell) → IsShare parents change chains here slot → now ≡ old → (IsApart change.account slot → MaskShows parents current slot old) → current ≡ change.current → (chains.minus == here) ≡ false
     → (state : State) → mask_holds now.clock.mask state ≡ (now.on && shows state now.counts (chains.after == here) (is_current_stalled change.current))
 known_at_place parents current change chains here slot old now share same known stays off =

@@ -14,6 +14,6 @@ small_bit zero power few some = let goal : not (nat_eq (0 * power) 0) ≡ false 
 small_bit (suc zero) power few some = let goal : not (nat_eq (1 * power) 0) ≡ true = grind (arith, nat_tests) in goal
 small_bit (suc (suc n)) power few some = absurd (omega arith)
 
--- a mask has a state exactly if it shares a set bit with the state's power of two
+-- A mask has a state exactly if it shares a set bit with the state's power of two.
 pub holds_known : (mask : ℕ) (state : State) → not (nat_eq (bit_and mask (2 ^ state_number state)) 0) ≡ mask_holds mask state
 holds_known mask state = rw (and_pow mask (state_number state)) (small_bit (bit_at mask (state_number state)) (2 ^ state_number state) (bit_at-lt mask (state_number state)) (pow_pos (state_number state)))

@@ -9,7 +9,7 @@ use Rattle.psi_counts.specs.declared.changes.Counts.{Counts}
 use Rattle.psi_counts.specs.Counts.{IsMask, mask_holds, shows}
 use Rattle.state_mask.specs.Signs.{place_by, place_of, shows_by}
 
--- whether two Booleans are equal
+-- Whether two Booleans are equal.
 abbrev same : Bool → Bool → Bool
 same true b = b
 same false b = not b
@@ -20,7 +20,7 @@ same-equal true false is = sym is
 same-equal false true is = is
 same-equal false false is = refl
 
--- whether a test is true for both Booleans
+-- Whether a test is true for both Booleans.
 abbrev both : (Bool → Bool) → Bool
 both test = test true && test false
 
@@ -37,17 +37,17 @@ both-each : (test : Bool → Bool) → both test ≡ true → (b : Bool) → tes
 both-each test is true = first (test true) (test false) is
 both-each test is false = second (test true) (test false) is
 
--- whether the mask at the index of these signs has a state exactly if the signs give the state
+-- Whether the mask at the index of these signs has a state exactly if the signs give the state.
 abbrev is_right_at : List ℕ → State → (waits stalls ready all_stalled on_cpu current_stalled beside : Bool) → Bool
 is_right_at masks state waits stalls ready all_stalled on_cpu current_stalled beside =
     same (mask_holds (slice_index_or masks (place_of waits stalls ready all_stalled on_cpu current_stalled beside) 0) state) (shows_by state waits stalls ready all_stalled on_cpu current_stalled beside)
 
--- whether the masks are right for a state, at all signs
+-- Whether the masks are right for a state, at all signs.
 abbrev is_right : List ℕ → State → Bool
 is_right masks state =
     both (λ waits. both (λ stalls. both (λ ready. both (λ all_stalled. both (λ on_cpu. both (λ current_stalled. both (λ beside. is_right_at masks state waits stalls ready all_stalled on_cpu current_stalled beside)))))))
 
--- whether the masks are right for all states
+-- Whether the masks are right for all states.
 abbrev pub are_right : List ℕ → Bool
 are_right masks = is_right masks IoSome && (is_right masks IoFull && (is_right masks MemSome && (is_right masks MemFull && (is_right masks CpuSome && (is_right masks CpuFull && is_right masks Nonidle)))))
 
@@ -61,7 +61,7 @@ all_seven true true true true false f g is = absurd (cc is)
 all_seven true true true true true false g is = absurd (cc is)
 all_seven true true true true true true false is = absurd (cc is)
 
--- if the masks are right for all states, they are right for each state
+-- If the masks are right for all states, they are right for each state.
 each_right : (masks : List ℕ) → are_right masks ≡ true → (state : State) → is_right masks state ≡ true
 each_right masks right state =
     picked (all_seven (is_right masks IoSome) (is_right masks IoFull) (is_right masks MemSome) (is_right masks MemFull) (is_right masks CpuSome) (is_right masks CpuFull) (is_right masks Nonidle) right) state
@@ -75,7 +75,7 @@ each_right masks right state =
     picked all CpuFull = all.5
     picked all Nonidle = all.6
 
--- masks that are right have exactly the states that the signs of their index give
+-- Masks that are right have exactly the states that the signs of their index give.
 right_shows : (masks : List ℕ) → are_right masks ≡ true → (state : State) (waits stalls ready all_stalled on_cpu current_stalled beside : Bool) →
     mask_holds (slice_index_or masks (place_of waits stalls ready all_stalled on_cpu current_stalled beside) 0) state ≡ shows_by state waits stalls ready all_stalled on_cpu current_stalled beside
 right_shows masks right state waits stalls ready all_stalled on_cpu current_stalled beside =
@@ -102,7 +102,7 @@ signs_show CpuSome counts on_cpu current_stalled = refl
 signs_show CpuFull counts on_cpu current_stalled = refl
 signs_show Nonidle counts on_cpu current_stalled = refl
 
--- the mask at the index of counts has exactly the states that the counts show
+-- The mask at the index of counts has exactly the states that the counts show.
 pub table_shows : (masks : List ℕ) → are_right masks ≡ true → (counts : Counts) (on_cpu current_stalled : Bool) (mask place : ℕ) → place ≡ place_by counts on_cpu current_stalled → mask ≡ slice_index_or masks place 0
     → (state : State) → mask_holds mask state ≡ shows state counts on_cpu current_stalled
 table_shows masks right counts on_cpu current_stalled mask place at is state =
@@ -112,7 +112,7 @@ table_shows masks right counts on_cpu current_stalled mask place at is state =
 
 -- ---- masks alone
 
--- whether each number of a table is a mask
+-- Whether each number of a table is a mask.
 unfoldable pub are_masks : List ℕ → Bool
 are_masks [] = true
 are_masks (mask ∷ masks) = nat_lt mask 128 && are_masks masks
@@ -120,7 +120,7 @@ are_masks (mask ∷ masks) = nat_lt mask 128 && are_masks masks
 is_mask : (mask : ℕ) → nat_lt mask 128 ≡ true → IsMask mask
 is_mask mask is = grind (arith, nat_tests)
 
--- if each number of a table is a mask, so is the number at each index
+-- If each number of a table is a mask, so is the number at each index.
 pub table_are_masks : (masks : List ℕ) → are_masks masks ≡ true → (place : ℕ) → IsMask (slice_index_or masks place 0)
 unfolding are_masks
 table_are_masks [] are place = omega arith

@@ -51,7 +51,7 @@ header_long versions tick bytes is = ⊎_elim
     ap (trace_of (accepts_with versions tick)) c.whole ∙ trace_of-line (accepts_with versions tick) c.line c.suffix c.none ∙ ap (λ r. headed (accepts_with versions tick) r (parts_at 10 c.suffix)) (line_too_long (length c.line) _ (long_cut bytes c is)))
     (cut 10 bytes)
 
--- a fault of the first line is the fault of the trace
+-- A fault of the first line is the fault of the trace.
 pub header_not_read : (versions : List Version) (tick : ℕ) (bytes : List ℕ) (old new : Reader) (fault : LineFault) → old.number ≡ 1 → NextOf bytes old new (Err fault) → RefusalOf (trace_fault cause.BadHeader fault) (trace_of (accepts_with versions tick) (left old bytes))
 header_not_read versions tick bytes old new (lines.TooLong line) first found = rw (found.1, first) (header_long versions tick (left old bytes) found.0)
 header_not_read versions tick bytes old new (lines.Cut line) first found = rw (found.1, first) (header_cut versions tick (left old bytes) found.0)
@@ -59,7 +59,7 @@ header_not_read versions tick bytes old new lines.NoFile first found = tt
 header_not_read versions tick bytes old new lines.ReadFault first found = tt
 header_not_read versions tick bytes old new (lines.NoMemory _) first found = tt
 
--- a line that isn't too long is accepted or rejected as a header
+-- A line that isn't too long is accepted or rejected as a header.
 short_first : (long : Bool) (read : Result Header Cause) → long ≡ false → (if long then Err cause.LineTooLong else read) ≡ read
 short_first long read is = rw is refl
 

@@ -38,15 +38,15 @@ followed-none : (rest : Events) → followed [] rest ≡ rest
 followed-none (Ok events) = refl
 followed-none (Err refusal) = refl
 
--- one more event can be moved from the rest to the earlier events
+-- One more event can be moved from the rest to the earlier events.
 pub push_read : (prefix : List Event) (event : Event) (rest more whole : Events) → followed prefix rest ≡ whole → rest ≡ followed (event ∷ []) more → followed (prefix ++ event ∷ []) more ≡ whole
 push_read prefix event rest more whole is next = sym (followed-followed prefix (event ∷ []) more) ∙ ap (followed prefix) (sym next) ∙ is
 
--- a rejection of the rest of the input is the rejection of the whole input
+-- A rejection of the rest of the input is the rejection of the whole input.
 pub whole_refused : (prefix : List Event) (rest whole : Events) (refusal : Refusal) → followed prefix rest ≡ whole → rest ≡ Err refusal → whole ≡ Err refusal
 whole_refused prefix rest whole refusal is refused = sym is ∙ ap (followed prefix) refused
 
--- a fault of the rest of the input is the fault of the whole input
+-- A fault of the rest of the input is the fault of the whole input.
 pub whole_fault : (prefix : List Event) (rest whole : Events) (fault : TraceFault) → followed prefix rest ≡ whole → RefusalOf fault rest → RefusalOf fault whole
 whole_fault prefix rest whole (Refused refusal) is found = whole_refused prefix rest whole refusal is found
 whole_fault prefix rest whole _ is found = tt
@@ -94,7 +94,7 @@ pub takes_read : (verbs : List Verb) (Before After : Plays) (line : List ℕ) (r
 takes_read verbs Before After line (Ok event) result short is takes = takes_event verbs Before After line event result short is takes
 takes_read verbs Before After line (Err why) result short is same = subst (TakesLine verbs Before After line) (sym same) (takes_none verbs Before After line why short is)
 
--- if a line is played, its event comes before the events of the rest of the input
+-- If a line is played, its event comes before the events of the rest of the input.
 pub line_played : (verbs : List Verb) (Before After : Plays) (line : ℕ) (part : List ℕ) (before suffix : List ℕ → List ℕ) (known : Option (List ℕ)) (x : Unit {0}) → TakesLine verbs Before After part (Ok x) → ((bytes : List ℕ) → known ≡ Some bytes → BeginsWithLine (before bytes) part (suffix bytes))
     → NextGives verbs Before After line before suffix known (Ok x)
 line_played verbs Before After line part before suffix known x takes begins = λ limits events played running.
@@ -108,7 +108,7 @@ line_played verbs Before After line part before suffix known x takes begins = λ
           ∙ ap (λ w. followed (taken.0 ∷ []) (rest_from verbs limits w (line + 1) (suffix bytes))) (sym (after-push events taken.0));
     }
 
--- the fault of a line is the fault of the rest of the input
+-- The fault of a line is the fault of the rest of the input.
 pub line_faulted : (verbs : List Verb) (Before After : Plays) (line : ℕ) (part : List ℕ) (before suffix : List ℕ → List ℕ) (known : Option (List ℕ)) (why : Fault Cause) (found : TraceFault) → IsTraceFault line why found → TakesLine verbs Before After part (Err why) → ((bytes : List ℕ) → known ≡ Some bytes → BeginsWithLine (before bytes) part (suffix bytes))
     → NextGives verbs Before After line before suffix known (Err found)
 line_faulted verbs Before After line part before suffix known (fault.Refused why) found at takes begins = λ limits events played running bytes shows.
@@ -136,7 +136,7 @@ legally verbs Before After event (Err (fault.NoMemory _)) fits known takes = tt
 
 -- ---- an event line at the start of the buffered bytes
 
--- the buffered event line is the next line of the file
+-- The buffered event line is the next line of the file.
 pub prefix_begins : (old new : Reader) (event : Event) (count : ℕ) (bytes : List ℕ) → BeginsBufferWith old.buffered event count → new.buffered ≡ drop (count + 1) old.buffered → new.at ≡ old.at → BeginsWithLine (left old bytes) (spelling event) (left new bytes)
 prefix_begins old new event count bytes prefix buffered at =
     let is_line = spelled_in_line event prefix.begins.fits in
@@ -146,7 +146,7 @@ prefix_begins old new event count bytes prefix buffered at =
       one = λ k below. is_line.one k below;
     }
 
--- playing the event of the buffered line has the effect that `TakesLine` defines
+-- Playing the event of the buffered line has the effect that `TakesLine` defines.
 pub prefix_takes : (version : Version) (Before After : Plays) (buffered : List ℕ) (event : Event) (count : ℕ) (result : Result (Unit {0}) (Fault Cause)) → BeginsBufferWith buffered event count → PlayerTakes Before After event result → TakesLine (verbs_of version) (Legally (verbs_of version) Before) (Legally (verbs_of version) After) (spelling event) result
 prefix_takes version Before After buffered event count result prefix takes =
     let verbs = verbs_of version in
@@ -169,7 +169,7 @@ none_left verbs limits w line bytes is running =
 
 -- ---- lines that are too long
 
--- a line whose first 513 bytes contain no newline has more than 512 bytes
+-- A line whose first 513 bytes contain no newline has more than 512 bytes.
 pub long_cut : (bytes : List ℕ) (c : Cut 10 bytes) → IsTooLong bytes → 513 ≤ length c.line
 long_cut bytes c is =
     let case : (513 ≤ length c.line) ⊎ (length c.line < 513) = grind arith in
@@ -192,7 +192,7 @@ long_line verbs limits w line bytes is running = ⊎_elim
 
 -- ---- a line that can't be read
 
--- a fault of the next line is the fault of the rest of the input
+-- A fault of the next line is the fault of the rest of the input.
 pub line_not_read : (verbs : List Verb) (limits : Limits) (w : World) (bytes : List ℕ) (old new : Reader) (fault : LineFault) → NextOf bytes old new (Err fault) → w.ended ≡ false → RefusalOf (trace_fault cause.NoEnd fault) (rest_from verbs limits w old.number (left old bytes))
 line_not_read verbs limits w bytes old new (lines.TooLong line) found running = rw found.1 (long_line verbs limits w old.number (left old bytes) found.0 running)
 line_not_read verbs limits w bytes old new (lines.Cut line) found running = rw found.1 (cut_short verbs limits w old.number (left old bytes) found.0 running)
@@ -221,14 +221,15 @@ after_end verbs limits w line bytes some ended = ⊎_elim
     ∙ ap (λ r. or_refused line r (λ e. followed (e ∷ []) (rest_from verbs limits (after_event w e) (line + 1) c.suffix))) (ended_line w.ended (nat_lt 512 (length c.line)) _ ended))
     (cut 10 bytes)
 
--- if nothing is left after the `end` line, the events that were read are all events
+-- If nothing is left after the `end` line, the events that were read are all events.
 pub all_read : (verbs : List Verb) (prefix : List Event) (limits : Limits) (w : World) (line : ℕ) (bytes : List ℕ) (whole : Events) → followed prefix (rest_from verbs limits w line bytes) ≡ whole → bytes ≡ [] → w.ended ≡ true → whole ≡ Ok prefix
 all_read verbs prefix limits w line bytes whole is none ended =
     sym is ∙ ap (λ bs. followed prefix (rest_from verbs limits w line bs)) none ∙ ap (followed prefix) (nothing_left verbs limits w line ended) ∙ ap (λ es. let r : Events = Ok es in r) (append-nil prefix)
 
 -- ---- all lines
 
--- after the `end` line, all events were played, or the fault of the check is the fault of the trace
+-- After the `end` line, all events were played, or the fault of the check is the fault of the
+-- trace.
 pub closes : (verbs : List Verb) (Played : Plays) (limits : Limits) (events : List Event) (line : ℕ) (before suffix : List ℕ → List ℕ) (known : Option (List ℕ)) (result : Result (Unit {0}) TraceFault) → Played limits events → (after events).ended ≡ true
     → ((bytes : List ℕ) → known ≡ Some bytes → followed events (rest_from verbs limits (after events) line (suffix bytes)) ≡ rest_from verbs limits first_world 2 (before bytes))
     → ((bytes : List ℕ) → known ≡ Some bytes → TailGives line (suffix bytes) result) → RestGives verbs Played limits before known result
@@ -255,7 +256,7 @@ pub record SoFar (verbs : List Verb) (Played : Plays) (limits : Limits) (line : 
   pub running : (after events).ended ≡ false
   pub read : (bytes : List ℕ) → known ≡ Some bytes → followed events (rest_from verbs limits (after events) line (suffix bytes)) ≡ rest_from verbs limits first_world 2 (before bytes)
 
--- the invariant holds before the first line after the header
+-- The invariant holds before the first line after the header.
 pub none_so_far : (verbs : List Verb) (Played : Plays) (limits : Limits) (line : ℕ) (before : List ℕ → List ℕ) (known : Option (List ℕ)) → Played limits [] → line ≡ 2 → SoFar verbs Played limits line before before known
 none_so_far verbs Played limits line before known played is = record {
   events = [];
@@ -265,7 +266,7 @@ none_so_far verbs Played limits line before known played is = record {
   read = λ bytes shows. rw is (followed-none (rest_from verbs limits first_world 2 (before bytes)));
 }
 
--- the state after one more event was played, before line `line`; the event may be the end
+-- The state after one more event was played, before line `line`; the event may be the end.
 pub record OneMore (verbs : List Verb) (Played : Plays) (limits : Limits) (line : ℕ) (before suffix : List ℕ → List ℕ) (known : Option (List ℕ)) : Type 0 where
   pub events : List Event
   pub played : Played limits events
@@ -285,7 +286,7 @@ one_more verbs Before After limits line next_line before suffix later known x is
           rw is (push_read so.events p.event (rest_from verbs limits (after so.events) line (suffix bytes)) (rest_from verbs limits (after (so.events ++ p.event ∷ [])) (line + 1) (later bytes)) (rest_from verbs limits first_world 2 (before bytes)) (so.read bytes shows) (p.read bytes shows));
     }
 
--- if the event isn't the end, the invariant of the loop holds again
+-- If the event isn't the end, the invariant of the loop holds again.
 pub goes_on : (verbs : List Verb) (Played : Plays) (limits : Limits) (line : ℕ) (before suffix : List ℕ → List ℕ) (known : Option (List ℕ)) (ended : Bool) → OneMore verbs Played limits line before suffix known
     → ((limits : Limits) (events : List Event) → Played limits events → ended ≡ (after events).ended) → ended ≡ false → SoFar verbs Played limits line before suffix known
 goes_on verbs Played limits line before suffix known ended one reported running = record {
@@ -302,7 +303,7 @@ pub ends_here : (verbs : List Verb) (Played : Plays) (limits : Limits) (line : �
 ends_here verbs Played limits line before suffix known ended result one reported over tail =
     closes verbs Played limits one.events line before suffix known result one.played (sym (reported limits one.events one.played) ∙ over) one.read tail
 
--- a fault of the next line is the fault of the trace
+-- A fault of the next line is the fault of the trace.
 pub faults_here : (verbs : List Verb) (Before After Whole : Plays) (limits : Limits) (line : ℕ) (before suffix later : List ℕ → List ℕ) (known : Option (List ℕ)) (found : TraceFault) → SoFar verbs Before limits line before suffix known → NextGives verbs Before After line suffix later known (Err found) → RestGives verbs Whole limits before known (Err found)
 faults_here verbs Before After Whole limits line before suffix later known found so next = λ bytes shows.
     whole_fault so.events (rest_from verbs limits (after so.events) line (suffix bytes)) (rest_from verbs limits first_world 2 (before bytes)) found (so.read bytes shows) (next limits so.events so.played so.running bytes shows)
@@ -333,7 +334,7 @@ pub legally_read : (verbs : List Verb) (Before After : Plays) (read : Result Eve
 legally_read verbs Before After (Ok event) result found takes = legally verbs Before After event result found.0 found.1 takes
 legally_read verbs Before After (Err why) result found same = same
 
--- an event that was read can be spelled, and its verb is in the list
+-- An event that was read can be spelled, and its verb is in the list.
 pub known_read : (verbs : List Verb) (line : List ℕ) (read : Result Event (Fault Cause)) → IfOk read (λ event. Fits event × IsKnown verbs event × (line ≡ spelling event)) → IfOk read (λ event. Fits event × IsKnown verbs event)
 known_read verbs line (Ok event) found = (found.0, found.1)
 known_read verbs line (Err why) found = tt

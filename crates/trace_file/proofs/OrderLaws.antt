@@ -48,7 +48,7 @@ unread_order name at place before now cut lines.NoFile found reads is = subst (�
 unread_order name at place before now cut lines.ReadFault found reads is = subst (λ f. ReadsFile name at before now (shelf_fault f)) (sym is) (file_read name at before now _ reads)
 unread_order name at place before now cut (lines.NoMemory none) found reads is = subst (λ f. ReadsFile name at before now (shelf_fault f)) (sym is) (file_read name at before now _ reads)
 
--- if memory ran out before the first read, the log is unchanged
+-- If memory ran out before the first read, the log is unchanged.
 pub nothing_read : {A : Type 0} → (name : List ℕ) (log : List ReadCall) (none : token.NoMemory) (result : Result A TraceFault) → IsErr result → IsErrAnd result (λ e. e ≡ NoMemory none) → ReadsFile name 0 log log (shelf_fault_in result)
 nothing_read name log none (Ok value) failed same = cc
 nothing_read name log none (Err found) failed same =

@@ -8,7 +8,7 @@ use Rattle.task_table.proofs.Playing.{table_takes}
 use Rattle.trace_player.specs.Playing.{PlayerTakes}
 use Rattle.trace_file.specs.Reads.{HasKept}
 
--- if the table has played the event, and the event was stored, the keeper has taken it
+-- If the table has played the event, and the event was stored, the keeper has taken it.
 pub keeper_takes : (cpus : ℕ) (kept kept_now : List Event) (old new : TableView) (event : Event) (x : Unit {0}) → PlaysEvent {T = Unit {0}} old event new (Ok x) → kept_now ≡ kept ++ event ∷ []
     → PlayerTakes (HasKept cpus kept old.limits old.world) (HasKept cpus kept_now new.limits new.world) event (Ok x)
 keeper_takes cpus kept kept_now old new event x plays more = λ limits events so.

@@ -40,7 +40,7 @@ or_refused-line : (line : ℕ) (read : Result Event Cause) (next : Event → Eve
 or_refused-line line (Ok event) next refusal later is = later event is
 or_refused-line line (Err why) next refusal later is = at_end-line line (Some why) refusal is
 
--- the events from line `line` are rejected at this line or at a later line
+-- The events from line `line` are rejected at this line or at a later line.
 from_line : (verbs : List Verb) (limits : Limits) (w : World) (line : ℕ) (parts : List (List ℕ)) (refusal : Refusal) → events_from verbs limits w line parts ≡ Err refusal → line ≤ refusal.line
 unfolding events_from
 from_line verbs limits w line [] refusal is = at_end-line line _ refusal is
@@ -70,14 +70,14 @@ parts-line accepts [] refusal is = first_refused cause.BadHeader refusal is
 parts-line accepts (rest ∷ []) refusal is = first_refused _ refusal is
 parts-line accepts (line ∷ next ∷ parts) refusal is = headed-line accepts (first_line accepts.versions line) (next ∷ parts) refusal is
 
--- a rejected line has a number of at least 1
+-- A rejected line has a number of at least 1.
 pub trace-line : (accepts : Accepts) (bytes : List ℕ) (refusal : Refusal) → trace_of accepts bytes ≡ Err refusal → 1 ≤ refusal.line
 unfolding trace_of
 trace-line accepts bytes refusal is = parts-line accepts _ refusal is
 
 -- ---- one line
 
--- a line that was read has no read fault
+-- A line that was read has no read fault.
 pub line_was_read : (line : ℕ) (why : Fault Cause) (found : TraceFault) → IsTraceFault line why found → found ≡ ReadFault → ⊥
 line_was_read line (fault.Refused cause) found is read = absurd (cc is)
 line_was_read line (fault.NoMemory none) found is read = absurd (cc is)
@@ -89,7 +89,7 @@ line_number line (fault.Refused cause) found refusal is at =
     sym (ap (λ (r : Refusal). r.line) both)
 line_number line (fault.NoMemory none) found refusal is at = absurd (cc (sym is ∙ at))
 
--- if the fault of the trace is a failed read, so is the fault of the line
+-- If the fault of the trace is a failed read, so is the fault of the line.
 pub read_failed : (cut : Cause) (why : LineFault) → trace_fault cut why ≡ ReadFault → why ≡ lines.ReadFault
 read_failed cut (lines.TooLong n) is = absurd (cc is)
 read_failed cut (lines.Cut n) is = absurd (cc is)
@@ -112,7 +112,7 @@ fault_number number cut (lines.NoMemory none) refusal at is = absurd (cc is)
 same_fault : (lent : Result (Option (Bor (List ℕ))) LineFault) (why : LineFault) → lent ≡ Err why → why ≡ lines.ReadFault → lent ≡ Err lines.ReadFault
 same_fault lent why is read = is ∙ ap (λ f. let r : Result (Option (Bor (List ℕ))) LineFault = Err f in r) read
 
--- if the check after the `end` line fails, its fault is a failed read
+-- If the check after the `end` line fails, its fault is a failed read.
 pub same_look : (seen : Result Bool LineFault) (why : LineFault) → seen ≡ Err why → why ≡ lines.ReadFault → seen ≡ Err lines.ReadFault
 same_look seen why is read = is ∙ ap (λ f. let r : Result Bool LineFault = Err f in r) read
 
@@ -126,7 +126,7 @@ no_refusal cut (lines.NoMemory none) refusal reads is = cc is
 err_same : {A : Type 0} (found other : TraceFault) → (let r : Result A TraceFault = Err found in r) ≡ Err other → found ≡ other
 err_same found other is = cc is
 
--- the number of remaining lines after the call, from the contract of a borrowed line
+-- The number of remaining lines after the call, from the contract of a borrowed line.
 keeps_lines : {A : Type 0} (files : Option Files) (bytes_read read_now : ℕ) (old new : Reader) (lent : Result (Option (Bor (List ℕ))) LineFault) (result : Result A TraceFault) → LendsLine files bytes_read read_now old new lent → (IsErrOf result ReadFault → lent ≡ Err lines.ReadFault)
     → ((refusal : Refusal) → IsErrOf result (Refused refusal) → refusal.line ≡ old.number) → KeepsLines (content_of files old.name) old new result
 keeps_lines files bytes_read read_now old new lent result lends only at = record {
@@ -135,11 +135,11 @@ keeps_lines files bytes_read read_now old new lent result lends only at = record
   refused = at;
 }
 
--- the number of remaining lines if the line was consumed
+-- The number of remaining lines if the line was consumed.
 pub taken_keeps : {A : Type 0} (files : Option Files) (bytes_read read_now : ℕ) (old new : Reader) (lent : Result (Option (Bor (List ℕ))) LineFault) (x : A) → LendsLine files bytes_read read_now old new lent → KeepsLines (content_of files old.name) old new (Ok x)
 taken_keeps files bytes_read read_now old new lent x lends = keeps_lines files bytes_read read_now old new lent (Ok x) lends (λ is. absurd (cc is)) (λ refusal is. absurd (cc is))
 
--- the number of remaining lines if the line was read and rejected
+-- The number of remaining lines if the line was read and rejected.
 pub faulted_keeps : {A : Type 0} (files : Option Files) (bytes_read read_now : ℕ) (old new : Reader) (lent : Result (Option (Bor (List ℕ))) LineFault) (line : ℕ) (why : Fault Cause) (found : TraceFault) → LendsLine files bytes_read read_now old new lent → line ≡ old.number → IsTraceFault line why found
     → KeepsLines {A = A} (content_of files old.name) old new (Err found)
 faulted_keeps files bytes_read read_now old new lent line why found lends at faults =
@@ -147,7 +147,7 @@ faulted_keeps files bytes_read read_now old new lent line why found lends at fau
     (λ is. absurd (line_was_read line why found faults (err_same found ReadFault is)))
     (λ refusal is. line_number line why found refusal faults (err_same found (Refused refusal) is) ∙ at)
 
--- the number of remaining lines if the line can't be read
+-- The number of remaining lines if the line can't be read.
 pub unread_keeps : {A : Type 0} (files : Option Files) (bytes_read read_now : ℕ) (old new : Reader) (lent : Result (Option (Bor (List ℕ))) LineFault) (why : LineFault) (cut : Cause) (found : TraceFault) → LendsLine files bytes_read read_now old new lent → lent ≡ Err why → IsNumbered old.number (lent_line old.number lent) → found ≡ trace_fault cut why
     → KeepsLines {A = A} (content_of files old.name) old new (Err found)
 unread_keeps files bytes_read read_now old new lent why cut found lends is numbered from =
@@ -155,7 +155,7 @@ unread_keeps files bytes_read read_now old new lent why cut found lends is numbe
     (λ read. same_fault lent why is (read_failed cut why (sym from ∙ err_same found ReadFault read)))
     (λ refusal refuses. fault_number old.number cut why refusal (rw is at numbered) (sym from ∙ err_same found (Refused refusal) refuses))
 
--- the number of remaining lines if a buffered line was passed over
+-- The number of remaining lines if a buffered line was passed over.
 passes_line : {A : Type 0} (known : Option (List ℕ)) (old new : Reader) (part : List ℕ) (result : Result A TraceFault) → ((bytes : List ℕ) → known ≡ Some bytes → BeginsWithLine (left old bytes) part (left new bytes)) → new.number ≡ old.number + 1 → (IsErrOf result ReadFault → ⊥)
     → ((refusal : Refusal) → IsErrOf result (Refused refusal) → refusal.line ≡ old.number) → KeepsLines known old new result
 passes_line known old new part result begins number never at = record {
@@ -177,7 +177,7 @@ passed_faulted known old new part why found begins number faults =
 no_newline : (buffered : List ℕ) → buffered ≡ [] → HasNoNewline buffered (length buffered)
 no_newline buffered none = rw none (λ k below. absurd (omega (arith, below)))
 
--- the check after the `end` line consumes no line
+-- The check after the `end` line consumes no line.
 pub look_keeps : {A : Type 0} (known : Option (List ℕ)) (old new : Reader) (result : Result A TraceFault) → ((bytes : List ℕ) → known ≡ Some bytes → left new bytes ≡ left old bytes) → new.number ≡ old.number → (IsErrOf result ReadFault → new.buffered ≡ [])
     → ((refusal : Refusal) → IsErrOf result (Refused refusal) → refusal.line ≡ old.number) → KeepsLines known old new result
 look_keeps known old new result same number none at = record {
@@ -194,11 +194,11 @@ known_keeps files files_now name name_now old new result same named keeps =
 
 -- ---- all lines
 
--- a line that is rejected after some events were played is the next line or a later line
+-- A line that is rejected after some events were played is the next line or a later line.
 later_refusal : (verbs : List Verb) (limits : Limits) (events : List Event) (line : ℕ) (bytes : List ℕ) (whole : Events) (refusal : Refusal) → followed events (rest_from verbs limits (after events) line bytes) ≡ whole → whole ≡ Err refusal → line ≤ refusal.line
 later_refusal verbs limits events line bytes whole refusal is refused = from_line verbs limits (after events) line _ refusal (followed-err events _ refusal (is ∙ refused))
 
--- reading stops at the line that the reader has reached
+-- Reading stops at the line that the reader has reached.
 pub stops_here : {A : Type 0} (verbs : List Verb) (limits : Limits) (events : List Event) (known : Option (List ℕ)) (first old new : Reader) (bytes_read read_before read_now : ℕ) (result : Result A TraceFault) → read_before + first.at ≡ bytes_read + old.at → read_now + old.at ≡ read_before + new.at → new.at ≤ furthest old.number
     → ((bytes : List ℕ) → known ≡ Some bytes → old.number + line_count (left old bytes) ≡ first.number + line_count (left first bytes))
     → ((bytes : List ℕ) → known ≡ Some bytes → followed events (rest_from verbs limits (after events) old.number (left old bytes)) ≡ rest_from verbs limits first_world 2 (left first bytes))
@@ -217,11 +217,11 @@ stops_here verbs limits events known first old new bytes_read read_before read_n
 
 -- ---- the trace
 
--- the reader before the first line of a file
+-- The reader before the first line of a file.
 abbrev pub fresh_reader : List ℕ → Reader
 fresh_reader name = record { name = name; number = 1; buffered = []; at = 0 }
 
--- reading stopped at the header
+-- Reading stopped at the header.
 pub head_stops : {A : Type 0} (B : Type 0) (tick : ℕ) (known : List ℕ → Option (List ℕ)) (name : List ℕ) (old new : Reader) (bytes_read read_now : ℕ) (found : TraceFault) → old ≡ fresh_reader name → read_now + old.at ≡ bytes_read + new.at → new.at ≤ furthest old.number → KeepsLines {A = A} (known old.name) old new (Err found)
     → StopsAtRefusal {A = B} tick (known name) bytes_read read_now (Err found)
 head_stops B tick known name old new bytes_read read_now (Refused refusal) fresh counted place keeps =
@@ -245,7 +245,7 @@ head_stops B tick known name old new bytes_read read_now ReadFault fresh counted
     rw total (omega (arith, count, number, first, later))
 head_stops B tick known name old new bytes_read read_now (NoMemory none) fresh counted place keeps = tt
 
--- reading stopped after the header
+-- Reading stopped after the header.
 pub rest_stops : {A B : Type 0} (C : Type 0) (tick : ℕ) (known : List ℕ → Option (List ℕ)) (name : List ℕ) (old middle new : Reader) (bytes_read read_before read_now : ℕ) (head : Header) (header : B) (rest : List ℕ → Events) (found : TraceFault) → old ≡ fresh_reader name → middle.name ≡ old.name → read_before + old.at ≡ bytes_read + middle.at
     → KeepsLines (known old.name) old middle (Ok header) → ((bytes : List ℕ) → known old.name ≡ Some bytes → trace_of (accepts_with versions tick) (left old bytes) ≡ with_events head (rest bytes)) → StopsReading {A = A} (known middle.name) middle new read_before read_now rest (Err found)
     → StopsAtRefusal {A = C} tick (known name) bytes_read read_now (Err found)

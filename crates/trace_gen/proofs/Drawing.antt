@@ -22,23 +22,23 @@ use Rattle.trace_gen.specs.Left.{IsGenerator, events_left}
 use Rattle.trace_gen.proofs.FirstEvents.{founded}
 use Rattle.trace_gen.proofs.Following.{IsNext, next_is}
 
--- the optional task of a search result has a value exactly if the search result has
+-- The optional task of a search result has a value exactly if the search result has.
 pub some_part : (o : Option (ℕ × Task)) → is_some (task_part o) ≡ is_some o
 some_part None = refl
 some_part (Some e) = refl
 
--- the world after one more event
+-- The world after one more event.
 pub one_after : (events : List Event) (event : Event) → after (events ++ event ∷ []) ≡ after_event (after events) event
 one_after events event = after_from-append first_world events (event ∷ [])
 
--- appending the next numbered event gives the numbered events up to the next number
+-- Appending the next numbered event gives the numbered events up to the next number.
 pub one_in_row : (f : ℕ → Event) (old mid new : List Event) (from count number : ℕ) (event : Event) → from + count ≡ number → mid ≡ old ++ map f (range_with_len from count) → new ≡ mid ++ event ∷ [] → event ≡ f number → new ≡ old ++ map f (range_with_len from (count + 1))
 one_in_row f old mid new from count number event at were more is =
     more ∙ ap (λ es. es ++ event ∷ []) were ∙ append_assoc old (map f (range_with_len from count)) (event ∷ [])
     ∙ ap (λ e. old ++ (map f (range_with_len from count) ++ e ∷ [])) is
     ∙ ap (λ es. old ++ es) (sym (map-range_with_len_more f from count number at))
 
--- the invariant of a generator after the groups and tasks were created
+-- The invariant of a generator after the groups and tasks were created.
 pub at_first : (shape : Shape) → IsShape shape → (table : TableView) → table.limits ≡ limits_in shape → table.world ≡ after (first_events shape) → IsGenerator shape table shape.events
 at_first shape shaped table limits world = record {
   shaped = shaped;
@@ -50,11 +50,11 @@ at_first shape shaped table limits world = record {
 
 -- ---- the next event
 
--- the next event of a generator can be spelled and is legal
+-- The next event of a generator can be spelled and is legal.
 pub generator_next : (shape : Shape) (table : TableView) (left : ℕ) → 0 < left → (so : IsGenerator shape table left) → (state : ℕ) → IsNext shape so.count table.world (next_event shape table.world state)
 generator_next shape table left some so state = let all = so.all in next_is shape so.shaped so.count (omega (arith, all, some)) table.world so.world state
 
--- the last time in a generator's world is at most 2^60 ns
+-- The last time in a generator's world is at most 2^60 ns.
 pub not_late : (shape : Shape) (table : TableView) (left : ℕ) → IsGenerator shape table left → table.world.last ≤ 2 ^ 60
 not_late shape table left so =
     let all = so.all in
@@ -62,12 +62,12 @@ not_late shape table left so =
     let last = so.world.last in
     omega (arith, all, few, last)
 
--- a legal event that needs no memory gives no fault
+-- A legal event that needs no memory gives no fault.
 no_fault : (why : Option Cause) (event : Event) → why ≡ None → takes_memory event.act ≡ false → (f : Fault Cause) → IsFault why event.act f → ⊥
 no_fault why event legal light (fault.Refused cause) is = cc (legal, is)
 no_fault why event legal light (fault.NoMemory _) is = let heavy = is.1 in cc (light, heavy)
 
--- playing the next event gives no fault
+-- Playing the next event gives no fault.
 pub never_refused : (shape : Shape) (table : TableView) (left : ℕ) → 0 < left → IsGenerator shape table left → (state : ℕ) (event : Event) → event ≡ next_event shape table.world state → (f : Fault Cause) → IsFault (cause_of table.limits table.world event) event.act f → ⊥
 never_refused shape table left some so state event is f fails =
     let next = generator_next shape table left some so state in
@@ -75,7 +75,7 @@ never_refused shape table left some so state event is f fails =
     let light : takes_memory event.act ≡ false = ap (λ (e : Event). takes_memory e.act) is ∙ next.light in
     no_fault (cause_of table.limits table.world event) event legal light f fails
 
--- the invariant of a generator holds after the next event
+-- The invariant of a generator holds after the next event.
 pub generator_on : (shape : Shape) (table later : TableView) (left : ℕ) → 0 < left → IsGenerator shape table left → (state : ℕ) (event : Event) → event ≡ next_event shape table.world state → HasPlayed table event later → IsGenerator shape later (left - 1)
 generator_on shape table later left some so state event is played =
     let next = generator_next shape table left some so state in
@@ -88,7 +88,7 @@ generator_on shape table later left some so state event is played =
       world = rw (played.world, is) next.later;
     }
 
--- the remaining events are the next event and the events after it
+-- The remaining events are the next event and the events after it.
 pub next_from : (shape : Shape) (left : ℕ) → 0 < left → (w later : World) (state suffix : ℕ) (event : Event) → event ≡ next_event shape w state → suffix ≡ (next_random shape w.tasks state).state → later ≡ after_event w event → random_events shape left w state ≡ event ∷ random_events shape (left - 1) later suffix
 unfolding random_events
 next_from shape zero some w later state suffix event is on world = absurd (omega (arith, some))
@@ -98,7 +98,7 @@ next_from shape (suc left) some w later state suffix event is on world =
 
 -- ---- the remaining events
 
--- if only the end remains, it is the only remaining event
+-- If only the end remains, it is the only remaining event.
 pub end_left : (shape : Shape) (first later : List Event) (w : World) (state left at : ℕ) (ended : Bool) → first ≡ [] → later ≡ [] → ended ≡ false → left ≡ 0 → at ≡ w.last → events_left shape first w state left ended ≡ record { at = at; act = act.End } ∷ events_left shape later w state left true
 unfolding random_events
 end_left shape first later w state left at ended none still going all is = rw (none, still, going, all, is) refl

@@ -41,8 +41,8 @@ record IsGood (limits : Limits) (Holds : ℕ → World → Type 0) (number : ℕ
   legal : cause_of limits w event ≡ None
   later : Holds (number + 1) (after_event w event)
 
--- the result for numbered events up to `end`: they can be spelled and are legal, and `Holds` is
--- true for `end` after them
+-- The result for numbered events up to `end`: they can be spelled and are legal, and `Holds` is
+-- true for `end` after them.
 record InRow (limits : Limits) (Holds : ℕ → World → Type 0) (end : ℕ) (w : World) (events : List Event) : Type 0 where
   go : Go limits w events
   later : Holds end (after_from w events)
@@ -70,29 +70,29 @@ record HasGroups (shape : Shape) (number : ℕ) (w : World) : Type 0 where
   last : w.last ≡ 0
   going : w.ended ≡ false
 
--- the first of two options is chosen if it has a value
+-- The first of two options is chosen if it has a value.
 chosen_first : (first other : Option ℕ) → is_some first ≡ true → is_some (first_of_two first other) ≡ true
 chosen_first (Some slot) other h = refl
 chosen_first None other h = cc h
 
--- if both options are `None`, nothing is chosen
+-- If both options are `None`, nothing is chosen.
 neither : (first other : Option ℕ) → first ≡ None → other ≡ None → first_of_two first other ≡ None
 neither None other h k = k
 neither (Some slot) other h k = cc h
 
--- a path that is found is still found after a group is appended
+-- A path that is found is still found after a group is appended.
 still_found : (groups : List GroupLife) (group : GroupLife) (path : List ℕ) → is_some (slot_of groups path) ≡ true → is_some (slot_of (groups ++ group ∷ []) path) ≡ true
 still_found groups group path h = rw (found_in_suffix 0 groups group path) (chosen_first (slot_of groups path) _ h)
 
--- a number below `number + 1` is below `number` or equal to it
+-- A number below `number + 1` is below `number` or equal to it.
 below_next : (i number : ℕ) → i < number + 1 → (i < number) ⊎ (i ≡ number)
 below_next i number h = grind arith
 
--- the path of a new group is found
+-- The path of a new group is found.
 new_found : (groups : List GroupLife) (path : List ℕ) (at : ℕ) → slot_of groups path ≡ None → is_some (slot_of (groups ++ new_group groups path at ∷ []) path) ≡ true
 new_found groups path at fresh = rw (found_in_suffix 0 groups (new_group groups path at) path, fresh, bytes_itself path) refl
 
--- another path that isn't found is still not found after a group is appended
+-- Another path that isn't found is still not found after a group is appended.
 others_fresh : (groups : List GroupLife) (path other : List ℕ) (at : ℕ) → slot_of groups other ≡ None → bytes_eq path other ≡ false → slot_of (groups ++ new_group groups path at ∷ []) other ≡ None
 others_fresh groups path other at fresh apart = rw (found_in_suffix 0 groups (new_group groups path at) other, fresh, apart) refl
 
@@ -144,39 +144,39 @@ record HasTasks (shape : Shape) (number : ℕ) (w : World) : Type 0 where
   last : w.last ≡ 0
   going : w.ended ≡ false
 
--- adding a task increases the number of tasks by at most 1
+-- Adding a task increases the number of tasks by at most 1.
 one_more : (tasks : Tasks) (pid : ℕ) (task : Task) → tasks_by.len (put tasks pid task) ≤ tasks_by.len tasks + 1
 one_more tasks pid task =
     rw (tasks_by.len-insert nat_cmp_total tasks pid task)
     (elim (tasks_by.contains_key tasks pid) as (λ b. cond b (tasks_by.len tasks) (tasks_by.len tasks + 1) ≤ tasks_by.len tasks + 1) [ true ↦ omega arith | false ↦ omega arith ])
 
--- adding a task doesn't add a task under another number
+-- Adding a task doesn't add a task under another number.
 none_there : (tasks : Tasks) (pid : ℕ) (task : Task) (q : ℕ) → task_of tasks q ≡ None → q ≢ pid → task_of (put tasks pid task) q ≡ None
 none_there tasks pid task q none apart =
     let other : (q == pid) ≡ false = grind (arith, nat_tests, apart) in
     get_put tasks pid task q ∙ rw (other, none) refl
 
--- the added task is found under its number
+-- The added task is found under its number.
 one_there : (tasks : Tasks) (pid : ℕ) (task : Task) (q : ℕ) → q ≡ pid → IsSome (task_of (put tasks pid task) q)
 one_there tasks pid task q same =
     let it : (q == pid) ≡ true = grind (arith, nat_tests) in
     rw (get_put tasks pid task q, it) refl
 
--- every task is still found after a task is added
+-- Every task is still found after a task is added.
 lives_on : (tasks : Tasks) (pid : ℕ) (task : Task) (q : ℕ) → IsSome (task_of tasks q) → IsSome (task_of (put tasks pid task) q)
 lives_on tasks pid task q lived =
     rw (get_put tasks pid task q) (elim (q == pid) as (λ b. IsSome (cond b (Some task) (task_of tasks q))) [ true ↦ refl | false ↦ lived ])
 
--- after a task on an existing processor is added, every task is on an existing processor
+-- After a task on an existing processor is added, every task is on an existing processor.
 all_within : (cpus : ℕ) (tasks : Tasks) (pid : ℕ) (task : Task) → task.cpu.0 < cpus → ((q : ℕ) → IfSome (task_of tasks q) (λ task. task.cpu.0 < cpus)) → (q : ℕ) → IfSome (task_of (put tasks pid task) q) (λ task. task.cpu.0 < cpus)
 all_within cpus tasks pid task room within q =
     rw (get_put tasks pid task q) (elim (q == pid) as (λ b. IfSome (cond b (Some task) (task_of tasks q)) (λ task. task.cpu.0 < cpus)) [ true ↦ room | false ↦ within q ])
 
--- a number that isn't 0 is positive
+-- A number that isn't 0 is positive.
 some_groups : (n : ℕ) → (n == 0) ≡ false → 0 < n
 some_groups n other = grind (arith, nat_tests)
 
--- the group of a task was created
+-- The group of a task was created.
 home_found : (shape : Shape) (groups : List GroupLife) → is_some (slot_of groups (codes "/")) ≡ true → ((i : ℕ) → i < shape.groups → is_some (slot_of groups (numbered_path i)) ≡ true) → (pid : ℕ) → is_some (slot_of groups (home_of shape pid)) ≡ true
 home_found shape groups root made pid =
     elim (shape.groups == 0) as (λ b. (shape.groups == 0) ≡ b → is_some (slot_of groups (if b then codes "/" else numbered_path ((pid - 1) % shape.groups))) ≡ true) [
@@ -184,12 +184,12 @@ home_found shape groups root made pid =
       | false ↦ λ other. made ((pid - 1) % shape.groups) (mod-lt (pid - 1) (some_groups shape.groups other))
     ] refl
 
--- the path of the root is a path
+-- The path of the root is a path.
 root_is_path : is_path (codes "/") ≡ true
 unfolding is_path
 root_is_path = refl
 
--- the path of a task's group is a path
+-- The path of a task's group is a path.
 home_is_path : (shape : Shape) → shape.groups ≤ 1000 → (pid : ℕ) → is_path (home_of shape pid) ≡ true
 home_is_path shape few pid =
     elim (shape.groups == 0) as (λ b. (shape.groups == 0) ≡ b → is_path (if b then codes "/" else numbered_path ((pid - 1) % shape.groups)) ≡ true) [
@@ -199,11 +199,11 @@ home_is_path shape few pid =
           numbered_is_path ((pid - 1) % shape.groups) (omega (arith, few, below))
     ] refl
 
--- a number below `number + 1` is below `number` or equal to it
+-- A number below `number + 1` is below `number` or equal to it.
 lower : (pid number : ℕ) → pid < number + 1 → (pid < number) ⊎ (pid ≡ number)
 lower pid number h = grind arith
 
--- a fourth of a number below `4 * cpus` is below `cpus`
+-- A fourth of a number below `4 * cpus` is below `cpus`.
 fourth : (pid cpus : ℕ) → 1 ≤ pid → pid < 4 * cpus + 1 → (pid - 1) / 4 < cpus
 fourth pid cpus low high = omega arith
 
@@ -245,7 +245,7 @@ task_good shape shaped pid w room so =
 
 -- ---- all first events
 
--- the invariant of groups holds before the first event
+-- The invariant of groups holds before the first event.
 no_groups : (shape : Shape) → IsShape shape → HasGroups shape 0 first_world
 no_groups shape shaped = record {
   root = refl;
@@ -258,11 +258,11 @@ no_groups shape shaped = record {
   going = refl;
 }
 
--- no task is found in the empty map
+-- No task is found in the empty map.
 none_yet : (tasks : Tasks) → tasks ≡ no_tasks → (q : ℕ) → task_of tasks q ≡ None
 none_yet tasks none q = rw none (tasks_by.get-empty nat_cmp q)
 
--- the invariant of tasks holds after the last group and before the first task
+-- The invariant of tasks holds after the last group and before the first task.
 groups_made : (shape : Shape) (w : World) → HasGroups shape shape.groups w → HasTasks shape 1 w
 groups_made shape w so =
     let lines = so.lines in
@@ -279,7 +279,7 @@ groups_made shape w so =
       going = so.going;
     }
 
--- the invariant of generated traces holds after the last task
+-- The invariant of generated traces holds after the last task.
 tasks_made : (shape : Shape) (w : World) → HasTasks shape (1 + task_count shape) w → IsGenerating shape 0 w
 tasks_made shape w so =
     let lines = so.lines in
@@ -291,14 +291,14 @@ tasks_made shape w so =
       going = so.going;
     }
 
--- the event that creates the next group is legal after those that created the previous groups
+-- The event that creates the next group is legal after those that created the previous groups.
 group_turn : (shape : Shape) → IsShape shape → (number : ℕ) → number < shape.groups → cause_of (limits_in shape) (after_from first_world (made_groups shape number)) (at_start (made_group number)) ≡ None
 group_turn shape shaped number room =
     let so = in_row (limits_in shape) (HasGroups shape) number (λ i. at_start (made_group i)) (λ i w below. group_good shape shaped i w (omega (arith, below, room))) number 0 (omega arith) first_world (no_groups shape shaped) in
     (group_good shape shaped number (after_from first_world (made_groups shape number)) room so.later).legal
 
--- the event that creates the next task is legal after those that created all groups and the
--- previous tasks
+-- The event that creates the next task is legal after those that created all groups and the
+-- previous tasks.
 task_turn : (shape : Shape) → IsShape shape → (pid : ℕ) → pid < task_count shape → cause_of (limits_in shape) (after_from first_world (made_groups shape shape.groups ++ map (λ i. at_start (made_task shape i)) (range_with_len 1 pid))) (at_start (made_task shape (pid + 1))) ≡ None
 task_turn shape shaped pid room =
     let groups = made_groups shape shape.groups in
@@ -308,8 +308,8 @@ task_turn shape shaped pid room =
     let tasks = map (λ i. at_start (made_task shape i)) (range_with_len 1 pid) in
     rw (after_from-append first_world groups tasks) (task_good shape shaped (pid + 1) (after_from (after_from first_world groups) tasks) (omega (arith, room)) second.later).legal
 
--- the next group's event is legal for a table that has played the events before it; so is the next
--- task's event
+-- The next group's event is legal for a table that has played the events before it; so is the next
+-- task's event.
 pub group_legal : (shape : Shape) → IsShape shape → (number : ℕ) → number < shape.groups → (table : TableView) (events : List Event) (event : Event) → table.limits ≡ limits_in shape → table.world ≡ after events → events ≡ made_groups shape number → event ≡ at_start (made_group number) → cause_of table.limits table.world event ≡ None
 group_legal shape shaped number room table events event limits world are is = rw (limits, world, are, is) (group_turn shape shaped number room)
 

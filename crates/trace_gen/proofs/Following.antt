@@ -20,14 +20,14 @@ use Rattle.trace_gen.proofs.Stepping.{next_step}
 
 -- ---- legal events from a world
 
--- the events can be spelled, have verbs of every version, and are legal in their order from world
--- `w`
+-- The events can be spelled, have verbs of every version, and are legal in their order from world
+-- `w`.
 pub record Go (limits : Limits) (w : World) (events : List Event) : Type 0 where
   pub fit : AllFit events
   pub known : AreKnown first_verbs events
   pub legal : AreLegal limits w events
 
--- a legal event, followed by legal events, gives legal events
+-- A legal event, followed by legal events, gives legal events.
 pub go_then : (limits : Limits) (w : World) (event : Event) (events : List Event) → Fits event → IsKnown first_verbs event → cause_of limits w event ≡ None → Go limits (after_event w event) events → Go limits w (event ∷ events)
 go_then limits w event events fits known legal rest = record {
   fit = (fits, rest.fit);
@@ -35,20 +35,20 @@ go_then limits w event events fits known legal rest = record {
   legal = (legal, rest.legal);
 }
 
--- legal events, followed by legal events, give legal events
+-- Legal events, followed by legal events, give legal events.
 pub go_on : (limits : Limits) (w : World) (xs ys : List Event) → Go limits w xs → Go limits (after_from w xs) ys → Go limits w (xs ++ ys)
 go_on limits w [] ys prefix rest = rest
 go_on limits w (x ∷ xs) ys prefix rest =
     let inner : Go limits (after_event w x) xs = record { fit = prefix.fit.1; known = prefix.known.1; legal = prefix.legal.1 } in
     go_then limits w x (xs ++ ys) prefix.fit.0 prefix.known.0 prefix.legal.0 (go_on limits (after_event w x) xs ys inner rest)
 
--- a list that ends with the end still does so after other events are prepended
+-- A list that ends with the end still does so after other events are prepended.
 pub ends_after : (xs ys : List Event) → EndsLast ys → EndsLast (xs ++ ys)
 ends_after xs ys ends = (xs ++ ends.0, ends.1, ap (λ zs. xs ++ zs) ends.2 ∙ sym (append_assoc xs ends.0 (record { at = ends.1; act = act.End } ∷ [])))
 
 -- ---- one event
 
--- the next event can be spelled and is legal, and the invariant holds after it
+-- The next event can be spelled and is legal, and the invariant holds after it.
 pub record IsNext (shape : Shape) (count : ℕ) (w : World) (event : Event) : Type 0 where
   pub fits : Fits event
   pub known : IsKnown first_verbs event
@@ -81,7 +81,7 @@ next_is shape shaped count more w so state =
       };
     }
 
--- the end is legal
+-- The end is legal.
 pub end_goes : (shape : Shape) → IsShape shape → (count : ℕ) → count ≤ shape.events → (w : World) → IsGenerating shape count w → Go (limits_in shape) w (record { at = w.last; act = act.End } ∷ [])
 end_goes shape shaped count all w so =
     let few = shaped.events in
@@ -99,7 +99,7 @@ end_goes shape shaped count all w so =
 
 -- ---- all further events
 
--- the `left` remaining events and the end can be spelled and are legal
+-- The `left` remaining events and the end can be spelled and are legal.
 pub events_go : (shape : Shape) → IsShape shape → (left count : ℕ) → count + left ≡ shape.events → (w : World) → IsGenerating shape count w → (state : ℕ) → Go (limits_in shape) w (random_events shape left w state)
 unfolding random_events
 events_go shape shaped zero count all w so state = end_goes shape shaped count (omega (arith, all)) w so
@@ -108,7 +108,7 @@ events_go shape shaped (suc left) count all w so state =
     go_then (limits_in shape) w (next_event shape w state) _ next.fits next.known next.legal
     (events_go shape shaped left (count + 1) (omega (arith, all)) (after_event w (next_event shape w state)) next.later (next_random shape w.tasks state).state)
 
--- the last of the remaining events is the end
+-- The last of the remaining events is the end.
 pub events_end : (shape : Shape) (left : ℕ) (w : World) (state : ℕ) → EndsLast (random_events shape left w state)
 unfolding random_events
 events_end shape zero w state = ([], w.last, refl)
@@ -116,7 +116,7 @@ events_end shape (suc left) w state =
     let rest = events_end shape left (after_event w (next_event shape w state)) (next_random shape w.tasks state).state in
     (next_event shape w state ∷ rest.0, rest.1, ap (λ es. next_event shape w state ∷ es) rest.2)
 
--- the number of remaining events, with the end, is `left + 1`
+-- The number of remaining events, with the end, is `left + 1`.
 pub events_count : (shape : Shape) (left : ℕ) (w : World) (state : ℕ) → length (random_events shape left w state) ≡ left + 1
 unfolding random_events
 events_count shape zero w state = refl

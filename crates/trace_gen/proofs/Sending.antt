@@ -15,12 +15,12 @@ use Rattle.run_spec.specs.Generated.{generated}
 use Rattle.run_spec.specs.LegalCommand.{IsShape}
 use Rattle.trace_gen.proofs.Accepting.{generated_go}
 
--- bytes that were written, followed by all or a prefix of further bytes
+-- Bytes that were written, followed by all or a prefix of further bytes.
 pub PutsAll-suffix : {T E : Type 0} → (old mid new : Option (List ℕ)) (result : Result T E) (xs ys : List ℕ) → Appends old mid xs → PutsAll mid new result ys → PutsAll old new result (xs ++ ys)
 PutsAll-suffix old mid new (Ok value) xs ys first rest = Appends-then old mid new xs ys first rest
 PutsAll-suffix old mid new (Err fault) xs ys first rest = AppendsPrefix-last old mid new xs ys first rest
 
--- a line of an event has at most 512 bytes
+-- A line of an event has at most 512 bytes.
 pub line_short : (event : Event) → Fits event → length (spelling event) ≤ 512
 line_short event fits = (spelled_in_line event fits).short
 
@@ -31,11 +31,11 @@ pub record AreSent (old new : Option (List ℕ)) (left all : List Event) : Type 
   pub grew : Appends old new sent
   pub rest : sent ++ lines_of left ≡ lines_of all
 
--- the invariant holds before the first line
+-- The invariant holds before the first line.
 pub none_sent : (has : Option (List ℕ)) (all : List Event) → AreSent has has all all
 none_sent has all = record { sent = []; grew = Appends-none has; rest = refl }
 
--- the invariant holds after one more line is written
+-- The invariant holds after one more line is written.
 pub one_sent : (old mid new : Option (List ℕ)) (event : Event) (before left all : List Event) → AreSent old mid before all → before ≡ event ∷ left → Appends mid new (spelling event ++ 10 ∷ []) → AreSent old new left all
 one_sent old mid new event before left all so first more = record {
   sent = so.sent ++ (spelling event ++ 10 ∷ []);
@@ -43,30 +43,30 @@ one_sent old mid new event before left all so first more = record {
   rest = append_assoc so.sent (spelling event ++ 10 ∷ []) (lines_of left) ∙ ap (λ es. so.sent ++ lines_of es) (sym first) ∙ so.rest;
 }
 
--- if a write fails, a prefix of all lines was written
+-- If a write fails, a prefix of all lines was written.
 pub prefix_sent : (old mid new : Option (List ℕ)) (event : Event) (before left all : List Event) → AreSent old mid before all → before ≡ event ∷ left → AppendsPrefix mid new (spelling event ++ 10 ∷ []) → AppendsPrefix old new (lines_of all)
 prefix_sent old mid new event before left all so first prefix =
     let whole : so.sent ++ ((spelling event ++ 10 ∷ []) ++ lines_of left) ≡ lines_of all = ap (λ es. so.sent ++ lines_of es) (sym first) ∙ so.rest in
     rw (sym whole) (AppendsPrefix-then old mid new so.sent (spelling event ++ 10 ∷ []) (lines_of left) so.grew prefix)
 
--- after the last line, all lines are written
+-- After the last line, all lines are written.
 pub all_sent : (old new : Option (List ℕ)) (left all : List Event) → AreSent old new left all → left ≡ [] → Appends old new (lines_of all)
 all_sent old new left all so none =
     let whole : so.sent ≡ lines_of all = sym (append-nil so.sent) ∙ ap (λ es. so.sent ++ lines_of es) (sym none) ∙ so.rest in
     rw (sym whole) so.grew
 
--- if all events can be spelled, so can the first event and the events after it
+-- If all events can be spelled, so can the first event and the events after it.
 pub first_fits : (events : List Event) (event : Event) (left : List Event) → AllFit events → events ≡ event ∷ left → Fits event
 first_fits events event left fit is = (rw is at fit).0
 
 pub rest_fit : (events : List Event) (event : Event) (left : List Event) → AllFit events → events ≡ event ∷ left → AllFit left
 rest_fit events event left fit is = (rw is at fit).1
 
--- all events of a generated trace can be spelled
+-- All events of a generated trace can be spelled.
 pub all_fit : (shape : Shape) → IsShape shape → (events : List Event) → events ≡ (generated shape).events → AllFit events
 all_fit shape shaped events is = rw is (generated_go shape shaped).fit
 
--- the content is unchanged if nothing is written
+-- The content is unchanged if nothing is written.
 pub keeps : (has : Option (List ℕ)) → Keeps has has
 keeps None = tt
 keeps (Some bytes) = refl

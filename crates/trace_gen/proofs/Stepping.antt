@@ -31,11 +31,11 @@ use Rattle.trace_gen.specs.Generating.{AreLive}
 
 -- ---- the running task of a processor
 
--- a task that runs on processor `cpu` is assigned to it
+-- A task that runs on processor `cpu` is assigned to it.
 processor_of : (cpu : ℕ) (task : Task) → is_running_on cpu task ≡ true → task.cpu.0 ≡ cpu
 processor_of cpu task runs = let same : (task.cpu.0 == cpu) ≡ true = first_true (task.cpu.0 == cpu) (is_running task.mode) runs in grind (arith, nat_tests)
 
--- the task that is found running on an existing processor is on an existing processor
+-- The task that is found running on an existing processor is on an existing processor.
 found_within : (cpus cpu : ℕ) → cpu < cpus → (es : List (ℕ × Task)) → IfSome (find (λ e. is_running_on cpu e.1) es) (λ e. e.1.cpu.0 < cpus)
 found_within cpus cpu room [] = tt
 found_within cpus cpu room (e ∷ es) =
@@ -46,18 +46,18 @@ found_within cpus cpu room (e ∷ es) =
 
 -- ---- all tasks stay live
 
--- all tasks are live after a task on an existing processor is put into the map
+-- All tasks are live after a task on an existing processor is put into the map.
 pub put_live : (shape : Shape) (tasks : Tasks) → AreLive shape tasks → (pid : ℕ) (task : Task) → task.cpu.0 < shape.cpus → AreLive shape (put tasks pid task)
 put_live shape tasks are pid task room = record {
   live = λ q low high. rw (get_put tasks pid task q) (elim (q == pid) as (λ b. IsSome (cond b (Some task) (task_of tasks q))) [ true ↦ refl | false ↦ are.live q low high ]);
   within = λ q. rw (get_put tasks pid task q) (elim (q == pid) as (λ b. IfSome (cond b (Some task) (task_of tasks q)) (λ task. task.cpu.0 < shape.cpus)) [ true ↦ room | false ↦ are.within q ]);
 }
 
--- the change `f` leaves a task on an existing processor
+-- The change `f` leaves a task on an existing processor.
 abbrev StaysWithin : Shape → (Task → Task) → Type 0
 StaysWithin shape f = (task : Task) → task.cpu.0 < shape.cpus → (f task).cpu.0 < shape.cpus
 
--- all tasks are live after an optional task is changed
+-- All tasks are live after an optional task is changed.
 changed_live : (shape : Shape) (tasks : Tasks) → AreLive shape tasks → (pid : ℕ) (f : Task → Task) → StaysWithin shape f → (o : Option Task) → IfSome o (λ task. task.cpu.0 < shape.cpus) → AreLive shape (change_to tasks pid f o)
 changed_live shape tasks are pid f stays None room = are
 changed_live shape tasks are pid f stays (Some task) room = put_live shape tasks are pid (f task) (stays task room)
@@ -65,7 +65,7 @@ changed_live shape tasks are pid f stays (Some task) room = put_live shape tasks
 change_live : (shape : Shape) (tasks : Tasks) → AreLive shape tasks → (pid : ℕ) (f : Task → Task) → StaysWithin shape f → AreLive shape (change tasks pid f)
 change_live shape tasks are pid f stays = changed_live shape tasks are pid f stays (task_of tasks pid) (are.within pid)
 
--- all tasks are live after a task leaves its processor without exiting
+-- All tasks are live after a task leaves its processor without exiting.
 left_live : (shape : Shape) (tasks : Tasks) → AreLive shape tasks → (how : How) → is_exit how ≡ false → (e : ℕ × Task) → e.1.cpu.0 < shape.cpus → AreLive shape (placed tasks e.0 (left_by how e.1))
 left_live shape tasks are Preempt stays e room = put_live shape tasks are e.0 (record e.1 { mode = Ready }) room
 left_live shape tasks are Sleep stays e room = put_live shape tasks are e.0 (record e.1 { mode = Blocked }) room
@@ -77,7 +77,7 @@ leave_live : (shape : Shape) (tasks : Tasks) → AreLive shape tasks → (how : 
 leave_live shape tasks are how stays None room = are
 leave_live shape tasks are how stays (Some e) room = left_live shape tasks are how stays e room
 
--- all tasks are live after the next task, if any, starts
+-- All tasks are live after the next task, if any, starts.
 start_live : (shape : Shape) (tasks : Tasks) → AreLive shape tasks → (next : Option Pid) → AreLive shape (start next tasks)
 start_live shape tasks are None = are
 start_live shape tasks are (Some pid) = change_live shape tasks are pid.0 (λ task. record task { mode = Running }) (λ task room. room)
@@ -107,11 +107,11 @@ record IsTask (shape : Shape) (tasks : Tasks) (pid : ℕ) (task : Task) : Type 0
   high : pid ≤ task_count shape
   is : task_of tasks pid ≡ Some task
 
--- the task is on an existing processor
+-- The task is on an existing processor.
 place_of : (shape : Shape) (tasks : Tasks) (pid : ℕ) (task : Task) → IsTask shape tasks pid task → task.cpu.0 < shape.cpus
 place_of shape tasks pid task it = let here = it.are.within pid in rw it.is at here
 
--- the task's number is in the range of pids
+-- The task's number is in the range of pids.
 number_fits : (shape : Shape) (tasks : Tasks) (pid : ℕ) (task : Task) → IsTask shape tasks pid task → (0 < pid) × (pid < 2 ^ 32)
 number_fits shape tasks pid task it =
     let few = it.shaped.cpus.1 in
@@ -119,15 +119,15 @@ number_fits shape tasks pid task it =
     let high = it.high in
     (omega (arith, low), omega (arith, few, high))
 
--- the number of an existing processor is in the range that can be spelled
+-- The number of an existing processor is in the range that can be spelled.
 processor_fits : (shape : Shape) → IsShape shape → (cpu : ℕ) → cpu < shape.cpus → cpu < 2 ^ 32
 processor_fits shape shaped cpu room = let few = shaped.cpus.1 in omega (arith, few, room)
 
--- the test for a processor that doesn't exist is false for an existing processor
+-- The test for a processor that doesn't exist is false for an existing processor.
 there_is : (cpus cpu : ℕ) → cpu < cpus → nat_le cpus cpu ≡ false
 there_is cpus cpu room = grind (arith, nat_tests)
 
--- waking a blocked task is legal
+-- Waking a blocked task is legal.
 wake_step : (shape : Shape) (tasks : Tasks) (pid : ℕ) (task : Task) → IsTask shape tasks pid task → is_active task.mode ≡ false → (state : ℕ) → IsStep shape tasks (woken shape state pid).act
 wake_step shape tasks pid task it sleeps state =
     let some = it.shaped.cpus.0 in
@@ -142,14 +142,14 @@ wake_step shape tasks pid task it sleeps state =
       light = refl;
     }
 
--- a task in mode ready is ready on its processor; a task in mode running runs there
+-- A task in mode ready is ready on its processor; a task in mode running runs there.
 ready_on : (task : Task) → is_ready task.mode ≡ true → is_ready_on task.cpu.0 task ≡ true
 ready_on task ready = let same : (task.cpu.0 == task.cpu.0) ≡ true = grind (arith, nat_tests) in rw (same, ready) refl
 
 runs_on : (task : Task) → is_running task.mode ≡ true → is_running_on task.cpu.0 task ≡ true
 runs_on task runs = let same : (task.cpu.0 == task.cpu.0) ≡ true = grind (arith, nat_tests) in rw (same, runs) refl
 
--- a random way of switching out is legal if a task runs
+-- A random way of switching out is legal if a task runs.
 way_needs : (n : ℕ) (running : Option (ℕ × Task)) → is_some running ≡ true → is_wrong (way_of n) running ≡ false
 way_needs zero running some = rw some refl
 way_needs (suc zero) running some = rw some refl
@@ -160,7 +160,7 @@ way_stays zero = refl
 way_stays (suc zero) = refl
 way_stays (suc (suc n)) = refl
 
--- a switch to a ready task on its processor is legal, if the way of switching out is
+-- A switch to a ready task on its processor is legal, if the way of switching out is.
 start_step : (shape : Shape) (tasks : Tasks) (pid : ℕ) (task : Task) → IsTask shape tasks pid task → is_ready task.mode ≡ true → (how : How) → is_exit how ≡ false → is_wrong how (running_on tasks task.cpu.0) ≡ false
     → IsStep shape tasks (act.Switch task.cpu (Some (record { 0 = pid })) how)
 start_step shape tasks pid task it ready how stays right =
@@ -185,7 +185,7 @@ started_step shape tasks pid task it ready state =
       | false ↦ λ none. start_step shape tasks pid task it ready Idle refl none
     ] refl
 
--- a switch in which the running task sleeps or waits for IO is legal
+-- A switch in which the running task sleeps or waits for IO is legal.
 leave_step : (shape : Shape) (tasks : Tasks) (pid : ℕ) (task : Task) → IsTask shape tasks pid task → is_running task.mode ≡ true → (how : How) → is_exit how ≡ false → is_wrong how (running_on tasks task.cpu.0) ≡ false
     → IsStep shape tasks (act.Switch task.cpu None how)
 leave_step shape tasks pid task it runs how stays right =
@@ -200,7 +200,7 @@ leave_step shape tasks pid task it runs how stays right =
       light = refl;
     }
 
--- the begin or the end of a memory stall of the running task is legal
+-- The begin or the end of a memory stall of the running task is legal.
 stall_step : (shape : Shape) (tasks : Tasks) (pid : ℕ) (task : Task) → IsTask shape tasks pid task → is_running task.mode ≡ true → task.stalled ≡ false → IsStep shape tasks (act.Stall (record { 0 = pid }))
 stall_step shape tasks pid task it runs calm = record {
   legal = λ groups irqs triggers pressures at. rw (it.is, runs, calm) refl;
@@ -235,20 +235,20 @@ running_step shape tasks pid task it runs (suc zero) =
     let some = runs_there tasks pid task task.cpu.0 it.is (runs_on task runs) in leave_step shape tasks pid task it runs IoWait refl (rw some refl)
 running_step shape tasks pid task it runs (suc (suc n)) = turn_step shape tasks pid task it runs
 
--- the next act of a task is legal, for each mode of the task
+-- The next act of a task is legal, for each mode of the task.
 mode_step : (shape : Shape) (tasks : Tasks) (pid : ℕ) (task : Task) → IsTask shape tasks pid task → (mode : Mode) → task.mode ≡ mode → (state : ℕ) → IsStep shape tasks (next_of shape tasks state pid task mode).act
 mode_step shape tasks pid task it Blocked is state = wake_step shape tasks pid task it (ap is_active is) state
 mode_step shape tasks pid task it Waiting is state = wake_step shape tasks pid task it (ap is_active is) state
 mode_step shape tasks pid task it Ready is state = started_step shape tasks pid task it (ap is_ready is) state
 mode_step shape tasks pid task it Running is state = running_step shape tasks pid task it (ap is_running is) _
 
--- the next act of a task that is looked up is legal
+-- The next act of a task that is looked up is legal.
 task_step : (shape : Shape) (tasks : Tasks) (pid : ℕ) → IsShape shape → AreLive shape tasks → 1 ≤ pid → pid ≤ task_count shape → (o : Option Task) → task_of tasks pid ≡ o → (state : ℕ) → IsStep shape tasks (next_if shape tasks state pid o).act
 task_step shape tasks pid shaped are low high None is state = let some = are.live pid low high in absurd (cc (some, ap is_some is))
 task_step shape tasks pid shaped are low high (Some task) is state =
     mode_step shape tasks pid task (record { shaped = shaped; are = are; low = low; high = high; is = is }) task.mode refl state
 
--- the next random act is legal
+-- The next random act is legal.
 pub next_step : (shape : Shape) (tasks : Tasks) → IsShape shape → AreLive shape tasks → (state : ℕ) → IsStep shape tasks (next_random shape tasks state).act
 unfolding next_random
 next_step shape tasks shaped are state =

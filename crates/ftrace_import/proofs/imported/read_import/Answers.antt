@@ -1,6 +1,6 @@
 use Rattle.ftrace_import.proofs.imported.read_import.Goals as goal
 
--- an import that was read missed nothing, and no read of it failed
+-- An import that was read missed nothing, and no read of it failed.
 pub returns-clause-cause : goal.returns-clause-cause
 returns-clause-cause g c =
     let cause = c.in_ok-gathering.ensures.cause in

@@ -35,7 +35,7 @@ returns-in-Err-clause-content g c =
     laws.line_faulted verbs (Legally verbs before) (Legally verbs after) c.args.lines.now.number (spelling found.event) (left c.args.lines.now) (left c.pass.new.self) (content_of (g.S.Shelf.holds c.args.shelf.now) c.args.lines.now.name) c.in-Err.fault _ (rw c.number-line.ensures at c.fault_at.ensures) (laws.prefix_takes (version_of c.args.version) before after c.args.lines.now.buffered found.event c.in-Some.played.count (Err c.in-Err.fault) prefix takes)
     (λ bytes shows. laws.prefix_begins c.args.lines.now c.pass.new.self found.event c.in-Some.played.count bytes prefix (ap (λ (l : Reader). l.buffered) c.pass.ensures.rest) (ap (λ (l : Reader). l.at) c.pass.ensures.rest))
 
--- if no line was played, the player is unchanged
+-- If no line was played, the player is unchanged.
 pub returns-in_default-clause-content : goal.returns-in_default-clause-content
 returns-in_default-clause-content g c = rw c.in_default.ensures.same at c.next_event.ensures.content
 
