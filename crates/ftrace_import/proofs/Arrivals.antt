@@ -23,7 +23,7 @@ use Rattle.ftrace_import.proofs.Runs.{RunsAsBefore, rests, runs_put}
 use Rattle.ftrace_import.specs.Stands.{Stands}
 use Rattle.ftrace_import.proofs.Steps.{Goes, Step, event_at, goes_none, goes_one, goes_then, later_in, step_make, step_migrate, step_switch, step_wake}
 
--- The invariant of an import for fewer further events.
+-- The invariant of an import also holds if fewer further events are allowed.
 pub less_room : (cpus at have room : ℕ) (w : World) → Stands cpus at have w → room ≤ have → Stands cpus at room w
 less_room cpus at have room w so few = let all = so.few in later_in cpus at have at room w so (omega arith) so.early (omega (arith, few, all))
 

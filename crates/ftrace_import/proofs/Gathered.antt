@@ -32,7 +32,7 @@ use Rattle.ftrace_import.proofs.Whole.{end_runs, ends_after, run_on}
 pub making_on : (kept : List Kept) (at : ℕ) (one : Kept) → at < length kept → one ≡ slice_index_or kept at one → is_some (names (act_by one.deed)).new_task ≡ false → make_task (acts_in (drop at kept)) ≡ make_task (acts_in (drop (at + 1) kept))
 making_on kept at one inside is none = rw (drop_more kept at one inside, sym is, none) refl
 
--- A deed that creates a task.
+-- If the deed at an index creates a task, the deeds from this index on create a task.
 pub making_one : (kept : List Kept) (at : ℕ) (one : Kept) → at < length kept → one ≡ slice_index_or kept at one → is_some (names (act_by one.deed)).new_task ≡ true → make_task (acts_in (drop at kept)) ≡ true
 making_one kept at one inside is some = rw (drop_more kept at one inside, sym is, some) refl
 

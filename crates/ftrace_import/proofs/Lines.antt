@@ -1,5 +1,5 @@
--- Proofs about the result of a line: its events can be spelled and are legal, and the import's
--- invariant holds after them.
+-- Proofs about the result of a line: its events can be written as trace lines and are legal, and
+-- the import's invariant holds after them.
 use Rattle.std.proofs.Common.{◌≡◌, ℕ, ◌+◌, ◌≤◌, ◌<◌, List, [], ◌∷◌, refl, ap, subst, arith, cond, Bool, true, false, Option, None, Some, ◌==◌, length}
 use Rattle.std.specs.Prelude.{◌&&◌, IfSome, nat_le, nat_lt, not, Result, Ok, Err}
 use Rattle.std.specs.FinMap as tasks_by
@@ -33,7 +33,7 @@ use Rattle.ftrace_import.proofs.Sights.{line_seen}
 
 -- ---- no cause of rejection
 
--- No cause of rejection applies to the acts at trace time `moment` (ns).
+-- No cause for rejecting the acts at the trace time `moment` (ns) applies.
 record Pass (cpus : ℕ) (w : World) (moment : ℕ) (cpu : Cpu) (acts : List Act) : Type 0 where
   there : cpu.0 < cpus
   early : moment ≤ 2000000000000000
@@ -123,7 +123,8 @@ goes cpus at w (seen.Migration pid cpu) so is pass = moves cpus at _ cpu pid w (
 placed_at : (cpus : ℕ) (reached : Reached) (at : ℕ) (cpu : Cpu) (acts : List Act) → IsUnderWay cpus reached → Pass cpus reached.world (line_moment reached at) cpu acts → Stands cpus (line_moment reached at) (length acts) reached.world
 placed_at cpus reached at cpu acts so pass = later_in cpus reached.moment 0 (line_moment reached at) (length acts) reached.world so (omega arith) pass.early pass.few
 
--- The events of a line can be spelled and are legal, and the import's invariant holds after them.
+-- The events of a line can be written as trace lines and are legal, and the import's invariant
+-- holds after them.
 pub record Gives (cpus : ℕ) (reached : Reached) (line_events : LineEvents) : Type 0 where
   pub fit : AllFit line_events.events
   pub known : AreKnown (verbs_of One) line_events.events
@@ -196,7 +197,7 @@ line_events_after reached at what = record {
   };
 }
 
--- The cause of rejection of a line with this content at this time, or `None`.
+-- Returns the cause for rejecting a line with this content at this time, or `None`.
 abbrev pub cause_at : ℕ → Reached → ℕ → Seen → Option ImportCause
 cause_at cpus reached at what = acts_cause cpus reached.world (line_moment reached at) (needed_cpu what) (acts_of reached.world.tasks what)
 

@@ -1,5 +1,5 @@
--- Proofs about the acts of an import, one by one: each can be spelled and is legal, and the
--- invariant of the world holds after it.
+-- Proofs about the acts of an import, one by one: each can be written as a trace line and is legal,
+-- and the invariant of the world holds after it.
 use Rattle.std.proofs.Common.{◌≡◌, ℕ, ◌+◌, ◌^◌, ◌≤◌, ◌<◌, List, [], ◌∷◌, ◌++◌, refl, ◌∙◌, arith, cond, true, false, Option, None, Some, inl, inr}
 use Rattle.std.specs.Prelude.{◌&&◌, IfSome, codes, is_some, nat_le}
 use Rattle.std.specs.FinMap as tasks_by
@@ -55,11 +55,11 @@ later_in cpus at room now few w so later early left = record {
   few = left;
 }
 
--- The event with this act at time `at` (ns).
+-- Returns the event with this act at the time `at` (ns).
 abbrev pub event_at : ℕ → Act → Event
 event_at at what = record { at = at; act = what }
 
--- The act can be spelled and is legal, and the invariant holds after it.
+-- The act can be written in a trace line and is legal, and the invariant holds after it.
 pub record Step (cpus at room : ℕ) (w : World) (what : Act) : Type 0 where
   pub fits : Fits (event_at at what)
   pub known : IsKnown (verbs_of One) (event_at at what)
@@ -92,8 +92,8 @@ step_is cpus at room w what so none fits known same goes calm =
 
 -- ---- several acts
 
--- The acts, all at one time, can be spelled and are legal in their order, and the invariant holds
--- after them.
+-- The acts, all at one time, can be written in trace lines and are legal in their order, and the
+-- invariant holds after them.
 pub record Goes (cpus at room : ℕ) (w : World) (acts : List Act) : Type 0 where
   pub fit : AllFit (events_at at acts)
   pub known : AreKnown (verbs_of One) (events_at at acts)
@@ -130,7 +130,8 @@ goes_on cpus at mid room w (x ∷ xs) ys prefix rest =
 
 -- ---- the acts of an import
 
--- The number of an existing processor can be spelled, and the test for a missing processor fails.
+-- The number of an existing processor can be written in a trace line, and the test for a missing
+-- processor fails.
 there_is : (cpus cpu : ℕ) → cpu < cpus → nat_le cpus cpu ≡ false
 there_is cpus cpu room = grind (arith, nat_tests)
 

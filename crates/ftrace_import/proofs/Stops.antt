@@ -156,8 +156,8 @@ unseen_keeps {A} known old new seen why found same number none reads is from =
     (λ read. none (is ∙ ap (λ f. let r : Result Bool LineFault = Err f in r) (read_failed why (sym from ∙ err_same found import.ReadFault read))))
     (λ number because refuses. absurd (no_refusal why number because (rw is at reads) (sym from ∙ err_same found (import.Refused number because) refuses)))
 
--- `KeepsLines` holds for the file's bytes before the call if it holds for the bytes after it,
--- because they are equal
+-- `KeepsLines` holds for the file's bytes before the call if it holds for the bytes after the call,
+-- because the bytes are equal.
 pub known_keeps : {A : Type 0} (files files_now : Option Files) (name name_now : List ℕ) (old new : Reader) (result : Result A ImportFault) → files_now ≡ files → name_now ≡ name → KeepsLines (content_of files_now name_now) old new result → KeepsLines (content_of files name) old new result
 known_keeps files files_now name name_now old new result same named keeps =
     subst (λ n. KeepsLines (content_of files n) old new result) named (subst (λ f. KeepsLines (content_of f name_now) old new result) same keeps)

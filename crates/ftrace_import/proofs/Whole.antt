@@ -1,5 +1,5 @@
--- Proofs about a whole import: its events can be spelled and are legal in their order, and the last
--- one is the end.
+-- Proofs about a whole import: its events can be written as trace lines and are legal in their
+-- order, and the last one is the end.
 use Rattle.std.proofs.Common.{◌≡◌, ℕ, ◌+◌, List, [], ◌∷◌, ◌++◌, refl, ap, ◌∙◌, sym, subst, arith, append_assoc, cond, true, false, Option, None, Some, inl, inr, length}
 use Rattle.std.specs.Prelude.{nat_lt, Result, Ok, Err}
 use Rattle.psi_base.specs.declared.event.Act.TheVariants as act
@@ -34,7 +34,7 @@ run_on cpus w (x ∷ xs) ys prefix rest =
 pub ends_after : (xs ys : List Event) → EndsLast ys → EndsLast (xs ++ ys)
 ends_after xs ys ends = (xs ++ ends.0, ends.1, ap (λ zs. xs ++ zs) ends.2 ∙ sym (append_assoc xs ends.0 (record { at = ends.1; act = act.End } ∷ [])))
 
--- The end of an import can be spelled and is legal.
+-- The end of an import can be written as a trace line and is legal.
 pub end_runs : (cpus : ℕ) (reached : Reached) → IsUnderWay cpus reached → Run cpus reached.world (end_at reached ∷ [])
 end_runs cpus reached so =
     let early = so.early in

@@ -243,7 +243,7 @@ ready_less (suc out) (x ∷ xs) =
     let next : suc out + 1 ≡ suc (out + 1) = omega arith in
     ap (λ n. drop n (x ∷ xs)) next ∙ ready_less out xs
 
--- A crew after it returned one more table, as contracts see it.
+-- After a crew returned one more table, only the list of ready ticks in its state has changed.
 pub crew_less : (plans : PlansView) (batches : List (List LaneView)) (ticks : Ticks) (out room requested : ℕ) (watchers : List WatcherView) (old : CrewView) → crew_of plans batches ticks out room requested watchers ≡ old
     → crew_of plans batches ticks (out + 1) room requested watchers ≡ record old { ready = drop 1 old.ready }
 crew_less plans batches ticks out room requested watchers old same =

@@ -17,7 +17,7 @@ unfoldable pub are_rows : List ℕ → ℕ → Bool
 are_rows table zero = true
 are_rows table (suc bits) = is_same_row (row_at table (4 * bits)) (counts_by bits) && are_rows table bits
 
--- The table in the code.
+-- The table of counts as the code contains it.
 abbrev pub counts_table : List ℕ
 counts_table =
     0 ∷ 0 ∷ 0 ∷ 0 ∷ 1 ∷ 0 ∷ 0 ∷ 0 ∷ 0 ∷ 1 ∷ 0 ∷ 0 ∷ 1 ∷ 1 ∷ 0 ∷ 0 ∷ 0 ∷ 0 ∷ 1 ∷ 0 ∷ 1 ∷ 0 ∷ 1 ∷ 0 ∷ 0 ∷ 1 ∷ 1 ∷ 0 ∷ 1 ∷ 1 ∷ 1 ∷ 0

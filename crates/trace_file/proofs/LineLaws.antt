@@ -125,8 +125,8 @@ known_push : (verbs : List Verb) (events : List Event) (event : Event) → AreKn
 known_push verbs [] event all one = (one, tt)
 known_push verbs (first ∷ events) event all one = (all.0, known_push verbs events event all.1 one)
 
--- A player plays an event after legal events that can be spelled. The new event can be spelled too,
--- and its verb is in the list.
+-- A player plays an event after legal events that can be written as trace lines. The new event can
+-- be written as a trace line too, and its verb is in the list.
 legally : (verbs : List Verb) (Before After : Plays) (event : Event) (result : Result (Unit {0}) (Fault Cause)) → Fits event → IsKnown verbs event → PlayerTakes Before After event result → PlayerTakes (Legally verbs Before) (Legally verbs After) event result
 legally verbs Before After event (Ok x) fits known takes = λ limits events played.
     let taken = takes limits events played.0 in
@@ -334,7 +334,7 @@ pub legally_read : (verbs : List Verb) (Before After : Plays) (read : Result Eve
 legally_read verbs Before After (Ok event) result found takes = legally verbs Before After event result found.0 found.1 takes
 legally_read verbs Before After (Err why) result found same = same
 
--- An event that was read can be spelled, and its verb is in the list.
+-- An event that was read can be written as a trace line, and its verb is in the list.
 pub known_read : (verbs : List Verb) (line : List ℕ) (read : Result Event (Fault Cause)) → IfOk read (λ event. Fits event × IsKnown verbs event × (line ≡ spelling event)) → IfOk read (λ event. Fits event × IsKnown verbs event)
 known_read verbs line (Ok event) found = (found.0, found.1)
 known_read verbs line (Err why) found = tt

@@ -126,7 +126,8 @@ no_refusal cut (lines.NoMemory none) refusal reads is = cc is
 err_same : {A : Type 0} (found other : TraceFault) → (let r : Result A TraceFault = Err found in r) ≡ Err other → found ≡ other
 err_same found other is = cc is
 
--- The number of remaining lines after the call, from the contract of a borrowed line.
+-- Reading a line keeps the sum of the next line's number and the number of remaining lines
+-- (`KeepsLines`), by the contract of a borrowed line.
 keeps_lines : {A : Type 0} (files : Option Files) (bytes_read read_now : ℕ) (old new : Reader) (lent : Result (Option (Bor (List ℕ))) LineFault) (result : Result A TraceFault) → LendsLine files bytes_read read_now old new lent → (IsErrOf result ReadFault → lent ≡ Err lines.ReadFault)
     → ((refusal : Refusal) → IsErrOf result (Refused refusal) → refusal.line ≡ old.number) → KeepsLines (content_of files old.name) old new result
 keeps_lines files bytes_read read_now old new lent result lends only at = record {
@@ -135,11 +136,11 @@ keeps_lines files bytes_read read_now old new lent result lends only at = record
   refused = at;
 }
 
--- The number of remaining lines if the line was consumed.
+-- `KeepsLines` holds if the line was consumed.
 pub taken_keeps : {A : Type 0} (files : Option Files) (bytes_read read_now : ℕ) (old new : Reader) (lent : Result (Option (Bor (List ℕ))) LineFault) (x : A) → LendsLine files bytes_read read_now old new lent → KeepsLines (content_of files old.name) old new (Ok x)
 taken_keeps files bytes_read read_now old new lent x lends = keeps_lines files bytes_read read_now old new lent (Ok x) lends (λ is. absurd (cc is)) (λ refusal is. absurd (cc is))
 
--- The number of remaining lines if the line was read and rejected.
+-- `KeepsLines` holds if the line was read and rejected.
 pub faulted_keeps : {A : Type 0} (files : Option Files) (bytes_read read_now : ℕ) (old new : Reader) (lent : Result (Option (Bor (List ℕ))) LineFault) (line : ℕ) (why : Fault Cause) (found : TraceFault) → LendsLine files bytes_read read_now old new lent → line ≡ old.number → IsTraceFault line why found
     → KeepsLines {A = A} (content_of files old.name) old new (Err found)
 faulted_keeps files bytes_read read_now old new lent line why found lends at faults =
@@ -147,7 +148,7 @@ faulted_keeps files bytes_read read_now old new lent line why found lends at fau
     (λ is. absurd (line_was_read line why found faults (err_same found ReadFault is)))
     (λ refusal is. line_number line why found refusal faults (err_same found (Refused refusal) is) ∙ at)
 
--- The number of remaining lines if the line can't be read.
+-- `KeepsLines` holds if the line can't be read.
 pub unread_keeps : {A : Type 0} (files : Option Files) (bytes_read read_now : ℕ) (old new : Reader) (lent : Result (Option (Bor (List ℕ))) LineFault) (why : LineFault) (cut : Cause) (found : TraceFault) → LendsLine files bytes_read read_now old new lent → lent ≡ Err why → IsNumbered old.number (lent_line old.number lent) → found ≡ trace_fault cut why
     → KeepsLines {A = A} (content_of files old.name) old new (Err found)
 unread_keeps files bytes_read read_now old new lent why cut found lends is numbered from =
@@ -155,7 +156,7 @@ unread_keeps files bytes_read read_now old new lent why cut found lends is numbe
     (λ read. same_fault lent why is (read_failed cut why (sym from ∙ err_same found ReadFault read)))
     (λ refusal refuses. fault_number old.number cut why refusal (rw is at numbered) (sym from ∙ err_same found (Refused refusal) refuses))
 
--- The number of remaining lines if a buffered line was passed over.
+-- `KeepsLines` holds if a buffered line was passed.
 passes_line : {A : Type 0} (known : Option (List ℕ)) (old new : Reader) (part : List ℕ) (result : Result A TraceFault) → ((bytes : List ℕ) → known ≡ Some bytes → BeginsWithLine (left old bytes) part (left new bytes)) → new.number ≡ old.number + 1 → (IsErrOf result ReadFault → ⊥)
     → ((refusal : Refusal) → IsErrOf result (Refused refusal) → refusal.line ≡ old.number) → KeepsLines known old new result
 passes_line known old new part result begins number never at = record {
@@ -186,8 +187,8 @@ look_keeps known old new result same number none at = record {
   refused = at;
 }
 
--- `KeepsLines` holds for the file's bytes before the call if it holds for the bytes after it,
--- because they are equal
+-- `KeepsLines` holds for the file's bytes before the call if it holds for the bytes after the call,
+-- because the bytes are equal.
 pub known_keeps : {A : Type 0} (files files_now : Option Files) (name name_now : List ℕ) (old new : Reader) (result : Result A TraceFault) → files_now ≡ files → name_now ≡ name → KeepsLines (content_of files_now name_now) old new result → KeepsLines (content_of files name) old new result
 known_keeps files files_now name name_now old new result same named keeps =
     subst (λ n. KeepsLines (content_of files n) old new result) named (subst (λ f. KeepsLines (content_of f name_now) old new result) same keeps)
@@ -221,7 +222,7 @@ stops_here verbs limits events known first old new bytes_read read_before read_n
 abbrev pub fresh_reader : List ℕ → Reader
 fresh_reader name = record { name = name; number = 1; buffered = []; at = 0 }
 
--- Reading stopped at the header.
+-- Reading stops at the header if the header is rejected or can't be read.
 pub head_stops : {A : Type 0} (B : Type 0) (tick : ℕ) (known : List ℕ → Option (List ℕ)) (name : List ℕ) (old new : Reader) (bytes_read read_now : ℕ) (found : TraceFault) → old ≡ fresh_reader name → read_now + old.at ≡ bytes_read + new.at → new.at ≤ furthest old.number → KeepsLines {A = A} (known old.name) old new (Err found)
     → StopsAtRefusal {A = B} tick (known name) bytes_read read_now (Err found)
 head_stops B tick known name old new bytes_read read_now (Refused refusal) fresh counted place keeps =
@@ -245,7 +246,7 @@ head_stops B tick known name old new bytes_read read_now ReadFault fresh counted
     rw total (omega (arith, count, number, first, later))
 head_stops B tick known name old new bytes_read read_now (NoMemory none) fresh counted place keeps = tt
 
--- Reading stopped after the header.
+-- Reading stops at the first rejected line after the header.
 pub rest_stops : {A B : Type 0} (C : Type 0) (tick : ℕ) (known : List ℕ → Option (List ℕ)) (name : List ℕ) (old middle new : Reader) (bytes_read read_before read_now : ℕ) (head : Header) (header : B) (rest : List ℕ → Events) (found : TraceFault) → old ≡ fresh_reader name → middle.name ≡ old.name → read_before + old.at ≡ bytes_read + middle.at
     → KeepsLines (known old.name) old middle (Ok header) → ((bytes : List ℕ) → known old.name ≡ Some bytes → trace_of (accepts_with versions tick) (left old bytes) ≡ with_events head (rest bytes)) → StopsReading {A = A} (known middle.name) middle new read_before read_now rest (Err found)
     → StopsAtRefusal {A = C} tick (known name) bytes_read read_now (Err found)

@@ -11,7 +11,7 @@ use Rattle.trace_gen.specs.Generating.{GeneratedCount, GeneratedIsTrace, limits_
 use Rattle.trace_gen.proofs.Following.{Go, ends_after, events_count, events_end, events_go, go_on}
 use Rattle.trace_gen.proofs.FirstEvents.{founded}
 
--- All events of a generated trace can be spelled and are legal from the first world.
+-- All events of a generated trace can be written as trace lines and are legal from the first world.
 pub generated_go : (shape : Shape) → IsShape shape → Go (limits_in shape) first_world (generated shape).events
 generated_go shape shaped =
     let first = founded shape shaped in

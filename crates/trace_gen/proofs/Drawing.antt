@@ -27,7 +27,8 @@ pub some_part : (o : Option (ℕ × Task)) → is_some (task_part o) ≡ is_some
 some_part None = refl
 some_part (Some e) = refl
 
--- The world after one more event.
+-- The world after events and one more event is the world after this event, starting from the world
+-- after the events.
 pub one_after : (events : List Event) (event : Event) → after (events ++ event ∷ []) ≡ after_event (after events) event
 one_after events event = after_from-append first_world events (event ∷ [])
 
@@ -38,7 +39,7 @@ one_in_row f old mid new from count number event at were more is =
     ∙ ap (λ e. old ++ (map f (range_with_len from count) ++ e ∷ [])) is
     ∙ ap (λ es. old ++ es) (sym (map-range_with_len_more f from count number at))
 
--- The invariant of a generator after the groups and tasks were created.
+-- The invariant of a generator holds after the groups and tasks were created.
 pub at_first : (shape : Shape) → IsShape shape → (table : TableView) → table.limits ≡ limits_in shape → table.world ≡ after (first_events shape) → IsGenerator shape table shape.events
 at_first shape shaped table limits world = record {
   shaped = shaped;
@@ -50,7 +51,7 @@ at_first shape shaped table limits world = record {
 
 -- ---- the next event
 
--- The next event of a generator can be spelled and is legal.
+-- The next event of a generator can be written as a trace line and is legal.
 pub generator_next : (shape : Shape) (table : TableView) (left : ℕ) → 0 < left → (so : IsGenerator shape table left) → (state : ℕ) → IsNext shape so.count table.world (next_event shape table.world state)
 generator_next shape table left some so state = let all = so.all in next_is shape so.shaped so.count (omega (arith, all, some)) table.world so.world state
 

@@ -1,5 +1,5 @@
--- Proofs about the events that create groups and tasks: each can be spelled and is legal, and after
--- them all tasks are live.
+-- Proofs about the events that create groups and tasks: each can be written as a trace line and is
+-- legal, and after them all tasks are live.
 use Rattle.std.proofs.Common.{◌≡◌, ◌≢◌, ℕ, zero, suc, ◌+◌, ◌-◌, ◌*◌, ◌/◌, ◌%◌, ◌^◌, ◌<◌, ◌≤◌, List, [], ◌∷◌, ◌++◌, refl, ◌∙◌, subst, arith, cond, true, false, Option, None, Some, ◌==◌, length, map, ◌⊎◌, ⊎_elim}
 use Rattle.std.specs.Prelude.{is_some, nat_le, IfSome, IsSome, if◌then◌else◌, codes}
 use Rattle.std.specs.List.{range_with_len}
@@ -33,16 +33,16 @@ use Rattle.trace_gen.proofs.Naming.{numbered_apart, numbered_is_path, numbered_p
 
 -- ---- numbered events in sequence
 
--- An event that can be spelled and is legal in world `w`. If `Holds` is true for its number before
--- it, `Holds` is true for the next number after it.
+-- An event that can be written as a trace line and is legal in world `w`. If `Holds` is true for
+-- its number before it, `Holds` is true for the next number after it.
 record IsGood (limits : Limits) (Holds : ℕ → World → Type 0) (number : ℕ) (w : World) (event : Event) : Type 0 where
   fits : Fits event
   known : IsKnown first_verbs event
   legal : cause_of limits w event ≡ None
   later : Holds (number + 1) (after_event w event)
 
--- The result for numbered events up to `end`: they can be spelled and are legal, and `Holds` is
--- true for `end` after them.
+-- The result for numbered events up to `end`: they can be written as trace lines and are legal, and
+-- `Holds` is true for `end` after them.
 record InRow (limits : Limits) (Holds : ℕ → World → Type 0) (end : ℕ) (w : World) (events : List Event) : Type 0 where
   go : Go limits w events
   later : Holds end (after_from w events)
@@ -316,8 +316,8 @@ group_legal shape shaped number room table events event limits world are is = rw
 pub task_legal : (shape : Shape) → IsShape shape → (pid : ℕ) → pid < task_count shape → (table : TableView) (events : List Event) (event : Event) → table.limits ≡ limits_in shape → table.world ≡ after events → events ≡ made_groups shape shape.groups ++ map (λ i. at_start (made_task shape i)) (range_with_len 1 pid) → event ≡ at_start (made_task shape (pid + 1)) → cause_of table.limits table.world event ≡ None
 task_legal shape shaped pid room table events event limits world are is = rw (limits, world, are, is) (task_turn shape shaped pid room)
 
--- The events that create all groups and tasks can be spelled and are legal from the first world,
--- and the invariant of generated traces holds after them.
+-- The events that create all groups and tasks can be written as trace lines and are legal from the
+-- first world, and the invariant of generated traces holds after them.
 pub record AreFounded (shape : Shape) : Type 0 where
   pub go : Go (limits_in shape) first_world (first_events shape)
   pub later : IsGenerating shape 0 (after_from first_world (first_events shape))

@@ -1,5 +1,5 @@
--- Proofs about the events after the creation of groups and tasks: each can be spelled and is legal,
--- and the last one is the end.
+-- Proofs about the events after the creation of groups and tasks: each can be written as a trace
+-- line and is legal, and the last one is the end.
 use Rattle.std.proofs.Common.{◌≡◌, ℕ, zero, suc, ◌+◌, ◌<◌, ◌≤◌, List, [], ◌∷◌, ◌++◌, refl, ap, ◌∙◌, sym, arith, append_assoc, false, None, length}
 use Rattle.std.proofs.Math.Nat.{mod-lt}
 use Rattle.psi_base.specs.declared.event.Act.TheVariants as act
@@ -20,8 +20,8 @@ use Rattle.trace_gen.proofs.Stepping.{next_step}
 
 -- ---- legal events from a world
 
--- The events can be spelled, have verbs of every version, and are legal in their order from world
--- `w`.
+-- The events can be written as trace lines, have verbs of every version, and are legal in their
+-- order from world `w`.
 pub record Go (limits : Limits) (w : World) (events : List Event) : Type 0 where
   pub fit : AllFit events
   pub known : AreKnown first_verbs events
@@ -48,7 +48,7 @@ ends_after xs ys ends = (xs ++ ends.0, ends.1, ap (λ zs. xs ++ zs) ends.2 ∙ s
 
 -- ---- one event
 
--- The next event can be spelled and is legal, and the invariant holds after it.
+-- The next event can be written as a trace line and is legal, and the invariant holds after it.
 pub record IsNext (shape : Shape) (count : ℕ) (w : World) (event : Event) : Type 0 where
   pub fits : Fits event
   pub known : IsKnown first_verbs event
@@ -99,7 +99,7 @@ end_goes shape shaped count all w so =
 
 -- ---- all further events
 
--- The `left` remaining events and the end can be spelled and are legal.
+-- The `left` remaining events and the end can be written as trace lines and are legal.
 pub events_go : (shape : Shape) → IsShape shape → (left count : ℕ) → count + left ≡ shape.events → (w : World) → IsGenerating shape count w → (state : ℕ) → Go (limits_in shape) w (random_events shape left w state)
 unfolding random_events
 events_go shape shaped zero count all w so state = end_goes shape shaped count (omega (arith, all)) w so

@@ -48,7 +48,7 @@ no_more : (digits : List ℕ) → all_ascii_digits digits ≡ true → HasNoSlas
 no_more digits are zero low room = absurd (omega (arith, low))
 no_more digits are (suc k) low room = name_at digits are k (omega (arith, room))
 
--- The decimal spelling of a number consists of digits.
+-- The decimal form of a number consists of digits.
 digits_of : (number : ℕ) → number < 2 ^ 64 → all_ascii_digits (decimal number) ≡ true
 digits_of number fits = digits_decimal numerals number fits
 

@@ -15,7 +15,8 @@ use Rattle.run_spec.specs.Generated.{generated}
 use Rattle.run_spec.specs.LegalCommand.{IsShape}
 use Rattle.trace_gen.proofs.Accepting.{generated_go}
 
--- Bytes that were written, followed by all or a prefix of further bytes.
+-- If bytes were written, and then all or a prefix of further bytes, then all or a prefix of both
+-- together was written.
 pub PutsAll-suffix : {T E : Type 0} → (old mid new : Option (List ℕ)) (result : Result T E) (xs ys : List ℕ) → Appends old mid xs → PutsAll mid new result ys → PutsAll old new result (xs ++ ys)
 PutsAll-suffix old mid new (Ok value) xs ys first rest = Appends-then old mid new xs ys first rest
 PutsAll-suffix old mid new (Err fault) xs ys first rest = AppendsPrefix-last old mid new xs ys first rest
@@ -55,14 +56,14 @@ all_sent old new left all so none =
     let whole : so.sent ≡ lines_of all = sym (append-nil so.sent) ∙ ap (λ es. so.sent ++ lines_of es) (sym none) ∙ so.rest in
     rw (sym whole) so.grew
 
--- If all events can be spelled, so can the first event and the events after it.
+-- If all events can be written as trace lines, so can the first event and the events after it.
 pub first_fits : (events : List Event) (event : Event) (left : List Event) → AllFit events → events ≡ event ∷ left → Fits event
 first_fits events event left fit is = (rw is at fit).0
 
 pub rest_fit : (events : List Event) (event : Event) (left : List Event) → AllFit events → events ≡ event ∷ left → AllFit left
 rest_fit events event left fit is = (rw is at fit).1
 
--- All events of a generated trace can be spelled.
+-- All events of a generated trace can be written as trace lines.
 pub all_fit : (shape : Shape) → IsShape shape → (events : List Event) → events ≡ (generated shape).events → AllFit events
 all_fit shape shaped events is = rw is (generated_go shape shaped).fit
 

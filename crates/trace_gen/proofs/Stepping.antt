@@ -88,9 +88,9 @@ switch_live shape tasks are cpu room next how stays =
 
 -- ---- the next act of a task
 
--- The act can be spelled, its verb is in every version, and it is legal for any groups, `irq`
--- lines, triggers and `pressure` lines and at any time. All tasks stay live after it, it isn't the
--- end, and it needs no memory.
+-- The act can be written in a trace line, its verb is in every version, and it is legal for any
+-- groups, `irq` lines, triggers and `pressure` lines and at any time. All tasks stay live after it,
+-- it isn't the end, and it needs no memory.
 pub record IsStep (shape : Shape) (tasks : Tasks) (a : Act) : Type 0 where
   pub legal : (groups : List GroupLife) (irqs : List ℕ) (triggers pressures at : ℕ) → act_cause shape.cpus groups tasks irqs triggers pressures at a ≡ None
   pub fits : ActFits a
@@ -119,7 +119,7 @@ number_fits shape tasks pid task it =
     let high = it.high in
     (omega (arith, low), omega (arith, few, high))
 
--- The number of an existing processor is in the range that can be spelled.
+-- The number of an existing processor is in the range that a trace line allows.
 processor_fits : (shape : Shape) → IsShape shape → (cpu : ℕ) → cpu < shape.cpus → cpu < 2 ^ 32
 processor_fits shape shaped cpu room = let few = shaped.cpus.1 in omega (arith, few, room)
 
