@@ -38,8 +38,7 @@ abbrev pub NoneWithoutRules : Type 0
 NoneWithoutRules = (trace : Trace) (timing : Timing) (i : ℕ) → kills_in trace timing [] i ≡ []
 
 -- The readings of an accepted trace are well formed: each has the live groups in the order of their
--- paths, all values are in range, and each reading is later than the previous readings. Therefore a
--- ruleset never kills during its delay after a kill that ended its chain of actions.
+-- paths, all values are in range, and each reading is later than the previous readings.
 abbrev pub ReadingsAreReadings : Type 0
 ReadingsAreReadings = (trace : Trace) (timing : Timing) (i : ℕ) →
     IsAccepted (limits_of timing.length trace.cpus) trace.events → 0 < timing.length →
