@@ -1,5 +1,5 @@
-//! Writes events and numbers of lost events as lines of text. A byte of a text that isn't printable
-//! is written as an escape.
+//! Writes events and numbers of lost events as lines of text. In a text, a space, a backslash or a
+//! byte that isn't printable is written as an escape.
 ghost use Rattle.std.specs.Prelude.{◌≡◌, ◌≤◌, ◌<◌, ◌++◌, true, codes, decimal, length};
 ghost use Rattle.outside.specs.Outside.{HasCause, SameInner};
 ghost use Rattle.outside.specs.Calls.{PutsAll};
@@ -19,7 +19,8 @@ fn is_plain(byte: u8) -> bool
     32 < byte && byte < 127 && byte != b'\\'
 }
 
-// Writes one byte of a text: a printable byte as it is, any other byte as an escape.
+// Writes one byte of a text: as an escape if it is a space, a backslash or not printable, otherwise
+// unchanged.
 fn put_byte<K: Sink>(out: &mut K, byte: u8) -> Result<(), WriteFailed>
     ensures bytes { PutsAll (K.has out.old) (K.has out.new) result (byte_text byte) }
     ensures cause { HasCause (K.faults out.old) (K.faults out.new) result }
@@ -40,7 +41,7 @@ fn put_byte<K: Sink>(out: &mut K, byte: u8) -> Result<(), WriteFailed>
     }
 }
 
-// Writes a text, with escapes for the bytes that aren't printable.
+// Writes a text, with escapes for spaces, backslashes and bytes that aren't printable.
 fn put_bytes<K: Sink>(out: &mut K, bytes: &[u8]) -> Result<(), WriteFailed>
     ensures bytes { PutsAll (K.has out.old) (K.has out.new) result (bytes_text bytes.now) }
     ensures cause { HasCause (K.faults out.old) (K.faults out.new) result }

@@ -27,9 +27,9 @@ use std::thread::Threads;
 /// observers sample the clocks of the group and read the board of ticks, each in its own thread if
 /// one can be started. Writes the output to `out`, and the message of the status to `note`: one
 /// line, or nothing for `Done`. A failed write to `note` doesn't change the status. `gate` is a
-/// hook for tests: the threads of the replay call it after each change of a clock, and an observer
-/// calls it with its number before each sample and after it added the sample's entry to the
-/// journal.
+/// hook for tests: the threads of the replay call it after each change that they make. An observer
+/// calls it before each sample, with the observer's number, and after it added the sample's entry
+/// to the journal.
 pub fn observe<R: Threads + Wait + Sync, S: Shelf, K: Sink, N: Sink, G: Gate>(
     rt: &R,
     alloc: Global,

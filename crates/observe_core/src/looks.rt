@@ -11,7 +11,7 @@ use std::sync::ledger::{Ledger, Share};
 use std::sync::{Mutex, Wait};
 
 // Adds an entry to the journal. Returns the reason if the journal rejects the entry, and `None` if
-// the journal has the entry.
+// the entry was added.
 fn enter<'a, L: Ledger, R: Wait>(
     rt: &R,
     journal: &Mutex<Journal<'a, L>>,

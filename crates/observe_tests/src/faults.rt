@@ -1,5 +1,5 @@
 //! Tests of rejected traces, and of reads and writes that fail: the status, the note and the
-//! printed prefix. The traces have no task or few lines.
+//! printed prefix. All traces are short.
 
 use crate::runs::{Failing, Host, NO_FAULT, NONE, assert_prints_nothing, assert_run, run_failing};
 use observe_core::ObserveStatus;

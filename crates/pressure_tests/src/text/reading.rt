@@ -1,5 +1,5 @@
-//! Tests of parsing pressure files: valid files with values at their limits, and malformed files.
-//! Both kinds of files are tested.
+//! Tests of parsing pressure files, of resources and of interrupts: valid files with values at
+//! their limits, and malformed files.
 use crate::check::is;
 use pressure_text::{PressureFile, PressureLine, read_file, read_irq};
 use std::alloc::Global;
