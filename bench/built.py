@@ -6,6 +6,9 @@ import sys
 
 sys.path.append(os.path.join(os.path.dirname(os.path.dirname(os.path.abspath(__file__))), "tests"))
 
-from shared.program import Fault, built_program, program_of  # noqa: E402
+from shared.program import program_of  # noqa: E402
+
+from psicli.fault import Fault  # noqa: E402
+from psireplay.program import built_program  # noqa: E402
 
 __all__ = ["Fault", "built_program", "program_of"]

@@ -166,7 +166,7 @@ def measure(lines: list[str], cpus: int, window: float, seconds: float) -> str:
     fold.take(lines)
     took, lasted = processor_seconds() - start, time.monotonic() - begun
     peak = max(resource.getrusage(who).ru_maxrss for who in (resource.RUSAGE_SELF, resource.RUSAGE_CHILDREN)) / 1024
-    off = max(map(abs, fold.check.behind.values()), default=0)
+    off = max((abs(it) for it in fold.check.behind.values()), default=0)
     each = f"{len(lines) / seconds:.0f} | {fold.counts.written / seconds:.0f} | {1e6 * took / len(lines):.1f}"
     return f"| {window:g} | {each} | {lasted:.1f} | {peak:.0f} | {fold.counts.had} | {fold.counts.kept} | {off} |"
 

@@ -121,7 +121,7 @@ def tell_greatest(program: str, room: str) -> None:
         file.writelines(f"{line}\n" for line in greatest_lines(GREATEST_EVENTS))
     with open(rules, "w", encoding="utf-8") as file:
         file.write(greatest_rules())
-    for name, words in {"with 1,024 actions": ["--rules", rules], "without rules": []}.items():
+    for name, words in (("with 1,024 actions", ("--rules", rules)), ("without rules", ())):
         took = once([program, "replay", trace, *words])
         print(f"the largest machine, {name}: {took.clock:.1f} s, {took.processor:.1f} of processor time", flush=True)
 

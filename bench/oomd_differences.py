@@ -28,13 +28,15 @@ sys.path[:0] = [os.path.join(TOP, "tools"), os.path.join(TOP, "tests")]
 
 from oomd.experiments import FOUND  # noqa: E402
 from oomd_incidents import incident, usual_rules  # noqa: E402
+from psicli.times import SECOND  # noqa: E402
 from psioomd import binary  # noqa: E402
 from psioomd.detectors import Above, Reclaim, Rising  # noqa: E402
 from psioomd.engine import Engine  # noqa: E402
 from psioomd.killers import ByPressure, ByScans, BySize, Killer, Ranked  # noqa: E402
 from psioomd.machine import NO_PRESSURE, Averages  # noqa: E402
-from psioomd.plugin import SECOND, Look, Result, result  # noqa: E402
+from psioomd.plugin import Look, Result, result  # noqa: E402
 from psioomd.emulation import Run, emulate  # noqa: E402
+from psioomd.outcome import Candidate  # noqa: E402
 from psirules.program import Kill, Pace, Program, RulesAt  # noqa: E402
 
 TICK_MS, CASES, DEFAULT_CASES, BINARY_CASES, WORKERS, PAST = 1000, 400, 200, 100, 1, 4
@@ -82,13 +84,13 @@ def size_ranks(self: BySize, look: Look, paths: list[str]) -> Ranked:
     return OWN_SIZES(self, look, live)
 
 
-def at_last(self: Killer, look: Look, path: str, candidates: list[object]) -> list[tuple[str, list[object]]]:
+def at_last(self: Killer, look: Look, path: str, candidates: list[Candidate]) -> list[tuple[str, list[Candidate]]]:
     """The previous victim, unless a group below it is one."""
     if not look.machine.is_populated(path):
         return []
     below = look.machine.children(path) if self.is_recursive else []
     found = self.victims(look, [it for it in below if look.machine.is_populated(it)]) if below else []
-    return found or [(path, candidates)]  # type: ignore[return-value]
+    return found or [(path, candidates)]
 
 
 def remembered(self: Engine, now: int) -> None:

@@ -30,7 +30,8 @@ sys.path.append(os.path.join(TOP, "tools"))
 
 from machines import Machine, big_tree, small_tree  # noqa: E402
 from psiread.pressure import machine_readings  # noqa: E402
-from psiread.recording import read_recording, text_of  # noqa: E402
+from psiread.files import text_of  # noqa: E402
+from psiread.recording import read_recording  # noqa: E402
 from psireplay.program import program_path  # noqa: E402
 from sampling import REPORT, SECOND, csv_of  # noqa: E402
 
@@ -79,7 +80,8 @@ class Recording:
                 other = replayed.get((at, path, level))
                 if other is not None:
                     found.setdefault((path, level), []).append((value, other))
-        pairs = [it for values in found.values() if max(map(max, values)) > LEAST for it in values]
+        shown = [values for values in found.values() if any(max(it) > LEAST for it in values)]
+        pairs = [it for values in shown for it in values]
         return [abs(one - other) for one, other in pairs]
 
     def chosen(self, every: int) -> set[int]:

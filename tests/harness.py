@@ -288,9 +288,8 @@ def checks_of(*sources: Source) -> dict[str, Check]:
         names = source if isinstance(source, Mapping) else vars(source)
         for name, check in names.items():
             if name.startswith("check_") and inspect.isfunction(check):
-                assert (
-                    found.setdefault(name[6:], check) is check
-                ), f"two checks have the name {name}"
+                known: object = found.setdefault(name[6:], check)
+                assert known is check, f"two checks have the name {name}"
     return found
 
 

@@ -80,7 +80,10 @@ def check_shares_between_moments(_: str) -> None:
     * 2.5 / 3.5, which is 1.428571, and the second 1.
     """
     file = File("/a", "io")
-    for averages, wanted in (([], 2333333), ([2 * SECOND], 2333333), ([3 * SECOND], 2428571)):
+    growths: tuple[tuple[list[int], int], ...] = (
+        ([], 2333333), ([2 * SECOND], 2333333), ([3 * SECOND], 2428571),
+    )  # fmt: skip
+    for averages, wanted in growths:
         reads = [500 * MS, 4 * SECOND]
         found = growth_in(SPREAD, reads, averages, {file: [100, 100 + wanted]})
         must_be(f"the growth with samplings at {averages}", found[file].told[0], wanted)
@@ -103,7 +106,10 @@ def check_sums_of_32_bits(_: str) -> None:
     lost.
     """
     file = File("/a", "io")
-    for averages, told, right in (([], 2705032, 7000000), ([8 * SECOND], 7000000, 7000000)):
+    growths: tuple[tuple[list[int], int, int], ...] = (
+        ([], 2705032, 7000000), ([8 * SECOND], 7000000, 7000000),
+    )  # fmt: skip
+    for averages, told, right in growths:
         growth = growth_in(SPREAD, [4 * SECOND, 11 * SECOND], averages, {file: [0, told]})[file]
         must_be("in 32 bits, and in 64", (growth.told[0], growth.true[0]), (told, right))
         text, beyond = report([row_of(growth, None)], Limits(1.5, 2.5, 500000), Shown([], "trace", "", 10000))

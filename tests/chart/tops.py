@@ -40,7 +40,7 @@ def check_the_top(_: str) -> None:
     tool = f"{TOP}/tools/top"
     must_be("the table", run([tool], PRINTED).decode(), TABLE)
     must_be("the first two", run([tool, "2"], PRINTED).decode(), "".join(TABLE.splitlines(keepends=True)[:3]))
-    for words, given in ((["0"], PRINTED), (["x"], PRINTED), ([], b"end 0 ticks=0 events=0 kills=0\n"), ([], b"no replay\n")):
+    for words, given in ((("0",), PRINTED), (("x",), PRINTED), ((), b"end 0 ticks=0 events=0 kills=0\n"), ((), b"no replay\n")):
         done = subprocess.run([tool, *words], input=given, capture_output=True)
         must_be(f"{words} of {given[:9]!r}", (done.returncode, done.stdout, done.stderr[:5]), (2, b"", b"top: "))
 

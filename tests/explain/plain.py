@@ -176,7 +176,7 @@ class Detector:
         """The value nearest to the limit, when it was first reached, and whose it is."""
         found = [(value, moment, whose) for moment, value, whose, _ in self.rows if value is not None]
         sign = -1 if self.name == "swap_free" else 1
-        return max(found, key=lambda it: (sign * it[0], -it[1]), default=None)
+        return max(found, key=lambda it: (sign * it[0], -it[1])) if found else None
 
     def hold(self) -> int:
         """The longest time (ns) from the first to the last of evaluations in a row above the limit."""

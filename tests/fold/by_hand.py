@@ -101,7 +101,7 @@ def check_how_many_joint_states_there_are(_: str) -> None:
         for number in range(12):
             for maker in (Busy(number, 1), Maker(number + 500, 2)):
                 _, fold = folded(maker.trace(), 2 * maker.tick)
-                most = max([most, *map(abs, fold.check.behind.values())])
+                most = max([most, *(abs(it) for it in fold.check.behind.values())])
     finally:
         setattr(processor, "few_of", few_of)
     must(most < 10, f"a sum is off by {most} ns")

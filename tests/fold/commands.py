@@ -10,6 +10,7 @@ import shutil
 import tempfile
 from contextlib import redirect_stderr
 from io import StringIO
+from unittest import mock
 
 from fold.common import must_print_alike, text_of
 from harness import must, must_be
@@ -145,13 +146,9 @@ def limited(large: int) -> list[bytes]:
     """Returns the lines of a trace that ends at a limit, if a recording of `large` bytes counts as
     large.
     """
-    before = folded.MOST_EVENTS, command.LARGE
-    try:
-        folded.MOST_EVENTS, command.LARGE = 900, large
-        with recording("mix-2") as folder:
-            must_be("the status, and what is written without force", here([folder, "--fold=1"])[:2], (3, b""))
-            status, output, _ = here([folder, "--fold=1", "--force"])
-            must_be("the status by force", status, 3)
-            return output.splitlines()
-    finally:
-        folded.MOST_EVENTS, command.LARGE = before
+    limits = mock.patch.object(folded, "MOST_EVENTS", 900), mock.patch.object(command, "LARGE", large)
+    with limits[0], limits[1], recording("mix-2") as folder:
+        must_be("the status, and what is written without force", here([folder, "--fold=1"])[:2], (3, b""))
+        status, output, _ = here([folder, "--fold=1", "--force"])
+        must_be("the status by force", status, 3)
+        return output.splitlines()

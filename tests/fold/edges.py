@@ -6,6 +6,7 @@ from __future__ import annotations
 import json
 import os
 import tempfile
+from unittest import mock
 
 from fold.common import folded, must_replay_alike, printed
 from harness import must, must_be
@@ -122,7 +123,10 @@ def check_when_whatif_is_exact(program: str) -> None:
 def check_victims_that_are_no_groups(_: str) -> None:
     """A pattern that matches no group is reported, and promises nothing."""
     trace = MOVES.format("/w").replace("3000000000 move", "0 move").encode()
-    for patterns, missing, is_exact in (("/nosuch", ["/nosuch"], False), ("v,x/*", ["x/*"], True), ("/,w", [], True)):
+    asked: tuple[tuple[str, list[str], bool], ...] = (
+        ("/nosuch", ["/nosuch"], False), ("v,x/*", ["x/*"], True), ("/,w", [], True),
+    )  # fmt: skip
+    for patterns, missing, is_exact in asked:
         done = tool("fold", "-", "--window=2", f"--victims={patterns}", given=trace)
         found = [line for line in done.said.splitlines() if "matches the victims' pattern" in line]
         must_be(f"the patterns of {patterns}", found, [f"fold: no group of the trace matches the victims' pattern '{it}'" for it in missing])
@@ -133,17 +137,13 @@ def check_limits_of_folding(program: str) -> None:
     """Too many tasks for a trace, and a folded trace that is longer than the original, are reported
     by their status.
     """
-    before = fold.MOST_TASKS
-    try:
-        fold.MOST_TASKS = 3
-        lines = [f"0 group /g{it}\n0 fork {it + 1} /g{it} 0" for it in range(4)]
+    lines = [f"0 group /g{it}\n0 fork {it + 1} /g{it} 0" for it in range(4)]
+    with mock.patch.object(fold, "MOST_TASKS", 3):
         try:
             folded("\n".join(["psitrace 1 cpus=1", *lines, "1000000000 end\n"]), SECOND)
             must(False, "four groups with tasks fit into three tasks")
         except fold.TooMany as many:
             must_be("the limit", str(many), "3 tasks")
-    finally:
-        fold.MOST_TASKS = before
     quiet = MOVES.format("/w").replace("6000000000", "60000000000") + ""
     longer = tool("fold", "-", "--window=0.5", "--victims=v,w", given=quiet.encode())
     must_be(f"the status of a trace that is longer, of which was said {longer.said}", longer.status, 3)

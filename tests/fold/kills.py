@@ -94,8 +94,9 @@ def compare(program: str, what: str, traces: tuple[str, str], rules: list[list[A
 def total(parts: Iterator[Found]) -> Found:
     """Returns the sums of all parts."""
     found = list(parts)
-    rulesets, replays, kills = (sum(it[at] for it in found) for at in range(3))
-    return Found(rulesets, replays, kills, [line for it in found for line in it.differing])
+    rulesets, replays = sum(it.rulesets for it in found), sum(it.replays for it in found)
+    differing = [line for it in found for line in it.differing]
+    return Found(rulesets, replays, sum(it.kills for it in found), differing)
 
 
 def random_traces(program: str, numbers: range, count: int) -> Iterator[Found]:

@@ -13,6 +13,7 @@ from psifold import fold, processor
 from psifold.check import Different
 from psifold.joint import Element, Kind
 from psifold.lines import Line, Writer
+from psifold.world import Catalog
 from shared.traces import MS
 
 SECOND = 1000 * MS
@@ -85,7 +86,7 @@ WRONG: tuple[tuple[str, object, str, Callable[[Any], Any]], ...] = (
     ("a switch is lost", Writer, "write", wrong_lines(without_first("switch"))),
     ("a stall is lost", Writer, "write", wrong_lines(without_first("stall"))),
     ("interrupts are lost", Writer, "write", wrong_lines(without_first("irq"))),
-    ("a wait is another kind", fold.Catalog, "joint_state", other_kind),
+    ("a wait is another kind", Catalog, "joint_state", other_kind),
     ("tasks stay in a removed group", Writer, "empty", lambda _: lambda *__: []),
     ("a group has no task any more", Writer, "keep", lambda _: lambda *__: []),
     ("a group has a task at the tick before", Writer, "write", early),

@@ -22,7 +22,7 @@ def check_what_a_trial_is_handed(room: str) -> None:
     with open(os.path.join(copy.top, "crates", "psi_oomd_main", "args"), "w", encoding="utf-8") as file:
         file.write("what isn't meant")
     whole = os.path.join(place, "t")
-    for words, files, program in (
+    trials: tuple[tuple[tuple[str, ...], list[str], list[str]], ...] = (
         (("check", "t"), ["<t>"], ["check", "given-1"]),
         (("check", whole), ["<t>"], ["check", "given-1"]),
         (("rules", "a b=c"), ["<a b=c>"], ["rules", "given-1"]),
@@ -34,7 +34,8 @@ def check_what_a_trial_is_handed(room: str) -> None:
         (("gen", *GEN, "--events", "5"), [], ["gen", *GEN, "--events", "5"]),
         (("replay", "t", "--rules", "-"), ["<t>"], ["replay", "given-1", "--rules", "-"]),
         (("import", "-", "--cpus", "2"), ["given text"], ["import", "given-1", "--cpus", "2"]),
-    ):
+    )
+    for words, files, program in trials:
         found, rest = copy.trial(*words, place=place, given="given text", TMPDIR=place)
         must_be(f"the words of the trial of {words}", rest, program)
         wanted = {f"given-{number}={text}" for number, text in enumerate(files, 1)}

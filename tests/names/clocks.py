@@ -66,7 +66,7 @@ def check_zones(_: Room) -> None:
 
 NUMBER, OTHER, UID = "4fd3" * 16, "4fe4" * 16, "0a1b2c3d-0000-1111-2222-333344445555"
 LABELS = {"io.kubernetes.pod.name": "web-7", "io.kubernetes.pod.namespace": "prod", "io.kubernetes.pod.uid": UID}
-FORMATS = (
+FORMATS: tuple[tuple[str, dict[str, str]], ...] = (
     (f"# a comment\n{NUMBER} web\n{UID} prod/web-7\n", {NUMBER: "web", UID: "prod/web-7"}),
     (f"{NUMBER[:12]}   a web  \n", {NUMBER[:12]: "a web"}),
     (json.dumps({"containers": [{"id": NUMBER, "metadata": {"name": "nginx"}, "labels": LABELS}]}),

@@ -31,18 +31,19 @@ def check_names_are_escaped(_: Room) -> None:
         must_be(f"{name!r}", escaped(name), wanted)
         must(is_escaped(wanted), f"{wanted} is escaped")
     draw = random.Random(1)
-    for _ in range(1000):
-        name = escaped(bytes(draw.randrange(256) for _ in range(draw.randrange(16))))
-        must(is_escaped(name) and name.isprintable(), f"{name!r} is escaped")
+    for _number in range(1000):
+        text = escaped(bytes(draw.randrange(256) for _ in range(draw.randrange(16))))
+        must(is_escaped(text) and text.isprintable(), f"{text!r} is escaped")
 
 
 def check_a_file_is_read_as_it_was_written(room: Room) -> None:
     """Random names in a companion survive a round trip."""
     draw = random.Random(2)
     trace = runaway()
+    processes: tuple[dict[int, int], ...] = ({}, {2: 1001})
     for _ in range(ROUNDS):
         names = {label: escaped(draw.choice(HOSTILE) + draw.choice(string.printable).encode()) for label in (1, 2, 3)}
-        wanted = companion(trace, names, processes=draw.choice(({}, {2: 1001})))
+        wanted = companion(trace, names, processes=draw.choice(processes))
         wanted.begins, wanted.containers = draw.choice((0, 10**9)), {"ab" * 32: names[1]}
         wanted.tasks[0].rename(10**9, names[2])
         with_companion(room, "r.trace", trace, wanted)

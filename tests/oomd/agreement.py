@@ -135,7 +135,7 @@ def check_recordings(room: Room) -> None:
     configs = {name: room.file(f"{name}.json", text) for name, text in some_rules().items()}
     for name, trace in traces(room):
         for rules_name, config in configs.items():
-            paths = (os.path.join(room.path, it) for it in (trace, config))
+            paths = os.path.join(room.path, trace), os.path.join(room.path, config)
             count += must_agree_on(f"{name} by {rules_name}", *paths)
     must(count >= 50, f"the recordings have {count} kills")
 

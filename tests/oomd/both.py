@@ -18,6 +18,7 @@ from psioomd.command import given_number
 from psioomd.engine import Engine
 from psioomd.machine import Extras
 from psioomd.emulation import UPTIME, Run, emulate
+from psioomd.sandbox import Sandbox
 from psirules.program import Kill, Program
 
 VERSION = "v0.5.0"
@@ -55,7 +56,7 @@ def alone(check: Callable[[Room], None]) -> Callable[[Room], None]:
 def sandbox() -> str:
     """Returns the sandbox in which oomd runs here; none in a container that allows neither kind."""
     for kind in ("bwrap", "unshare"):
-        if shutil.which(kind) and not binary.Sandbox(kind, "/tmp", "/usr/bin/true").fault():
+        if shutil.which(kind) and not Sandbox(kind, "/tmp", "/usr/bin/true").fault():
             return kind
     return "none"
 

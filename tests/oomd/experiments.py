@@ -110,7 +110,9 @@ def detectors() -> None:
     swap = one(host=f"0 {GIB} {GIB // 4}").mem(0, "/a", 1, 5).put(9.5, f"host 0 {GIB} {GIB // 4 - 4096}")
     add("free swap at its limit isn't below it", swap, 20,
         rules([plugin("swap_free", threshold_pct=25)], plugin(SWAP, "a", post_action_delay=600)), "10s:/a")
-    there = [ruleset([plugin("exists", "n", **it)], grow("a", 4)) for it in ({}, {"negate": "true"})]
+    there = [
+        ruleset([it], grow("a", 4)) for it in (plugin("exists", "n"), plugin("exists", "n", negate="true"))
+    ]
     come = one().put(4.5, "group /n").put(9.5, "rmgroup /n")
     add("a group that comes and goes", come, 14, {"rulesets": there},
         "1s:/a(r1a0) 5s:/a 9s:/a 10s:/a(r1a0) 14s:/a(r1a0)")

@@ -38,8 +38,8 @@ def see(name: str, **args: object) -> Any:
     return rules([{"name": name, "args": args}], KILL)
 
 
-PRESSURE = {"cgroup": "a", "resource": "io", "threshold": 1, "duration": 1}
-MEMORY = {"cgroup": "a", "threshold": "1G", "duration": 1}
+PRESSURE: dict[str, Any] = {"cgroup": "a", "resource": "io", "threshold": 1, "duration": 1}
+MEMORY: dict[str, Any] = {"cgroup": "a", "threshold": "1G", "duration": 1}
 # A configuration, and words of the reason why oomd rejects it; None if oomd accepts it.
 CONFIGURATIONS: tuple[tuple[Any, str | None], ...] = (
     ({}, None), ({"rulesets": {}}, None), ({"rulesets": []}, None), (None, None),

@@ -100,7 +100,7 @@ def static(room: Room) -> str:
 def check_without_a_compiler(room: Room) -> None:
     """The message says what is missing."""
     daemon.clock_library.cache_clear()
-    with mock.patch.object(daemon.subprocess, "run", side_effect=FileNotFoundError(2, "No such file or directory")):
+    with mock.patch.object(subprocess, "run", side_effect=FileNotFoundError(2, "No such file or directory")):
         said = fault_of(daemon.clock_library)
     must("install a C compiler (package gcc)" in said, said)
     daemon.clock_library.cache_clear()

@@ -73,10 +73,10 @@ def without_dry(room: Room, action: str, pid: int, kind: str) -> str:
     """Runs oomd without `dry` on a group whose list of processes has a real one. Returns its log."""
     story = Story("/a").task("/a").mem(0, "/a", 5 * MIB)
     own = {"service": "ssh.service"} if action == RESTART else {"cgroup": "a"}
-    it = plugin(action, **own, post_action_delay=60)  # type: ignore[arg-type]
+    it = plugin(action, **own, post_action_delay=60)
     config = rules([plugin("exists", "a")], it)
-    names = (room.file("s.trace", story.text(6)), room.file("s.json", written(config)))
-    run = Run(*(os.path.join(room.path, name) for name in names), interval=1)
+    trace, written_rules = room.file("s.trace", story.text(6)), room.file("s.json", written(config))
+    run = Run(os.path.join(room.path, trace), os.path.join(room.path, written_rules), interval=1)
     fixed, log = Files.fixed, os.path.join(room.path, "log")
 
     def with_process(files: Files, path: str) -> dict[str, str]:

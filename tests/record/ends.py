@@ -8,7 +8,8 @@ import subprocess
 import time
 
 from record import machine_folder as folder
-from record.runs import RECORD, Run, must, must_be, whole
+from harness import must, must_be
+from record.runs import RECORD, Run, whole
 
 
 def check_signals(top: str) -> None:

@@ -7,7 +7,8 @@ import signal
 import time
 
 from record import machine_folder as folder
-from record.runs import WAIT_S, Run, must, must_be, read
+from harness import must, must_be
+from record.runs import WAIT_S, Run, read
 
 
 UNTIL = ("--ring", "--until", "memory full 100000 1000000")

@@ -6,7 +6,8 @@ import shutil
 import time
 
 from record import machine_folder as folder
-from record.runs import Run, must, must_be, read
+from harness import must, must_be
+from record.runs import Run, read
 
 STATE_TOLD = "state D alone"
 PROBES = (

@@ -17,7 +17,8 @@ from typing import Any
 
 from record import machine_folder as folder
 from record.oomd_settings import make_booted
-from record.runs import RECORD, STARTED, WAIT_S, Run, Wrong, awaited, must, must_be, read
+from harness import Wrong, must, must_be
+from record.runs import RECORD, STARTED, WAIT_S, Run, awaited, read
 
 DAY = 86400
 

@@ -10,7 +10,8 @@ import subprocess
 import time
 
 from record import machine_folder as folder
-from record.runs import RECORD, WAIT_S, Run, awaited, must, must_be, read, whole
+from harness import must, must_be
+from record.runs import RECORD, WAIT_S, Run, awaited, read, whole
 
 MEGABYTE = 10**6
 GROUP = "system.slice/web.service"

@@ -5,7 +5,8 @@ import os
 import shutil
 
 from record import machine_folder as folder
-from record.runs import Run, must, must_be
+from harness import must, must_be
+from record.runs import Run
 
 
 def check_nothing_is_there(top: str) -> None:

@@ -7,7 +7,8 @@ import shutil
 import time
 
 from record import machine_folder as folder
-from record.runs import Run, must, must_be, read, whole
+from harness import must, must_be
+from record.runs import Run, read, whole
 
 WEB = "/system.slice/web.service"
 

@@ -10,6 +10,8 @@ TOP = os.path.dirname(os.path.dirname(os.path.dirname(os.path.abspath(__file__))
 sys.path += [os.path.join(TOP, "tests"), os.path.join(TOP, "bench")]
 sys.dont_write_bytecode = True
 
-from shared.program import built_program, program_of  # noqa: E402
+from shared.program import program_of  # noqa: E402
+
+from psireplay.program import built_program  # noqa: E402
 
 __all__ = ["TOP", "built_program", "program_of"]

@@ -24,7 +24,7 @@ NAMES = ("chromium", "chromium-browser", "google-chrome")
 
 def browser_path() -> Optional[str]:
     """Returns the path of the browser, or None if none is installed."""
-    return next((path for path in map(shutil.which, NAMES) if path), None)
+    return next(filter(None, (shutil.which(name) for name in NAMES)), None)
 
 
 class Socket:
@@ -132,7 +132,7 @@ class Page:
 
     def picture(self, clip: Optional[dict[str, float]] = None) -> bytes:
         """Returns a PNG of the window, or of a part of the page."""
-        more = {"clip": {**clip, "scale": 1}, "captureBeyondViewport": True} if clip else {}
+        more: dict[str, Any] = {"clip": {**clip, "scale": 1}, "captureBeyondViewport": True} if clip else {}
         return base64.b64decode(self.ask("Page.captureScreenshot", format="png", **more)["data"])
 
     def mouse(self, kind: str, x: float, y: float, **more: Any) -> None:

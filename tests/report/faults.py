@@ -23,7 +23,7 @@ def fault(program: str, status: int, *words: str) -> str:
 
 
 def check_faults(program: str) -> None:
-    for words in ([], [TRACE, "--tick-ms", "0"], [TRACE, "--start", "yesterday"], [TRACE, "-o"], [TRACE, TRACE]):
+    for words in ((), (TRACE, "--tick-ms", "0"), (TRACE, "--start", "yesterday"), (TRACE, "-o"), (TRACE, TRACE)):
         must("usage: report" in fault(program, 2, *words), f"{words}: the usage is told")
     fault(program, 2, "-")
     fault(program, 2, TRACE, "--drop-in", "x.json")

@@ -233,7 +233,8 @@ def check_texts_of_pictures_fit(program: str) -> None:
 def rules_of_style(page: bytes, medium: str) -> dict[str, str]:
     """Returns the declarations for a medium on a page, by selector."""
     (style,) = re.findall(r"(?s)<style>(.*?)</style>", page.decode())[:1]
-    found, start = {}, style.index(f"@media {medium} {{") + len(f"@media {medium} {{")
+    found: dict[str, str] = {}
+    start = style.index(f"@media {medium} {{") + len(f"@media {medium} {{")
     end = next(at for at in range(start, len(style)) if style[start : at + 1].count("}") > style[start : at + 1].count("{"))
     for selectors, declarations in re.findall(r"([^{}]+)\{([^{}]*)\}", style[start:end]):
         for one in selectors.split(","):

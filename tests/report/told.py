@@ -7,6 +7,7 @@ import random
 import re
 import subprocess
 import tempfile
+from collections.abc import Sequence
 
 from shared.printed import Printed
 from harness import must, must_be
@@ -86,7 +87,9 @@ def check_values_for_the_script(program: str) -> None:
         path, resource = figure.attributes["data-group"], figure.attributes["data-resource"]
         panel = data["panels"][int(figure.attributes["data-panel"])]
         for look, values in panel["s"].items():
-            wanted = {moment // 10**6: round(100 * share) for moment, share in printed.shares[(path, resource, *look.split(" "))]}
+            level, average = look.split(" ")
+            shares = printed.shares[path, resource, level, average]
+            wanted = {moment // 10**6: round(100 * share) for moment, share in shares}
             rows = {at: value for at, value in zip(panel["t"], values) if at is not None}
             must(rows and rows.items() <= wanted.items(), f"{path} {resource} {look}: {rows} are of {wanted}")
             must_be(f"{path} {resource} {look}: the highest", max(rows.values()), max(wanted.values()))
@@ -97,6 +100,21 @@ def check_values_for_the_script(program: str) -> None:
     must(found >= 6, f"there are {found} pictures")
 
 
+def some_pressure(draw: random.Random, total: int) -> Pressure:
+    """Returns random averages, mostly 7, with this total (us)."""
+    averages = [draw.randrange(10**4) if draw.random() < 0.01 else 7 for _ in range(3)]
+    return Pressure(averages[0], averages[1], averages[2], total)
+
+
+def highest_of(moments: Sequence[int], values: Sequence[int], end: int) -> dict[int, int]:
+    """Returns the highest value of each of the STRETCHES intervals up to `end` (ns)."""
+    highest: dict[int, int] = {}
+    for moment, value in zip(moments, values):
+        stretch = moment * STRETCHES // end
+        highest[stretch] = max(highest.get(stretch, 0), value)
+    return highest
+
+
 def check_thinned_values(program: str) -> None:
     """A long series is thinned: each interval keeps its highest value, and gaps remain gaps."""
     del program
@@ -105,19 +123,14 @@ def check_thinned_values(program: str) -> None:
         number += 1
         if 20_000 <= tick < 20_500:
             continue
-        some, full = (Pressure(*(draw.randrange(10**4) if draw.random() < 0.01 else 7 for _ in range(3)), tick) for _ in range(2))
+        some, full = some_pressure(draw, tick), some_pressure(draw, tick)
         series.take(Report(tick * 2 * SECOND, "/a", "io", some, full), number)
     end = 80_001 * SECOND
     few = thinned(series, 0, end)
     must(len(few.moments) <= 7 * STRETCHES + 2, f"{len(few.moments)} rows are left")
     for which, shares in series.shares.items():
-        for moments, values in ((series.moments, shares), (few.moments, few.shares[which])):
-            highest: dict[int, int] = {}
-            for moment, value in zip(moments, values):
-                stretch = moment * STRETCHES // end
-                highest[stretch] = max(highest.get(stretch, 0), value)
-            wanted = highest if moments is series.moments else wanted
-        must_be(f"the highest of {which}", highest, wanted)
+        wanted = highest_of(series.moments, shares, end)
+        must_be(f"the highest of {which}", highest_of(few.moments, few.shares[which], end), wanted)
     gaps = [place for place in range(1, len(few.rounds)) if few.rounds[place] - few.rounds[place - 1] > 1]
     must_be("gaps", [(few.moments[it - 1] <= 40_000 * SECOND, few.moments[it] >= 41_000 * SECOND) for it in gaps], [(True, True)])
 

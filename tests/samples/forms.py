@@ -44,7 +44,10 @@ def text_labels(group: str) -> str:
 
 
 def prometheus(indent: int | None = None) -> str:
-    result = [{"metric": {"__name__": name, **labels(group)}, "values": [[at, value] for at, value in values]} for (name, group), values in series().items()]
+    result = []
+    for (name, group), values in series().items():
+        metric = {"__name__": name, **labels(group)}
+        result.append({"metric": metric, "values": [[at, value] for at, value in values]})
     return json.dumps({"status": "success", "data": {"resultType": "matrix", "result": result}}, indent=indent)
 
 

@@ -159,7 +159,7 @@ def check_averages_say_when_a_total_grew(program: str) -> None:
     highest = []
     with room_of(program) as room:
         room.file("samples", csv([], lines))
-        for words in ([], ["--averages", "no"], ["--averages", "yes"]):
+        for words in ((), ("--averages", "no"), ("--averages", "yes")):
             room.make("samples", *words)
             printed = room.run("psi_oomd", "replay", "it.trace", "--report-s=2", status=0).output
             highest.append(max(float(it) for it in re.findall(r"/a io\nsome avg10=([\d.]+)", printed)))

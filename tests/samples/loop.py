@@ -55,8 +55,8 @@ def check_full_files_are_put_aside(program: str) -> None:
     with room_of(program) as room:
         machine(room)
         full = "time,group,what,values\n" + "x" * 999_990
-        for number in ("first", "second", "third"):
-            room.file("out.csv", full + number)
+        for name in ("first", "second", "third"):
+            room.file("out.csv", full + name)
             room.run("sample", "--root", "top", "--seconds", "0", "--into", "out.csv", "--megabytes", "1", "--files", "2", status=0)
             must(room.text("out.csv").startswith("time,group") and room.text("out.csv").count("\n") == 14, "the file is begun anew")
         must_be("files", sorted(it for it in os.listdir(room.path) if it != "top"), ["out.csv", "out.csv.1.gz", "out.csv.2.gz"])

@@ -27,7 +27,7 @@ def answer(result: object, kind: str = "matrix") -> str:
     return json.dumps({"status": "success", "data": {"resultType": kind, "result": result}})
 
 
-METRIC = {"__name__": "container_pressure_io_waiting_seconds_total", "id": "/a"}
+METRIC: dict[str, object] = {"__name__": "container_pressure_io_waiting_seconds_total", "id": "/a"}
 AT_40 = f"{START + 40}.000,/a,io,24000000,12000000\n"
 # By name: a text, and what is said of it.
 BAD: dict[str, tuple[str, str]] = {
@@ -54,7 +54,7 @@ BAD: dict[str, tuple[str, str]] = {
     "one value of each series": (answer([{"metric": METRIC, "value": [START, "1"]}], "vector"), "one value of each series: query with a range"),
     "another metric": (answer([{"metric": {"__name__": "up"}, "values": [[START, "1"]] * 50000}]), "it has up, and container_pressure_"),
     "two machines": (
-        answer([{"metric": {**METRIC, "instance": it}, "values": [[START, "1"]]} for it in "ab"]),
+        answer([{"metric": METRIC | {"instance": it}, "values": [[START, "1"]]} for it in "ab"]),
         "two series of one group: container_pressure_io_waiting_seconds_total{",
     ),
     "JSON that ends": (answer([{"metric": METRIC, "values": [[START, "1"], [START + 5, "2"]]}])[:-40], "no point of a series"),

@@ -2,6 +2,7 @@
 from __future__ import annotations
 
 import random
+from collections.abc import Callable
 from dataclasses import dataclass, field
 
 PLAIN_NAMES = (b"a", b"kworker/0:1", b"web")
@@ -106,7 +107,7 @@ def spoiled(rng: random.Random, text: bytes) -> bytes:
         at = rng.randrange(len(data) + 1)
         lines = data.splitlines(keepends=True) or [b"\n"]
         one, other = rng.randrange(len(lines)), rng.randrange(len(lines))
-        ways = (
+        ways: tuple[Callable[[], bytes], ...] = (
             lambda: data[:at] + rng.choice(PIECES) + data[at:],
             lambda: data[:at] + data[at + rng.choice((1, 1, 2, 9)) :],
             lambda: data[:at] + bytes([rng.randrange(256)]) + data[at + 1 :],

@@ -285,8 +285,11 @@ def joined(base: list[Ruleset], parts: list[Ruleset]) -> list[Ruleset]:
         place = next((at for at, it in enumerate(rulesets) if it.name == part.name), None)
         if place is None:
             raise Refused((("ruleset", i),), "UnknownRule")
-        given = {key: it for key, it in (("groups", part.groups), ("actions", part.actions)) if it is not None}
-        rulesets[place] = rulesets[place]._replace(**given)
+        old = rulesets[place]
+        rulesets[place] = old._replace(
+            groups=old.groups if part.groups is None else part.groups,
+            actions=old.actions if part.actions is None else part.actions,
+        )
     return rulesets
 
 

@@ -186,7 +186,8 @@ def random_trace(seed: int) -> str:
     """Slices that are created and removed, with tasks that wait for memory, samples, preferences
     and accounts, often at the times of looks.
     """
-    draw, moment, scanned, homes = random.Random(seed), 0, {"/": 0}, {}
+    draw, moment, scanned = random.Random(seed), 0, {"/": 0}
+    homes: dict[int, str] = {}
     lines, runs, is_stalled, label = ["0 host 1000 1000 500", "0 mem / 500 0 0"], 0, False, 0
     for _ in range(200):
         moment += draw.choice((0, 0, 0, SECOND // 4, SECOND // 20 * 3, SECOND))
@@ -210,7 +211,8 @@ def random_trace(seed: int) -> str:
             lines.append(f"{moment} {'stall' if is_stalled else 'unstall'} {runs}")
         elif kind < 0.52 and runs and not is_stalled:
             lines.append(f"{moment} switch 0 0 exit")
-            runs = homes.pop(runs) and 0
+            del homes[runs]
+            runs = 0
         elif kind < 0.56 and path != "/":
             lines.append(f"{moment} pressure {path} {draw.choice(('on', 'off', 'on'))}")
         elif kind < 0.6:

@@ -265,7 +265,7 @@ def fixed_runs() -> list[Run]:
 class Maker:
     """Makes a valid random trace: in each turn time passes, or not, and a possible event happens."""
 
-    PATHS = ("/a", "/a/b", "/a/b/c", "/d", "/d/e")
+    PATHS: tuple[str, ...] = ("/a", "/a/b", "/a/b/c", "/d", "/d/e")
     # The least and the largest number of turns.
     TURNS = (30, 120)
     # How often each verb comes, by the version of the trace.

@@ -40,7 +40,7 @@ def check_swap_that_stays_used(room: Room) -> None:
     """
     put(room, SWAPPED)
     leaves = {A: Leaf(100, 300), B: Leaf(100, 500)}
-    full = [(at, line) for at in range(6) for line in ("host 1000 1000 0", "mem / 999 0 0")]
+    full: list[tuple[float, str]] = [(at, line) for at in range(6) for line in ("host 1000 1000 0", "mem / 999 0 0")]
     trace = Trace(6, leaves, full)
     moments = [0.15, 1.05, 2.1, 3.0, 4.05, 5.1]
     must_be("each sample", decisions(room, trace, {}), [(at, B) for at in moments])
