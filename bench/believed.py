@@ -1,10 +1,10 @@
 """Finds the definitions that the contracts of the top calls rest on: a closure over names.
 
 It starts from the clauses of both `run` and of `observe`, and of the traits `Shelf` and `Sink`, and
-follows each name that they cite to its definition, and so on, also into the kit's libraries, but not into
-its standard library. A definition is in a file of `specs/`, a type in one of `src/`; if a type has
-a `Model`, contracts see only that. The kit's own types aren't listed. If no kit is installed, its
-definitions aren't followed.
+follows each name that they cite to its definition, and so on, also into the kit's libraries, but
+not into its standard library. A definition is in a file of `specs/`, a type in one of `src/`; if a
+type has a `Model`, contracts see only that. The kit's own types aren't listed. If no kit is
+installed, its definitions aren't followed.
 
 Names are found by their spelling, without the prover. A name that a definition binds itself, as a
 parameter, may be mistaken for another definition's: the result may be too large, but it lacks
@@ -36,7 +36,8 @@ TRAITS: tuple[Root, ...] = (
 )
 # What is read together: the contracts of psi_oomd and psi_observe, and that of psi_convert.
 READINGS: tuple[tuple[Root, ...], ...] = (
-    (("replay_core/src/entry.rt", "pub fn run<"), ("observe_core/src/entry.rt", "pub fn observe<"), *TRAITS),
+    (("replay_core/src/entry.rt", "pub fn run<"), ("observe_core/src/entry.rt", "pub fn observe<"),
+     *TRAITS),
     (("convert_core/src/command.rt", "pub fn run<"), *TRAITS),
 )
 ROOTS = tuple(dict.fromkeys(root for reading in READINGS for root in reading))
@@ -45,10 +46,14 @@ ROOTS = tuple(dict.fromkeys(root for reading in READINGS for root in reading))
 PLAIN = ("std", "core", "mathlib")
 
 NAME = re.compile(r"[^\W\d][\w'◌-]*")
-DECLARED = re.compile(r"(?:unfoldable |abbrev |pub |record |data )*(?P<name>[\w'-]*◌[^\s:]*|[^\W\d][\w'-]*)(?= [^=]*?:| *$)")
+DECLARED = re.compile(
+    r"(?:unfoldable |abbrev |pub |record |data )*(?P<name>[\w'-]*◌[^\s:]*|[^\W\d][\w'-]*)(?= "
+    r"[^=]*?:| *$)"
+)
 # Lines that begin a block of mutual definitions, which are indented by two.
 BLOCKS = ("mutual", "abbrev mutual", "unfoldable mutual")
-IMPORT = re.compile(r"^ *(?:pub |ghost )*use ([\w.]+?)(?:\.\{([^}]*)\}| as (\w+));? *$", re.MULTILINE)
+IMPORT = re.compile(r"^ *(?:pub |ghost )*use ([\w.]+?)(?:\.\{([^}]*)\}| as (\w+));? *$",
+                    re.MULTILINE)
 ACCESS = re.compile(r"(?<=[\w)}\]'])\.[\w']+(?:\.[\w']+)*")
 
 
@@ -104,7 +109,9 @@ def bodies_of(text: str) -> dict[str, str]:
         if begins_block or line.startswith(("use ", "pub use ", "pub mod ", "infix")):
             continue
         found = DECLARED.match(line) if line[:1].strip() else None
-        if found and (found["name"] not in bodies or line.startswith(("abbrev", "unfoldable", "pub"))):
+        if found and (
+            found["name"] not in bodies or line.startswith(("abbrev", "unfoldable", "pub"))
+        ):
             lines = bodies.setdefault(found["name"], [])
         lines.append(line)
     return {name: "\n".join(body) for name, body in bodies.items()}
@@ -115,8 +122,11 @@ def types_of(text: str) -> dict[str, str]:
     one.
     """
     found = {}
-    for one in re.finditer(r"^pub (?:struct|enum) (\w+)[^\n]*(?:;\n|(?:\n[^\n}][^\n]*|\n)*\n\})", text, re.MULTILINE):
-        model = re.search(rf"^impl(?:<[^>]*>)? Model for {one[1]}\b.*?^\}}", text, re.MULTILINE | re.DOTALL)
+    for one in re.finditer(
+        r"^pub (?:struct|enum) (\w+)[^\n]*(?:;\n|(?:\n[^\n}][^\n]*|\n)*\n\})", text, re.MULTILINE
+    ):
+        model = re.search(rf"^impl(?:<[^>]*>)? Model for {one[1]}\b.*?^\}}", text,
+                          re.MULTILINE | re.DOTALL)
         found[one[1]] = model[0] if model else one[0]
     return found
 
@@ -126,7 +136,9 @@ def code_imports(text: str) -> dict[str, tuple[str, str]]:
     own.
     """
     found = {}
-    for crate, listed, one in re.findall(r"^use (\w+)(?:::\w+)*::(?:\{([^}]*)\}|(\w+));", text, re.MULTILINE):
+    for crate, listed, one in re.findall(
+        r"^use (\w+)(?:::\w+)*::(?:\{([^}]*)\}|(\w+));", text, re.MULTILINE
+    ):
         for name in filter(None, map(str.strip, (listed or one).split(","))):
             found[name] = (f"type {crate}", name)
     return found
@@ -217,11 +229,17 @@ def found_in(path: pathlib.Path, name: str) -> Item | None:
 def cited_in(body: str, module: Module) -> Iterator[tuple[str, str]]:
     """Yields the names that a body cites, each with its module: '' for the file's own."""
     for alias, there in module.aliases.items():
-        yield from ((there, name) for name in re.findall(rf"(?<![\w.]){re.escape(alias)}\.([\w']+)", body))
+        yield from (
+            (there, name) for name in re.findall(rf"(?<![\w.]){re.escape(alias)}\.([\w']+)", body)
+        )
     known = module.imports.keys() | module.bodies.keys()
     plain = ACCESS.sub("", body)
     names = set(NAME.findall(plain))
-    names |= {name for name in known if "◌" in name and all(sign in plain for sign in name.split("◌") if sign)}
+    names |= {
+        name for name in known if "◌" in name and all(
+            sign in plain for sign in name.split("◌") if sign
+        )
+    }
     names |= {"◌>>=◌"} if re.search(r"\bdo\b", plain) else set()
     for name in names & known:
         yield module.imports.get(name, ("", name))
@@ -278,4 +296,6 @@ def unreached(path: pathlib.Path) -> list[str]:
 
 def has_model(item: Item) -> bool:
     """Returns whether contracts see only the `Model` of a type."""
-    return item.path.suffix == ".rt" and "Model for" in module_at(item.path).bodies.get(item.name, "")
+    return (
+        item.path.suffix == ".rt" and "Model for" in module_at(item.path).bodies.get(item.name, "")
+    )

@@ -1,5 +1,6 @@
 #!/usr/bin/env python3
-"""Prints crates/README.md: the groups of crates.txt, with the first sentence of each crate's own header.
+"""Prints crates/README.md: the groups of crates.txt, with the first sentence of each crate's own
+header.
 
 usage: bench/crates_page.py [--write]
 

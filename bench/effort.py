@@ -1,28 +1,33 @@
 #!/usr/bin/env python3
-"""Compares the cost of small runs of the programs with the figures stored in bench/effort.json, and prints what rose.
+"""Compares the cost of small runs of the programs with the figures stored in bench/effort.json, and
+prints what rose.
 
-usage: bench/effort.py [--program PATH] [--store] [NAME ..]     (the built psi_oomd, and all runs of bench/effort_runs.py; of
+usage: bench/effort.py [--program PATH] [--store] [NAME ..]     (the built psi_oomd, and all runs of
+    bench/effort_runs.py; of
 psi_observe PSI_OBSERVE, or the built one)
 
 Time depends on the machine, so these are counted instead:
 
-    instructions a line   (those of a larger input - those of a smaller one) / the lines, or ticks, between them; without the
-                          cost of starting a run
+    instructions a line   (those of a larger input - those of a smaller one) / the lines, or ticks,
+                          between them; without the cost of starting a run
     instructions          in thousands, with the smaller input, including the start
-    reads, opens          system calls with the larger input, less those that load the program (a run without arguments)
+    reads, opens          system calls with the larger input, less those that load the program (a
+                          run without arguments)
     writes, threads       calls that write, and threads that were started
-    memory calls          calls that allocate and free memory from the system, counted as reads are; not counted for runs
-                          with threads, since the number varies
-    peak                  the peak resident memory with the larger input, in KB; the least of three runs
+    memory calls          calls that allocate and free memory from the system, counted as reads are;
+                          not counted for runs with threads, since the number varies
+    peak                  the peak resident memory with the larger input, in KB; the least of three
+                          runs
 
-A figure in instructions or KB may rise by 3 percent, and a peak by 256 KB more. If a thread reads the clocks of threads that are
-running, each figure may rise further, by the percentage in its run. A number of calls must equal the stored one: one thread
-instead of four is no gain. A figure that fell by more than that is reported, but isn't a fault; `--store` stores the figures
-again, and the commit shows the difference. Figures are valid for the architecture and the C library that are stored with them: on
-another system, measure and store the state before a change first.
+A figure in instructions or KB may rise by 3 percent, and a peak by 256 KB more. If a thread reads
+the clocks of threads that are running, each figure may rise further, by the percentage in its run.
+A number of calls must equal the stored one: one thread instead of four is no gain. A figure that
+fell by more than that is reported, but isn't a fault; `--store` stores the figures again, and the
+commit shows the difference. Figures are valid for the architecture and the C library that are
+stored with them: on another system, measure and store the state before a change first.
 
-Requires the Debian packages valgrind, strace and time. Ends with status 1 if a figure is wrong, and 2 if a package is missing or
-a run failed.
+Requires the Debian packages valgrind, strace and time. Ends with status 1 if a figure is wrong, and
+2 if a package is missing or a run failed.
 """
 from __future__ import annotations
 
@@ -67,7 +72,8 @@ class Failed(Exception):
 
 def run_to_end(words: list[str], status: int = 0) -> None:
     """Runs a program, drops its output, and raises Failed unless it ends with this status."""
-    done = subprocess.run(words, stdin=subprocess.DEVNULL, stdout=subprocess.DEVNULL, stderr=subprocess.PIPE)
+    done = subprocess.run(words, stdin=subprocess.DEVNULL, stdout=subprocess.DEVNULL,
+                          stderr=subprocess.PIPE)
     if done.returncode != status:
         said = done.stderr.decode(errors="replace")[-600:]
         raise Failed(f"{' '.join(words)}: status {done.returncode}: {said}")
@@ -135,7 +141,9 @@ def may_differ(name: str, before: float, run: Run) -> float:
     """Returns how much a figure may differ from the stored one."""
     if name in CALLS:
         return 0.0
-    return before * (MAY_RISE_PERCENT + run.varies_percent) / 100 + (MAY_RISE_KB if name == PEAK else 0)
+    return before * (MAY_RISE_PERCENT + run.varies_percent) / 100 + (
+        MAY_RISE_KB if name == PEAK else 0
+    )
 
 
 def faults_of(run: Run, stored: Figures, found: Figures) -> tuple[list[str], list[str]]:
@@ -184,17 +192,34 @@ def compare(runs: list[Run], programs: dict[str, str], is_stored: bool) -> bool:
     """
     where, stored = read_stored()
     if where != system():
-        print(f"these figures are of {where}, and this is {system()}: what differs may be the system's", flush=True)
+        print(
+            (
+                f"these figures are of {where}, and this is {system()}: what differs may be the "
+                "system's"
+            ),
+            flush=True,
+        )
     is_right = True
     with tempfile.TemporaryDirectory() as room:
         write_inputs(programs["psi_oomd"], runs, room)
         loading = {name: calls_of([program], room, status=1) for name, program in programs.items()}
         for run in runs:
             found = figures_of(run, programs[run.program], loading[run.program], room)
-            print(f"{run.name}: " + ", ".join(f"{number:,} {name}" for name, number in found.items()), flush=True)
+            print(
+                f"{run.name}: " + ", ".join(f"{number:,} {name}" for name, number in found.items()),
+                flush=True,
+            )
             wrong, lower = faults_of(run, stored.get(run.name, {}), found)
             if run.name in stored or not is_stored:
-                print("".join([*(f"  wrong: {it}\n" for it in wrong), *(f"  lower: {it}\n" for it in lower)]), end="")
+                print(
+                    "".join(
+                        [
+                            *(f"  wrong: {it}\n" for it in wrong),
+                            *(f"  lower: {it}\n" for it in lower),
+                        ]
+                    ),
+                    end="",
+                )
             is_right = is_right and not wrong
             stored[run.name] = found
     if is_stored:
@@ -216,7 +241,10 @@ def words_of(given: list[str]) -> tuple[list[str], bool, list[Run]]:
             sys.exit(__doc__)
     unknown = set(given) - {run.name for run in RUNS}
     if unknown:
-        sys.exit(f"effort: no run has the name {', '.join(sorted(unknown))}: {', '.join(run.name for run in RUNS)}")
+        sys.exit(
+            f"effort: no run has the name {', '.join(sorted(unknown))}: "
+            f"{', '.join(run.name for run in RUNS)}"
+        )
     return named, is_stored, [run for run in RUNS if not given or run.name in given]
 
 
@@ -230,7 +258,10 @@ def main(given: list[str]) -> int:
     named, is_stored, runs = words_of(given)
     missing = [tool for tool in TOOLS if shutil.which(tool) is None]
     if missing:
-        print(f"effort: not found: {', '.join(missing)}, which are Debian's packages of these names", file=sys.stderr)
+        print(
+            f"effort: not found: {', '.join(missing)}, which are Debian's packages of these names",
+            file=sys.stderr,
+        )
         return 2
     try:
         is_right = compare(runs, programs_of(named, runs), is_stored)

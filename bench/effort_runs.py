@@ -63,7 +63,10 @@ class Run:
         """Returns the arguments, with the paths of the files that `write_inputs` wrote to this
         folder.
         """
-        stands = {"TRACE": trace_path(room, self.trace, size), "RULES": rules_path(room), "SIZE": str(size)}
+        stands = {
+            "TRACE": trace_path(room, self.trace, size), "RULES": rules_path(room),
+            "SIZE": str(size),
+        }
         return [stands.get(word, word) for word in self.words]
 
 
@@ -81,16 +84,34 @@ RUNS = (
     Run("replay by many", ("replay", "TRACE", *MANY_WORKERS), Trace.BUSY),
     Run("live by one", ("replay", "TRACE", *LIVE, *ONE_WORKER), Trace.BUSY, varies_percent=2),
     Run("live by many", ("replay", "TRACE", *LIVE, *MANY_WORKERS), Trace.BUSY, varies_percent=2),
-    Run("live at short ticks", ("replay", "TRACE", *LIVE, *MANY_WORKERS, *SHORT_TICKS), Trace.BUSY, varies_percent=2),
-    Run("live on a small machine", ("replay", "TRACE", *LIVE, *MANY_WORKERS), Trace.SMALL, varies_percent=2),
-    Run("never live", ("replay", "TRACE", "--live", "/none", *MANY_WORKERS, *SHORT_TICKS), Trace.SPREAD, is_alone=True),
-    Run("never live, long ticks", ("replay", "TRACE", "--live", "/none", *MANY_WORKERS, *LONG_TICKS), Trace.SPREAD),
-    Run("quiet", ("replay", "TRACE", *MANY_WORKERS, "--report-s", "0"), Trace.QUIET, (2_000, 6_000), Step.TICK),
+    Run(
+        "live at short ticks", ("replay", "TRACE", *LIVE, *MANY_WORKERS, *SHORT_TICKS), Trace.BUSY,
+        varies_percent=2,
+    ),
+    Run(
+        "live on a small machine", ("replay", "TRACE", *LIVE, *MANY_WORKERS), Trace.SMALL,
+        varies_percent=2,
+    ),
+    Run(
+        "never live", ("replay", "TRACE", "--live", "/none", *MANY_WORKERS, *SHORT_TICKS),
+        Trace.SPREAD, is_alone=True,
+    ),
+    Run(
+        "never live, long ticks",
+        ("replay", "TRACE", "--live", "/none", *MANY_WORKERS, *LONG_TICKS), Trace.SPREAD,
+    ),
+    Run(
+        "quiet", ("replay", "TRACE", *MANY_WORKERS, "--report-s", "0"), Trace.QUIET, (2_000, 6_000),
+        Step.TICK,
+    ),
     Run("rules", ("replay", "TRACE", *RULES, *ONE_WORKER), Trace.MANY_GROUPS, is_alone=True),
     Run("gen", ("gen", *SHAPES[Trace.BUSY], "--events", "SIZE"), Trace.NONE, is_alone=True),
     Run("stress", ("stress", *SHAPES[Trace.BUSY], "--events", "SIZE", *MANY_WORKERS), Trace.NONE),
     Run("observed", ("TRACE", "8", "/"), Trace.BUSY, varies_percent=2, program="psi_observe"),
-    Run("observed where it is never live", ("TRACE", "8", "/none"), Trace.BUSY, is_alone=True, program="psi_observe"),
+    Run(
+        "observed where it is never live", ("TRACE", "8", "/none"), Trace.BUSY, is_alone=True,
+        program="psi_observe",
+    ),
 )
 
 
@@ -115,7 +136,10 @@ def quiet_trace(ticks: int) -> str:
 def rules() -> str:
     """Rules: sixteen rulesets that fire at each evaluation, with each action, over all groups."""
     detectors = [
-        {"name": "pressure_above", "args": {"cgroup": "*", "resource": "io", "threshold": "0", "duration": "0"}},
+        {
+            "name": "pressure_above",
+            "args": {"cgroup": "*", "resource": "io", "threshold": "0", "duration": "0"},
+        },
         {"name": "exists", "args": {"cgroup": "g1*,g2*,none/*"}},
     ]
     always = {"cgroup": "g*,none*", "always_continue": "true", "post_action_delay": "0"}
@@ -135,7 +159,8 @@ def write_trace(program: str, trace: Trace, size: int, path: str) -> None:
         if trace is Trace.QUIET:
             file.write(quiet_trace(size))
         else:
-            subprocess.run([program, "gen", *SHAPES[trace], "--events", str(size)], stdout=file, check=True)
+            subprocess.run([program, "gen", *SHAPES[trace], "--events", str(size)], stdout=file,
+                           check=True)
 
 
 def write_inputs(program: str, runs: list[Run], room: str) -> None:

@@ -1,12 +1,16 @@
 #!/usr/bin/env python3
-"""Measures folding: lines a second of the folded trace, us of processor time an event, and the peak of memory.
+"""Measures folding: lines a second of the folded trace, us of processor time an event, and the peak
+of memory.
 
-usage: bench/fold.py [SECONDS [CPUS [SERVICES [LEAST_US MOST_US]]]]     (4, 4, 12, 20 and 200 if left out)
-       bench/fold.py --trace SECONDS CPUS SERVICES LEAST_US MOST_US     (prints the trace and folds nothing)
+usage: bench/fold.py [SECONDS [CPUS [SERVICES [LEAST_US MOST_US]]]]     (4, 4, 12, 20 and 200 if
+    left out)
+       bench/fold.py --trace SECONDS CPUS SERVICES LEAST_US MOST_US     (prints the trace and folds
+                                                                        nothing)
 
-The trace has services that call each other, like those of a web server: each has six threads and a group, and there are 0.75 tokens
-a service. A thread that takes a token computes for LEAST_US to MOST_US, sometimes waits for IO or stalls, and passes the token to
-a random service. Processor time is that of this process and its children.
+The trace has services that call each other, like those of a web server: each has six threads and a
+group, and there are 0.75 tokens a service. A thread that takes a token computes for LEAST_US to
+MOST_US, sometimes waits for IO or stalls, and passes the token to a random service. Processor time
+is that of this process and its children.
 """
 from __future__ import annotations
 
@@ -20,7 +24,8 @@ from collections import deque
 from collections.abc import Iterator
 
 sys.dont_write_bytecode = True
-sys.path.insert(0, os.path.join(os.path.dirname(os.path.dirname(os.path.abspath(__file__))), "tools"))
+sys.path.insert(0,
+                os.path.join(os.path.dirname(os.path.dirname(os.path.abspath(__file__))), "tools"))
 
 from psifold.fold import Fold  # noqa: E402
 
@@ -40,7 +45,9 @@ class Services:
         self.draw, self.cpus, self.services = random.Random(1), cpus, services
         self.least, self.most = least, most
         self.home = [number % cpus for number in range(services * THREADS + 1)]
-        self.idle = [deque(range(one * THREADS + 1, (one + 1) * THREADS + 1)) for one in range(services)]
+        self.idle = [
+            deque(range(one * THREADS + 1, (one + 1) * THREADS + 1)) for one in range(services)
+        ]
         self.queue = [0] * services
         self.ready: list[deque[int]] = [deque() for _ in range(cpus)]
         self.running = [0] * cpus
@@ -57,7 +64,8 @@ class Services:
             yield f"group {path}"
             for number in range(service * THREADS + 1, (service + 1) * THREADS + 1):
                 cpu = self.home[number]
-                yield from (f"fork {number} {path} {cpu}", f"switch {cpu} {number} idle", f"switch {cpu} 0 sleep")
+                yield from (f"fork {number} {path} {cpu}", f"switch {cpu} {number} idle",
+                            f"switch {cpu} 0 sleep")
 
     def lines(self, end: int) -> Iterator[Line]:
         """Yields the lines of the trace up to the end (ns)."""
@@ -86,7 +94,9 @@ class Services:
         cpu = self.home[number]
         if self.running[cpu] or self.ready[cpu]:
             idle = [it for it in range(self.cpus) if not self.running[it] and not self.ready[it]]
-            cpu = idle[0] if idle else self.draw.randrange(self.cpus) if self.draw.random() < 0.3 else cpu
+            cpu = idle[0] if idle else self.draw.randrange(
+                self.cpus
+            ) if self.draw.random() < 0.3 else cpu
         self.home[number] = cpu
         yield moment, f"wake {number} {cpu}"
         self.ready[cpu].append(number)
@@ -103,7 +113,9 @@ class Services:
     def start(self, number: int, cpu: int, moment: int) -> None:
         """Begins a thread's turn."""
         self.running[cpu] = number
-        left = self.left[number] = self.left.get(number) or self.draw.randrange(self.least, self.most) * 1000
+        left = self.left[number] = (
+            self.left.get(number) or self.draw.randrange(self.least, self.most) * 1000
+        )
         self.later(moment + min(left, TURN), "done", cpu)
 
     def leave(self, cpu: int, moment: int, how: str) -> Iterator[Line]:
@@ -165,15 +177,26 @@ def measure(lines: list[str], cpus: int, window: float, seconds: float) -> str:
     fold = Fold(cpus, round(window * 10**9), lambda _: None)
     fold.take(lines)
     took, lasted = processor_seconds() - start, time.monotonic() - begun
-    peak = max(resource.getrusage(who).ru_maxrss for who in (resource.RUSAGE_SELF, resource.RUSAGE_CHILDREN)) / 1024
+    peak = max(
+        resource.getrusage(who).ru_maxrss
+        for who in (resource.RUSAGE_SELF, resource.RUSAGE_CHILDREN)
+    ) / 1024
     off = max((abs(it) for it in fold.check.behind.values()), default=0)
-    each = f"{len(lines) / seconds:.0f} | {fold.counts.written / seconds:.0f} | {1e6 * took / len(lines):.1f}"
-    return f"| {window:g} | {each} | {lasted:.1f} | {peak:.0f} | {fold.counts.had} | {fold.counts.kept} | {off} |"
+    each = (
+        f"{len(lines) / seconds:.0f} | {fold.counts.written / seconds:.0f} | "
+        f"{1e6 * took / len(lines):.1f}"
+    )
+    return (
+        f"| {window:g} | {each} | {lasted:.1f} | {peak:.0f} | {fold.counts.had} | "
+        f"{fold.counts.kept} | {off} |"
+    )
 
 
 def main(given: list[str]) -> None:
     is_trace = given[:1] == ["--trace"]
-    words = [float(word) for word in given[is_trace:]] + [4, 4, 12, 20, 200][len(given) - is_trace :]
+    words = (
+        [float(word) for word in given[is_trace:]] + [4, 4, 12, 20, 200][len(given) - is_trace :]
+    )
     seconds, (cpus, services, least, most) = words[0], (int(word) for word in words[1:])
     lines = lines_of(seconds, cpus, services, least, most)
     if is_trace:
@@ -182,7 +205,9 @@ def main(given: list[str]) -> None:
             print(line)
         return
     listed = list(lines)
-    print("| window s | lines a second | folded | us a line | s | MB | joint states | kept | ns off |")
+    print(
+        "| window s | lines a second | folded | us a line | s | MB | joint states | kept | ns off |"
+    )
     print("|--:|--:|--:|--:|--:|--:|--:|--:|--:|")
     for window in (1, 2):
         print(measure(listed, cpus, window, seconds))

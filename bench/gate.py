@@ -3,16 +3,18 @@
 
 usage: bench/gate.py [--anew | --dear]
 
---anew  proves again what an earlier run on this machine proved and stored; ignored if this `rt` stores nothing and so has no
-        such option
---dear  runs nothing: lists the functions whose stored borrow-checker walk has at least 3 MB, the largest first. The cause is a
-        deep value that goes out of scope at many exits (docs/DECISIONS.md, "What makes proofs expensive")
+--anew  proves again what an earlier run on this machine proved and stored; ignored if this `rt`
+        stores nothing and so has no such option
+--dear  runs nothing: lists the functions whose stored borrow-checker walk has at least 3 MB, the
+        largest first. The cause is a deep value that goes out of scope at many exits
+        (docs/DECISIONS.md, "What makes proofs expensive")
 
-Prints what `rt ci` prints, then the wall-clock minutes. Then, for each crate and in total, the costliest first: minutes of processor
-time for its proofs, the proofs of its tests and its must-fail edits; and when its first check began, its proofs ended and its last
-check ended, in minutes after the start. The running checks are sampled once a second, so the time of a crate that takes only a few
-seconds is too low; the last lines print what the system counted in total. Run it under `taskset -c 0,1` to time a machine with two
-processors. Ends with the status of `rt ci`.
+Prints what `rt ci` prints, then the wall-clock minutes. Then, for each crate and in total, the
+costliest first: minutes of processor time for its proofs, the proofs of its tests and its must-fail
+edits; and when its first check began, its proofs ended and its last check ended, in minutes after
+the start. The running checks are sampled once a second, so the time of a crate that takes only a
+few seconds is too low; the last lines print what the system counted in total. Run it under `taskset
+-c 0,1` to time a machine with two processors. Ends with the status of `rt ci`.
 """
 
 from __future__ import annotations
@@ -61,7 +63,9 @@ def check_of(process: pathlib.Path, gate: int) -> tuple[str, str] | None:
     A check's own child processes don't count: once they have ended, their time is part of its own.
     """
     words = words_of(process)
-    if "--crate-name" not in words or not words[0].endswith("/rattle") or parent_of(process) != gate:
+    if "--crate-name" not in words or not words[0].endswith("/rattle") or parent_of(
+        process
+    ) != gate:
         return None
     crate = words[words.index("--crate-name") + 1]
     try:
@@ -105,7 +109,8 @@ def watch(gate: subprocess.Popen[bytes], start: float) -> Works:
             found = check_of(process, gate.pid) if process.name.isdigit() else None
             if found is not None:
                 key = int(process.name), *found
-                taken[key] = Work(processor_time(process), taken[key].begun if key in taken else now, now)
+                taken[key] = Work(processor_time(process),
+                                  taken[key].begun if key in taken else now, now)
         time.sleep(1)
     works: Works = {}
     for (_, crate, kind), work in taken.items():
@@ -132,9 +137,12 @@ def table(works: Works) -> str:
     crates: dict[str, dict[str, Work]] = collections.defaultdict(dict)
     for (crate, kind), work in works.items():
         crates[crate][kind] = work
-    dearest = sorted(crates.items(), key=lambda item: -sum(work.seconds for work in item[1].values()))
+    dearest = sorted(crates.items(),
+                     key=lambda item: -sum(work.seconds for work in item[1].values()))
     sums = [sum(works[key].seconds for key in works if key[1] == kind) / 60 for kind in KINDS]
-    head = f"{'minutes of processor time':<28}" + "".join(f"{it:>8}" for it in (*KINDS, "from", "proved", "to"))
+    head = f"{'minutes of processor time':<28}" + "".join(
+        f"{it:>8}" for it in (*KINDS, "from", "proved", "to")
+    )
     whole = f"{'in all':<28}" + "".join(f"{it:>8.1f}" for it in sums)
     return "\n".join([head, *(row(*item) for item in dearest), whole])
 
@@ -154,7 +162,9 @@ def dear_walks() -> list[tuple[int, str, str]]:
 
 def keeps_between_runs() -> bool:
     """Returns whether this `rt` keeps proofs for the next gate, and so has `--anew`."""
-    said = subprocess.run(["rt", "help"], stdout=subprocess.PIPE, stderr=subprocess.STDOUT, text=True, check=False).stdout
+    said = subprocess.run(
+        ["rt", "help"], stdout=subprocess.PIPE, stderr=subprocess.STDOUT, text=True, check=False
+    ).stdout
     return "--anew" in said
 
 
@@ -176,7 +186,10 @@ def main() -> int:
     clock, processors = time.monotonic() - start, len(os.sched_getaffinity(0))
     taken = resource.getrusage(resource.RUSAGE_CHILDREN)
     print(table(works))
-    print(f"by the clock {clock / 60:.1f} minutes on {processors} processors, of whose time {(taken.ru_utime + taken.ru_stime) / 60:.1f}")
+    print(
+        f"by the clock {clock / 60:.1f} minutes on {processors} processors, of whose time "
+        f"{(taken.ru_utime + taken.ru_stime) / 60:.1f}"
+    )
     print(f"the largest process had {taken.ru_maxrss * 1024 / 1e9:.1f} GB")
     return gate.returncode
 

@@ -24,7 +24,10 @@ def greatest_rules() -> str:
     patterns.
     """
     detectors: list[Plugin] = [
-        {"name": "pressure_above", "args": {"cgroup": "*,*/*", "resource": "io", "threshold": "10", "duration": "10"}},
+        {
+            "name": "pressure_above",
+            "args": {"cgroup": "*,*/*", "resource": "io", "threshold": "10", "duration": "10"},
+        },
         {"name": "memory_above", "args": {"cgroup": "*,*/*", "threshold": "1%", "duration": "10"}},
         {"name": "memory_reclaim", "args": {"cgroup": "*,*/*", "duration": "10"}},
         {"name": "exists", "args": {"cgroup": "*"}},
@@ -35,7 +38,9 @@ def greatest_rules() -> str:
         ("kill_by_pressure", {"resource": "io"}),
         ("kill_by_pg_scan", {}),
     ]
-    shared = {"cgroup": "*", "recursive": "true", "always_continue": "true", "post_action_delay": "0"}
+    shared = {
+        "cgroup": "*", "recursive": "true", "always_continue": "true", "post_action_delay": "0"
+    }
     actions: list[Plugin] = [{"name": name, "args": {**args, **shared}} for name, args in kinds * 4]
     actions[0] = {"name": kinds[0][0], "args": {**shared, "cgroup": patterns()}}
     groups: list[list[object]] = [[f"group {number}", *detectors] for number in range(3)]

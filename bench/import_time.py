@@ -3,8 +3,9 @@
 
 usage: bench/import_time.py [--program PATH]     (the built program)
 
-The text is a stored recording, repeated with later times. Both run five times, in turns. Prints the best time of each (wall-clock
-seconds), their ratio and, if GNU time is installed, the peak memory. A benchmark: nothing is asserted.
+The text is a stored recording, repeated with later times. Both run five times, in turns. Prints the
+best time of each (wall-clock seconds), their ratio and, if GNU time is installed, the peak memory.
+A benchmark: nothing is asserted.
 """
 from __future__ import annotations
 
@@ -44,11 +45,19 @@ def measure(program: str, folder: str) -> None:
     """Times both programs in turns."""
     path = os.path.join(folder, "text")
     long_text(path)
-    runs = [(once(["wc", "-lw", path]), once([program, "import", path, "--cpus", "2"])) for _ in range(RUNS)]
+    runs = [
+        (once(["wc", "-lw", path]), once([program, "import", path, "--cpus", "2"]))
+        for _ in range(RUNS)
+    ]
     count, seconds = (min(run[which].clock for run in runs) for which in (0, 1))
-    print(f"{os.path.getsize(path)} bytes: wc -lw {count:.3f} s, import {seconds:.3f} s, {seconds / count:.2f} times")
+    print(
+        f"{os.path.getsize(path)} bytes: wc -lw {count:.3f} s, import {seconds:.3f} s, "
+        f"{seconds / count:.2f} times"
+    )
     if shutil.which("time"):
-        print(f"peak memory of import: {peak_of([program, 'import', path, '--cpus', '2'], folder)} KB")
+        print(
+            f"peak memory of import: {peak_of([program, 'import', path, '--cpus', '2'], folder)} KB"
+        )
 
 
 def main() -> None:

@@ -1,10 +1,12 @@
 #!/usr/bin/env python3
-"""Simulated machines: services on a few processors that compute, wait for IO and thrash by episodes, as traces of scheduler events.
+"""Simulated machines: services on a few processors that compute, wait for IO and thrash by
+episodes, as traces of scheduler events.
 
 usage: bench/machines.py SEED SECONDS [--processors N] [--services N] [--depth] > TRACE
 
-A run queue for each processor, time slices of 10 ms, and tasks that choose the processor with the shorter of two queues when they
-wake. Each second every group's memory, swap and scanned pages are sampled.
+A run queue for each processor, time slices of 10 ms, and tasks that choose the processor with the
+shorter of two queues when they wake. Each second every group's memory, swap and scanned pages are
+sampled.
 """
 from __future__ import annotations
 
@@ -33,12 +35,17 @@ class Service:
         while at < seconds and is_busy:
             length = rng.randrange(3, 80)
             kind = rng.choice(("io", "thrash", "thrash", "cpu"))
-            self.episodes.append((at * SECOND, (at + length) * SECOND, kind, 1 - rng.random() ** 2 / 2))
+            self.episodes.append(
+                (at * SECOND, (at + length) * SECOND, kind, 1 - rng.random() ** 2 / 2)
+            )
             at += length + rng.randrange(5, 90)
 
     def episode(self, time: int) -> tuple[str, float]:
         """Returns the kind of the load at `time`, and its intensity from 0 to 1."""
-        return next(((kind, force) for begin, end, kind, force in self.episodes if begin <= time < end), ("calm", 0.1))
+        return next(
+            ((kind, force) for begin, end, kind, force in self.episodes if begin <= time < end),
+            ("calm", 0.1),
+        )
 
     def sample(self, time: int) -> None:
         """Takes memory on by a second."""
@@ -66,9 +73,13 @@ class Task:
         kind, force = self.service.episode(time)
         self.ends_stall, self.leaves = self.is_stalled, "sleep"
         if kind == "thrash" and rng.random() < force:
-            self.burst, self.leaves, self.sleep = rng.randrange(1, 5) * MS, "thrash", rng.randrange(20, 400) * MS
+            self.burst, self.leaves, self.sleep = (
+                rng.randrange(1, 5) * MS, "thrash", rng.randrange(20, 400) * MS,
+            )
         elif kind == "io" and rng.random() < force:
-            self.burst, self.leaves, self.sleep = rng.randrange(1, 4) * MS, "iowait", rng.randrange(10, 250) * MS
+            self.burst, self.leaves, self.sleep = (
+                rng.randrange(1, 4) * MS, "iowait", rng.randrange(10, 250) * MS,
+            )
         elif kind == "cpu" and rng.random() < force:
             self.burst, self.sleep = rng.randrange(50, 400) * MS, rng.randrange(1, 50) * MS
         else:
@@ -78,12 +89,16 @@ class Task:
 class Machine:
     """A machine that runs, and prints events."""
 
-    def __init__(self, seed: int, seconds: int, processors: int, paths: list[str], busy: int) -> None:
+    def __init__(
+        self, seed: int, seconds: int, processors: int, paths: list[str], busy: int
+    ) -> None:
         self.rng, self.end, self.processors = random.Random(seed), seconds * SECOND, processors
         leaves = [it for it in paths if not any(other.startswith(it + "/") for other in paths)]
         chosen = set(self.rng.sample(leaves, min(busy, len(leaves))))
         self.paths = paths
-        self.services = [Service(it, random.Random(f"{seed} {it}"), seconds, it in chosen) for it in leaves]
+        self.services = [
+            Service(it, random.Random(f"{seed} {it}"), seconds, it in chosen) for it in leaves
+        ]
         self.queues: list[deque[Task]] = [deque() for _ in range(processors)]
         self.runs: list[Task | None] = [None] * processors
         self.slices = [0] * processors
@@ -117,7 +132,8 @@ class Machine:
         """One event."""
         if isinstance(what, Task):
             first, second = self.rng.randrange(self.processors), self.rng.randrange(self.processors)
-            what.cpu = min(first, second, key=lambda it: len(self.queues[it]) + (self.runs[it] is not None))
+            what.cpu = min(first, second,
+                           key=lambda it: len(self.queues[it]) + (self.runs[it] is not None))
             yield f"{time} wake {what.number} {what.cpu}"
             what.plan(time)
             yield from self.ready(time, what)
@@ -174,8 +190,13 @@ class Machine:
         used = sum(it.swap for it in self.services)
         yield f"{time} host {HOST} {SWAP} {max(0, SWAP - used)}"
         for path in self.paths:
-            below = [it for it in self.services if it.path == path or it.path.startswith(path + "/")]
-            yield f"{time} mem {path} {sum(it.memory for it in below)} {sum(it.swap for it in below)} {sum(it.scans for it in below)}"
+            below = [
+                it for it in self.services if it.path == path or it.path.startswith(path + "/")
+            ]
+            yield (
+                f"{time} mem {path} {sum(it.memory for it in below)} "
+                f"{sum(it.swap for it in below)} {sum(it.scans for it in below)}"
+            )
         self.push(time + SECOND, "sample", 0)
 
 
@@ -187,7 +208,11 @@ def small_tree(services: int) -> list[str]:
 
 def big_tree(slices: int, services: int) -> list[str]:
     """Slices with as many services each."""
-    return [path for one in range(slices) for path in (f"/s{one}.slice", *(f"/s{one}.slice/u{it}" for it in range(services)))]
+    return [
+        path for one in range(slices) for path in (
+            f"/s{one}.slice", *(f"/s{one}.slice/u{it}" for it in range(services))
+        )
+    ]
 
 
 def main() -> int:
@@ -196,7 +221,8 @@ def main() -> int:
     parser.add_argument("seconds", type=int)
     parser.add_argument("--processors", type=int, default=4)
     parser.add_argument("--slices", type=int, default=0, help="so many slices, else three")
-    parser.add_argument("--services", type=int, default=7, help="services, in each slice if --slices says how many there are")
+    parser.add_argument("--services", type=int, default=7,
+                        help="services, in each slice if --slices says how many there are")
     parser.add_argument("--busy", type=int, default=1000)
     given = parser.parse_args()
     tree = big_tree(given.slices, given.services) if given.slices else small_tree(given.services)

@@ -1,11 +1,13 @@
 #!/usr/bin/env python3
-"""Makes a recording from a trace, as tools/record would have written it, to measure tools/psitrace on recordings of any length.
+"""Makes a recording from a trace, as tools/record would have written it, to measure tools/psitrace
+on recordings of any length.
 
 usage: bench/make_recording.py TRACE FOLDER [TIMES]     (1 if TIMES is left out)
 
-TRACE must create its groups and tasks at its start, and have only wakeups, switches and stalls otherwise. FOLDER is created. The
-pages have the layout of the kernel of the stored recording mix-2. The pages are repeated TIMES times, each with later times. At the
-start of a repetition the tasks' states differ from those at the end of the previous one, which psitrace repairs and counts.
+TRACE must create its groups and tasks at its start, and have only wakeups, switches and stalls
+otherwise. FOLDER is created. The pages have the layout of the kernel of the stored recording mix-2.
+The pages are repeated TIMES times, each with later times. At the start of a repetition the tasks'
+states differ from those at the end of the previous one, which psitrace repairs and counts.
 """
 from __future__ import annotations
 
@@ -33,7 +35,10 @@ class Record:
         fields = [form.fields[name] for name in ("common_type", *names)]
         size = max(field.offset + field.size for field in form.fields.values() if field.size)
         self.size, self.number = (size + 3) // 4 * 4, form.number
-        self.layouts = [(struct.Struct("<" + INTEGERS[it.size, it.is_signed]).pack_into, it.offset) for it in fields]
+        self.layouts = [
+            (struct.Struct("<" + INTEGERS[it.size, it.is_signed]).pack_into, it.offset)
+            for it in fields
+        ]
 
     def bytes(self, *values: int) -> bytes:
         """Returns the bytes of a record with these values."""
@@ -52,7 +57,9 @@ class Pages:
 
     def add(self, moment: int, data: bytes) -> None:
         """Adds a record."""
-        if not self.page or len(self.page) + len(data) + 4 > PAGE - HEAD or moment - self.last >= LONGEST:
+        if not self.page or len(self.page) + len(
+            data
+        ) + 4 > PAGE - HEAD or moment - self.last >= LONGEST:
             self.end()
             self.first = self.last = moment
         self.page += struct.pack("<I", len(data) // 4 | (moment - self.last) << 5) + data
@@ -61,7 +68,9 @@ class Pages:
     def end(self) -> None:
         """Writes the page."""
         if self.page:
-            self.file.write(struct.pack("<QQ", self.first, len(self.page)) + self.page.ljust(PAGE - HEAD, b"\0"))
+            self.file.write(
+                struct.pack("<QQ", self.first, len(self.page)) + self.page.ljust(PAGE - HEAD, b"\0")
+            )
             self.page = bytearray()
 
 
@@ -77,10 +86,14 @@ class Recording:
         self.folder, self.processors = folder, processors
         self.write("formats", text.decode())
         forms = formats_of(sections_of(text.decode()))
-        self.switch = Record(forms["sched_switch"], ("common_pid", "prev_pid", "prev_state", "next_pid"))
+        self.switch = Record(forms["sched_switch"],
+                             ("common_pid", "prev_pid", "prev_state", "next_pid"))
         self.probe = Record(forms["psw"], ("common_pid", "pid", "io"))
         self.wakeup = Record(forms["sched_wakeup"], ("common_pid", "pid", "target_cpu"))
-        self.stalls = {"stall": Record(forms["ms_enter"], ("common_pid",)), "unstall": Record(forms["ms_leave"], ("common_pid",))}
+        self.stalls = {
+            "stall": Record(forms["ms_enter"], ("common_pid",)),
+            "unstall": Record(forms["ms_leave"], ("common_pid",)),
+        }
         self.marker = forms["print"]
         self.pages = [Pages(f"{folder}/cpu{it}.raw") for it in range(processors)]
         self.runs = [0] * processors

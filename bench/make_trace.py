@@ -3,11 +3,12 @@
 
 usage: make_trace.py EVENTS TASKS [CPUS [GROUPS [DEPTH [SEED]]]]     (1, 0, 1 and 1 if left out)
 
-EVENTS is the number of lines after the header, the `end` line included. GROUPS groups are made, in chains of DEPTH below
-the root, and TASKS tasks are forked in the deepest ones (in the root if there are none). In the other lines a random task
-of a random processor runs, waits for IO, sleeps or wakes, sometimes on another processor; a running task is in a memory
-stall for a while; a ready task migrates; a task moves to another group; a group's memory is sampled. Lines are up to 2 us
-apart, as on a busy machine.
+EVENTS is the number of lines after the header, the `end` line included. GROUPS groups are made, in
+chains of DEPTH below the root, and TASKS tasks are forked in the deepest ones (in the root if there
+are none). In the other lines a random task of a random processor runs, waits for IO, sleeps or
+wakes, sometimes on another processor; a running task is in a memory stall for a while; a ready task
+migrates; a task moves to another group; a group's memory is sampled. Lines are up to 2 us apart, as
+on a busy machine.
 """
 from __future__ import annotations
 
@@ -75,8 +76,12 @@ class Machine:
 
     def switch(self, cpu: int) -> str:
         running, ready = self.running[cpu], self.ready[cpu]
-        how = "idle" if running is None else self.draw.choice(["preempt", "sleep", "iowait", "iowait"])
-        following = self.take(ready) if ready and (running is None or self.draw.randrange(4)) else None
+        how = "idle" if running is None else self.draw.choice(
+            ["preempt", "sleep", "iowait", "iowait"]
+        )
+        following = self.take(ready) if ready and (
+            running is None or self.draw.randrange(4)
+        ) else None
         if running is not None:
             (ready if how == "preempt" else self.asleep).append(running)
         self.running[cpu] = following
@@ -93,7 +98,10 @@ class Machine:
         if kind == 6 and self.homes != ["/"]:
             return f"move {self.draw.randrange(tasks) + 1} {self.draw.choice(self.homes)}"
         if kind == 7:
-            return f"mem {self.draw.choice(self.homes)} {self.draw.randrange(1 << 30)} 0 {self.draw.randrange(1 << 20)}"
+            return (
+                f"mem {self.draw.choice(self.homes)} {self.draw.randrange(1 << 30)} 0 "
+                f"{self.draw.randrange(1 << 20)}"
+            )
         return None
 
     def line(self, tasks: int) -> str:

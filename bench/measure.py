@@ -1,11 +1,14 @@
 #!/usr/bin/env python3
-"""Times psi_oomd beside `wc -lw`, in turns, over a generated hour, counts its instructions a line, and times the largest machine.
+"""Times psi_oomd beside `wc -lw`, in turns, over a generated hour, counts its instructions a line,
+and times the largest machine.
 
-usage: bench/measure.py [--program PATH] [--rounds N] [--events N]     (the built program, 10 rounds, 3600000 events)
+usage: bench/measure.py [--program PATH] [--rounds N] [--events N]     (the built program, 10
+    rounds, 3600000 events)
 
-Prints for each command: instructions a line (by callgrind, if installed; they don't depend on the machine); the best and the median
-wall-clock time, and the median processor time, relative to `wc -lw` on the same file; and the peak resident memory (MB, by GNU
-time). Then it prints how many seconds an hour of the largest allowed machine takes, with 1,024 actions at each evaluation. A
+Prints for each command: instructions a line (by callgrind, if installed; they don't depend on the
+machine); the best and the median wall-clock time, and the median processor time, relative to `wc
+-lw` on the same file; and the peak resident memory (MB, by GNU time). Then it prints how many
+seconds an hour of the largest allowed machine takes, with 1,024 actions at each evaluation. A
 benchmark: nothing is asserted. README has the latest table.
 """
 from __future__ import annotations
@@ -30,9 +33,17 @@ SHORT, LONG = 20_000, 60_000
 COMMANDS: dict[str, tuple[str, ...]] = {
     "check": ("check", "TRACE"),
     "stall": ("stall", "TRACE"),
-    **{f"replay, {count} workers": ("replay", "TRACE", "--workers", str(count)) for count in (1, 4, 64)},
-    **{f"live, {count} workers": ("replay", "TRACE", "--live", "/", "--workers", str(count)) for count in (1, 4, 64)},
-    "live, ticks of 144 ms": ("replay", "TRACE", "--live", "/", "--tick-ms", "144", "--report-s", "0"),
+    **{
+        f"replay, {count} workers": ("replay", "TRACE", "--workers", str(count))
+        for count in (1, 4, 64)
+    },
+    **{
+        f"live, {count} workers": ("replay", "TRACE", "--live", "/", "--workers", str(count))
+        for count in (1, 4, 64)
+    },
+    "live, ticks of 144 ms": (
+        "replay", "TRACE", "--live", "/", "--tick-ms", "144", "--report-s", "0"
+    ),
     "replay, ticks of 144 ms": ("replay", "TRACE", "--tick-ms", "144", "--report-s", "0"),
 }
 GREATEST_EVENTS = 1_000_000
@@ -72,10 +83,14 @@ def instructions(program: str, room: str) -> dict[str, float]:
     """Instructions a line of each command; empty if callgrind isn't installed."""
     if shutil.which("valgrind") is None:
         return {}
-    short, long = (write_trace(program, size, os.path.join(room, f"{size}.trace")) for size in (SHORT, LONG))
+    short, long = (
+        write_trace(program, size, os.path.join(room, f"{size}.trace")) for size in (SHORT, LONG)
+    )
     counted = {}
     for name, words in COMMANDS.items():
-        less, more = (instructions_of(with_trace(program, words, trace), room) for trace in (short, long))
+        less, more = (
+            instructions_of(with_trace(program, words, trace), room) for trace in (short, long)
+        )
         counted[name] = (more - less) / (LONG - SHORT)
     return counted
 
@@ -94,8 +109,12 @@ def row(name: str, counted: float | None, peak: int, taken: list[Taken], count: 
     (KB).
     """
     best = min(it.clock for it in taken) / min(it.clock for it in count)
-    clock = statistics.median(it.clock for it in taken) / statistics.median(it.clock for it in count)
-    processor = statistics.median(it.processor for it in taken) / statistics.median(it.processor for it in count)
+    clock = (
+        statistics.median(it.clock for it in taken) / statistics.median(it.clock for it in count)
+    )
+    processor = statistics.median(it.processor for it in taken) / statistics.median(
+        it.processor for it in count
+    )
     told = "-" if counted is None else f"{counted:,.0f}"
     return f"{name:<26}{told:>12}{best:>8.2f}{clock:>8.2f}{processor:>11.2f}{peak / 1000:>6.0f}"
 
@@ -104,10 +123,15 @@ def tell_hour(program: str, events: int, rounds: int, room: str) -> None:
     """Prints the table of the generated hour."""
     trace = write_trace(program, events, os.path.join(room, "hour.trace"))
     counted = instructions(program, room)
-    runs = {"wc -lw": ["wc", "-lw", trace]} | {name: with_trace(program, words, trace) for name, words in COMMANDS.items()}
+    runs = {"wc -lw": ["wc", "-lw", trace]} | {
+        name: with_trace(program, words, trace) for name, words in COMMANDS.items()
+    }
     taken = in_turns(runs, rounds)
     count = taken.pop("wc -lw")
-    print(f"{events} events, {os.path.getsize(trace)} bytes, {rounds} rounds; wc -lw {min(it.clock for it in count):.3f} s")
+    print(
+        f"{events} events, {os.path.getsize(trace)} bytes, {rounds} rounds; wc -lw "
+        f"{min(it.clock for it in count):.3f} s"
+    )
     print(f"{'':<26}{'instructions':>12}{'best':>8}{'median':>8}{'processor':>11}{'MB':>6}")
     for name, its in taken.items():
         print(row(name, counted.get(name), peak_of(runs[name], room), its, count), flush=True)
@@ -123,7 +147,13 @@ def tell_greatest(program: str, room: str) -> None:
         file.write(greatest_rules())
     for name, words in (("with 1,024 actions", ("--rules", rules)), ("without rules", ())):
         took = once([program, "replay", trace, *words])
-        print(f"the largest machine, {name}: {took.clock:.1f} s, {took.processor:.1f} of processor time", flush=True)
+        print(
+            (
+                f"the largest machine, {name}: {took.clock:.1f} s, {took.processor:.1f} of "
+                "processor time"
+            ),
+            flush=True,
+        )
 
 
 def main() -> None:

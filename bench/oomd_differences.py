@@ -1,13 +1,16 @@
 #!/usr/bin/env python3
-"""Counts how often psi_oomd's kills with a rules file are those of oomd 0.5.0 with the same file, and finds why they differ: the
-figures of the table in docs/RULES.md.
+"""Counts how often psi_oomd's kills with a rules file are those of oomd 0.5.0 with the same file,
+and finds why they differ: the figures of the table in docs/RULES.md.
 
-usage: bench/oomd_differences.py [CASES [DEFAULT_CASES]]     (400 and 200 if left out; PSI_OOMD names the program)
-       bench/oomd_differences.py --binary [CASES]            (compares the emulation with oomd itself in each case, 100 if left out)
+usage: bench/oomd_differences.py [CASES [DEFAULT_CASES]]     (400 and 200 if left out; PSI_OOMD
+    names the program)
+       bench/oomd_differences.py --binary [CASES]            (compares the emulation with oomd
+                                                             itself in each case, 100 if left out)
 
-It begins with the 58 experiments of tests/oomd, whose answers come from oomd itself. Generated incidents with usual rules
-follow: at ticks of a second, when both programs look at the same times, and at psi_oomd's default ticks of two seconds, when they
-don't. Kills of oomd are those of tools/oomd. If the first kills differ, the cause is the smallest set of oomd's rules that leads to
+It begins with the 58 experiments of tests/oomd, whose answers come from oomd itself. Generated
+incidents with usual rules follow: at ticks of a second, when both programs look at the same times,
+and at psi_oomd's default ticks of two seconds, when they don't. Kills of oomd are those of
+tools/oomd. If the first kills differ, the cause is the smallest set of oomd's rules that leads to
 psi_oomd's first kill when psi_oomd's rules replace them.
 """
 from __future__ import annotations
@@ -44,7 +47,8 @@ INTERVALS = (1, 5)
 Patch = tuple[type, str, object]
 
 
-# ---------------------------------------------------------------- psi_oomd's rules in place of oomd's
+# ---------------------------------------------------------------- psi_oomd's rules in place of
+# oomd's
 
 
 def scan_ranks(self: ByScans, look: Look, paths: list[str]) -> Ranked:
@@ -61,7 +65,9 @@ def pressure_ranks(self: ByPressure, look: Look, paths: list[str]) -> Ranked:
 
 def read_greatest(self: Above, look: Look) -> None:
     """The greatest of each average among the groups."""
-    found = [look.machine.pressure(it, self.resource) for it in look.machine.among(self.args["cgroup"])]
+    found = [
+        look.machine.pressure(it, self.resource) for it in look.machine.among(self.args["cgroup"])
+    ]
     both = [(it.avg10, it.avg60) for it in [*found, NO_PRESSURE]]
     self.best = Averages(max(it[0] for it in both), max(it[1] for it in both))
 
@@ -70,7 +76,10 @@ def reclaim_run(self: Reclaim, look: Look) -> Result:
     """Returns whether a group that existed at the previous look scanned pages."""
     machine = look.machine
     paths = machine.among(self.args["cgroup"])
-    if any(machine.scanned(it) > look.scanned.get(machine.group(it), machine.scanned(it)) for it in paths):
+    if any(
+        machine.scanned(it) > look.scanned.get(machine.group(it), machine.scanned(it))
+        for it in paths
+    ):
         self.pages, self.last = 1, look.now
     quiet = look.now - self.last
     return result(self.pages > 0 and quiet // SECOND <= self.args["duration"])
@@ -84,12 +93,16 @@ def size_ranks(self: BySize, look: Look, paths: list[str]) -> Ranked:
     return OWN_SIZES(self, look, live)
 
 
-def at_last(self: Killer, look: Look, path: str, candidates: list[Candidate]) -> list[tuple[str, list[Candidate]]]:
+def at_last(
+    self: Killer, look: Look, path: str, candidates: list[Candidate]
+) -> list[tuple[str, list[Candidate]]]:
     """The previous victim, unless a group below it is one."""
     if not look.machine.is_populated(path):
         return []
     below = look.machine.children(path) if self.is_recursive else []
-    found = self.victims(look, [it for it in below if look.machine.is_populated(it)]) if below else []
+    found = (
+        self.victims(look, [it for it in below if look.machine.is_populated(it)]) if below else []
+    )
     return found or [(path, candidates)]
 
 
@@ -103,8 +116,12 @@ def remembered(self: Engine, now: int) -> None:
 OWN_SCANS, OWN_SIZES, OWN_LOOK = ByScans.ranks, BySize.ranks, Engine.look
 HISTORY: dict[object, list[int]] = {}
 SWITCHES: dict[str, list[Patch]] = {
-    "kill_by_pg_scan waits a look, and kills without scans": [(ByScans, "run", Killer.run), (ByScans, "ranks", scan_ranks)],
-    "kill_by_pressure compares whole percents, and kills at 0": [(ByPressure, "ranks", pressure_ranks)],
+    "kill_by_pg_scan waits a look, and kills without scans": [
+        (ByScans, "run", Killer.run), (ByScans, "ranks", scan_ranks)
+    ],
+    "kill_by_pressure compares whole percents, and kills at 0": [
+        (ByPressure, "ranks", pressure_ranks)
+    ],
     "one weighted group counts": [(Above, "read", read_greatest)],
     "memory_reclaim counts the sum, from 0": [(Reclaim, "run", reclaim_run)],
     "growth is measured by a decaying average, from 0": [(BySize, "ranks", size_ranks)],
@@ -172,7 +189,9 @@ def case(folder: str, seed: int, tick_ms: int | None, interval: int) -> Case:
         with open(name, "w", encoding="utf-8") as file:
             file.write(text)
     run = Run(names[0], names[1], interval=interval)
-    rules = Program().replay(names[0], RulesAt(names[1], names[1]), Pace(tick_ms, interval), WORKERS)
+    rules = Program().replay(
+        names[0], RulesAt(names[1], names[1]), Pace(tick_ms, interval), WORKERS
+    )
     return Case(run, rules, kills_of(run), plugins)
 
 
@@ -187,12 +206,17 @@ def tell(title: str, cases: list[Case]) -> None:
     rows: dict[str, Callable[[Case], bool]] = {
         "all kills the same": lambda it: it.rules == it.oomd,
         "first kill the same": Case.is_first_same,
-        "first victim the same": lambda it: [k.path for k in it.rules[:1]] == [k.path for k in it.oomd[:1]],
+        "first victim the same": lambda it: [
+            k.path for k in it.rules[:1]
+        ] == [k.path for k in it.oomd[:1]],
     }
     for name, holds in rows.items():
         print(f"  {name}: {share(sum(map(holds, found)), len(found))}")
     others = [it for it in found if "kill_by_pg_scan" not in it.plugins]
-    print(f"  first kill the same, without kill_by_pg_scan: {share(sum(map(Case.is_first_same, others)), len(others))}")
+    print(
+        "  first kill the same, without kill_by_pg_scan: "
+        f"{share(sum(map(Case.is_first_same, others)), len(others))}"
+    )
 
 
 def tell_causes(cases: list[Case]) -> None:
@@ -204,7 +228,10 @@ def tell_causes(cases: list[Case]) -> None:
 
 def tell_experiments() -> None:
     differ = [it for it in FOUND if it.oomd != it.rules]
-    print(f"experiments: {len(FOUND)}, of which {len(differ)} differ and {len(FOUND) - len(differ)} don't")
+    print(
+        f"experiments: {len(FOUND)}, of which {len(differ)} differ and {len(FOUND) - len(differ)} "
+        "don't"
+    )
     for it in differ:
         print(f"  {it.name}: oomd {it.oomd}; psi_oomd {it.rules}")
 
@@ -217,11 +244,17 @@ def by_binary(count: int) -> int:
     with tempfile.TemporaryDirectory() as folder:
         for seed in range(count):
             it = case(folder, seed, TICK_MS, INTERVALS[seed % 2])
-            own, found = emulate(Program(), it.run, WORKERS), binary.run_binary(Program(), it.run, "oomd").kills
-            same = [k.moment == o.moment and o.may_kill(k.path) for k, o in zip(found, own.decisions)]
+            own, found = emulate(Program(), it.run, WORKERS), binary.run_binary(
+                Program(), it.run, "oomd"
+            ).kills
+            same = [
+                k.moment == o.moment and o.may_kill(k.path) for k, o in zip(found, own.decisions)
+            ]
             kills += len(found)
             wrong += len(found) != len(own.decisions) or not all(same)
-    print(f"{count} cases, {kills} kills by oomd itself, {wrong} cases in which the emulation differs")
+    print(
+        f"{count} cases, {kills} kills by oomd itself, {wrong} cases in which the emulation differs"
+    )
     return 1 if wrong else 0
 
 
@@ -235,9 +268,12 @@ def main() -> int:
         tell_experiments()
         tell("incidents, ticks of a second, interval 1 or 5 s", same)
         # Each case writes its files again, since all cases use the same file names.
-        tell_causes([remade(folder, seed, it) for seed, it in enumerate(same) if not it.is_first_same()])
+        tell_causes(
+            [remade(folder, seed, it) for seed, it in enumerate(same) if not it.is_first_same()]
+        )
         seeds = range(counts[1] if counts[1:] else DEFAULT_CASES)
-        tell("incidents, default ticks of 2 s and interval of 5 s", [case(folder, it, None, 5) for it in seeds])
+        tell("incidents, default ticks of 2 s and interval of 5 s",
+             [case(folder, it, None, 5) for it in seeds])
     return 0
 
 

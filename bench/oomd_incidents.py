@@ -17,9 +17,14 @@ SERVICES = (
 )  # fmt: skip
 KINDS = {"leak": 1, "burst": 3, "swap": 1, "io": 1, "quiet": 0, "two": 2}
 """How many services misbehave in each kind of incident."""
-KILLED = "system.slice/*,user.slice/user-*.slice/session-*.scope,user.slice/user-*.slice/user@*.service/*,batch.slice/*"
-PLACES = (KILLED, "system.slice/*", "batch.slice/*,system.slice/*", "system.slice/*,user.slice,batch.slice")
-WATCHED = ("system.slice", "user.slice", "batch.slice", "system.slice/*", "system.slice,batch.slice,user.slice", "/")
+KILLED = (
+    "system.slice/*,user.slice/user-*.slice/session-*.scope,user.slice/user-*.slice/user@*.service/"
+    "*,batch.slice/*"
+)
+PLACES = (KILLED, "system.slice/*", "batch.slice/*,system.slice/*",
+          "system.slice/*,user.slice,batch.slice")
+WATCHED = ("system.slice", "user.slice", "batch.slice", "system.slice/*",
+           "system.slice,batch.slice,user.slice", "/")
 Rules = dict[str, object]
 
 
@@ -30,7 +35,8 @@ def parents(service: str) -> list[str]:
 
 @dataclass
 class Incident:
-    """A machine on which something goes wrong after a while. Each task has a processor of its own."""
+    """A machine on which something goes wrong after a while. Each task has a processor of its own.
+    """
 
     draw: random.Random
     kind: str
@@ -50,8 +56,12 @@ class Incident:
         self.swap = draw.choice((0, self.memory // 2, self.memory))
         self.services = draw.sample(SERVICES, draw.randint(4, len(SERVICES)))
         self.hogs = draw.sample(self.services, KINDS[self.kind])
-        self.groups = list(dict.fromkeys(it for service in self.services for it in parents(service)))
-        self.size = {it: int(draw.lognormvariate(0, 0.8) * self.memory / 14) for it in self.services}
+        self.groups = list(
+            dict.fromkeys(it for service in self.services for it in parents(service))
+        )
+        self.size = {
+            it: int(draw.lognormvariate(0, 0.8) * self.memory / 14) for it in self.services
+        }
         self.swapped = dict.fromkeys(self.services, 0)
         self.scanned = {it: draw.randint(0, 50000) for it in self.services}
         self.rate = {it: self.memory * draw.uniform(0.005, 0.03) for it in self.hogs}
@@ -89,8 +99,12 @@ class Incident:
         """Writes the samples of a second. A group's size includes its children's."""
         at = second * SECOND
         for group in ("/", *self.groups):
-            inside = [it for it in self.services if group == "/" or f"{it}/".startswith(f"{group}/")]
-            sums = (sum(it[name] for name in inside) for it in (self.size, self.swapped, self.scanned))
+            inside = [
+                it for it in self.services if group == "/" or f"{it}/".startswith(f"{group}/")
+            ]
+            sums = (
+                sum(it[name] for name in inside) for it in (self.size, self.swapped, self.scanned)
+            )
             self.put(at, f"mem {group} {' '.join(map(str, sums))}")
         self.put(at, f"host {self.memory} {self.swap} {self.swap - sum(self.swapped.values())}")
 
@@ -124,7 +138,9 @@ class Incident:
                 if draw.random() < shortage * (1.2 if is_hog else 0.6):
                     state = "stall"
                 else:
-                    state = "iowait" if chance < waits else "run" if chance < waits + 0.3 else "sleep"
+                    state = (
+                        "iowait" if chance < waits else "run" if chance < waits + 0.3 else "sleep"
+                    )
                 self.turn(at + draw.randint(0, 100) * MS + task, task, state)
 
     def text(self) -> str:
@@ -149,35 +165,57 @@ def plugin(name: str, **args: object) -> Rules:
 
 
 def debian(draw: random.Random) -> list[Rules]:
-    """Debian's own rules file without its first ruleset, for these groups, with random thresholds."""
+    """Debian's own rules file without its first ruleset, for these groups, with random thresholds.
+    """
     share = draw.choice((1, 0.5, 0.25))
     groups = [
-        [name, plugin("pressure_above", cgroup=slice_, resource="memory", threshold=int(limit * share), duration=int(length * share)),
+        [name,
+         plugin(
+             "pressure_above", cgroup=slice_, resource="memory", threshold=int(limit * share),
+             duration=int(length * share),
+         ),
          plugin("memory_reclaim", cgroup=slice_, duration=10)]
-        for name, slice_, limit, length in (("user", "user.slice", 60, 30), ("system", "system.slice", 80, 60))
+        for name, slice_, limit, length in (
+            ("user", "user.slice", 60, 30), ("system", "system.slice", 80, 60)
+        )
     ]  # fmt: skip
     swap = [["swap", plugin("swap_free", threshold_pct=10)]]
     return [
-        {"name": "pressure", "detectors": groups, "actions": [plugin("kill_by_memory_size_or_growth", cgroup=KILLED)]},
-        {"name": "swap", "detectors": swap, "actions": [plugin("kill_by_swap_usage", cgroup=KILLED)]},
+        {
+            "name": "pressure", "detectors": groups,
+            "actions": [plugin("kill_by_memory_size_or_growth", cgroup=KILLED)],
+        },
+        {
+            "name": "swap", "detectors": swap,
+            "actions": [plugin("kill_by_swap_usage", cgroup=KILLED)],
+        },
     ]
 
 
 def own(draw: random.Random) -> list[Rules]:
     """Returns a rule like those that people write."""
     resource, watched = draw.choice(("io", "memory", "memory", "memory")), draw.choice(WATCHED)
-    pressure = {"cgroup": watched, "resource": resource, "threshold": draw.choice((5, 10, 20, 40, 60)), "duration": draw.choice((5, 10, 20))}
+    pressure = {
+        "cgroup": watched, "resource": resource, "threshold": draw.choice((5, 10, 20, 40, 60)),
+        "duration": draw.choice((5, 10, 20)),
+    }
     detectors = [
         draw.choice((
-            plugin("pressure_above", **pressure), plugin("pressure_above", **pressure), plugin("pressure_rising_beyond", **pressure),
-            plugin("memory_above", cgroup=watched, threshold=draw.choice(("30%", "50%", "80%", "1G")), duration=draw.choice((5, 15))),
+            plugin("pressure_above", **pressure), plugin("pressure_above", **pressure),
+            plugin("pressure_rising_beyond", **pressure),
+            plugin(
+                "memory_above", cgroup=watched, threshold=draw.choice(("30%", "50%", "80%", "1G")),
+                duration=draw.choice((5, 15)),
+            ),
             plugin("swap_free", threshold_pct=draw.choice((10, 20, 50))),
         ))
     ]  # fmt: skip
     if draw.random() < 0.4:
         detectors.append(plugin("memory_reclaim", cgroup=watched, duration=10))
     growth = "kill_by_memory_size_or_growth"
-    name = draw.choice((growth, growth, growth, "kill_by_swap_usage", "kill_by_pressure", "kill_by_pg_scan"))
+    name = draw.choice(
+        (growth, growth, growth, "kill_by_swap_usage", "kill_by_pressure", "kill_by_pg_scan")
+    )
     more: dict[str, object] = {"resource": resource} if name == "kill_by_pressure" else {}
     if draw.random() < 0.2:
         more["recursive"] = "true"

@@ -1,15 +1,18 @@
 #!/usr/bin/env python3
-"""Measures what traces of samples are worth: averages on recordings of machines, and rules on simulated machines.
+"""Measures what traces of samples are worth: averages on recordings of machines, and rules on
+simulated machines.
 
 usage: bench/samples.py averages FOLDER.. [--every 2,5,15,30]
        bench/samples.py rules [--machines 30] [--seed 200] [--seconds 300] [--every 2,5,15,30]
        bench/samples.py peaks [--every 5,15,30]
        bench/samples.py speed [--seconds 300]
 
-averages: how far (percentage points) avg10 is from each of the machine's own readings, of files above 2 percent somewhere, for the
-trace of events and for traces of samples, at the nearest tick, all with a past of 12 minutes. rules: evaluations at which each of eleven rules fires on the
-trace of events at ticks of a second, and on its samples; and the first kills. peaks: the highest avg10 of one full stall. speed: a tree of 57 groups, 14 of them busy. The program
-is the one that PSI_OOMD names.
+averages: how far (percentage points) avg10 is from each of the machine's own readings, of files
+above 2 percent somewhere, for the trace of events and for traces of samples, at the nearest tick,
+all with a past of 12 minutes. rules: evaluations at which each of eleven rules fires on the trace
+of events at ticks of a second, and on its samples; and the first kills. peaks: the highest avg10 of
+one full stall. speed: a tree of 57 groups, 14 of them busy. The program is the one that PSI_OOMD
+names.
 """
 from __future__ import annotations
 
@@ -36,7 +39,9 @@ from psireplay.program import program_path  # noqa: E402
 from sampling import REPORT, SECOND, csv_of  # noqa: E402
 
 LEAD, LEAD_TEXT, LEAST = 720 * SECOND, "12min", 2.0
-FILE = re.compile(r"sample (\d+) (\S+) (io|memory|cpu)\nsome avg10=([\d.]+) [^\n]*\nfull avg10=([\d.]+) ")
+FILE = re.compile(
+    r"sample (\d+) (\S+) (io|memory|cpu)\nsome avg10=([\d.]+) [^\n]*\nfull avg10=([\d.]+) "
+)
 # By time (ns), group and level: avg10 in percent.
 Averages = dict[tuple[int, str, int], float]
 
@@ -52,7 +57,9 @@ def averages_of(trace: str) -> Averages:
     found = {}
     for it in REPORT.finditer(printed):
         base = 2 * ("io", "memory", "cpu").index(it[3])
-        found[int(it[1]), it[2], base], found[int(it[1]), it[2], base + 1] = float(it[4]), float(it[8])
+        found[int(it[1]), it[2], base], found[int(it[1]), it[2], base + 1] = (
+            float(it[4]), float(it[8]),
+        )
     return found
 
 
@@ -62,12 +69,17 @@ class Recording:
     def __init__(self, folder: str) -> None:
         self.folder, source = folder, read_recording(folder, True)
         self.start = source.start
-        self.times = {number: min(it.moment for it in files.values()) for number, files in machine_readings(folder, source).items()}
+        self.times = {
+            number: min(it.moment for it in files.values())
+            for number, files in machine_readings(folder, source).items()
+        }
         self.first = min(self.times.values())
         self.machine: dict[tuple[int, str, int], float] = {}
         for number, path, resource, some, full in FILE.findall(text_of(folder, "pressure")):
             base = 2 * ("io", "memory", "cpu").index(resource)
-            self.machine[int(number), path, base], self.machine[int(number), path, base + 1] = float(some), float(full)
+            self.machine[int(number), path, base], self.machine[int(number), path, base + 1] = (
+                float(some), float(full),
+            )
 
     def errors(self, replayed: Averages, start: int) -> list[float]:
         """Returns how far avg10 is from each reading, of a trace that begins at a time (ns of the
@@ -75,7 +87,9 @@ class Recording:
         """
         found: dict[tuple[str, int], list[tuple[float, float]]] = {}
         for (number, path, level), value in self.machine.items():
-            if number in self.times and self.times[number] >= self.first and (level, path) != (5, "/"):
+            if number in self.times and self.times[number] >= self.first and (level, path) != (
+                5, "/"
+            ):
                 at = (self.times[number] - start + SECOND) // (2 * SECOND) * 2 * SECOND
                 other = replayed.get((at, path, level))
                 if other is not None:
@@ -90,24 +104,33 @@ class Recording:
         for number, at in sorted(self.times.items()):
             if at - self.first >= due - SECOND // 2:
                 found.add(number)
-                due = (at - self.first + SECOND // 2) // (every * SECOND) * every * SECOND + every * SECOND
+                due = (
+                    at - self.first + SECOND // 2
+                ) // (every * SECOND) * every * SECOND + every * SECOND
         return found
 
 
 def sampled_recording(recording: Recording, every: int, room: str) -> str:
     """Returns a trace of the readings of a recording that are chosen."""
     name, lines = os.path.join(room, "samples.csv"), []
-    pattern = r"sample (\d+) (\S+) (\w+)\nsome (\S+) (\S+) (\S+) total=(\d+)\nfull (\S+) (\S+) (\S+) total=(\d+)\n"
+    pattern = (
+        r"sample (\d+) (\S+) (\w+)\nsome (\S+) (\S+) (\S+) total=(\d+)\n"
+        r"full (\S+) (\S+) (\S+) total=(\d+)\n"
+    )
     keep = recording.chosen(every)
     for it in re.finditer(pattern, text_of(recording.folder, "pressure")):
         if int(it[1]) in keep:
             at = recording.times[int(it[1])]
             shares = [it[place].partition("=")[2] for place in (4, 5, 6, 8, 9, 10)]
-            lines.append(f"{at // SECOND}.{at % SECOND:09},{it[2]},{it[3]},{it[7]},{it[11]},{','.join(shares)}\n")
+            lines.append(
+                f"{at // SECOND}.{at % SECOND:09},{it[2]},{it[3]},{it[7]},{it[11]},"
+                f"{','.join(shares)}\n"
+            )
     with open(name, "w", encoding="ascii") as file:
         file.writelines(lines)
     trace = os.path.join(room, f"{every}.trace")
-    run(os.path.join(TOP, "tools/samples"), name, "-o", trace, "--lead-in", LEAD_TEXT, "--averages", "no")
+    run(os.path.join(TOP, "tools/samples"), name, "-o", trace, "--lead-in", LEAD_TEXT, "--averages",
+        "no")
     return trace
 
 
@@ -121,25 +144,40 @@ def averages(given: argparse.Namespace) -> None:
         with tempfile.TemporaryDirectory() as room:
             trace = os.path.join(room, "events.trace")
             with open(trace, "wb") as file:
-                file.write(run(os.path.join(TOP, "tools/psitrace"), folder, "--force", "--lead-in", LEAD_TEXT))
+                file.write(
+                    run(
+                        os.path.join(TOP, "tools/psitrace"), folder, "--force", "--lead-in",
+                        LEAD_TEXT,
+                    )
+                )
             columns = {"events": recording.errors(averages_of(trace), recording.start - LEAD)}
             for every in intervals:
                 if len(recording.chosen(every)) > 2:
                     trace = sampled_recording(recording, every, room)
-                    columns[f"{every} s"] = recording.errors(averages_of(trace), recording.first - LEAD)
+                    columns[f"{every} s"] = recording.errors(
+                        averages_of(trace), recording.first - LEAD
+                    )
         for name, errors in columns.items():
             whole.setdefault(name, []).extend(errors)
-        cells = [f"{sum(it) / len(it):.2f} / {max(it):.0f}" if it else "-" for it in columns.values()]
+        cells = [
+            f"{sum(it) / len(it):.2f} / {max(it):.0f}" if it else "-" for it in columns.values()
+        ]
         name = os.path.basename(folder.rstrip("/").removesuffix("/rec").removesuffix("/out"))
         print(f"| {name} | {len(recording.times)} | {' | '.join(cells)} |", flush=True)
-    print(f"| all | | {' | '.join(f'{sum(it) / len(it):.2f} / {max(it):.0f}' for it in whole.values())} |")
+    print(
+        "| all | | "
+        f"{' | '.join(f'{sum(it) / len(it):.2f} / {max(it):.0f}' for it in whole.values())} |"
+    )
 
 
 # ---------------------------------------------------------------- rules
 
 
 def above(resource: str, threshold: int, duration: int) -> dict[str, object]:
-    args = {"cgroup": "*/*", "resource": resource, "threshold": str(threshold), "duration": str(duration)}
+    args = {
+        "cgroup": "*/*", "resource": resource, "threshold": str(threshold),
+        "duration": str(duration),
+    }
     return {"name": "pressure_above", "args": args}
 
 
@@ -150,9 +188,14 @@ def plugin(name: str, **args: str) -> dict[str, object]:
 def rules() -> dict[str, tuple[list[dict[str, object]], dict[str, object]]]:
     """Eleven rules by name: detectors, and an action."""
     size = plugin("kill_by_memory_size_or_growth", cgroup="*/*")
-    memory, io = plugin("kill_by_pressure", cgroup="*/*", resource="memory"), plugin("kill_by_pressure", cgroup="*/*", resource="io")
-    rising = plugin("pressure_rising_beyond", cgroup="*/*", resource="memory", threshold="20", duration="10")
-    reclaim, swap = plugin("memory_reclaim", cgroup="*/*", duration="10"), plugin("swap_free", threshold_pct="90")
+    memory, io = plugin("kill_by_pressure", cgroup="*/*", resource="memory"), plugin(
+        "kill_by_pressure", cgroup="*/*", resource="io"
+    )
+    rising = plugin("pressure_rising_beyond", cgroup="*/*", resource="memory", threshold="20",
+                    duration="10")
+    reclaim, swap = plugin("memory_reclaim", cgroup="*/*", duration="10"), plugin(
+        "swap_free", threshold_pct="90"
+    )
     return {
         "memory above 10 for 10 s": ([above("memory", 10, 10)], memory),
         "memory above 40 for 10 s": ([above("memory", 40, 10)], memory),
@@ -162,8 +205,12 @@ def rules() -> dict[str, tuple[list[dict[str, object]], dict[str, object]]]:
         "memory rising beyond 20 for 10 s": ([rising], memory),
         "io above 10 for 10 s": ([above("io", 10, 10)], io),
         "io above 30 for 10 s": ([above("io", 30, 10)], io),
-        "swap free below 90 and memory above 10": ([swap, above("memory", 10, 10)], plugin("kill_by_swap_usage", cgroup="*/*")),
-        "memory above 20 for 10 s, by scans": ([above("memory", 20, 10)], plugin("kill_by_pg_scan", cgroup="*/*")),
+        "swap free below 90 and memory above 10": (
+            [swap, above("memory", 10, 10)], plugin("kill_by_swap_usage", cgroup="*/*")
+        ),
+        "memory above 20 for 10 s, by scans": (
+            [above("memory", 20, 10)], plugin("kill_by_pg_scan", cgroup="*/*")
+        ),
         "memory above 20 for 10 s, by size": ([above("memory", 20, 10)], size),
     }
 
@@ -171,7 +218,10 @@ def rules() -> dict[str, tuple[list[dict[str, object]], dict[str, object]]]:
 def rules_file() -> str:
     """Returns all of them in one file, without rests after kills."""
     found = [
-        {"name": name, "post_action_delay": "0", "detectors": [["it", *detectors]], "actions": [action]}
+        {
+            "name": name, "post_action_delay": "0", "detectors": [["it", *detectors]],
+            "actions": [action],
+        }
         for name, (detectors, action) in rules().items()
     ]
     return json.dumps({"rulesets": found})
@@ -179,13 +229,17 @@ def rules_file() -> str:
 
 def kills_of(trace: str, file: str, *words: str) -> dict[tuple[int, int], str]:
     """Returns the victims by ruleset and time (s)."""
-    printed = run(program_path(), "replay", f"--rules={file}", "--report-s=0", *words, "--", trace).decode()
+    printed = run(
+        program_path(), "replay", f"--rules={file}", "--report-s=0", *words, "--", trace
+    ).decode()
     kills = re.findall(r"^kill (\d+) ruleset=(\d+) action=0 (\S+)$", printed, re.MULTILINE)
     return {(int(ruleset), int(at) // SECOND // 5): path for at, ruleset, path in kills}
 
 
 class Agreement(NamedTuple):
-    """Evaluations at which a rule fires: on both traces, on either, and with the same victim; first kills within 6 s and 20 s."""
+    """Evaluations at which a rule fires: on both traces, on either, and with the same victim; first
+    kills within 6 s and 20 s.
+    """
 
     both: int = 0
     either: int = 0
@@ -199,12 +253,17 @@ class Agreement(NamedTuple):
         both = one.keys() & other.keys()
         apart = 5 * abs(min(one) - min(other)) if one and other else None
         return Agreement(
-            self.both + len(both), self.either + len(one.keys() | other.keys()), self.same + sum(one[it] == other[it] for it in both),
-            self.first + bool(one), self.near + (apart is not None and apart <= 6), self.far + (apart is not None and apart <= 20),
+            self.both + len(both), self.either + len(one.keys() | other.keys()),
+            self.same + sum(one[it] == other[it] for it in both),
+            self.first + bool(one), self.near + (apart is not None and apart <= 6),
+            self.far + (apart is not None and apart <= 20),
         )  # fmt: skip
 
     def cell(self) -> str:
-        return f"{100 * self.both / max(1, self.either):.1f} % / {100 * self.same / max(1, self.both):.1f} %"
+        return (
+            f"{100 * self.both / max(1, self.either):.1f} % / "
+            f"{100 * self.same / max(1, self.both):.1f} %"
+        )
 
 
 def by_rule(kills: dict[tuple[int, int], str], rule: int) -> dict[int, str]:
@@ -228,7 +287,9 @@ def sampled_trace(trace: str, every: int, room: str) -> str:
     return output
 
 
-def replayed(given: argparse.Namespace, intervals: list[int]) -> Iterator[dict[str, dict[tuple[int, int], str]]]:
+def replayed(
+    given: argparse.Namespace, intervals: list[int]
+) -> Iterator[dict[str, dict[tuple[int, int], str]]]:
     """Yields the kills of each machine: by events at ticks of a second (`truth`) and of two, and by
     samples.
     """
@@ -237,8 +298,13 @@ def replayed(given: argparse.Namespace, intervals: list[int]) -> Iterator[dict[s
             file, trace = os.path.join(room, "rules.json"), simulated(seed, given.seconds, room)
             with open(file, "w", encoding="ascii") as output:
                 output.write(rules_file())
-            found = {"truth": kills_of(trace, file, "--tick-ms=1000"), "events, 2 s": kills_of(trace, file)}
-            found.update({f"{it} s": kills_of(sampled_trace(trace, it, room), file) for it in intervals})
+            found = {
+                "truth": kills_of(trace, file, "--tick-ms=1000"),
+                "events, 2 s": kills_of(trace, file),
+            }
+            found.update(
+                {f"{it} s": kills_of(sampled_trace(trace, it, room), file) for it in intervals}
+            )
             yield found
 
 
@@ -251,18 +317,30 @@ def rules_table(given: argparse.Namespace) -> None:
     try:
         for found in replayed(given, intervals):
             for name, rule in table:
-                table[name, rule] = table[name, rule].plus(by_rule(found["truth"], rule), by_rule(found[name], rule))
+                table[name, rule] = table[name, rule].plus(
+                    by_rule(found["truth"], rule), by_rule(found[name], rule)
+                )
             count += 1
             print(f"{count} machines", file=sys.stderr, flush=True)
     except KeyboardInterrupt:
         pass
-    print(f"{count} machines of {given.seconds} s: evaluations at which both fire, of either / same victim of these")
+    print(
+        f"{count} machines of {given.seconds} s: evaluations at which both fire, of either / same "
+        "victim of these"
+    )
     print(f"| rule | {' | '.join(columns)} |")
     for rule, text in enumerate(rules()):
         print(f"| {text} | {' | '.join(table[name, rule].cell() for name in columns)} |")
-    sums = {name: Agreement(*(sum(it) for it in zip(*(table[name, rule] for rule in range(len(rules())))))) for name in columns}
+    sums = {
+        name: Agreement(
+            *(sum(it) for it in zip(*(table[name, rule] for rule in range(len(rules())))))
+        ) for name in columns
+    }
     print(f"| all | {' | '.join(sums[name].cell() for name in columns)} |")
-    print(f"| first kills within 6 s / 20 s | {' | '.join(f'{it.near} / {it.far} of {it.first}' for it in sums.values())} |")
+    print(
+        "| first kills within 6 s / 20 s | "
+        f"{' | '.join(f'{it.near} / {it.far} of {it.first}' for it in sums.values())} |"
+    )
 
 
 # ---------------------------------------------------------------- peaks
@@ -291,7 +369,9 @@ def peak(length: float, begin: float, every: int) -> float:
 
 
 def peaks(given: argparse.Namespace) -> None:
-    """The table of the highest averages of short stalls: the lowest and the highest by when a stall begins."""
+    """The table of the highest averages of short stalls: the lowest and the highest by when a stall
+    begins.
+    """
     intervals = [int(it) for it in given.every.split(",")]
     for length in (2, 5, 10, 20, 30, 60):
         begins = [30 + step / 2 for step in range(60)]
@@ -307,24 +387,35 @@ def speed(given: argparse.Namespace) -> None:
     with tempfile.TemporaryDirectory() as room:
         trace = os.path.join(room, "machine.trace")
         with open(trace, "w", encoding="ascii") as file:
-            file.writelines(f"{it}\n" for it in Machine(1, given.seconds, 16, big_tree(8, 6), 14).lines())
+            file.writelines(
+                f"{it}\n" for it in Machine(1, given.seconds, 16, big_tree(8, 6), 14).lines()
+            )
         for every in map(int, given.every.split(",")):
             name = os.path.join(room, "samples.csv")
             with open(name, "w", encoding="ascii") as file:
                 file.write(csv_of(program_path(), trace, every))
             begin = time.monotonic()
-            words = ["/usr/bin/env", sys.executable, os.path.join(TOP, "tools/samples"), name, "-o", os.path.join(room, "it.trace")]
+            words = [
+                "/usr/bin/env", sys.executable, os.path.join(TOP, "tools/samples"), name, "-o",
+                os.path.join(room, "it.trace"),
+            ]
             child = subprocess.Popen(words, stderr=subprocess.DEVNULL)
             _, status, usage = os.wait4(child.pid, 0)
             taken = time.monotonic() - begin
-            print(f"{every} s: {given.seconds / taken:.0f} times as fast as time, {given.seconds / usage.ru_utime:.0f} by its own "
+            print(
+                  f"{every} s: {given.seconds / taken:.0f} times as fast as time, "
+                  f"{given.seconds / usage.ru_utime:.0f} by its own "
                   f"processor time, {usage.ru_maxrss // 1024} MB, status {status}")  # fmt: skip
 
 
 def main() -> int:
-    parser = argparse.ArgumentParser(description=__doc__, formatter_class=argparse.RawDescriptionHelpFormatter)
+    parser = argparse.ArgumentParser(
+        description=__doc__, formatter_class=argparse.RawDescriptionHelpFormatter
+    )
     commands = parser.add_subparsers(dest="command", required=True)
-    for name, work in (("averages", averages), ("rules", rules_table), ("peaks", peaks), ("speed", speed)):
+    for name, work in (
+        ("averages", averages), ("rules", rules_table), ("peaks", peaks), ("speed", speed)
+    ):
         command = commands.add_parser(name)
         command.set_defaults(work=work)
         command.add_argument("--every", default="2,5,15,30")

@@ -1,4 +1,6 @@
-"""Samples a trace as a machine's files would be: totals as the program prints them at ticks of a second, and samples of memory."""
+"""Samples a trace as a machine's files would be: totals as the program prints them at ticks of a
+second, and samples of memory.
+"""
 from __future__ import annotations
 
 import re
@@ -8,13 +10,16 @@ from typing import NamedTuple
 
 SECOND = 10**9
 REPORT = re.compile(
-    r"report (\d+) (\S+) (io|memory|cpu)\nsome avg10=([\d.]+) avg60=([\d.]+) avg300=([\d.]+) total=(\d+)\n"
+    r"report (\d+) (\S+) (io|memory|cpu)\n"
+    r"some avg10=([\d.]+) avg60=([\d.]+) avg300=([\d.]+) total=(\d+)\n"
     r"full avg10=([\d.]+) avg60=([\d.]+) avg300=([\d.]+) total=(\d+)\n"
 )
 
 
 class Sample(NamedTuple):
-    """A pressure file at a time (ns): some and full total (us), and the averages of both as they are written."""
+    """A pressure file at a time (ns): some and full total (us), and the averages of both as they
+    are written.
+    """
 
     time: int
     group: str
@@ -27,7 +32,10 @@ class Sample(NamedTuple):
         """Returns a line of CSV; `start` is ns since 1970."""
         time = start + self.time
         more = "," + ",".join(self.averages) if has_averages else ""
-        return f"{time // SECOND}.{time % SECOND:09},{self.group},{self.resource},{self.some},{self.full}{more}\n"
+        return (
+            f"{time // SECOND}.{time % SECOND:09},{self.group},{self.resource},{self.some},"
+            f"{self.full}{more}\n"
+        )
 
 
 def samples_of(program: str, trace: str, every: int) -> Iterator[Sample]:
@@ -38,7 +46,8 @@ def samples_of(program: str, trace: str, every: int) -> Iterator[Sample]:
     printed = subprocess.run(words, check=True, capture_output=True, text=True).stdout
     for it in REPORT.finditer(printed):
         if int(it[1]) % (every * SECOND) == 0:
-            yield Sample(int(it[1]), it[2], it[3], it[7], it[11], (it[4], it[5], it[6], it[8], it[9], it[10]))
+            yield Sample(int(it[1]), it[2], it[3], it[7], it[11],
+                         (it[4], it[5], it[6], it[8], it[9], it[10]))
 
 
 def memory_of(trace: str, every: int, start: int) -> Iterator[str]:
@@ -52,14 +61,23 @@ def memory_of(trace: str, every: int, start: int) -> Iterator[str]:
                 yield f"{time // SECOND}.{time % SECOND:09},{group},{words[1]},{','.join(values)}\n"
 
 
-def csv_of(program: str, trace: str, every: int, start: int = 1_700_000_000 * SECOND, has_averages: bool = False) -> str:
+def csv_of(
+    program: str, trace: str, every: int, start: int = 1_700_000_000 * SECOND,
+    has_averages: bool = False,
+) -> str:
     """Returns the whole file, in the order of time. The first sample is at 0: zeros."""
     samples = list(samples_of(program, trace, every))
     rows = [(it.time, it.line(start, has_averages)) for it in samples]
     first = sorted({(it.group, it.resource) for it in samples if it.time == every * SECOND})
     zeros = ("0.00",) * 6
-    rows += [(0, Sample(0, group, resource, "0", "0", zeros).line(start, has_averages)) for group, resource in first]
-    memory = [(round((float(line.split(",")[0]) * SECOND - start)), line) for line in memory_of(trace, every, start)]
+    rows += [
+        (0, Sample(0, group, resource, "0", "0", zeros).line(start, has_averages))
+        for group, resource in first
+    ]
+    memory = [
+        (round((float(line.split(",")[0]) * SECOND - start)), line)
+        for line in memory_of(trace, every, start)
+    ]
     rows += memory
     rows.sort(key=lambda it: it[0])
     return "time,group,what,values\n" + "".join(line for _, line in rows)

@@ -1,12 +1,14 @@
 #!/usr/bin/env python3
-"""Shows what the tables of rules in bench/samples.md depend on: how high stalls are, and how fast memory grows. It runs no program.
+"""Shows what the tables of rules in bench/samples.md depend on: how high stalls are, and how fast
+memory grows. It runs no program.
 
 usage: bench/sensitivity.py
 
-heights: 210 groups of 300 s with stalls of constant pressure that last 3 to 80 s. Each cell is the percentage of evaluations at which a
-rule holds by totals each second and by samples, of those at which it holds by either. growth: the memory of the simulated machines of
-bench/machines.py. Each cell is the percentage of evaluations during thrashing at which kill_by_memory_size_or_growth, as it is by
-default, chooses the same group by memory each second and by samples.
+heights: 210 groups of 300 s with stalls of constant pressure that last 3 to 80 s. Each cell is the
+percentage of evaluations at which a rule holds by totals each second and by samples, of those at
+which it holds by either. growth: the memory of the simulated machines of bench/machines.py. Each
+cell is the percentage of evaluations during thrashing at which kill_by_memory_size_or_growth, as it
+is by default, chooses the same group by memory each second and by samples.
 """
 from __future__ import annotations
 
@@ -93,15 +95,21 @@ def heights() -> None:
             rng = random.Random(seed)
             groups += [totals_of(rng, low, high) for _ in range(7)]
         truths = [averages(sampled(totals, 1), 1) for totals in groups]
-        others = [[averages(sampled(totals, every), 2) for totals in groups] for every in (1, *INTERVALS)]
+        others = [
+            [averages(sampled(totals, every), 2) for totals in groups] for every in (1, *INTERVALS)
+        ]
         for threshold, duration in RULES:
             wanted = [holds(it, 1, threshold, duration) for it in truths]
             cells = []
             for column in others:
-                pairs = [(one, holds(it, 2, threshold, duration)) for one, it in zip(wanted, column)]
+                pairs = [
+                    (one, holds(it, 2, threshold, duration)) for one, it in zip(wanted, column)
+                ]
                 cells.append(percent((len(one & other), len(one | other)) for one, other in pairs))
             span = f"{100 * low:.0f} to {100 * high:.0f} %"
-            print(f"| {span} | above {100 * threshold:.0f} for {duration} s | {' | '.join(cells)} |")
+            print(
+                f"| {span} | above {100 * threshold:.0f} for {duration} s | {' | '.join(cells)} |"
+            )
 
 
 # ---------------------------------------------------------------- growth
@@ -132,7 +140,9 @@ def victim(sizes: dict[str, float], past: dict[str, list[float]]) -> str:
     order = sorted(sizes, key=lambda it: (-sizes[it], it))
     if 2 * sizes[order[0]] >= sum(sizes.values()):
         return order[0]
-    growths = {it: sizes[it] * len(past[it]) / sum(past[it]) if past[it] else 0.0 for it in order[:2]}
+    growths = {
+        it: sizes[it] * len(past[it]) / sum(past[it]) if past[it] else 0.0 for it in order[:2]
+    }
     best = max(growths, key=lambda it: growths[it])
     return best if growths[best] >= LEAST_GROWTH else order[0]
 
@@ -156,11 +166,17 @@ def growths() -> None:
         for seed in SEEDS:
             found, thrashes = memories(seed, growth)
             wanted = victims(found, 1)
-            places = [place for place, at in enumerate(range(EVALUATED, LENGTH, EVALUATED)) if thrashes[at]]
+            places = [
+                place
+                for place, at in enumerate(range(EVALUATED, LENGTH, EVALUATED))
+                if thrashes[at]
+            ]
             for every in INTERVALS:
                 chosen = victims(found, every)
                 parts[every].append((sum(wanted[it] == chosen[it] for it in places), len(places)))
-        print(f"| {100 * growth:.0f} % | {' | '.join(percent(parts[every]) for every in INTERVALS)} |")
+        print(
+            f"| {100 * growth:.0f} % | {' | '.join(percent(parts[every]) for every in INTERVALS)} |"
+        )
 
 
 if __name__ == "__main__":

@@ -1,15 +1,18 @@
 #!/usr/bin/env python3
-"""Counts what has to be believed, the code, its contracts, the proofs and the tests, and prints them as a table.
+"""Counts what has to be believed, the code, its contracts, the proofs and the tests, and prints
+them as a table.
 
 usage: bench/sizes.py [--unreached]
 
-Counts lines that are neither blank nor comments; in definitions and proofs, `use` lines aren't counted either. The files that have
-to be believed are those that docs/ARCHITECTURE.md lists; laws, which are proved, are in other files. A contract is a clause of a
-function or a loop (`requires`, `ensures`, `invariant`), an `assert`, or a `ghost` item, up to the line with its last closing
+Counts lines that are neither blank nor comments; in definitions and proofs, `use` lines aren't
+counted either. The files that have to be believed are those that docs/ARCHITECTURE.md lists; laws,
+which are proved, are in other files. A contract is a clause of a function or a loop (`requires`,
+`ensures`, `invariant`), an `assert`, or a `ghost` item, up to the line with its last closing
 bracket.
 
-Ends with status 1 if that list differs from what bench/believed.py finds: if it lacks a file that the contracts of the top calls
-rest on, or has a file that none of them needs. `--unreached` prints the definitions in those files that no contract rests on.
+Ends with status 1 if that list differs from what bench/believed.py finds: if it lacks a file that
+the contracts of the top calls rest on, or has a file that none of them needs. `--unreached` prints
+the definitions in those files that no contract rests on.
 """
 import pathlib
 import re
@@ -91,11 +94,17 @@ def list_faults() -> Iterator[str]:
             reached.setdefault(item.path, []).append(item.name)
     for path, names in reached.items():
         if path not in definitions:
-            yield f"lacks {path.relative_to(TOP) if path.is_absolute() else path}, which has {', '.join(names)}"
+            yield (
+                f"lacks {path.relative_to(TOP) if path.is_absolute() else path}, which has "
+                f"{', '.join(names)}"
+            )
     rested = {item.path for item in believed.believed()}
     for path in (*definitions, *types):
         if path not in rested and believed.source_of(path):
-            yield f"has {path.relative_to(TOP) if path.is_absolute() else path}, on which nothing rests"
+            yield (
+                f"has {path.relative_to(TOP) if path.is_absolute() else path}, on which nothing "
+                "rests"
+            )
 
 
 def sum_of(pairs: Iterable[tuple[int, int]]) -> tuple[int, int]:
@@ -116,33 +125,45 @@ def sizes() -> Iterator[tuple[str, int]]:
     own = [path for path in definitions if path.is_relative_to(CRATES)]
     yield "lines of definitions to believe", sum(map(definition_lines, own))
     yield "lines of types to believe (code, counted again below)", sum_of(map(rust_lines, types))[0]
-    yield "lines of other definitions and laws", sum(definition_lines(path) for path in specs if path not in definitions)
+    yield "lines of other definitions and laws", sum(
+        definition_lines(path) for path in specs if path not in definitions
+    )
     yield "lines of code", code
     yield "lines of contracts in the code", contracts
     yield "lines of proofs", sum(map(definition_lines, proofs))
     yield "lines of tests in crates", sum(sum_of(map(rust_lines, tests)))
     yield "cases of the built program (`tests/run/cases`)", sum(1 for _ in cases())
-    yield "must-fail edits", len([*CRATES.glob("*/must-fail/*.edit"), *TOP.glob("tests/mutations/**/*.edit")])
+    yield "must-fail edits", len(
+        [*CRATES.glob("*/must-fail/*.edit"), *TOP.glob("tests/mutations/**/*.edit")]
+    )
 
 
 def cases() -> Iterator[str]:
     """Yields the cases of tests/run: a folder, or each of its rows."""
     for folder in (TOP / "tests" / "run" / "cases").iterdir():
         rows = folder / "rows"
-        yield from rows.read_text(encoding="latin-1").splitlines() if rows.exists() else [folder.name]
+        yield from rows.read_text(
+            encoding="latin-1"
+        ).splitlines() if rows.exists() else [folder.name]
 
 
 def main(words: list[str]) -> int:
     """Prints the sizes, or the definitions that aren't needed. Fails if the document's list differs
     from the one found.
     """
-    faults = [f"docs/ARCHITECTURE.md, of the files that have to be believed: {fault}" for fault in list_faults()]
+    faults = [
+        f"docs/ARCHITECTURE.md, of the files that have to be believed: {fault}"
+        for fault in list_faults()
+    ]
     if faults:
         print("\n".join(faults), file=sys.stderr)
         return 1
     if words == ["--unreached"]:
         for path in filter(pathlib.Path.is_file, believed_files()[0]):
-            print("".join(f"{path.relative_to(TOP)}: {name}\n" for name in believed.unreached(path)), end="")
+            print(
+                "".join(f"{path.relative_to(TOP)}: {name}\n" for name in believed.unreached(path)),
+                end="",
+            )
         return 0
     print("| what | how many |\n|---|---|")
     for name, number in sizes():

@@ -12,7 +12,9 @@ from harness import must, must_be
 from shared.stored import accepted, compared, converted, recording
 
 from psicompare.clocks import Clocks  # noqa: E402
-from psiconvert.lead_in import FACTORS, TICK, LeadIn, Shares, Stage, averages_in, stretches_of, timeline  # noqa: E402
+from psiconvert.lead_in import (  # noqa: E402
+    FACTORS, TICK, LeadIn, Shares, Stage, averages_in, stretches_of, timeline,
+)
 from psiworld.groups import Groups  # noqa: E402
 from psiworld.world import World  # noqa: E402
 
@@ -31,8 +33,11 @@ def check_stretches(_: str) -> None:
         averages = [0.0] * 3
         for tick in range(LEAD // 2):
             share = stretches[0 if tick < 300 else 1 if tick < 350 else 2]
-            averages = [it * factor + share * (1 - factor) for it, factor in zip(averages, FACTORS.values())]
-        must(all(abs(one - other) < 0.05 for one, other in zip(averages, wanted)), f"{averages}, not {wanted}, by {stretches}")
+            averages = [
+                it * factor + share * (1 - factor) for it, factor in zip(averages, FACTORS.values())
+            ]
+        must(all(abs(one - other) < 0.05 for one, other in zip(averages, wanted)),
+             f"{averages}, not {wanted}, by {stretches}")
         must(all(0 <= it <= 100 for it in stretches), f"{stretches} are shares")
 
 
@@ -41,8 +46,10 @@ def check_what_a_stage_shows(_: str) -> None:
     for the processor, some and full, alone and combined, as the states of a trace define them.
     """
     for shares in (
-        Shares(0, 0, 0, 0, 0, 0), Shares(40, 10, 0, 0, 0, 0), Shares(30, 30, 0, 0, 20, 5), Shares(0, 0, 50, 20, 0, 0),
-        Shares(0, 0, 50, 50, 60, 60), Shares(60, 25, 45, 35, 70, 30), Shares(100, 100, 100, 100, 0, 0),
+        Shares(0, 0, 0, 0, 0, 0), Shares(40, 10, 0, 0, 0, 0), Shares(30, 30, 0, 0, 20, 5),
+        Shares(0, 0, 50, 20, 0, 0),
+        Shares(0, 0, 50, 50, 60, 60), Shares(60, 25, 45, 35, 70, 30),
+        Shares(100, 100, 100, 100, 0, 0),
         Shares(10, 0, 80, 75, 100, 50), Shares(25, 20, 60, 10, 30, 30),
     ):  # fmt: skip
         world = World(1, Groups())
@@ -77,11 +84,17 @@ def check_groups_above(_: str) -> None:
 
 def printed_averages(program: str, trace: str) -> dict[tuple[str, str, str], tuple[float, ...]]:
     """Returns the averages of all files at the recording's start, by path, resource and level."""
-    out = subprocess.run([program, "replay", trace, "--report-s", "2"], capture_output=True, text=True, check=True).stdout
+    out = subprocess.run(
+        [program, "replay", trace, "--report-s", "2"], capture_output=True, text=True, check=True
+    ).stdout
     found = {}
-    for path, resource, some, full in re.findall(rf"^report {LEAD}000000000 (\S+) (\w+)\nsome (.*)\nfull (.*)$", out, re.MULTILINE):
+    for path, resource, some, full in re.findall(
+        rf"^report {LEAD}000000000 (\S+) (\w+)\nsome (.*)\nfull (.*)$", out, re.MULTILINE
+    ):
         for level, line in (("some", some), ("full", full)):
-            found[path, resource, level] = tuple(float(it) for it in re.findall(r"avg\d+=([\d.]+)", line))
+            found[path, resource, level] = tuple(
+                float(it) for it in re.findall(r"avg\d+=([\d.]+)", line)
+            )
     return found
 
 
@@ -92,8 +105,16 @@ def check_how_recordings_begin(program: str) -> None:
     for name in ("threads", "mem-2"):
         with recording(name) as folder, tempfile.NamedTemporaryFile(suffix=".trace") as file:
             done = converted(folder, "--lead-in", "12min")
-            must("psitrace: the recording begins at 720.000 s: what is before is made up" in done.said, done.said)
-            must("averages begin at 0" not in done.said and accepted(program, done.output).startswith("ok "), done.said)
+            must(
+                "psitrace: the recording begins at 720.000 s: what is before is made up"
+                in done.said,
+                done.said,
+            )
+            must(
+                "averages begin at 0" not in done.said
+                and accepted(program, done.output).startswith("ok "),
+                done.said,
+            )
             file.write(done.output)
             file.flush()
             found, tried = printed_averages(program, file.name), 0
@@ -105,7 +126,8 @@ def check_how_recordings_begin(program: str) -> None:
                         continue  # it was made between the first moment and the first reading
                     for period, one, other in zip(NEAR, found[path, resource, level], wanted):
                         tried += 1
-                        must(abs(one - other) <= NEAR[period], f"{name} {path} {resource} {level} avg{period}: {one}, not {other}")
+                        must(abs(one - other) <= NEAR[period],
+                             f"{name} {path} {resource} {level} avg{period}: {one}, not {other}")
             must(tried > 80, f"averages are compared: {tried}")
             agreed = compared(program, folder, done.output, "--lead-in", "12min", "--lag-us", "60")
             must_be(f"the status: {agreed.output.decode()}", agreed.status, 0)
@@ -117,4 +139,8 @@ def check_words_of_lead_ins(_: str) -> None:
         for word in ("4min", "61min", "721", "12h", "-1", "0"):
             must("--lead-in" in converted(folder, f"--lead-in={word}", status=2).said, word)
         done = converted(folder, "--lead-in=5min", "--groups=0")
-        must("the recording begins at 300.000 s" in done.said and b" cpus=" in done.output.splitlines()[0], done.said)
+        must(
+            "the recording begins at 300.000 s" in done.said
+            and b" cpus=" in done.output.splitlines()[0],
+            done.said,
+        )

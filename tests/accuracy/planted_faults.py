@@ -49,7 +49,8 @@ def check_causes_that_are_known(program: str) -> None:
         trace = converted(folder).output
         done = compared(program, folder, trace, "--least-s", "0.1")
         must_be("the status", done.status, 1)
-        must("\n9 of cpu are too small: the kernel counts a wakeup before " in done.output.decode(), done.output.decode())
+        must("\n9 of cpu are too small: the kernel counts a wakeup before " in done.output.decode(),
+             done.output.decode())
         must("no cause" not in done.output.decode(), "nothing else is")
     with recording("mix-2") as folder:
         text = compared(program, folder, converted(folder, "--iowait", "D").output).output.decode()
@@ -61,7 +62,9 @@ def marked(program: str, folder: str, trace: bytes, *words: str) -> str:
     """Returns the files with totals beyond their limits; there must be some."""
     done = compared(program, folder, trace, *words)
     must_be(f"the status: {done.output.decode()}", done.status, 1)
-    return "\n".join(line for line in done.output.decode().splitlines() if line.startswith("| /") and "!" in line)
+    return "\n".join(
+        line for line in done.output.decode().splitlines() if line.startswith("| /") and "!" in line
+    )
 
 
 def check_waits_by_state(program: str) -> None:

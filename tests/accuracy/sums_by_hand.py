@@ -43,7 +43,9 @@ def probed(reads: list[int], averages: list[int]) -> Source:
     for number, moment in enumerate(reads):
         events.append(Marker(moment - MS, 0, READER, b"psirec pressure %d begin\n" % number))
         for address in (ROOT, GROUP):
-            events += [ShowProbe(moment, 0, READER, address, place) for place in range(len(RESOURCES))]
+            events += [
+                ShowProbe(moment, 0, READER, address, place) for place in range(len(RESOURCES))
+            ]
         events.append(Marker(moment + MS, 0, READER, b"psirec pressure %d end\n" % number))
     events += [AverageProbe(moment, 0, 5, GROUP + WORK) for moment in averages]
     events += [AverageProbe(moment, 0, 5, ROOT + WORK) for moment in averages]
@@ -61,13 +63,19 @@ def readings_of(reads: list[int], totals: dict[File, list[int]]) -> Readings:
     return readings
 
 
-def growth_in(trace: str, reads: list[int], averages: list[int], totals: dict[File, list[int]]) -> dict[File, Growth]:
+def growth_in(
+    trace: str, reads: list[int], averages: list[int], totals: dict[File, list[int]]
+) -> dict[File, Growth]:
     """Returns the computed growth of each file, by name."""
-    clocks, told = Clocks(trace.splitlines()), Moments(probed(reads, averages), readings_of(reads, totals))
+    clocks, told = Clocks(trace.splitlines()), Moments(
+        probed(reads, averages), readings_of(reads, totals)
+    )
     inside = list(told.readings)
     found = {}
     for asked in asked_of(list(told.readings.values()), clocks, 0):
-        for growth in growths_of(asked, clocks, sampling_of(asked, clocks, told, inside, 0, 250), 250):
+        for growth in growths_of(
+            asked, clocks, sampling_of(asked, clocks, told, inside, 0, 250), 250
+        ):
             found[growth.file] = growth
     return found
 
@@ -92,12 +100,19 @@ def check_shares_between_moments(_: str) -> None:
 
 def check_weights_are_ticks_of_the_timer(_: str) -> None:
     """What a processor does in less than a tick, 4 ms, has no weight."""
-    lines = ["0 fork 1 / 0", "0 switch 0 1 idle", f"{SECOND} switch 0 0 iowait", f"{SECOND + 3 * MS} wake 1 0"]
-    lines += [f"{SECOND + 3 * MS} switch 0 1 idle", f"{SECOND + 3 * MS} switch 0 0 sleep", f"{3 * SECOND} group /a"]
+    lines = [
+        "0 fork 1 / 0", "0 switch 0 1 idle", f"{SECOND} switch 0 0 iowait",
+        f"{SECOND + 3 * MS} wake 1 0",
+    ]
+    lines += [
+        f"{SECOND + 3 * MS} switch 0 1 idle", f"{SECOND + 3 * MS} switch 0 0 sleep",
+        f"{3 * SECOND} group /a",
+    ]
     for end, wanted in ((0, 0), (MS, 3000)):
         reads = [SECOND - end, 2 * SECOND]
         trace = "\n".join([*lines, f"{4 * SECOND} end"])
-        must_be(f"the growth from {reads[0]} on", growth_in(trace, reads, [], {})[File("/", "io")].told[0], wanted)
+        must_be(f"the growth from {reads[0]} on",
+                growth_in(trace, reads, [], {})[File("/", "io")].told[0], wanted)
 
 
 def check_sums_of_32_bits(_: str) -> None:
@@ -112,19 +127,26 @@ def check_sums_of_32_bits(_: str) -> None:
     for averages, told, right in growths:
         growth = growth_in(SPREAD, [4 * SECOND, 11 * SECOND], averages, {file: [0, told]})[file]
         must_be("in 32 bits, and in 64", (growth.told[0], growth.true[0]), (told, right))
-        text, beyond = report([row_of(growth, None)], Limits(1.5, 2.5, 500000), Shown([], "trace", "", 10000))
+        text, beyond = report([row_of(growth, None)], Limits(1.5, 2.5, 500000),
+                              Shown([], "trace", "", 10000))
         must_be("totals beyond their limits", beyond, 0)
         must(("+0.0 % w" in text) == (told != right), f"its mark: {text}")
-        must(("\n  /a io: some 7000000, full 7000000\n" in text) == (told != right), f"what is right: {text}")
+        must(("\n  /a io: some 7000000, full 7000000\n" in text) == (told != right),
+             f"what is right: {text}")
 
 
 def check_a_group_of_two_lives(_: str) -> None:
     """A group created between two readings counts from its creation, though another group had its
     path before.
     """
-    lines = ["0 group /a", f"{SECOND} rmgroup /a", f"{3 * SECOND} group /a", f"{3 * SECOND} fork 1 /a 0", f"{7 * SECOND} end"]
-    found = growth_in("\n".join(lines), [500 * MS, 5 * SECOND], [], {File("/a", "cpu"): [900, 2000000]})
-    must_be("the growth", found[File("/a", "cpu")], Growth(File("/a", "cpu"), *[(2000000, 2000000)] * 3))
+    lines = [
+        "0 group /a", f"{SECOND} rmgroup /a", f"{3 * SECOND} group /a", f"{3 * SECOND} fork 1 /a 0",
+        f"{7 * SECOND} end",
+    ]
+    found = growth_in("\n".join(lines), [500 * MS, 5 * SECOND], [],
+                      {File("/a", "cpu"): [900, 2000000]})
+    must_be("the growth", found[File("/a", "cpu")],
+            Growth(File("/a", "cpu"), *[(2000000, 2000000)] * 3))
 
 
 def check_readings_with_a_file_too_few(_: str) -> None:
@@ -135,10 +157,19 @@ def check_readings_with_a_file_too_few(_: str) -> None:
     readings = readings_of(reads, {})
     del readings[1][File("/a", "memory")]
     source = probed(reads, [])
-    moments = {it: 3 * SECOND + place for place, it in enumerate(it for it in source.events if it.moment == 3 * SECOND)}
-    source.events = [it._replace(moment=moments.get(it, it.moment)) if isinstance(it, ShowProbe) else it for it in source.events]
+    moments = {
+        it: 3 * SECOND + place
+        for place, it in enumerate(it for it in source.events if it.moment == 3 * SECOND)
+    }
+    source.events = [
+        it._replace(moment=moments.get(it, it.moment)) if isinstance(it, ShowProbe) else it
+        for it in source.events
+    ]
     told = Moments(source, readings)
-    wanted = {File("/", "io"): 0, File("/", "memory"): 1, File("/", "cpu"): 2, File("/a", "io"): 3, File("/a", "cpu"): 5}
+    wanted = {
+        File("/", "io"): 0, File("/", "memory"): 1, File("/", "cpu"): 2, File("/a", "io"): 3,
+        File("/a", "cpu"): 5,
+    }
     found = {file: totals.moment - 3 * SECOND for file, totals in told.readings[1].items()}
     must_be("how long each was read after the first", found, wanted)
 
@@ -153,10 +184,15 @@ def check_groups_whose_moments_are_not_told(_: str) -> None:
     for files in cut.values():
         del files[File("/a", "cpu")]
     missed = Moments(source, cut)
-    must_be("what is known of each", [(it.knows("/a", 2), it.knows("/", 2)) for it in (whole, missed)], [(True, True), (False, False)])
+    must_be("what is known of each",
+            [(it.knows("/a", 2), it.knows("/", 2)) for it in (whole, missed)],
+            [(True, True), (False, False)])
     clocks = Clocks(SPREAD.splitlines())
     phases = []
     for told in (whole, missed):
         asked = asked_of(list(told.readings.values()), clocks, 0)
-        phases.append({it.path: sampling_of(it, clocks, told, [0, 1, 2], 0, 250).phase for it in asked})
-    must(phases[0] == {"/": None, "/a": None} and None not in phases[1].values(), f"the phases: {phases}")
+        phases.append(
+            {it.path: sampling_of(it, clocks, told, [0, 1, 2], 0, 250).phase for it in asked}
+        )
+    must(phases[0] == {"/": None, "/a": None} and None not in phases[1].values(),
+         f"the phases: {phases}")

@@ -49,5 +49,6 @@ def check_what_types_tell(_: str) -> None:
         plain = b"type /system.slice/web.service domain\ntype /system.slice/db.service "
         change(folder, "snapshot", lambda it: it + plain + b"domain\n")
         must(GUESSED not in converted(folder).said, "plain groups")
-        change(folder, "snapshot", lambda it: it.replace(plain + b"domain\n", plain + b"domain-threaded\n"))
+        change(folder, "snapshot",
+               lambda it: it.replace(plain + b"domain\n", plain + b"domain-threaded\n"))
         must(f"{GUESSED}24\n" in converted(folder).said, "one of two is threaded")

@@ -17,7 +17,8 @@ US = 1000
 # Task 8 is counted at 100 us, and its wakeup is written at 160; then it runs, and is counted again
 # when it moves. Task 9 was counted long before a wakeup, so that count belongs to another one.
 EVENTS: list[Event] = [
-    ReadyProbe(100 * US, 0, 7, 8), Wakeup(160 * US, 0, 7, 8, 0), ReadyProbe(170 * US, 0, 7, 8), Switch(180 * US, 0, 7, 7, "S", 8),
+    ReadyProbe(100 * US, 0, 7, 8), Wakeup(160 * US, 0, 7, 8, 0), ReadyProbe(170 * US, 0, 7, 8),
+    Switch(180 * US, 0, 7, 7, "S", 8),
     Wakeup(190 * US, 1, 3, 8, 0), ReadyProbe(200 * US, 1, 3, 9), Wakeup(60_000 * US, 1, 3, 9, 1),
 ]  # fmt: skip
 
@@ -39,20 +40,29 @@ def check_bounds_of_a_trace(_: str) -> None:
     before its task slept.
     """
     for place in (100, 130, 160):
-        lines = ["0 fork 8 / 0", "50000 switch 0 8 idle", "90000 switch 0 0 sleep", f"{place * US} wake 8 0", "170000 end"]
+        lines = [
+            "0 fork 8 / 0", "50000 switch 0 8 idle", "90000 switch 0 0 sleep",
+            f"{place * US} wake 8 0", "170000 end",
+        ]
         for is_first, moment in ((True, 100), (False, 160)):
             found = with_wakeups(lines, bounds_of(EVENTS, 0), is_first)
-            must_be(f"from {place}, {is_first}", found[3:], [f"{moment * US} wake 8 0", "170000 end"])
+            must_be(f"from {place}, {is_first}", found[3:],
+                    [f"{moment * US} wake 8 0", "170000 end"])
     lines[2] = "140000 switch 0 0 sleep"
-    must_be("not before it slept", with_wakeups(lines, bounds_of(EVENTS, 0), True)[3], "140000 wake 8 0")
-    must_be("one of which nothing tells", with_wakeups(lines, bounds_of([], 0), True)[3], "160000 wake 8 0")
-    must_be("up to 15 us before", with_wakeups(lines, lag_bounds(15 * US), True)[3], "145000 wake 8 0")
-    must_be("a trace that begins later", with_wakeups(["1000 wake 8 0"], bounds_of(EVENTS, 120 * US), False), ["40000 wake 8 0"])
+    must_be("not before it slept", with_wakeups(lines, bounds_of(EVENTS, 0), True)[3],
+            "140000 wake 8 0")
+    must_be("one of which nothing tells", with_wakeups(lines, bounds_of([], 0), True)[3],
+            "160000 wake 8 0")
+    must_be("up to 15 us before", with_wakeups(lines, lag_bounds(15 * US), True)[3],
+            "145000 wake 8 0")
+    must_be("a trace that begins later",
+            with_wakeups(["1000 wake 8 0"], bounds_of(EVENTS, 120 * US), False), ["40000 wake 8 0"])
 
 
 def totals_of(printed: bytes) -> list[tuple[str, int, int]]:
     """For each total of a table: its group, the machine's growth and the trace's, in us."""
-    rows = re.findall(r"^\| (/\S*) +\| \S+ +\| +(\d+) \| +(\d+) \|[^|]*\| +(\d+) \| +(\d+) \|", printed.decode(), re.MULTILINE)
+    rows = re.findall(r"^\| (/\S*) +\| \S+ +\| +(\d+) \| +(\d+) \|[^|]*\| +(\d+) \| +(\d+) \|",
+                      printed.decode(), re.MULTILINE)
     return [(row[0], int(row[place]), int(row[place + 1])) for row in rows for place in (1, 3)]
 
 
@@ -65,16 +75,22 @@ def check_the_bracket(program: str) -> None:
         must_be("the sha256", digest_of(done.output), digests()["wakeups"])
         must_be("the summary", done.said, stored("wakeups.summary"))
         accepted(program, done.output)
-        found = {way: compared(program, folder, converted(folder, *PART, "--wakeups", way).output) for way in ("probe", "middle", "event")}
+        found = {
+            way: compared(program, folder, converted(folder, *PART, "--wakeups", way).output)
+            for way in ("probe", "middle", "event")
+        }
         must_be("the statuses", [it.status for it in found.values()], [0, 0, 0])
         bars = [re.findall(r"\S+ \.\. \S+ %", it.output.decode()) for it in found.values()]
-        must(len(bars[0]) > 20 and bars[0] == bars[1] == bars[2], f"the bars don't depend on where wakeups stand: {bars}")
+        must(len(bars[0]) > 20 and bars[0] == bars[1] == bars[2],
+             f"the bars don't depend on where wakeups stand: {bars}")
         late, early = totals_of(found["event"].output), totals_of(found["probe"].output)
         for (_, machine, one), (_, _, two) in zip(late, early):
-            must(min(one, two) <= 1.005 * machine and max(one, two) >= 0.995 * machine, f"{machine} is from {one} to {two}")
+            must(min(one, two) <= 1.005 * machine and max(one, two) >= 0.995 * machine,
+                 f"{machine} is from {one} to {two}")
         for group, machine, trace in totals_of(found["middle"].output):
             most = 0.015 if group == "/" else 0.025
-            must(machine < 500_000 or abs(trace - machine) < most * machine, f"{group}: {trace} of {machine}")
+            must(machine < 500_000 or abs(trace - machine) < most * machine,
+                 f"{group}: {trace} of {machine}")
 
 
 def check_a_recording_without_the_probe(_: str) -> None:
@@ -86,4 +102,8 @@ def check_a_recording_without_the_probe(_: str) -> None:
     with recording("exec-2") as folder:
         done = converted(folder, "--wakeups", "middle", status=2)
         must("the recording has no such probe" in done.said and not done.output, done.said)
-        must("psitrace: wakeups at their events, which psi counts somewhat earlier" in converted(folder).said, "it says so")
+        must(
+            "psitrace: wakeups at their events, which psi counts somewhat earlier"
+            in converted(folder).said,
+            "it says so",
+        )

@@ -93,7 +93,8 @@ def go_on(child: int, who: int, status: int, calls: Calls) -> None:
 
 
 def calls_of(words: list[str]) -> Calls:
-    """Runs a program to its end, and counts. No other child of this process may end during the run."""
+    """Runs a program to its end, and counts. No other child of this process may end during the run.
+    """
     calls = Calls()
     child = start(words)
     _, status = os.waitpid(child, 0)

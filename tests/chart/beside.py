@@ -42,8 +42,13 @@ def compare_recorded(drawn: Drawn, printed: Printed, group: str, number: int) ->
         panel, share = drawn.panel(resource, number), drawn.share_scale(resource, number)
         for level in LEVELS:
             for average in AVERAGES:
-                points = [point for line in drawn.lines(panel, f"{level} {average} was") for point in line]
-                wanted = [(drawn.x(moment), share(it)) for moment, it in printed.shares[group, resource, level, average]]
+                points = [
+                    point for line in drawn.lines(panel, f"{level} {average} was") for point in line
+                ]
+                wanted = [
+                    (drawn.x(moment), share(it))
+                    for moment, it in printed.shares[group, resource, level, average]
+                ]
                 must_be_near(f"{resource} {level} {average} of {group} as recorded", points, wanted)
 
 
@@ -53,7 +58,9 @@ def must_be_shaded(drawn: Drawn, moment: int) -> None:
     panels = drawn.panels()
     must_be("shades, how many", len(shades), len(panels))
     for shade, panel in zip(shades, panels):
-        left, width, top, height = (number_at(shade, name) for name in ("x", "width", "y", "height"))
+        left, width, top, height = (
+            number_at(shade, name) for name in ("x", "width", "y", "height")
+        )
         numbers = [place for _, place in drawn.numbers(panel)]
         wanted = (drawn.x(moment), RIGHT, numbers[-1], numbers[0])
         must_be_near("a shade", [(left, left + width, top, top + height)], [wanted])
@@ -66,8 +73,15 @@ def check_beside_what_was(program: str) -> None:
     for number, group in enumerate(groups):
         compare_recorded(drawn, Printed(story(program)), group, number)
     must_be_shaded(drawn, KILL)
-    told = [text for legend in ("legend", "legend beside") for text in drawn.texts(drawn.one("g", legend))]
-    for text in ("thin: as recorded", "thick: without the tasks of who would be killed", SHADED, "would be killed"):
+    told = [
+        text
+        for legend in ("legend", "legend beside")
+        for text in drawn.texts(drawn.one("g", legend))
+    ]
+    for text in (
+        "thin: as recorded", "thick: without the tasks of who would be killed", SHADED,
+        "would be killed",
+    ):
         must_be(f"how often the legend has {text!r}", told.count(text), 1)
     counts = {text for panel in drawn.panels() for text in drawn.texts(panel) if "event" in text}
     must_be("numbers of events", counts, {"13 events", "26 events, was 67", "no events"})
@@ -77,13 +91,20 @@ def check_scales_reach_up_to_both(program: str) -> None:
     """The recorded values fit on the axis if they are higher than the supposed ones, and vice
     versa.
     """
-    for printed, recorded in ((supposed(program), story(program)), (story(program), supposed(program))):
+    for printed, recorded in (
+        (supposed(program), story(program)), (story(program), supposed(program))
+    ):
         drawn = drawn_beside(printed, recorded, "--group=/batch")
         for resource in RESOURCES:
             _, top = drawn.numbers(drawn.panel(resource))[-1]
             points = drawn.panel(resource).iter(f"{SVG}polyline")
-            heights = [float(it.split(",")[1]) for line in points for it in (line.get("points") or "").split(" ")]
-            must(min(heights) >= top - 0.01, f"{resource}: {min(heights)} is below the top at {top}")
+            heights = [
+                float(it.split(",")[1])
+                for line in points
+                for it in (line.get("points") or "").split(" ")
+            ]
+            must(min(heights) >= top - 0.01,
+                 f"{resource}: {min(heights)} is below the top at {top}")
 
 
 def check_a_part_beside_what_was(program: str) -> None:
@@ -98,7 +119,8 @@ def check_a_part_beside_what_was(program: str) -> None:
     plain = Drawn(drawn_of(supposed(program), *words))
     for name in ("shade", "legend beside"):
         must_be(f"{name} of one replay alone", plain.all("g", name), [])
-    must_be("thin lines of one replay alone", [it for it in plain.svg.iter() if (it.get("class") or "").endswith(" was")], [])
+    must_be("thin lines of one replay alone",
+            [it for it in plain.svg.iter() if (it.get("class") or "").endswith(" was")], [])
 
 
 def check_no_kill_beside_what_was(program: str) -> None:
@@ -112,10 +134,13 @@ def check_the_example_beside_what_was(program: str) -> None:
     words = ["--group=/batch", "--resource=memory", "--rules=examples/runaway.json"]
     printed = run([program, "whatif", *RUNAWAY[1:]])
     must_be("what would have been", printed == supposed(program), True)
-    with tempfile.NamedTemporaryFile() as file, open(f"{TOP}/examples/runaway-whatif.svg", "rb") as example:
+    with tempfile.NamedTemporaryFile() as file, open(
+        f"{TOP}/examples/runaway-whatif.svg", "rb"
+    ) as example:
         file.write(story(program))
         file.flush()
-        must(example.read() == drawn_of(printed, "--beside", file.name, *words), "examples/runaway-whatif.svg is that chart")
+        must(example.read() == drawn_of(printed, "--beside", file.name, *words),
+             "examples/runaway-whatif.svg is that chart")
 
 
 def check_what_was_and_cannot_be_read(program: str) -> None:
@@ -123,11 +148,15 @@ def check_what_was_and_cannot_be_read(program: str) -> None:
     must_be("no file", chart_fault(printed, "--beside=/nowhere"), "chart: no file: /nowhere\n")
     must_be("a folder", chart_fault(printed, "--beside=tests"), "chart: tests: Is a directory\n")
     said = chart_fault(printed, "--beside=examples/runaway.json")
-    must_say(said, "examples/runaway.json: the input: it is JSON, like a rules file, not the output of replay")
+    must_say(
+        said,
+        "examples/runaway.json: the input: it is JSON, like a rules file, not the output of replay",
+    )
     must_say(chart_fault(printed, "--beside"), "usage: chart ")
     with tempfile.NamedTemporaryFile() as file:
         file.write(run([program, "replay", "examples/one-wait.trace"]))
         file.flush()
         other = f"{file.name} has 1 ticks up to 2 s, and the standard input 150 ticks up to 300 s"
         said = chart_fault(printed, "--beside", file.name)
-        must_be("another trace", said, f"chart: {other}: give two of one trace and of one --tick-ms\n")
+        must_be("another trace", said,
+                f"chart: {other}: give two of one trace and of one --tick-ms\n")

@@ -28,7 +28,9 @@ def piped(words: Sequence[str], chart_words: Sequence[str] = (), given: bytes = 
     """Returns the chart of this replay, drawn through a pipe."""
     with subprocess.Popen(words, cwd=TOP, stdin=subprocess.PIPE, stdout=subprocess.PIPE) as first:
         assert first.stdin and first.stdout
-        with subprocess.Popen([CHART, *chart_words], cwd=TOP, stdin=first.stdout, stdout=subprocess.PIPE) as second:
+        with subprocess.Popen(
+            [CHART, *chart_words], cwd=TOP, stdin=first.stdout, stdout=subprocess.PIPE
+        ) as second:
             assert second.stdout
             first.stdout.close()
             first.stdin.write(given)
@@ -48,7 +50,8 @@ def scale_of(marks: Sequence[tuple[float, float]]) -> Scale:
     must(first != last, "an axis has two numbers")
     scale = (last_place - first_place) / (last - first)
     for number, place in marks:
-        must(abs(first_place + (number - first) * scale - place) <= NEAR, f"{number} stands at its place on its axis")
+        must(abs(first_place + (number - first) * scale - place) <= NEAR,
+             f"{number} stands at its place on its axis")
     return lambda number: first_place + (number - first) * scale
 
 
@@ -79,10 +82,14 @@ class Drawn:
         except ElementTree.ParseError as fault:
             raise Wrong(f"it is no XML: {fault}") from None
         must_be("the root", self.svg.tag, f"{SVG}svg")
-        marks = [(it.text or "", number_at(it, "x")) for it in self.one("g", "time").iter(f"{SVG}text")]
+        marks = [
+            (it.text or "", number_at(it, "x")) for it in self.one("g", "time").iter(f"{SVG}text")
+        ]
         self.time_texts = [text for text, _ in marks]
         self.time_places = [place for _, place in marks]
-        captions = [text for text in self.texts(self.svg) if text.endswith("since the start of the trace")]
+        captions = [
+            text for text in self.texts(self.svg) if text.endswith("since the start of the trace")
+        ]
         if captions:
             self.unit = captions[0].split(" ")[0]
             self.times = [round(float(text) * UNITS[self.unit]) for text in self.time_texts]
@@ -96,7 +103,11 @@ class Drawn:
         return self.texts(self.svg)[0]
 
     def all(self, tag: str, classes: str, within: Optional[Element] = None) -> list[Element]:
-        return [it for it in (self.svg if within is None else within).iter(SVG + tag) if it.get("class") == classes]
+        return [
+            it
+            for it in (self.svg if within is None else within).iter(SVG + tag)
+            if it.get("class") == classes
+        ]
 
     def one(self, tag: str, classes: str, within: Optional[Element] = None) -> Element:
         found = self.all(tag, classes, within)
@@ -104,7 +115,9 @@ class Drawn:
         return found[0]
 
     def panels(self) -> list[Element]:
-        return [it for it in self.svg.iter(f"{SVG}g") if (it.get("class") or "").startswith("panel ")]
+        return [
+            it for it in self.svg.iter(f"{SVG}g") if (it.get("class") or "").startswith("panel ")
+        ]
 
     def panel_names(self) -> list[str]:
         return [self.texts(panel)[0] for panel in self.panels()]
@@ -115,7 +128,10 @@ class Drawn:
 
     def numbers(self, panel: Element) -> list[tuple[str, float]]:
         """Returns the texts at a panel's axis, and their positions."""
-        return [(it.text or "", number_at(it, "y")) for it in self.one("g", "share", panel).iter(f"{SVG}text")]
+        return [
+            (it.text or "", number_at(it, "y"))
+            for it in self.one("g", "share", panel).iter(f"{SVG}text")
+        ]
 
     def share_scale(self, resource: str, number: int = 0) -> Scale:
         marks = []
@@ -131,7 +147,10 @@ class Drawn:
         """Returns the points of each line of a series. A doubled point is a single report."""
         found = []
         for line in self.one("g", f"series {classes}", panel).iter(f"{SVG}polyline"):
-            points = [(float(x), float(y)) for x, y in (it.split(",") for it in (line.get("points") or "").split(" "))]
+            points = [
+                (float(x), float(y))
+                for x, y in (it.split(",") for it in (line.get("points") or "").split(" "))
+            ]
             found.append(points[:1] if len(points) == 2 and points[0] == points[1] else points)
         return found
 
@@ -146,7 +165,8 @@ class Drawn:
     def places(self, kind: str) -> list[float]:
         """Returns the positions of the lines."""
         for mark in self.marks(kind):
-            must_be("a line is upright", inner(mark, "line").get("x1"), inner(mark, "line").get("x2"))
+            must_be("a line is upright", inner(mark, "line").get("x1"),
+                    inner(mark, "line").get("x2"))
         return [number_at(inner(mark, "line"), "x1") for mark in self.marks(kind)]
 
     def mark_texts(self, kind: str) -> list[list[str]]:
@@ -161,9 +181,13 @@ class Drawn:
         """Yields the thresholds of a panel: the class, the height and the text of each."""
         for group in self.all("g", "rule", panel):
             line = inner(group, "polyline")
-            (left, y), (right, other) = (it.split(",") for it in (line.get("points") or "").split(" "))
+            (left, y), (right, other) = (
+                it.split(",") for it in (line.get("points") or "").split(" ")
+            )
             must_be("a threshold goes across", (float(left), float(right), y), (LEFT, RIGHT, other))
-            yield (line.get("class") or "").partition(" ")[2], float(y), inner(group, "title").text or ""
+            yield (line.get("class") or "").partition(" ")[2], float(y), inner(
+                group, "title"
+            ).text or ""
 
 
 def spans_of(drawn: Drawn) -> list[tuple[float, float, float, str]]:
@@ -190,24 +214,32 @@ def compare_paths(drawn: Drawn) -> None:
         must(0 <= left and right <= 960, f"{text} is within the chart")
         crossed = [it for it in spans if it[2] == y and it[0] < right and left < it[1]]
         must_be(f"texts where {text} stands", len(crossed), 1)
-        must(not any(left < x < right and top < y for x, top in tops), f"no line goes through {text} at {left}")
+        must(not any(left < x < right and top < y for x, top in tops),
+             f"no line goes through {text} at {left}")
 
 
-def compare_panel(drawn: Drawn, printed: Printed, group: str, resource: str, number: int, start: float, end: float) -> None:
+def compare_panel(
+    drawn: Drawn, printed: Printed, group: str, resource: str, number: int, start: float, end: float
+) -> None:
     """Each report and event from start to end is drawn at its printed time and value, and nothing
     else is.
     """
     panel, share = drawn.panel(resource, number), drawn.share_scale(resource, number)
     for level in LEVELS:
         for average in AVERAGES:
-            shares = [it for it in printed.shares[group, resource, level, average] if start <= it[0] <= end]
+            shares = [
+                it
+                for it in printed.shares[group, resource, level, average]
+                if start <= it[0] <= end
+            ]
             must(bool(shares), f"there are reports of {group}")
             points = [point for line in drawn.lines(panel, f"{level} {average}") for point in line]
             wanted = [(drawn.x(moment), share(it)) for moment, it in shares]
             must_be_near(f"{resource} {level} {average} of {group}", points, wanted)
         events = [it for it in printed.events[group, resource, level] if start <= it <= end]
         ticks = drawn.ticks(panel, level)
-        must_be_near(f"events of {resource} {level}", [it[:1] for it in ticks], [(drawn.x(it),) for it in events])
+        must_be_near(f"events of {resource} {level}", [it[:1] for it in ticks],
+                     [(drawn.x(it),) for it in events])
         must(all(y > share(0) for _, y in ticks), "ticks stand below the panel")
 
 
@@ -227,7 +259,10 @@ def compare(
         for number, group in enumerate(groups):
             compare_panel(drawn, printed, group, resource, number, start, end)
     kills = [it for it in printed.kills if start <= it[0] <= end]
-    told = [[line.split(" would be killed at ")[0] for line in hints] for hints in drawn.hints("kill")]
+    told = [
+        [line.split(" would be killed at ")[0] for line in hints] for hints in drawn.hints("kill")
+    ]
     must_be("paths of kills", told, [[path] for _, path in kills])
-    must_be_near("kills", [(it,) for it in drawn.places("kill")], [(drawn.x(moment),) for moment, _ in kills])
+    must_be_near("kills", [(it,) for it in drawn.places("kill")],
+                 [(drawn.x(moment),) for moment, _ in kills])
     compare_paths(drawn)

@@ -12,7 +12,9 @@ from harness import must, must_be
 from shared.outputs import run, story
 
 from .boxes import must_fit
-from .drawn import LEFT, RIGHT, SVG, Drawn, Element, compare, compare_paths, drawn_of, inner, number_at, scale_of
+from .drawn import (
+    LEFT, RIGHT, SVG, Drawn, Element, compare, compare_paths, drawn_of, inner, number_at, scale_of,
+)
 from shared.printed import AVERAGES, Printed
 
 Steps = list[tuple[float, float]]
@@ -40,11 +42,18 @@ MEMORY_TRACE = """psitrace 1 cpus=1
 def pressure(cgroup: str, threshold: Any, **others: Any) -> dict[str, Any]:
     """Returns a detector of pressure; `rises` replaces the name."""
     name = "pressure_rising_beyond" if others.pop("rises", False) else "pressure_above"
-    return {"name": name, "args": {"cgroup": cgroup, "resource": "memory", "threshold": threshold, "duration": 20, **others}}
+    return {
+        "name": name,
+        "args": {
+            "cgroup": cgroup, "resource": "memory", "threshold": threshold, "duration": 20, **others
+        },
+    }
 
 
 def memory(cgroup: str, threshold: str) -> dict[str, Any]:
-    return {"name": "memory_above", "args": {"cgroup": cgroup, "threshold": threshold, "duration": "0"}}
+    return {
+        "name": "memory_above", "args": {"cgroup": cgroup, "threshold": threshold, "duration": "0"}
+    }
 
 
 def rules_of(*detectors: dict[str, Any], name: str = "R") -> dict[str, Any]:
@@ -64,15 +73,19 @@ def drawn_with(printed: bytes, rules: dict[str, Any], *words: str) -> Drawn:
 
 def without_kill(program: str) -> bytes:
     """Returns the story's replay without the kill, whose ruleset other rules don't have."""
-    return b"".join(line for line in story(program).splitlines(keepends=True) if not line.startswith(b"kill"))
+    return b"".join(
+        line for line in story(program).splitlines(keepends=True) if not line.startswith(b"kill")
+    )
 
 
 def must_have_rules(drawn: Drawn, number: int, wanted: Sequence[tuple[str, float, str]]) -> None:
     """The memory panel of a group has these thresholds: classes, percentages, texts."""
     found = list(drawn.rules(drawn.panel("memory", number)))
-    must_be("thresholds", [(look, text) for look, _, text in found], [(look, text) for look, _, text in wanted])
+    must_be("thresholds", [(look, text) for look, _, text in found],
+            [(look, text) for look, _, text in wanted])
     share = drawn.share_scale("memory", number)
-    must_be_near("their heights", [(y,) for _, y, _ in found], [(share(percent),) for _, percent, _ in wanted])
+    must_be_near("their heights", [(y,) for _, y, _ in found],
+                 [(share(percent),) for _, percent, _ in wanted])
     _, top = drawn.numbers(drawn.panel("memory", number))[-1]
     must(all(y >= top - NEAR for _, y, _ in found), "they stand within the panel")
 
@@ -85,18 +98,27 @@ def check_names_of_rulesets(program: str) -> None:
     must_be("what is told of the kill", drawn.hints("kill"), [[f"{path} at 146 s by {who}"]])
     must_be("what stands beside it", drawn.mark_texts("kill"), [[f"{path} at 146 s"]])
     must_be("the title", drawn.title, f"Pressure of /batch, 5 min, 1 would-be kill by '{NAME}'")
-    early = Drawn(drawn_of(story(program), "--group=/batch", "--rules=examples/runaway.json", "--from=140"))
-    must_be("what stands beside it where there is room", early.mark_texts("kill"), [[f"{path} at 146 s by '{NAME}'"]])
+    early = Drawn(
+        drawn_of(story(program), "--group=/batch", "--rules=examples/runaway.json", "--from=140")
+    )
+    must_be("what stands beside it where there is room", early.mark_texts("kill"),
+            [[f"{path} at 146 s by '{NAME}'"]])
 
 
 def check_names_of_several_rulesets(program: str) -> None:
     """The title has their number, and each kill its own name as long as there is room."""
-    lines = [b"kill %d000000000 ruleset=%d action=0 /batch/import\n" % (100 + 50 * it, it) for it in range(2)]
+    lines = [
+        b"kill %d000000000 ruleset=%d action=0 /batch/import\n" % (100 + 50 * it, it)
+        for it in range(2)
+    ]
     printed = b"".join(lines) + without_kill(program).replace(b"kills=1", b"kills=2")
     rules = {"rulesets": rules_of(name="one")["rulesets"] + rules_of(name="other")["rulesets"]}
     drawn = drawn_with(printed, rules)
     must_be("the title", drawn.title, "Pressure of /, 5 min, 2 would-be kills by 2 rulesets")
-    texts = [[f"/batch/import would be killed at {moment} s by '{name}'"] for moment, name in ((100, "one"), (150, "other"))]
+    texts = [
+        [f"/batch/import would be killed at {moment} s by '{name}'"]
+        for moment, name in ((100, "one"), (150, "other"))
+    ]
     must_be("what stands beside them", drawn.mark_texts("kill"), texts)
 
 
@@ -116,22 +138,26 @@ def check_thresholds(program: str) -> None:
     else.
     """
     detectors = (
-        pressure("/web,batch/*", "90"), pressure("b*tch", 35, rises=True), pressure("b*x,b,batch/*m*rt", "7"),
+        pressure("/web,batch/*", "90"), pressure("b*tch", 35, rises=True),
+        pressure("b*x,b,batch/*m*rt", "7"),
         pressure("*/*", "50", resource="io"), pressure("/batch/import/x,/", "12", duration="0"),
     )  # fmt: skip
     groups = ("/", "/web", "/batch", "/batch/import")
-    drawn = drawn_with(without_kill(program), rules_of(*detectors), *(f"--group={it}" for it in groups))
+    drawn = drawn_with(without_kill(program), rules_of(*detectors),
+                       *(f"--group={it}" for it in groups))
     compare(Printed(without_kill(program)), drawn, groups)
     high = ("avg10", 90.0, "full over 10 s above 90 % for 20 s: R")
     must_have_rules(drawn, 0, [("avg10", 12, "full over 10 s above 12 %: R")])
     must_have_rules(drawn, 1, [high])
-    must_have_rules(drawn, 2, [("avg60", 35, "full over 60 s and over 10 s above 35 % for 20 s: R")])
+    must_have_rules(drawn, 2,
+                    [("avg60", 35, "full over 60 s and over 10 s above 35 % for 20 s: R")])
     must_have_rules(drawn, 3, [high, ("avg10", 7, "full over 10 s above 7 % for 20 s: R")])
     of_io = [[text for _, _, text in drawn.rules(drawn.panel("io", it))] for it in range(4)]
     must_be("thresholds of IO", of_io, [[], [], [], ["full over 10 s above 50 % for 20 s: R"]])
     low = drawn_with(without_kill(program), rules_of(*detectors), "--group=/web")
     must_have_rules(low, 0, [high])
-    must_be("thresholds of CPU", [list(drawn.rules(drawn.panel("cpu", it))) for it in range(4)], [[]] * 4)
+    must_be("thresholds of CPU", [list(drawn.rules(drawn.panel("cpu", it))) for it in range(4)],
+            [[]] * 4)
 
 
 def check_thresholds_that_are_near(program: str) -> None:
@@ -142,13 +168,17 @@ def check_thresholds_that_are_near(program: str) -> None:
     drawn = drawn_with(without_kill(program), rules, "--group=/batch")
     told = "full over 10 s above {} % for 20 s: R"
     both = f"{told.format(40)}; full over 10 s above 40 % for 20 s: S"
-    must_have_rules(drawn, 0, [("avg10", it, told.format(it)) for it in (44, 43, 42, 41)] + [("avg10", 40, both)])
+    must_have_rules(
+        drawn, 0,
+        [("avg10", it, told.format(it)) for it in (44, 43, 42, 41)] + [("avg10", 40, both)],
+    )
     notes = drawn.all("text", "note", drawn.panel("memory"))
     places = [(it.get("text-anchor"), float(it.get("y") or 0)) for it in notes]
     must(0 < len(places) < 5, "some texts have room, and some haven't")
     for side in ("start", "end"):
         heights = sorted(y for anchor, y in places if anchor == side)
-        must(all(b - a >= 11 for a, b in zip(heights, heights[1:])), f"texts at the {side} stand apart: {heights}")
+        must(all(b - a >= 11 for a, b in zip(heights, heights[1:])),
+             f"texts at the {side} stand apart: {heights}")
 
 
 def boxes_of(panel: Element) -> list[tuple[str, float, float, float, float]]:
@@ -160,7 +190,9 @@ def boxes_of(panel: Element) -> list[tuple[str, float, float, float, float]]:
         if it.get("class") == "note":
             text, x, y = it.text or "", number_at(it, "x"), number_at(it, "y")
             width = 6 * len(text)
-            left = x - {"start": 0, "middle": width / 2, "end": width}[it.get("text-anchor") or "start"]
+            left = x - {
+                "start": 0, "middle": width / 2, "end": width
+            }[it.get("text-anchor") or "start"]
             found.append((text, left, left + width, y - 9, y + 2))
     return found
 
@@ -170,28 +202,50 @@ def check_labels_cover_nothing(program: str) -> None:
     shown = 0
     for limit in range(0, 101, 20):
         for group in ("/batch", "/batch/import", "/web"):
-            rules = rules_of(pressure(group, str(limit)), pressure(group, str(min(100, limit + 5)), rises=True), name="a long name")
-            panel = (drawn := drawn_with(without_kill(program), rules, f"--group={group}", "--resource=memory")).panel("memory")
+            rules = rules_of(pressure(group, str(limit)),
+                             pressure(group, str(min(100, limit + 5)), rises=True),
+                             name="a long name")
+            panel = (
+                drawn := drawn_with(
+                    without_kill(program), rules, f"--group={group}", "--resource=memory"
+                )
+            ).panel("memory")
             (_, low), *_, (_, high) = drawn.numbers(panel)
-            curves = [drawn.lines(panel, f"{level} {average}") for level in ("some", "full") for average in AVERAGES]
+            curves = [
+                drawn.lines(panel, f"{level} {average}")
+                for level in ("some", "full")
+                for average in AVERAGES
+            ]
             for text, left, right, top, bottom in boxes_of(panel):
                 shown += 1
-                must(LEFT <= left and right <= RIGHT and high <= top and bottom <= low, f"{text} at {limit} % is in the panel")
-                for (x, y), (end, level) in (pair for lines in curves for line in lines for pair in zip(line, line[1:])):
-                    steps = [(x + (end - x) * part / 16, y + (level - y) * part / 16) for part in range(17)]
-                    is_over = any(left <= one <= right and top <= other <= bottom for one, other in steps)
+                must(LEFT <= left and right <= RIGHT and high <= top and bottom <= low,
+                     f"{text} at {limit} % is in the panel")
+                for (x, y), (end, level) in (
+                    pair for lines in curves for line in lines for pair in zip(line, line[1:])
+                ):
+                    steps = [
+                        (x + (end - x) * part / 16, y + (level - y) * part / 16)
+                        for part in range(17)
+                    ]
+                    is_over = any(
+                        left <= one <= right and top <= other <= bottom for one, other in steps
+                    )
                     must(not is_over, f"a curve of {group} goes through {text} at {limit} %")
     must(shown > 15, f"there are labels: {shown}")
 
 
 # Groups with long names, of which two differ only at their ends.
 CUSTOMER = "/customers.slice/a-long-name-of-a-customer-and-a-namespace.slice"
-LONG_NAMES = (f"{CUSTOMER}/kubepods-burstable-pod4fd3c2b1.slice", f"{CUSTOMER}/kubepods-burstable-pod4fd3c2b2.slice")
+LONG_NAMES = (f"{CUSTOMER}/kubepods-burstable-pod4fd3c2b1.slice",
+              f"{CUSTOMER}/kubepods-burstable-pod4fd3c2b2.slice")
 LONG_TRACE = "\n".join([
     "psitrace 1 cpus=1", "0 host 1073741824 0 0", "0 group /customers.slice", f"0 group {CUSTOMER}",
-    *(f"0 group {it}" for it in LONG_NAMES), *(f"0 fork {number} {it} 0" for number, it in enumerate(LONG_NAMES, 1)),
-    *(f"0 trigger {it} memory some 100000 1000000" for it in LONG_NAMES), "0 switch 0 1 idle", "0 stall 1",
-    *(f"1000000000 mem {it} 1073741824 1048576 0" for it in LONG_NAMES), "50000000000 switch 0 2 iowait", "50000000000 stall 2",
+    *(f"0 group {it}" for it in LONG_NAMES),
+    *(f"0 fork {number} {it} 0" for number, it in enumerate(LONG_NAMES, 1)),
+    *(f"0 trigger {it} memory some 100000 1000000" for it in LONG_NAMES), "0 switch 0 1 idle",
+    "0 stall 1",
+    *(f"1000000000 mem {it} 1073741824 1048576 0" for it in LONG_NAMES),
+    "50000000000 switch 0 2 iowait", "50000000000 stall 2",
     "70000000000 end", "",
 ])  # fmt: skip
 
@@ -210,9 +264,14 @@ def check_texts_fit(program: str) -> None:
         must(b"kill " in printed and b"event " in printed, "there are kills and events")
         for number in (1, 2, 3, 4):
             for words in ((), ("--start=2026-11-28T13:58:12Z",)):
-                drawn = Drawn(drawn_of(printed, f"--top={number}", f"--trace={trace}", f"--rules={file}", *words))
+                drawn = Drawn(
+                    drawn_of(
+                        printed, f"--top={number}", f"--trace={trace}", f"--rules={file}", *words
+                    )
+                )
                 must_fit(f"--top={number} {words}", drawn.svg)
-    must_fit("the story", Drawn(drawn_of(story(program), "--top=3", "--rules=examples/runaway.json")).svg)
+    must_fit("the story",
+             Drawn(drawn_of(story(program), "--top=3", "--rules=examples/runaway.json")).svg)
 
 
 def drawn_memory(program: str, *words: str, trace: str = MEMORY_TRACE) -> Drawn:
@@ -226,7 +285,9 @@ def drawn_memory(program: str, *words: str, trace: str = MEMORY_TRACE) -> Drawn:
 
 def byte_marks(drawn: Drawn, number: int = 0) -> list[tuple[float, float]]:
     """Returns the bytes at the axis of a group's memory, and their positions."""
-    numbers = [(text.partition(" "), place) for text, place in drawn.numbers(drawn.panel("use", number))]
+    numbers = [
+        (text.partition(" "), place) for text, place in drawn.numbers(drawn.panel("use", number))
+    ]
     return [(float(count) * UNITS[unit], place) for (count, _, unit), place in numbers]
 
 
@@ -237,7 +298,10 @@ def steps_of(drawn: Drawn, what: str, number: int = 0) -> list[Steps]:
     place, size = scale(0), scale(1) - scale(0)
     second, left = drawn.x(SECOND) - drawn.x(0), drawn.x(0)
     lines = drawn.lines(panel, f"{what}-use")
-    return [[((x - left) / second, (y - place) / size / UNITS["GiB"]) for x, y in line] for line in lines]
+    return [
+        [((x - left) / second, (y - place) / size / UNITS["GiB"]) for x, y in line]
+        for line in lines
+    ]
 
 
 def must_be_steps(what: str, found: list[Steps], wanted: list[Steps]) -> None:
@@ -249,11 +313,13 @@ def must_be_steps(what: str, found: list[Steps], wanted: list[Steps]) -> None:
 def check_memory_of_groups(program: str) -> None:
     drawn = drawn_memory(program, "--group=/a", "--group=/b")
     again: Steps = [(12, 0), (20, 0)]
-    must_be_steps("memory", steps_of(drawn, "memory"), [[(1, 1), (4, 1), (4, 3), (4, 2), (8, 2)], again])
+    must_be_steps("memory", steps_of(drawn, "memory"),
+                  [[(1, 1), (4, 1), (4, 3), (4, 2), (8, 2)], again])
     # In a pixel's column only the least and the greatest value are drawn: here 1 MiB of swap is
     # left out.
     must_be_steps("swap", steps_of(drawn, "swap"), [[(1, 0), (4, 0), (4, 0.5), (8, 0.5)], again])
-    must_be("a group without a sample", drawn.texts(drawn.panel("use", 1))[-1], "no sample of its memory in this time")
+    must_be("a group without a sample", drawn.texts(drawn.panel("use", 1))[-1],
+            "no sample of its memory in this time")
     must("swap" in drawn.texts(drawn.panel("use")), "the legend has swap where there is some")
     must("swap" not in drawn.texts(drawn.panel("use", 1)), "and hasn't where there is none")
     part = drawn_memory(program, "--group=/a", "--from=5", "--to=7")
@@ -264,7 +330,9 @@ def check_memory_of_groups(program: str) -> None:
 
 def check_thresholds_of_memory(program: str) -> None:
     """A percentage is relative to the last host sample's memory, and a size is absolute."""
-    detectors = [memory("a", it) for it in ("1.5G", "50%", "0.5g", "4", "3000000K")] + [memory("b", "1G")]
+    detectors = (
+        [memory("a", it) for it in ("1.5G", "50%", "0.5g", "4", "3000000K")] + [memory("b", "1G")]
+    )
     with tempfile.NamedTemporaryFile("w", suffix=".json") as file:
         json.dump(rules_of(*detectors), file)
         file.flush()
@@ -272,9 +340,13 @@ def check_thresholds_of_memory(program: str) -> None:
     panel = drawn.panel("use")
     marks = byte_marks(drawn)
     found = [(text, y) for _, y, text in drawn.rules(panel)]
-    wanted = [("3000000K", 3000000 * 1024), ("50%", 2**31), ("1.5G", 3 * 2**29), ("0.5g", 2**29), ("4", 4)]
-    must_be("thresholds", [text for text, _ in found], [f"memory above {text}: R" for text, _ in wanted])
-    must_be_near("their heights", [(y,) for _, y in found], [(scale_of(marks)(level),) for _, level in wanted])
+    wanted = [
+        ("3000000K", 3000000 * 1024), ("50%", 2**31), ("1.5G", 3 * 2**29), ("0.5g", 2**29), ("4", 4)
+    ]
+    must_be("thresholds", [text for text, _ in found],
+            [f"memory above {text}: R" for text, _ in wanted])
+    must_be_near("their heights", [(y,) for _, y in found],
+                 [(scale_of(marks)(level),) for _, level in wanted])
 
 
 def check_many_samples(program: str) -> None:
@@ -285,11 +357,13 @@ def check_many_samples(program: str) -> None:
     samples = "".join(f"{it * 10**6} mem / {size} 0 0\n" for it, size in enumerate(sizes))
     drawn = drawn_memory(program, trace=f"psitrace 1 cpus=1\n{samples}20000000000 end\n")
     (points,) = drawn.lines(drawn.panel("use"), "memory-use")
-    must(len(points) <= 4 * (RIGHT - LEFT + 1), f"{len(points)} points are at most four in each column")
+    must(len(points) <= 4 * (RIGHT - LEFT + 1),
+         f"{len(points)} points are at most four in each column")
     top, bottom = min(y for _, y in points), max(y for _, y in points)
     marks = byte_marks(drawn)
     scale = scale_of(marks)
-    must(abs(top - scale(max(sizes))) <= NEAR and abs(bottom - scale(min(sizes))) <= NEAR, "the most and the least are drawn")
+    must(abs(top - scale(max(sizes))) <= NEAR and abs(bottom - scale(min(sizes))) <= NEAR,
+         "the most and the least are drawn")
     must_be_near("its end", [points[-1]], [(RIGHT, scale(sizes[-1]))])
 
 
@@ -299,14 +373,16 @@ def check_interrupts_of_a_replay(program: str) -> None:
     printed = Printed(run([program, *given]))
     for group in ("/", "/a"):
         drawn = Drawn(drawn_of(run([program, *given]), "--group", group))
-        must_be("panels", drawn.panel_names(), [f"{it} pressure" for it in ("IO", "memory", "CPU", "interrupt")])
+        must_be("panels", drawn.panel_names(),
+                [f"{it} pressure" for it in ("IO", "memory", "CPU", "interrupt")])
         compare(printed, drawn, [group])
         share = drawn.share_scale("irq")
         for average in AVERAGES:
             shares = printed.shares[group, "irq", "full", average]
             must_be("reports of interrupts", [moment // SECOND for moment, _ in shares], [2, 4, 6])
             (points,) = drawn.lines(drawn.panel("irq"), f"full {average}")
-            must_be_near(f"interrupts {average}", points, [(drawn.x(moment), share(it)) for moment, it in shares])
+            must_be_near(f"interrupts {average}", points,
+                         [(drawn.x(moment), share(it)) for moment, it in shares])
 
 
 def check_interrupts(_: str) -> None:
@@ -315,19 +391,25 @@ def check_interrupts(_: str) -> None:
     """
     file = "full avg10=9.05 avg60=1.63 avg300=0.34 total=1000000\n"
     none = "avg10=0.00 avg60=0.00 avg300=0.00 total=0\n"
-    others = "".join(f"report 2000000000 / {it}\nsome {none}full {none}" for it in ("io", "memory", "cpu"))
+    others = "".join(
+        f"report 2000000000 / {it}\nsome {none}full {none}" for it in ("io", "memory", "cpu")
+    )
     end = "end 2000000000 ticks=1 events=0 kills=0\n"
     text = f"{others}report 2000000000 / irq\n{file}{end}".encode()
     printed = Printed(text)
-    for words, names in (("", ["IO", "memory", "CPU", "interrupt"]), ("--resource=irq", ["interrupt"])):
+    for words, names in (
+        ("", ["IO", "memory", "CPU", "interrupt"]), ("--resource=irq", ["interrupt"])
+    ):
         drawn = Drawn(drawn_of(text, *words.split()))
         must_be("panels", drawn.panel_names(), [f"{it} pressure" for it in names])
         share = drawn.share_scale("irq")
         for average in AVERAGES:
             shares = printed.shares["/", "irq", "full", average]
             (points,) = drawn.lines(drawn.panel("irq"), f"full {average}")
-            must_be_near(f"interrupts {average}", points, [(drawn.x(moment), share(it)) for moment, it in shares])
+            must_be_near(f"interrupts {average}", points,
+                         [(drawn.x(moment), share(it)) for moment, it in shares])
             must_be("lines of some", drawn.lines(drawn.panel("irq"), f"some {average}"), [])
     plain = Drawn(drawn_of(f"{others}{end}".encode()))
-    must_be("panels without them", plain.panel_names(), ["IO pressure", "memory pressure", "CPU pressure"])
+    must_be("panels without them", plain.panel_names(),
+            ["IO pressure", "memory pressure", "CPU pressure"])
     must_be("what is told of the panel", inner(plain.panel("io"), "text").text, "IO pressure")

@@ -9,7 +9,9 @@ from harness import must, must_be
 NEAR = 0.02
 
 
-def must_be_near(what: str, found: Sequence[Sequence[float]], wanted: Sequence[Sequence[float]]) -> None:
+def must_be_near(
+    what: str, found: Sequence[Sequence[float]], wanted: Sequence[Sequence[float]]
+) -> None:
     """Fails the check unless all numbers differ by at most NEAR."""
     must_be(f"{what}, how many", len(found), len(wanted))
     for place, (one, other) in enumerate(zip(found, wanted)):

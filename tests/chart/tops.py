@@ -19,10 +19,14 @@ STORY = "runaway.trace"
 # Totals of some and full in us; a group that was created again counts with the previous one; `/a`
 # has a child.
 PRINTED = b"".join(
-    b"report %d000000000 %s %s\nsome avg10=0.00 avg60=0.00 avg300=0.00 total=%d\nfull avg10=0.00 avg60=0.00 avg300=0.00 total=%d\n" % row
+    b"report %d000000000 %s %s\nsome avg10=0.00 avg60=0.00 avg300=0.00 total=%d\n"
+    b"full avg10=0.00 avg60=0.00 avg300=0.00 total=%d\n"
+    % row
     for row in (
-        (2, b"/a", b"io", 9000000, 9000000), (2, b"/a/b", b"io", 3000000, 2000000), (2, b"/c", b"cpu", 5000000, 2500000),
-        (4, b"/a", b"io", 9000000, 9000000), (4, b"/a/b", b"io", 1000000, 1000000), (4, b"/d", b"memory", 7000000, 0),
+        (2, b"/a", b"io", 9000000, 9000000), (2, b"/a/b", b"io", 3000000, 2000000),
+        (2, b"/c", b"cpu", 5000000, 2500000),
+        (4, b"/a", b"io", 9000000, 9000000), (4, b"/a/b", b"io", 1000000, 1000000),
+        (4, b"/d", b"memory", 7000000, 0),
     )
 ) + b"end 4000000000 ticks=2 events=0 kills=0\n"  # fmt: skip
 TABLE = """\
@@ -39,17 +43,24 @@ def check_the_top(_: str) -> None:
     """
     tool = f"{TOP}/tools/top"
     must_be("the table", run([tool], PRINTED).decode(), TABLE)
-    must_be("the first two", run([tool, "2"], PRINTED).decode(), "".join(TABLE.splitlines(keepends=True)[:3]))
-    for words, given in ((("0",), PRINTED), (("x",), PRINTED), ((), b"end 0 ticks=0 events=0 kills=0\n"), ((), b"no replay\n")):
+    must_be("the first two", run([tool, "2"], PRINTED).decode(),
+            "".join(TABLE.splitlines(keepends=True)[:3]))
+    for words, given in (
+        (("0",), PRINTED), (("x",), PRINTED), ((), b"end 0 ticks=0 events=0 kills=0\n"),
+        ((), b"no replay\n"),
+    ):
         done = subprocess.run([tool, *words], input=given, capture_output=True)
-        must_be(f"{words} of {given[:9]!r}", (done.returncode, done.stdout, done.stderr[:5]), (2, b"", b"top: "))
+        must_be(f"{words} of {given[:9]!r}", (done.returncode, done.stdout, done.stderr[:5]),
+                (2, b"", b"top: "))
 
 
 def check_a_chart_of_the_top(program: str) -> None:
     """A chart has exactly these groups, the one that stalled most first."""
     drawn = Drawn(drawn_of(story(program), "--top", "2", "--resource", "memory"))
-    must_be("panels", drawn.panel_names(), ["memory pressure of /batch/import", "memory pressure of /batch/index"])
-    must("not with --group" in chart_fault(story(program), "--top=2", "--group=/"), "both are refused")
+    must_be("panels", drawn.panel_names(),
+            ["memory pressure of /batch/import", "memory pressure of /batch/index"])
+    must("not with --group" in chart_fault(story(program), "--top=2", "--group=/"),
+         "both are refused")
 
 
 @contextlib.contextmanager
@@ -65,25 +76,40 @@ def check_what_the_summary_tells(program: str) -> None:
     """The time of day and the recording's start are the summary's; without a time of day the axis
     has seconds.
     """
-    whole = "psitrace: 0 is 2026-11-30 03:01:36.000 UTC\npsitrace: the recording begins at 100.000 s: what is before is made up\n"
+    whole = (
+        "psitrace: 0 is 2026-11-30 03:01:36.000 UTC\n"
+        "psitrace: the recording begins at 100.000 s: what is before is made up\n"
+    )
     with summary(whole) as file:
         text = Drawn(drawn_of(story(program), "--summary", file)).text
         must("time of day, 30 November 2026, UTC" in text, "the day stands below the axis")
         given = drawn_of(story(program), "--start", "2026-11-30T03:01:36Z", "--from", "100")
-        must(drawn_of(story(program), "--summary", file) == given, "it is the chart by --start and --from")
-        must(drawn_of(story(program), "--summary", file, "--from", "0") != given, "--from goes before it")
-        must("give one of both" in chart_fault(story(program), f"--summary={file}", "--start=2026-11-30T03:01:36Z"), "not both")
+        must(drawn_of(story(program), "--summary", file) == given,
+             "it is the chart by --start and --from")
+        must(drawn_of(story(program), "--summary", file, "--from", "0") != given,
+             "--from goes before it")
+        must(
+            "give one of both"
+            in chart_fault(story(program), f"--summary={file}", "--start=2026-11-30T03:01:36Z"),
+            "not both",
+        )
     with summary("psitrace: 300.000 s, processors 2, groups 5, lines 77151\n") as file:
-        must(drawn_of(story(program), "--summary", file) == drawn_of(story(program)), "without a time of day nothing changes")
+        must(drawn_of(story(program), "--summary", file) == drawn_of(story(program)),
+             "without a time of day nothing changes")
     with summary("no summary\n") as file:
-        must("has no line of psitrace" in chart_fault(story(program), f"--summary={file}"), "another file is refused")
+        must("has no line of psitrace" in chart_fault(story(program), f"--summary={file}"),
+             "another file is refused")
 
 
 def check_patterns_that_match_nothing(program: str) -> None:
     """They are reported, and the chart is still drawn."""
-    unmatched = b"chart: note: no group of the replay matches 'system.slice/*' of ruleset 'a service"
+    unmatched = (
+        b"chart: note: no group of the replay matches 'system.slice/*' of ruleset 'a service"
+    )
     for rules, said in (("services", unmatched), ("runaway", b"")):
-        done = subprocess.run([CHART, f"--rules={TOP}/examples/{rules}.json"], input=run([program, "replay", f"{TOP}/examples/{STORY}"]),
+        done = subprocess.run([CHART, f"--rules={TOP}/examples/{rules}.json"],
+                              input=run([program, "replay", f"{TOP}/examples/{STORY}"]),
                               capture_output=True)  # fmt: skip
         must_be(f"the status by {rules}", (done.returncode, done.stdout[:5]), (0, b"<?xml"))
-        must(done.stderr.startswith(said) if said else not done.stderr, f"what is said by {rules}: {done.stderr!r}")
+        must(done.stderr.startswith(said) if said else not done.stderr,
+             f"what is said by {rules}: {done.stderr!r}")

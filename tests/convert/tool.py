@@ -1,4 +1,6 @@
-"""`tools/events`: what it prints of a recording, also if its pages are in parts, and of a malformed one."""
+"""`tools/events`: what it prints of a recording, also if its pages are in parts, and of a malformed
+one.
+"""
 from __future__ import annotations
 
 import gzip
@@ -29,7 +31,9 @@ def printed(program: str, folder: str, place: str) -> bytes:
     table = os.path.join(place, "table")
     with open(table, "w", encoding="utf-8") as file:
         file.write(table_of(folder))
-    words = [program, "events", table, *(os.path.join(folder, f"cpu{number}.raw") for number in (0, 1))]
+    words = [
+        program, "events", table, *(os.path.join(folder, f"cpu{number}.raw") for number in (0, 1))
+    ]
     return subprocess.run(words, stdout=subprocess.PIPE, check=True).stdout
 
 
@@ -63,12 +67,16 @@ def check_tool_on_a_malformed_page(program: str, place: str) -> None:
         expected = printed(program, folder, place)
         with open(path, "ab") as file:
             file.write(struct.pack("<QQ", 1, PAGE) + bytes(PAGE - 16))
-        told = "events: cpu1.raw: page 1, at byte 4096: its header reports more bytes than the page has (TooLong)\n"
+        told = (
+            "events: cpu1.raw: page 1, at byte 4096: its header reports more bytes than the page "
+            "has (TooLong)\n"
+        )
         must_be("the events", run(folder), (2, expected, told))
 
 
 def check_tool_without_input(program: str, place: str) -> None:
-    must_be("no folder", run(os.path.join(place, "none"))[::2], (2, f"events: {place}/none: No such file or directory\n"))
+    must_be("no folder", run(os.path.join(place, "none"))[::2],
+            (2, f"events: {place}/none: No such file or directory\n"))
     with recording(RECORDING) as folder:
         os.rename(os.path.join(folder, "cpu1.raw"), os.path.join(place, "cpu1.raw"))
         must_be("no pages", run(folder), (2, b"", "events: cpu1.raw: No such file or directory\n"))
@@ -84,5 +92,7 @@ def check_tool_without_a_reader(program: str, place: str) -> None:
         done = subprocess.run(["bash", "-c", line], capture_output=True, text=True, check=False)
         must_be("what is said", done.stderr, "")
         must_be("the status", done.stdout.splitlines()[1:], ["2"])
-        full = subprocess.run(f"{sys.executable} {TOOL} {folder} >/dev/full", shell=True, capture_output=True, text=True, check=False)
-        must_be("a full device", (full.returncode, full.stderr), (2, "events: psi_convert: write fault\n"))
+        full = subprocess.run(f"{sys.executable} {TOOL} {folder} >/dev/full", shell=True,
+                              capture_output=True, text=True, check=False)
+        must_be("a full device", (full.returncode, full.stderr),
+                (2, "events: psi_convert: write fault\n"))

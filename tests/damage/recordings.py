@@ -32,15 +32,21 @@ BASES = ("exec-2", "cg-2", "mix-2", "threads", "wakeups")
 # The number of pages of each processor that are used, so that a conversion takes a fraction of a
 # second.
 PAGES = 6
-NUMBERS = (0, 1, 2, -1, -2, 3, 63, 64, 65, 255, 4096, 2**15, 2**31 - 1, -(2**31), 2**32, 2**53, 2**62, 2**63 - 1, -(2**63), 10**18)
-DIGITS = ("0", "-1", "-0", "007", "4294967295", "4294967296", "18446744073709551616", "1e9", "0x10", "²", "٣", "", "9" * 5000)
-WORDS = ((), (), ("--force",), ("--fold=1",), ("--fold=1", "--force"), ("--force", "--interrupts"), ("--from=0.02", "--force"),
-         ("--groups=1", "--force"), ("--iowait=D", "--force"), ("--wakeups=event", "--force"), ("--lead-in=5min", "--force"),
+NUMBERS = (0, 1, 2, -1, -2, 3, 63, 64, 65, 255, 4096, 2**15, 2**31 - 1, -(2**31), 2**32, 2**53,
+           2**62, 2**63 - 1, -(2**63), 10**18)
+DIGITS = ("0", "-1", "-0", "007", "4294967295", "4294967296", "18446744073709551616", "1e9", "0x10",
+          "²", "٣", "", "9" * 5000)
+WORDS = ((), (), ("--force",), ("--fold=1",), ("--fold=1", "--force"), ("--force", "--interrupts"),
+         ("--from=0.02", "--force"),
+         ("--groups=1", "--force"), ("--iowait=D", "--force"), ("--wakeups=event", "--force"),
+         ("--lead-in=5min", "--force"),
          ("--fold=0.5", "--force", "--from=0.01"))  # fmt: skip
 
 
 class Base(NamedTuple):
-    """A stored recording, cut to its first pages: the bytes of its files by name, and its formats by number."""
+    """A stored recording, cut to its first pages: the bytes of its files by name, and its formats
+    by number.
+    """
 
     files: dict[str, bytes]
     formats: dict[int, Format]
@@ -99,7 +105,9 @@ class Damage:
                 continue
             at = self.draw.randrange(len(data) // page.size) * page.size
             try:
-                records = [it for it in records_of(data, page_at(data, at, page)) if it[2] - it[1] >= 8]
+                records = [
+                    it for it in records_of(data, page_at(data, at, page)) if it[2] - it[1] >= 8
+                ]
             except Exception:  # the page was damaged before
                 continue
             if records:
@@ -121,7 +129,10 @@ class Damage:
         if pages:
             at = self.draw.randrange(pages) * PAGE
             time = struct.unpack_from("<Q", self.files[name], at)[0]
-            value = self.draw.choice((*NUMBERS, time + 10**12, time - 10**9, time + 10**18, time ^ 1 << self.draw.randrange(64)))
+            value = self.draw.choice(
+                (*NUMBERS, time + 10**12, time - 10**9, time + 10**18,
+                 time ^ 1 << self.draw.randrange(64))
+            )
             self.put(name, at + self.draw.choice((0, 0, 8)), (value % 2**64).to_bytes(8, "little"))
 
     def order(self) -> None:
@@ -134,8 +145,13 @@ class Damage:
             self.draw.shuffle(pages)
         elif pages:
             place = self.draw.randrange(len(pages))
-            pages = [pages[:place], pages[place:], pages[:place] + pages[place + 1 :], pages[: place + 1] + pages[place:]][way - 1]
-        self.files[name] = b"".join(pages)[: -self.draw.choice((1, 100, 4095)) if self.draw.random() < 0.3 else None]
+            pages = [
+                pages[:place], pages[place:], pages[:place] + pages[place + 1 :],
+                pages[: place + 1] + pages[place:],
+            ][way - 1]
+        self.files[name] = b"".join(
+            pages
+        )[: -self.draw.choice((1, 100, 4095)) if self.draw.random() < 0.3 else None]
 
     def lines(self) -> None:
         """Changes words of a text, and adds or removes lines."""
@@ -158,7 +174,9 @@ class Damage:
     def cut(self) -> None:
         """Cuts or empties a file."""
         name = self.draw.choice(sorted(self.files))
-        self.files[name] = self.files[name][: self.draw.choice((0, self.draw.randrange(len(self.files[name]) + 1)))]
+        self.files[name] = self.files[name][
+            : self.draw.choice((0, self.draw.randrange(len(self.files[name]) + 1)))
+        ]
 
     def packed(self) -> None:
         """Compresses pages, perhaps followed by far more, or damages the compressed bytes."""
@@ -180,10 +198,17 @@ class Damage:
 
     def apply(self) -> list[str]:
         """Damages the recording, and returns the names of the ways."""
-        often = {"bits": 6, "fields": 12, "heads": 6, "order": 4, "lines": 8, "cut": 2, "packed": 1, "odd_file": 1, "more": 1}
-        ways = self.draw.choices(list(often), list(often.values()), k=self.draw.choice((1, 1, 2, 3)))
+        often = {
+            "bits": 6, "fields": 12, "heads": 6, "order": 4, "lines": 8, "cut": 2, "packed": 1,
+            "odd_file": 1, "more": 1,
+        }
+        ways = self.draw.choices(
+            list(often), list(often.values()), k=self.draw.choice((1, 1, 2, 3))
+        )
         for way in ways:
-            if way in ("bits", "fields", "heads", "order", "packed", "more") and not any(it.endswith(".raw") for it in self.files):
+            if way in ("bits", "fields", "heads", "order", "packed", "more") and not any(
+                it.endswith(".raw") for it in self.files
+            ):
                 continue
             getattr(self, way)()
         return ways

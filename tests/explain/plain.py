@@ -53,7 +53,9 @@ class Look:
 
     def is_live(self, path: str) -> bool:
         front = path.rstrip("/") + "/"
-        return any(it.tasks for name, it in self.groups.items() if name == path or name.startswith(front))
+        return any(
+            it.tasks for name, it in self.groups.items() if name == path or name.startswith(front)
+        )
 
     def rise(self, path: str) -> int:
         group = self.groups[path]
@@ -76,7 +78,9 @@ def reports_of(printed: str) -> dict[int, dict[tuple[str, str, str], int]]:
         elif words[0] == "full":
             for word in words[1:3]:
                 name, _, value = word.partition("=")
-                found.setdefault(int(head[1]), {})[head[2], head[3], name] = int(value.replace(".", ""))
+                found.setdefault(int(head[1]), {})[head[2], head[3], name] = (
+                    int(value.replace(".", ""))
+                )
     return found
 
 
@@ -146,7 +150,10 @@ class Detector:
         if self.name == "swap_free":
             _, total, free = look.host or (0, 0, 0)
             share = 100 * free / total if total else None
-            self.rows.append((look.moment, share, "", share is not None and share < int(self.args["threshold_pct"])))
+            self.rows.append(
+                (look.moment, share, "",
+                 share is not None and share < int(self.args["threshold_pct"]))
+            )
             return
         best: Optional[float] = None
         whose = ""
@@ -174,12 +181,15 @@ class Detector:
 
     def extreme(self) -> Optional[tuple[float, int, str]]:
         """The value nearest to the limit, when it was first reached, and whose it is."""
-        found = [(value, moment, whose) for moment, value, whose, _ in self.rows if value is not None]
+        found = [
+            (value, moment, whose) for moment, value, whose, _ in self.rows if value is not None
+        ]
         sign = -1 if self.name == "swap_free" else 1
         return max(found, key=lambda it: (sign * it[0], -it[1])) if found else None
 
     def hold(self) -> int:
-        """The longest time (ns) from the first to the last of evaluations in a row above the limit."""
+        """The longest time (ns) from the first to the last of evaluations in a row above the limit.
+        """
         longest, since = 0, None
         for moment, _, _, is_above in self.rows:
             since = (moment if since is None else since) if is_above else None
@@ -188,4 +198,6 @@ class Detector:
 
     def is_close(self) -> bool:
         """Whether some printed value is the limit itself, whose other digits decide."""
-        return self.name.startswith("pressure") and any(value == float(self.args["threshold"]) for _, value, _, _ in self.rows)
+        return self.name.startswith("pressure") and any(
+            value == float(self.args["threshold"]) for _, value, _, _ in self.rows
+        )

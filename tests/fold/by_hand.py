@@ -34,7 +34,10 @@ GOES = """psitrace 1 cpus=1
 1000000000 mem / 9 0 0
 2000000000 end
 """
-STALL_OF_GOES = "stall cpu=0 / 300000000 200000000 0 0 200000000 0 500000000\nstall cpu=0 /b 0 0 0 0 200000000 200000000 300000000\n"
+STALL_OF_GOES = (
+    "stall cpu=0 / 300000000 200000000 0 0 200000000 0 500000000\n"
+    "stall cpu=0 /b 0 0 0 0 200000000 200000000 300000000\n"
+)
 
 
 def check_windows_by_hand(program: str) -> None:
@@ -43,13 +46,15 @@ def check_windows_by_hand(program: str) -> None:
     """
     other, fold = folded(IN_TURNS, SECOND)
     must_be("joint states, before and after", (fold.counts.had, fold.counts.kept), (1, 1))
-    must_be("the times of turns", printed(program, other, "stall"), b"stall cpu=0 / 0 0 0 0 1000000000 0 1000000000\n")
+    must_be("the times of turns", printed(program, other, "stall"),
+            b"stall cpu=0 / 0 0 0 0 1000000000 0 1000000000\n")
     must(len(other.splitlines()) <= 7, f"few lines: {other}")
     for window in (SECOND, 2 * SECOND):
         other, _ = folded(GOES, window)
         must_be("the times", printed(program, other, "stall").decode(), STALL_OF_GOES)
         kept = [line for line in other.splitlines() if " mem " in line or "group" in line]
-        must_be("what isn't about tasks", kept, [line for line in GOES.splitlines() if " mem " in line or "group" in line])
+        must_be("what isn't about tasks", kept,
+                [line for line in GOES.splitlines() if " mem " in line or "group" in line])
         after = [line for line in lines_between(other, 500 * MS, 2 * SECOND) if " /a" in line]
         must_be("what is of a group after its removal", after, [])
         must_replay_alike("by hand", program, GOES, other, window)
@@ -57,7 +62,10 @@ def check_windows_by_hand(program: str) -> None:
 
 def check_long_quiet(program: str) -> None:
     """Windows without events cost nothing, and states that continue through them count."""
-    trace = "psitrace 1 cpus=2\n0 fork 1 / 0\n0 switch 0 1 idle\n0 switch 0 0 iowait\n90000000000000 end\n"
+    trace = (
+        "psitrace 1 cpus=2\n0 fork 1 / 0\n0 switch 0 1 idle\n0 switch 0 0 iowait\n"
+        "90000000000000 end\n"
+    )
     other, _ = folded(trace, SECOND)
     must(len(other.splitlines()) <= 6, other)
     must_be("the times", printed(program, other, "stall"), printed(program, trace, "stall"))
@@ -111,7 +119,10 @@ class Busy(Maker):
     """Makes traces of two processors with thousands of short events within a window."""
 
     TURNS = (2500, 2500)
-    FIRST = {**Maker.FIRST, "fork": 4, "switch": 30, "wake": 20, "group": 1, "rmgroup": 0, "side": 0, "move": 0}
+    FIRST = {
+        **Maker.FIRST, "fork": 4, "switch": 30, "wake": 20, "group": 1, "rmgroup": 0, "side": 0,
+        "move": 0,
+    }
     OFTEN = {1: FIRST, 2: FIRST}
 
     def pass_time(self) -> None:

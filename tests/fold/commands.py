@@ -40,8 +40,12 @@ def check_slices(program: str) -> None:
         must_be(f"the status of {name}", status, 0)
         accepted(program, found)
         must_print_alike(f"{name} in slices", whole.output, found)
-        lines = [[line for line in it.splitlines() if " wakeups " in line] for it in (plain.said, whole.said, said)]
-        must(len(lines[0]) == 1 and lines[0] == lines[1] == lines[2], f"what is said of wakeups of {name}: {lines}")
+        lines = [
+            [line for line in it.splitlines() if " wakeups " in line]
+            for it in (plain.said, whole.said, said)
+        ]
+        must(len(lines[0]) == 1 and lines[0] == lines[1] == lines[2],
+             f"what is said of wakeups of {name}: {lines}")
 
 
 def check_pages_that_are_none(_: str) -> None:
@@ -85,21 +89,34 @@ def check_pages_that_are_compressed(_: str) -> None:
                         made.append_pages(processor, pages)
                 os.unlink(f"{there}/cpu{processor}.raw")
             finished = made.finish_compressing()
-            must(finished is not None and finished[1] and 0 < finished[0] < 60, f"it was compressed: {finished}")
+            must(finished is not None and finished[1] and 0 < finished[0] < 60,
+                 f"it was compressed: {finished}")
             parts = [name for name in os.listdir(f"{place}/made") if name.endswith(".raw.gz")]
-            must(len(parts) > 8 and not any(name.endswith(".raw") for name in os.listdir(f"{place}/made")), f"{parts}")
+            must(
+                len(parts) > 8
+                and not any(name.endswith(".raw") for name in os.listdir(f"{place}/made")),
+                f"{parts}",
+            )
             for name in parts:
                 shutil.move(f"{place}/made/{name}", there)
             made.close()
-            must_be("the traces", [tool("psitrace", there, *words).output for words in ((), ("--fold=1",))] == wanted, True)
-            with gzip.open(f"{there}/cpu0.1.raw.gz") as source, open(f"{there}/cpu0.1.raw", "wb") as plain:
+            must_be(
+                "the traces",
+                [tool("psitrace", there, *words).output for words in ((), ("--fold=1",))] == wanted,
+                True,
+            )
+            with gzip.open(f"{there}/cpu0.1.raw.gz") as source, open(
+                f"{there}/cpu0.1.raw", "wb"
+            ) as plain:
                 plain.write(source.read())
             with open(f"{there}/cpu0.1.raw.gz", "wb") as cut:
                 cut.write(b"half")
-            must_be("where a part was about to be compressed", tool("psitrace", there).output == wanted[0], True)
+            must_be("where a part was about to be compressed",
+                    tool("psitrace", there).output == wanted[0], True)
             os.unlink(f"{there}/cpu0.1.raw")
             done = tool("psitrace", there)
-            must_be(f"where a part is broken, of which is said {done.said}", (done.status, "cpu0.raw: " in done.said), (2, True))
+            must_be(f"where a part is broken, of which is said {done.said}",
+                    (done.status, "cpu0.raw: " in done.said), (2, True))
     finally:
         folder.PART_BYTES = before
 
@@ -110,7 +127,8 @@ def check_words_and_faults(_: str) -> None:
     """
     good = text_of(os.path.join(EXAMPLES, "one-wait.trace")).encode()
     for words, given, status, told in (
-        (("-", "--window=1"), good, 0, "a replay at ticks of 1 s, or of a multiple, prints what it prints of the trace"),
+        (("-", "--window=1"), good, 0,
+         "a replay at ticks of 1 s, or of a multiple, prints what it prints of the trace"),
         (("-",), good, 2, "--window"),
         (("-", "--window=0"), good, 2, "is no window"),
         (("-", "--window=0.0015"), good, 2, "is no window"),
@@ -123,32 +141,40 @@ def check_words_and_faults(_: str) -> None:
         (("-", "--window=1"), good[:-9], 2, "has no newline"),
         (("-", "--window=1"), good.replace(b"2000000000 end\n", b""), 2, "isn't that of the end"),
         (("-", "--window=1"), good + b"2000000000 end\n", 2, "line 6"),
-        (("-", "--window=1"), good.replace(b"switch 0 1 idle", b"switch 0 2 idle"), 2, "line 3, '0 switch 0 2 idle'"),
-        (("-", "--window=1"), good.replace(b"0 switch 0 0 iowait", b"0 wake 1 0"), 2, "line 4, '0 wake 1 0'"),
+        (("-", "--window=1"), good.replace(b"switch 0 1 idle", b"switch 0 2 idle"), 2,
+         "line 3, '0 switch 0 2 idle'"),
+        (("-", "--window=1"), good.replace(b"0 switch 0 0 iowait", b"0 wake 1 0"), 2,
+         "line 4, '0 wake 1 0'"),
     ):
         done = tool("fold", *words, given=given)
         must_be(f"the status of {words}, which said {done.said}", done.status, status)
         must(told in done.said, f"{words}: {told} isn't in {done.said}")
     with recording("exec-2") as folder:
-        must_be("who might be killed, of what isn't folded", tool("psitrace", folder, "--victims=a").status, 2)
+        must_be("who might be killed, of what isn't folded",
+                tool("psitrace", folder, "--victims=a").status, 2)
         done = tool("psitrace", folder, "--fold=1", "--lead-in=12min")
-        must_be(f"a pretended past of what is folded: {done.said}", (done.status, done.output, "tools/fold" in done.said), (2, b"", True))
+        must_be(f"a pretended past of what is folded: {done.said}",
+                (done.status, done.output, "tools/fold" in done.said), (2, b"", True))
 
 
 def check_the_limit(_: str) -> None:
     """A trace gets no more events than are allowed: it ends with the last window that fits."""
     for large in (command.LARGE, 0):
         lines = limited(large)
-        must(600 < len(lines) <= 901 and re.fullmatch(rb"[1-9][0-9]?000000000 end", lines[-1]), f"{len(lines)} lines, and {lines[-1]!r}")
+        must(600 < len(lines) <= 901 and re.fullmatch(rb"[1-9][0-9]?000000000 end", lines[-1]),
+             f"{len(lines)} lines, and {lines[-1]!r}")
 
 
 def limited(large: int) -> list[bytes]:
     """Returns the lines of a trace that ends at a limit, if a recording of `large` bytes counts as
     large.
     """
-    limits = mock.patch.object(folded, "MOST_EVENTS", 900), mock.patch.object(command, "LARGE", large)
+    limits = (
+        mock.patch.object(folded, "MOST_EVENTS", 900), mock.patch.object(command, "LARGE", large),
+    )
     with limits[0], limits[1], recording("mix-2") as folder:
-        must_be("the status, and what is written without force", here([folder, "--fold=1"])[:2], (3, b""))
+        must_be("the status, and what is written without force", here([folder, "--fold=1"])[:2],
+                (3, b""))
         status, output, _ = here([folder, "--fold=1", "--force"])
         must_be("the status by force", status, 3)
         return output.splitlines()

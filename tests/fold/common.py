@@ -34,12 +34,15 @@ def printed(program: str, trace: str, *words: str) -> bytes:
     return done.output
 
 
-def must_replay_alike(what: str, program: str, trace: str, other: str, window: int, words: Sequence[str] = ()) -> None:
+def must_replay_alike(
+    what: str, program: str, trace: str, other: str, window: int, words: Sequence[str] = ()
+) -> None:
     """Replays of both traces with ticks of the window and of two multiples print the same bytes."""
     for times in (1, 2, 3):
         if window * times <= 60_000 * MS:
             given = ("replay", f"--tick-ms={window * times // MS}", "--report-s=1", *words)
-            must_print_alike(f"{what}, at {times} windows", printed(program, trace, *given), printed(program, other, *given))
+            must_print_alike(f"{what}, at {times} windows", printed(program, trace, *given),
+                             printed(program, other, *given))
 
 
 def must_print_alike(what: str, wanted: bytes, found: bytes) -> None:
@@ -74,7 +77,9 @@ class Settled(Maker):
     def some_side(self) -> list[Event]:
         (path,) = self.some(self.machine.live)
         size, swap, scanned = (str(self.draw.choice((0, 50, 4096, 9000))) for _ in range(3))
-        return self.some([("mem", path, size, swap, scanned)] * 3 + [("host", "9999", "9999", swap)])
+        return self.some(
+            [("mem", path, size, swap, scanned)] * 3 + [("host", "9999", "9999", swap)]
+        )
 
 
 class Wide(Maker):
@@ -99,7 +104,9 @@ def window_of(maker: Maker, number: int) -> int:
 
 def files_of(folder: str) -> list[str]:
     """Returns the small traces of a folder of the repository."""
-    names = (os.path.join(folder, name) for name in sorted(os.listdir(folder)) if name.endswith(".trace"))
+    names = (
+        os.path.join(folder, name) for name in sorted(os.listdir(folder)) if name.endswith(".trace")
+    )
     return [name for name in names if "refused" not in name]
 
 

@@ -66,12 +66,22 @@ def check_no_task_before_its_window(program: str) -> None:
         json.dump({"rulesets": [LARGEST]}, file)
         file.flush()
         words = ("--rules", file.name, "--interval-s=2")
-        kills = [line for line in printed(program, LATE, "replay", *words).splitlines() if line.startswith(b"kill ")]
-        must(kills[0] == b"kill 2000000000 ruleset=0 action=0 /a", f"at 2 s /b has no task: {kills}")
-        must_replay_alike("a task that comes after a tick", program, LATE, folded(LATE, 2 * SECOND)[0], 2 * SECOND, words)
+        kills = [
+            line
+            for line in printed(program, LATE, "replay", *words).splitlines()
+            if line.startswith(b"kill ")
+        ]
+        must(kills[0] == b"kill 2000000000 ruleset=0 action=0 /a",
+             f"at 2 s /b has no task: {kills}")
+        must_replay_alike("a task that comes after a tick", program, LATE,
+                          folded(LATE, 2 * SECOND)[0], 2 * SECOND, words)
     other, made = folded(SOON, 2 * SECOND)
     must_be("the times", printed(program, other, "stall"), printed(program, SOON, "stall"))
-    forks = [int(line.split(" ")[0]) for line in other.splitlines() if " fork " in line and line.endswith(" /b 0")]
+    forks = [
+        int(line.split(" ")[0])
+        for line in other.splitlines()
+        if " fork " in line and line.endswith(" /b 0")
+    ]
     must_be("when /b gets its first task", min(forks), 2 * SECOND + 1)
     must_be("what rounding left", [left for left in made.check.behind.values() if left], [])
 
@@ -89,7 +99,8 @@ def check_processors_that_fall_silent(_: str) -> None:
                 plain = tool("psitrace", folder, "--force", *words).output
                 made = tool("psitrace", folder, "--force", "--fold=1", *words).output
                 must(len(plain) > 10**5, f"{name} has a trace")
-                must(tool("fold", "-", "--window=1", given=plain).output == made, f"{name} {pages} {words}: both tools give the same")
+                must(tool("fold", "-", "--window=1", given=plain).output == made,
+                     f"{name} {pages} {words}: both tools give the same")
 
 
 # A task of /v moves at 3 s to /w, or in the other trace to the child of /v.
@@ -106,18 +117,22 @@ MOVES = """psitrace 1 cpus=1
 
 
 def check_when_whatif_is_exact(program: str) -> None:
-    """The last line says so only if no task of a victim moves out of it or within it after a kill."""
+    """The last line says so only if no task of a victim moves out of it or within it after a kill.
+    """
     for path in ("/w", "/v/x"):
         trace = MOVES.format(path)
         _, made = folded(trace, 2 * SECOND, [Victim("/v", True)])
         changes = made.outcome().changes
         # A descendant of a victim may be killed by itself.
         wanted = (int(path == "/v/x"), 1, 3 * SECOND)
-        must_be(f"tasks that came to /v, or moved, and when, with {path}", (changes.came, changes.moved, changes.last), wanted)
+        must_be(f"tasks that came to /v, or moved, and when, with {path}",
+                (changes.came, changes.moved, changes.last), wanted)
         done = tool("fold", "-", "--window=2", "--victims=v,v/*", given=trace.encode())
         must("named, if the kills come after 3.000 s; before, it is near: " in done.said, done.said)
-        done = tool("fold", "-", "--window=2", "--victims=v,v/*", given=trace.replace("3000000000 move", "0 move").encode())
-        must("named\n" in done.said or "of them:" in done.said, f"at 0 nothing moves yet: {done.said}")
+        done = tool("fold", "-", "--window=2", "--victims=v,v/*",
+                    given=trace.replace("3000000000 move", "0 move").encode())
+        must("named\n" in done.said or "of them:" in done.said,
+             f"at 0 nothing moves yet: {done.said}")
 
 
 def check_victims_that_are_no_groups(_: str) -> None:
@@ -129,8 +144,12 @@ def check_victims_that_are_no_groups(_: str) -> None:
     for patterns, missing, is_exact in asked:
         done = tool("fold", "-", "--window=2", f"--victims={patterns}", given=trace)
         found = [line for line in done.said.splitlines() if "matches the victims' pattern" in line]
-        must_be(f"the patterns of {patterns}", found, [f"fold: no group of the trace matches the victims' pattern '{it}'" for it in missing])
-        must_be(f"whether whatif is exact, with {patterns}", "`whatif` is exact" in done.said, is_exact)
+        must_be(
+            f"the patterns of {patterns}", found,
+            [f"fold: no group of the trace matches the victims' pattern '{it}'" for it in missing],
+        )
+        must_be(f"whether whatif is exact, with {patterns}", "`whatif` is exact" in done.said,
+                is_exact)
 
 
 def check_limits_of_folding(program: str) -> None:
@@ -146,7 +165,8 @@ def check_limits_of_folding(program: str) -> None:
             must_be("the limit", str(many), "3 tasks")
     quiet = MOVES.format("/w").replace("6000000000", "60000000000") + ""
     longer = tool("fold", "-", "--window=0.5", "--victims=v,w", given=quiet.encode())
-    must_be(f"the status of a trace that is longer, of which was said {longer.said}", longer.status, 3)
+    must_be(f"the status of a trace that is longer, of which was said {longer.said}", longer.status,
+            3)
     must("the folded trace is longer, " in longer.said, longer.said)
     accepted(program, longer.output)
 
@@ -157,26 +177,36 @@ def check_lines_that_are_wrong(_: str) -> None:
     """
     good = LATE.splitlines()
     for number, line, told in (
-        (4, "0 mem /a 10 0 aaa", "malformed"), (4, "0 mem /a 10 0", "malformed"), (4, "0 mem /q 10 0 0", "can't have it"),
-        (4, "0 mem /a 10 0 1152921504606846977", "malformed"), (4, "0 mem /a 010 0 0", "malformed"), (4, "0 host 1 2", "malformed"),
-        (4, "0 prefer /a perhaps", "malformed"), (4, "0 trigger / io some 5 4", "malformed"), (4, "0 prefer a avoid", "malformed"),
-        (4, "0 trigger / io most 500000 500000", "malformed"), (2, "0 group a", "can't be made"), (2, "0 group /a/", "can't be made"),
-        (3, "0 group /a//b", "can't be made"), (6, "0 fork 0 /a 0", "a task's number"), (6, "0 fork 4294967296 /a 0", "a task's number"),
-        (6, "0 fork 1 /a -1", "can't have it"), (6, "0 fork 1 /a 1", "can't have it"), (8, "0 switch -1 1 idle", "can't have it"),
-        (21, f"{'9' * 5000} fork 2 /b 0", "its time is beyond"), (21, "99999999999999999999 fork 2 /b 0", "its time is beyond"),
+        (4, "0 mem /a 10 0 aaa", "malformed"), (4, "0 mem /a 10 0", "malformed"),
+        (4, "0 mem /q 10 0 0", "can't have it"),
+        (4, "0 mem /a 10 0 1152921504606846977", "malformed"), (4, "0 mem /a 010 0 0", "malformed"),
+        (4, "0 host 1 2", "malformed"),
+        (4, "0 prefer /a perhaps", "malformed"), (4, "0 trigger / io some 5 4", "malformed"),
+        (4, "0 prefer a avoid", "malformed"),
+        (4, "0 trigger / io most 500000 500000", "malformed"), (2, "0 group a", "can't be made"),
+        (2, "0 group /a/", "can't be made"),
+        (3, "0 group /a//b", "can't be made"), (6, "0 fork 0 /a 0", "a task's number"),
+        (6, "0 fork 4294967296 /a 0", "a task's number"),
+        (6, "0 fork 1 /a -1", "can't have it"), (6, "0 fork 1 /a 1", "can't have it"),
+        (8, "0 switch -1 1 idle", "can't have it"),
+        (21, f"{'9' * 5000} fork 2 /b 0", "its time is beyond"),
+        (21, "99999999999999999999 fork 2 /b 0", "its time is beyond"),
         (21, "2500000000 fork 2 /\u00e4 0", "aren't ASCII"),
     ):  # fmt: skip
         wrong = [*good[: number - 1], line, *good[number:]]
         done = tool("fold", "-", "--window=2", given="\n".join([*wrong, ""]).encode())
         must_be(f"the status of '{line[:60]}', which said {done.said[-300:]}", done.status, 2)
-        must(f"line {number}" in done.said and told in done.said and len(done.said) < 300, f"{line[:60]}: {done.said[:300]}")
+        must(f"line {number}" in done.said and told in done.said and len(done.said) < 300,
+             f"{line[:60]}: {done.said[:300]}")
 
 
 def check_files_that_are_no_trace(_: str) -> None:
     """The message says what they are."""
     for data, told in (
-        (b"\x1f\x8b\x08\0", "gunzip"), (b"\xfd7zXZ\0", "by xz"), (b"\x17\x08Dtracing", "trace-cmd"), (b"", "empty"),
-        (LATE.replace("\n", "\r\n").encode(), "carriage returns"), (b"report 2000000000 / io\n", "replay printed"),
+        (b"\x1f\x8b\x08\0", "gunzip"), (b"\xfd7zXZ\0", "by xz"), (b"\x17\x08Dtracing", "trace-cmd"),
+        (b"", "empty"),
+        (LATE.replace("\n", "\r\n").encode(), "carriage returns"),
+        (b"report 2000000000 / io\n", "replay printed"),
     ):  # fmt: skip
         with tempfile.NamedTemporaryFile() as file:
             file.write(data)
@@ -197,5 +227,6 @@ def check_bytes_that_are_no_page(_: str) -> None:
         for words in ((), ("--fold=1",)):
             done = tool("psitrace", folder, *words)
             must_be(f"the status with {words}, which said {done.said}", done.status, 0)
-            must("mended: bytes at the end of cpu1.raw that are no whole page: 3\n" in done.said, f"{words}: {done.said}")
+            must("mended: bytes at the end of cpu1.raw that are no whole page: 3\n" in done.said,
+                 f"{words}: {done.said}")
         must(os.path.isdir(folder), "the recording is there")

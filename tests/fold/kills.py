@@ -56,8 +56,13 @@ def whatif() -> ModuleType:
 
 def kills_of(program: str, trace: str, rules: str, tick: int) -> list[str]:
     """Returns the kill lines of a replay at a tick (ns)."""
-    words = ("replay", f"--rules={rules}", f"--tick-ms={tick // MS}", "--report-s=0", "--interval-s=1")
-    return [line for line in printed(program, trace, *words).decode().splitlines() if line.startswith("kill ")]
+    words = ("replay", f"--rules={rules}", f"--tick-ms={tick // MS}", "--report-s=0",
+             "--interval-s=1")
+    return [
+        line
+        for line in printed(program, trace, *words).decode().splitlines()
+        if line.startswith("kill ")
+    ]
 
 
 def packed(rules: list[list[Any]]) -> Iterator[list[Any]]:
@@ -74,7 +79,9 @@ def difference(rules: list[Any], wanted: list[str], found: list[str]) -> str:
     return f"{lines[0]}; ruleset {json.dumps(rules[int(kill[1])])}" if kill else "in another order"
 
 
-def compare(program: str, what: str, traces: tuple[str, str], rules: list[list[Any]], ticks: list[int]) -> Found:
+def compare(
+    program: str, what: str, traces: tuple[str, str], rules: list[list[Any]], ticks: list[int]
+) -> Found:
     """Compares the kills of a trace and of the folded one, with these rules and at these ticks
     (ns).
     """
@@ -87,7 +94,9 @@ def compare(program: str, what: str, traces: tuple[str, str], rules: list[list[A
                 wanted, found = (kills_of(program, trace, file.name, tick) for trace in traces)
                 replays, kills = replays + 1, kills + len(wanted)
                 if wanted != found:
-                    differing.append(f"{what}, tick {tick // MS} ms: {difference(rulesets, wanted, found)}")
+                    differing.append(
+                        f"{what}, tick {tick // MS} ms: {difference(rulesets, wanted, found)}"
+                    )
     return Found(sum(map(len, rules)), replays, kills, differing)
 
 
@@ -121,7 +130,10 @@ def patterns_of(trace: str, draw: random.Random) -> str:
     """Patterns that match some of a trace's groups."""
     groups = [line.split(" ")[2] for line in trace.splitlines() if " group " in line] or ["/"]
     some = draw.sample(groups, min(len(groups), draw.randint(1, 3)))
-    return draw.choice(("*", "*/*", "*,*/*", "*/*,*/*/*", ",".join(some), some[0].rpartition("/")[0].lstrip("/") + "/*" if "/" in some[0][1:] else "*"))
+    return draw.choice(
+        ("*", "*/*", "*,*/*", "*/*,*/*/*", ",".join(some),
+         some[0].rpartition("/")[0].lstrip("/") + "/*" if "/" in some[0][1:] else "*")
+    )
 
 
 def rules_of(trace: str, draw: random.Random) -> list[Any]:

@@ -14,7 +14,10 @@ from collections.abc import Iterator
 from importlib.machinery import SourceFileLoader
 from importlib.util import module_from_spec, spec_from_loader
 
-from fold.common import Settled, Wide, files_of, folded, must_print_alike, must_replay_alike, printed, text_of, window_of
+from fold.common import (
+    Settled, Wide, files_of, folded, must_print_alike, must_replay_alike, printed, text_of,
+    window_of,
+)
 from harness import must, must_be
 from shared.stored import STORED, accepted, recording, text, tool
 from shared.program import TOP
@@ -29,15 +32,22 @@ EXAMPLES = os.path.join(TOP, "examples")
 FOLDERS, TEXTS = ".tar.xz", ".ftrace.gz"
 # Recordings with lost events: the longest interval without loss is folded.
 LOSSY = ("mixlost", "lost-2cpu")
-TRIGGERS = ("--trigger=/ io some 100000 1000000", "--trigger=/ memory full 50000 500000", "--trigger=/ cpu some 200000 2000000")
+TRIGGERS = ("--trigger=/ io some 100000 1000000", "--trigger=/ memory full 50000 500000",
+            "--trigger=/ cpu some 200000 2000000")
 GROUPS = "*,*/*,*/*/*"
 
 
 def ruleset(resource: str, action: str, args: dict[str, str]) -> dict[str, object]:
     """Returns a ruleset that acts on any group that stalls for the resource at all."""
-    stalls = {"name": "pressure_above", "args": {"cgroup": "/," + GROUPS, "resource": resource, "threshold": "0", "duration": "1"}}
+    stalls = {
+        "name": "pressure_above",
+        "args": {"cgroup": "/," + GROUPS, "resource": resource, "threshold": "0", "duration": "1"},
+    }
     taken = {"name": action, "args": {"cgroup": GROUPS, **args}}
-    return {"name": resource, "post_action_delay": "3", "detectors": [["stalls", stalls]], "actions": [taken]}
+    return {
+        "name": resource, "post_action_delay": "3", "detectors": [["stalls", stalls]],
+        "actions": [taken],
+    }
 
 
 RULESETS = (
@@ -79,7 +89,8 @@ def both_by(source: list[str], is_lossy: bool, given: bytes = b"") -> tuple[byte
     words = [*source, *TRIGGERS, *(["--force"] if is_lossy else [])]
     plain, made = (tool("psitrace", *words, *more, given=given) for more in ((), ("--fold=1",)))
     status = 3 if is_lossy else 0
-    must_be(f"the statuses of {' '.join(words)}, of which was said {made.said}", (plain.status, made.status), (status, status))
+    must_be(f"the statuses of {' '.join(words)}, of which was said {made.said}",
+            (plain.status, made.status), (status, status))
     return plain.output, made.output
 
 
@@ -106,11 +117,14 @@ def check_examples_and_kernel_cases(program: str) -> None:
     the runaway's with its rules, too.
     """
     for name in [*files_of(EXAMPLES), *files_of(os.path.join(EXAMPLES, "kernel"))]:
-        options = text_of(name.replace(".trace", ".opts")) if os.path.exists(name.replace(".trace", ".opts")) else ""
+        options = text_of(name.replace(".trace", ".opts")) if os.path.exists(
+            name.replace(".trace", ".opts")
+        ) else ""
         found = re.search(r"--tick-ms[= ]([0-9]+)", options)
         trace, window = text_of(name), int(found[1] if found else 2000) * MS
         other, _ = folded(trace, window)
-        must_replay_alike(os.path.basename(name), program, trace, other, window, RUNAWAY if "runaway" in name else ())
+        must_replay_alike(os.path.basename(name), program, trace, other, window,
+                          RUNAWAY if "runaway" in name else ())
 
 
 # ---------------------------------------------------------------- generated
@@ -134,7 +148,11 @@ def check_generated_traces(program: str) -> None:
         other, fold = folded(trace, window)
         with watching() as words:
             must_replay_alike(f"generated trace {number}", program, trace, other, window, words)
-        must(is_near_whole(fold) or printed(program, trace, "stall") == printed(program, other, "stall"), f"{number}: stall differs")
+        must(
+            is_near_whole(fold)
+            or printed(program, trace, "stall") == printed(program, other, "stall"),
+            f"{number}: stall differs",
+        )
 
 
 def check_kills_that_happen(program: str) -> None:
@@ -152,11 +170,14 @@ def check_kills_that_happen(program: str) -> None:
         with tempfile.NamedTemporaryFile("w", suffix=".json") as file:
             json.dump(rules, file)
             file.flush()
-            words = ("whatif", f"--rules={file.name}", f"--tick-ms={maker.tick // MS}", "--report-s=1", "--interval-s=1")
+            words = ("whatif", f"--rules={file.name}", f"--tick-ms={maker.tick // MS}",
+                     "--report-s=1", "--interval-s=1")
             wanted = printed(program, trace, *words)
             other, fold = folded(trace, maker.tick, list(victims_in(rules)))
-            must_be(f"trace {number}: when tasks came to victims or moved", fold.world.changes.last, 0)
+            must_be(f"trace {number}: when tasks came to victims or moved", fold.world.changes.last,
+                    0)
             must_print_alike(f"whatif of trace {number}", wanted, printed(program, other, *words))
             near += printed(program, folded(trace, maker.tick)[0], *words) != wanted
         kills += b"kill " in wanted
-    must(kills > WHATIFS // 2 and near > WHATIFS // 3, f"there are kills ({kills}), and it matters that victims are named ({near})")
+    must(kills > WHATIFS // 2 and near > WHATIFS // 3,
+         f"there are kills ({kills}), and it matters that victims are named ({near})")

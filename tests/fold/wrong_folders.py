@@ -32,7 +32,8 @@ def without_first(verb: str) -> Callable[[list[Line]], list[Line]]:
     """Leaves out the first line with this verb."""
 
     def change(lines: list[Line]) -> list[Line]:
-        place = next((place for place, (_, words) in enumerate(lines) if words.startswith(verb)), None)
+        place = next((place for place, (_, words) in enumerate(lines) if words.startswith(verb)),
+                     None)
         return lines if place is None else lines[:place] + lines[place + 1 :]
 
     return change
@@ -41,12 +42,19 @@ def without_first(verb: str) -> Callable[[list[Line]], list[Line]]:
 def us_later(lines: list[Line]) -> list[Line]:
     """Makes the lines of the second half of the times 1 us later."""
     middle = lines[len(lines) // 2][0] if lines else 0
-    return [(moment + 1000 if moment >= middle and moment % SECOND else moment, words) for moment, words in lines]
+    return [
+        (moment + 1000 if moment >= middle and moment % SECOND else moment, words)
+        for moment, words in lines
+    ]
 
 
 def elsewhere(lines: list[Line]) -> list[Line]:
     """Moves what is on processor 0 to processor 1."""
-    return [(moment, re.sub(r"^(switch|irq) 0 ", r"\1 1 ", re.sub(r"^((?:wake|fork) .*) 0$", r"\1 1", words))) for moment, words in lines]
+    return [
+        (moment,
+         re.sub(r"^(switch|irq) 0 ", r"\1 1 ", re.sub(r"^((?:wake|fork) .*) 0$", r"\1 1", words)))
+        for moment, words in lines
+    ]
 
 
 def state_lost(few: Any) -> Any:
@@ -55,7 +63,9 @@ def state_lost(few: Any) -> Any:
     def change(*given: Any) -> Any:
         found = few(*given)
         if len(found.times) > 2:
-            shortest, longest = (choose(found.times, key=found.times.__getitem__) for choose in (min, max))
+            shortest, longest = (
+                choose(found.times, key=found.times.__getitem__) for choose in (min, max)
+            )
             found.times[longest] += found.times.pop(shortest)
         return found
 
@@ -65,13 +75,17 @@ def state_lost(few: Any) -> Any:
 def other_kind(joint_state: Any) -> Any:
     """Treats tasks that wait for IO as ready."""
     swap = {Kind.WAITING: Kind.READY}
-    return lambda self, state: frozenset(Element(it.path, swap.get(it.kind, it.kind)) for it in joint_state(self, state))
+    return lambda self, state: frozenset(
+        Element(it.path, swap.get(it.kind, it.kind)) for it in joint_state(self, state)
+    )
 
 
 def early(write: Any) -> Any:
     """Begins with any joint state, and writes the first lines of a window 1 ns early."""
 
-    def change(self: Any, start: int, durations: Any, interrupts: Any = (), present: Any = None) -> list[Line]:
+    def change(
+        self: Any, start: int, durations: Any, interrupts: Any = (), present: Any = None
+    ) -> list[Line]:
         lines: list[Line] = write(self, start, durations, interrupts)
         return [(start if moment == start + 1 else moment, words) for moment, words in lines]
 
@@ -128,7 +142,10 @@ def moved(lines_of: Any) -> Any:
     def change(*given: Any) -> list[str]:
         lines: list[str] = lines_of(*given)
         samples = [line for line in lines if " mem " in line]
-        return [*(line for line in lines if line not in samples), *(f"{int(it.split()[0]) + SECOND} mem /a 5 0 0" for it in samples)]
+        return [
+            *(line for line in lines if line not in samples),
+            *(f"{int(it.split()[0]) + SECOND} mem /a 5 0 0" for it in samples),
+        ]
 
     return change
 
@@ -151,7 +168,8 @@ def check_wrong_folders(program: str) -> None:
             fold.Fold(2, SECOND, written.extend).take(WRONGED.splitlines()[1:])
             raise Wrong(f"{what}, and nobody finds it: {written}")
         except Different as told:
-            must("differs" in str(told) or "can't stand" in str(told) or "removed" in str(told), f"{what}: {told}")
+            must("differs" in str(told) or "can't stand" in str(told) or "removed" in str(told),
+                 f"{what}: {told}")
         finally:
             setattr(place, name, right)
         must(not any(line.endswith(" end") for line in written), f"{what}: nothing more is written")

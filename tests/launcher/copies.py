@@ -14,7 +14,10 @@ from shared.program import TOP
 PAGES = {"psi_oomd": "COMMANDS.md", "psi_observe": "OBSERVERS.md", "psi_convert": "CONVERT.md"}
 PROGRAMS = tuple(PAGES)
 TOOLS = (
-    *("awk", "cat", "chmod", "cp", "date", "dirname", "find", "git", "grep", "head", "mkdir", "mkfifo", "mktemp", "mv", "nproc", "readlink"),
+    *(
+        "awk", "cat", "chmod", "cp", "date", "dirname", "find", "git", "grep", "head", "mkdir",
+        "mkfifo", "mktemp", "mv", "nproc", "readlink",
+    ),
     *("rm", "sed", "sh", "sha256sum", "sleep", "sort", "tail", "touch", "wc", "xargs"),
 )
 # The program's stub prints its arguments, one a line, and exits with status 7.
@@ -48,10 +51,19 @@ done
 printf '%s' "$SAID" >&2
 exit "$STATUS"
 """
-ENDED = "interpreter: no-answer: it lacks something\nchecked: ended status={0}\nraces: no\nrun=ended status={0} runners=1 proved=no\n"
+ENDED = (
+    "interpreter: no-answer: it lacks something\nchecked: ended status={0}\nraces: no\n"
+    "run=ended status={0} runners=1 proved=no\n"
+)
 TOO_LONG = "the program did not end within the time limit"
-WARNED = "nothing is proved by this run: rt builds the program without a proof, which takes a minute or two"
-FIRST_BUILD = r"\((?:20 to 40 minutes the first time on four processors|40 to 80 minutes the first time on \d processors)\)"
+WARNED = (
+    "nothing is proved by this run: rt builds the program without a proof, which takes a minute or "
+    "two"
+)
+FIRST_BUILD = (
+    r"\((?:20 to 40 minutes the first time on four processors|40 to 80 minutes the first time on "
+    r"\d processors)\)"
+)
 # The progress of a build, at the end of each of its lines.
 PROGRESS = r" \(\d+ of about \d+ minutes\)"
 AVOIDED = "; ./{0} --try runs it unproved in a minute or two, and {1}=FILE names a built one"
@@ -71,19 +83,23 @@ class Copy:
         os.makedirs(self.path)
         for file in (name, "tools/launch"):
             shutil.copy(os.path.join(TOP, file), os.path.join(self.top, file))
-        shutil.copytree(os.path.join(TOP, "tools", "launcher"), os.path.join(self.top, "tools", "launcher"))
+        shutil.copytree(os.path.join(TOP, "tools", "launcher"),
+                        os.path.join(self.top, "tools", "launcher"))
         for tool in TOOLS:
             found = shutil.which(tool)
             if found and (has_git or tool != "git"):
                 os.symlink(found, os.path.join(self.path, tool))
 
-    def run(self, *words: str, place: str = "/", given: str = "", **more: str) -> tuple[int, str, str]:
+    def run(
+        self, *words: str, place: str = "/", given: str = "", **more: str
+    ) -> tuple[int, str, str]:
         """Returns the status and both streams of a run; in this folder, with this input and these
         variables.
         """
         words = (os.path.join(self.top, self.name), *words)
         environment = {"PATH": self.path, **more}
-        done = subprocess.run(words, cwd=place, env=environment, input=given, capture_output=True, text=True)
+        done = subprocess.run(words, cwd=place, env=environment, input=given, capture_output=True,
+                              text=True)
         return done.returncode, done.stdout, done.stderr
 
     def give_rt(self) -> str:
@@ -103,8 +119,13 @@ class Copy:
         Returns a folder for its work.
         """
         place, main = self.give_rt(), f"{self.name}_main"
-        texts = {"HANDLES": "", "crates.txt": f"# of what\nlow:\nother: low\n{main}: low # itself\n", f"crates/{main}/args": "1\n"}
-        for name in ("low/src/lib.rt", "low/must-fail/wrong.edit", "other/src/lib.rt", f"{main}/src/main.rt"):
+        texts = {
+            "HANDLES": "", "crates.txt": f"# of what\nlow:\nother: low\n{main}: low # itself\n",
+            f"crates/{main}/args": "1\n",
+        }
+        for name in (
+            "low/src/lib.rt", "low/must-fail/wrong.edit", "other/src/lib.rt", f"{main}/src/main.rt"
+        ):
             texts[f"crates/{name}"] = ""
         for name, text in texts.items():
             os.makedirs(os.path.dirname(os.path.join(self.top, name)), exist_ok=True)
@@ -124,7 +145,9 @@ class Copy:
         """Returns what `rt try` gets for these arguments: the files with their contents, and the
         program's arguments.
         """
-        status, said, error = self.run("--try", *words, SAID="own words\n" + ENDED.format(3), STATUS="3", **more)
+        status, said, error = self.run(
+            "--try", *words, SAID="own words\n" + ENDED.format(3), STATUS="3", **more
+        )
         told = "".join(f"{self.name}: {line}\n" for line in (WARNED, BUILDS.format(self.name)))
         must_be(f"--try {words}", (status, error), (3, f"{told}own words\n"))
         lines = said.splitlines()
@@ -135,8 +158,12 @@ class Copy:
 
     def git(self, *words: str) -> str:
         """Returns the output of git in this folder, with an author of its own."""
-        author = [word for name in ("user.name=a", "user.email=a@example.org") for word in ("-c", name)]
-        return subprocess.run(["git", *author, *words], cwd=self.top, check=True, capture_output=True, text=True).stdout.strip()
+        author = [
+            word for name in ("user.name=a", "user.email=a@example.org") for word in ("-c", name)
+        ]
+        return subprocess.run(
+            ["git", *author, *words], cwd=self.top, check=True, capture_output=True, text=True
+        ).stdout.strip()
 
     def give_program(self, more: str = ":") -> None:
         """Puts a program at the launcher's path for it, newer than its sources. It runs `more`
@@ -157,7 +184,9 @@ class Copy:
 
 def must_match(what: str, lines: list[str], patterns: list[str]) -> None:
     """Each line matches its pattern."""
-    is_right = len(lines) == len(patterns) and all(re.fullmatch(pattern, line) for pattern, line in zip(patterns, lines))
+    is_right = len(lines) == len(patterns) and all(
+        re.fullmatch(pattern, line) for pattern, line in zip(patterns, lines)
+    )
     must(is_right, f"{what}: {lines}, not {patterns}")
 
 
@@ -168,6 +197,8 @@ def copies(room: str, has_git: bool = True) -> Iterator[Copy]:
 
 
 # Valid arguments of each program, with standard input.
-RIGHT = {"psi_oomd": ("check", "-"), "psi_observe": ("-", "1", "/"), "psi_convert": ("events", "-", "-")}
+RIGHT = {
+    "psi_oomd": ("check", "-"), "psi_observe": ("-", "1", "/"), "psi_convert": ("events", "-", "-")
+}
 # All arguments of `gen` but one.
 GEN = "--seed 1 --cpus 1 --groups 1".split()

@@ -21,8 +21,10 @@ TIMES = (
     ("2026-11-28T13:58:12Z", "90.5", 90.5),
 )
 OUTSIDE = (
-    ("2026-11-28T13:58:12Z", "13:58", "isn't in the trace, which was recorded from 13:58:12 on 28 November 2026 to 14:58:12, UTC"),
-    ("2026-11-28T23:30:00Z", "12:00", "from 23:30:00 on 28 November 2026 to 00:30:00 on 29 November, UTC"),
+    ("2026-11-28T13:58:12Z", "13:58",
+     "isn't in the trace, which was recorded from 13:58:12 on 28 November 2026 to 14:58:12, UTC"),
+    ("2026-11-28T23:30:00Z", "12:00",
+     "from 23:30:00 on 28 November 2026 to 00:30:00 on 29 November, UTC"),
     ("2026-11-28T13:58:12Z", "2026-11-28T13:58:11Z", "isn't in the trace"),
 )
 MALFORMED = ("24:00", "14:60", "14:03:60", "14", "1e3", "14:3", "2026-11-28T14:03:10", "-1")
@@ -40,11 +42,18 @@ def said_by(call: object, *words: object) -> str:
 def check_times_of_day(_: Room) -> None:
     """A time of day is the first one after the trace's start, in its zone."""
     for start, word, wanted in TIMES:
-        must_be(f"{word} in a trace from {start}", time_in(time_given(word), wall_time(start), 3600 * SECOND, "--at"), wanted * SECOND)
+        must_be(f"{word} in a trace from {start}",
+                time_in(time_given(word), wall_time(start), 3600 * SECOND, "--at"), wanted * SECOND)
     for start, word, wanted_text in OUTSIDE:
         said = said_by(time_in, time_given(word), wall_time(start), 3600 * SECOND, "--at")
-        must_be(f"{word} in a trace from {start}: {said}", (said.startswith(f"--at {word}"), wanted_text in said), (True, True))
-    must_be("without a start", "nothing says when the trace began" in said_by(time_in, time_given("14:03"), None, 1, "--at"), True)
+        must_be(f"{word} in a trace from {start}: {said}",
+                (said.startswith(f"--at {word}"), wanted_text in said), (True, True))
+    must_be(
+        "without a start",
+        "nothing says when the trace began"
+        in said_by(time_in, time_given("14:03"), None, 1, "--at"),
+        True,
+    )
     for word in MALFORMED:
         if word != "14":
             must_be(f"{word} is rejected", said_by(time_given, word) != "", True)
@@ -65,22 +74,30 @@ def check_zones(_: Room) -> None:
 
 
 NUMBER, OTHER, UID = "4fd3" * 16, "4fe4" * 16, "0a1b2c3d-0000-1111-2222-333344445555"
-LABELS = {"io.kubernetes.pod.name": "web-7", "io.kubernetes.pod.namespace": "prod", "io.kubernetes.pod.uid": UID}
+LABELS = {
+    "io.kubernetes.pod.name": "web-7", "io.kubernetes.pod.namespace": "prod",
+    "io.kubernetes.pod.uid": UID,
+}
 FORMATS: tuple[tuple[str, dict[str, str]], ...] = (
     (f"# a comment\n{NUMBER} web\n{UID} prod/web-7\n", {NUMBER: "web", UID: "prod/web-7"}),
     (f"{NUMBER[:12]}   a web  \n", {NUMBER[:12]: "a web"}),
     (json.dumps({"containers": [{"id": NUMBER, "metadata": {"name": "nginx"}, "labels": LABELS}]}),
      {NUMBER: "prod/web-7/nginx", UID: "prod/web-7"}),
-    (json.dumps({"items": [{"id": OTHER, "metadata": {"name": "web-7", "uid": UID, "namespace": "prod"}}]}),
+    (
+     json.dumps(
+         {"items": [{"id": OTHER, "metadata": {"name": "web-7", "uid": UID, "namespace": "prod"}}]}
+     ),
      {OTHER: "prod/web-7/sandbox", UID: "prod/web-7"}),
-    (f'{{"ID":"{NUMBER}","Names":"web"}}\n{{"ID":"{OTHER}","Names":"db"}}\n', {NUMBER: "web", OTHER: "db"}),
+    (f'{{"ID":"{NUMBER}","Names":"web"}}\n{{"ID":"{OTHER}","Names":"db"}}\n',
+     {NUMBER: "web", OTHER: "db"}),
     (json.dumps([{"Id": NUMBER, "Names": ["web", "alias"]}]), {NUMBER: "web"}),
     (json.dumps([{"Id": NUMBER, "Name": "/web"}]), {NUMBER: "web"}),
     ("", {}),
     ("[]", {}),
 )  # fmt: skip
 PATHS = (
-    (f"/kubepods.slice/kubepods-pod{UID.replace('-', '_')}.slice/cri-containerd-{NUMBER}.scope", "/kubepods.slice/{prod/web-7}/{web}"),
+    (f"/kubepods.slice/kubepods-pod{UID.replace('-', '_')}.slice/cri-containerd-{NUMBER}.scope",
+     "/kubepods.slice/{prod/web-7}/{web}"),
     (f"/kubepods/burstable/pod{UID}/{NUMBER}", "/kubepods/burstable/{prod/web-7}/{web}"),
     (f"/system.slice/docker-{NUMBER}.scope/init", "/system.slice/{web}/init"),
     (f"/docker/{'ab' * 32}", f"/docker/{'ab' * 32}"),
@@ -109,7 +126,14 @@ def check_paths_of_containers(_: Room) -> None:
     must_be("by its unit", names.find("y.service", paths, "here"), "/b/y.service")
     must_be("two units", said_by(names.find, "x.service", paths, "here"),
             "x.service is the name of 2 groups here: /a/x.service, /b/x.service")  # fmt: skip
-    must_be("none", said_by(names.find, "z.service", paths, "here").startswith("no group z.service here, which has "), True)
+    must_be(
+        "none",
+        said_by(names.find, "z.service", paths, "here").startswith(
+            "no group z.service here, which has "
+        ),
+        True,
+    )
     same = GroupNames({NUMBER: "web", OTHER: "web", "77" * 32: "a {b}"})
-    must_be("two of one name", [same.shown(f"/docker/{it}") for it in (NUMBER, OTHER)], ["/docker/{web@4fd34f}", "/docker/{web@4fe44f}"])
+    must_be("two of one name", [same.shown(f"/docker/{it}") for it in (NUMBER, OTHER)],
+            ["/docker/{web@4fd34f}", "/docker/{web@4fe44f}"])
     must_be("braces", same.shown(f"/docker/{'77' * 32}"), r"/docker/{a\x20\x7bb\x7d}")

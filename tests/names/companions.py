@@ -17,7 +17,9 @@ def first_process(label: int) -> int:
     return 1000 + label
 
 
-def companion(trace: str, names: dict[int, str], begins: str = BEGAN, processes: dict[int, int] = {}) -> Companion:  # noqa: B006
+def companion(  # noqa: B006
+    trace: str, names: dict[int, str], begins: str = BEGAN, processes: dict[int, int] = {}
+) -> Companion:
     """Returns the companion of a trace: `names` by label, and `processes` of labels that are
     threads.
     """

@@ -15,8 +15,12 @@ from psinames.text import escaped, is_escaped
 from psiconvert.anonymous import Anonymous
 
 ROUNDS = 30
-HOSTILE = "<script>alert(1)</script>".encode(), b"a\x1b[31mb", b"\xff\xfe", "\u202eevil".encode(), b"a\\b", b"two\nlines", "größe".encode()
-ESCAPED = ("<script>alert(1)</script>", r"a\x1b[31mb", r"\xff\xfe", r"\xe2\x80\xaeevil", r"a\x5cb", r"two\x0alines", "größe")
+HOSTILE = (
+    "<script>alert(1)</script>".encode(), b"a\x1b[31mb", b"\xff\xfe", "\u202eevil".encode(),
+    b"a\\b", b"two\nlines", "größe".encode(),
+)
+ESCAPED = ("<script>alert(1)</script>", r"a\x1b[31mb", r"\xff\xfe", r"\xe2\x80\xaeevil", r"a\x5cb",
+           r"two\x0alines", "größe")
 
 
 def runaway() -> str:
@@ -42,14 +46,18 @@ def check_a_file_is_read_as_it_was_written(room: Room) -> None:
     trace = runaway()
     processes: tuple[dict[int, int], ...] = ({}, {2: 1001})
     for _ in range(ROUNDS):
-        names = {label: escaped(draw.choice(HOSTILE) + draw.choice(string.printable).encode()) for label in (1, 2, 3)}
+        names = {
+            label: escaped(draw.choice(HOSTILE) + draw.choice(string.printable).encode())
+            for label in (1, 2, 3)
+        }
         wanted = companion(trace, names, processes=draw.choice(processes))
         wanted.begins, wanted.containers = draw.choice((0, 10**9)), {"ab" * 32: names[1]}
         wanted.tasks[0].rename(10**9, names[2])
         with_companion(room, "r.trace", trace, wanted)
         found = read(f"{room.path}/r.trace.names")
         must_be("the lines", list(lines_of(found)), list(lines_of(wanted)))
-        must_be("the leaders", [it.leader.task for it in found.tasks], [it.leader.task for it in wanted.tasks])
+        must_be("the leaders", [it.leader.task for it in found.tasks],
+                [it.leader.task for it in wanted.tasks])
 
 
 def check_damaged_files(room: Room) -> None:
@@ -60,21 +68,33 @@ def check_damaged_files(room: Room) -> None:
     with open(name, encoding="utf-8") as file:
         lines = file.readlines()
     for place, line, wanted in (
-        (0, "psinames 2\n", "blame: r.trace.names isn't a companion file of a trace: it doesn't begin with 'psinames 1'"),
-        (2, "length x\n", "blame: r.trace.names: line 3 isn't one of a companion file: make the trace again"),
-        (4, "task 1 0 5 1 1 \x1b[31m\n", "blame: r.trace.names: line 5 isn't one of a companion file: make the trace again"),
-        (3, "start yesterday\n", "blame: r.trace.names: line 4 isn't one of a companion file: make the trace again"),
+        (
+            0, "psinames 2\n",
+            (
+                "blame: r.trace.names isn't a companion file of a trace: it doesn't begin with "
+                "'psinames 1'"
+            ),
+        ),
+        (2, "length x\n",
+         "blame: r.trace.names: line 3 isn't one of a companion file: make the trace again"),
+        (4, "task 1 0 5 1 1 \x1b[31m\n",
+         "blame: r.trace.names: line 5 isn't one of a companion file: make the trace again"),
+        (3, "start yesterday\n",
+         "blame: r.trace.names: line 4 isn't one of a companion file: make the trace again"),
         (len(lines) - 1, "", "blame: r.trace.names is cut off: make the trace again"),
     ):
         room.file("r.trace.names", "".join([*lines[:place], line, *lines[place + 1 :]]))
         done = room.run("tools/blame", "r.trace")
-        must_be(f"line {place + 1} is {line!r}", (done.status, done.output, done.error.splitlines()[0]), (2, "", wanted))
+        must_be(f"line {place + 1} is {line!r}",
+                (done.status, done.output, done.error.splitlines()[0]), (2, "", wanted))
     room.file("r.trace.names", "".join(lines))
     must_be("the right one", room.run("tools/blame", "r.trace").status, 0)
     room.file("r.trace", trace.replace("1374000000", "1374000001"))
     done = room.run("tools/blame", "r.trace")
     must_be("another trace", (done.status, done.output, done.error), (
-        2, "", "blame: r.trace.names is the companion of another trace: its trace has another SHA-256 than r.trace: make both with"
+        2, "",
+        "blame: r.trace.names is the companion of another trace: its trace has another SHA-256 "
+        "than r.trace: make both with"
         " psitrace -o, or remove it\n"))  # fmt: skip
     room.file("r.trace", trace.replace("300000000000 end", "3000000000000 end"))
     must("bytes" in room.run("tools/blame", "r.trace").error, "a longer trace")
@@ -108,12 +128,16 @@ def check_anonymous_traces(room: Room) -> None:
             text += file.read()
     for secret in ("web", "batch", "import", "index", *names.values()):
         must(secret not in text, f"{secret} is gone")
-    paths = {"/": "/", "/web": "/g1", "/batch": "/g2", "/batch/import": "/g2/g3", "/batch/index": "/g2/g4"}
+    paths = {
+        "/": "/", "/web": "/g1", "/batch": "/g2", "/batch/import": "/g2/g3",
+        "/batch/index": "/g2/g4",
+    }
     for what in ("stall", "replay"):
         wanted = room.run("psi_oomd", what, "r.trace").output
         for path, number in sorted(paths.items(), reverse=True):
             wanted = wanted.replace(f" {path} ", f" {number} ")
         found = room.run("psi_oomd", what, "a.trace").output
         must_be(f"what {what} prints", sorted(found.splitlines()), sorted(wanted.splitlines()))
-    must_be("a line of the summary", anonymous.text("not accounted all the time: /batch/index, /web: lines"),
+    must_be("a line of the summary",
+            anonymous.text("not accounted all the time: /batch/index, /web: lines"),
             "not accounted all the time: /g2/g4, /g1: lines")  # fmt: skip

@@ -1,5 +1,5 @@
-"""Cases of processes in blame: each part of a wait, by process, is what blame without names says if each process had a group of
-its own.
+"""Cases of processes in blame: each part of a wait, by process, is what blame without names says if
+each process had a group of its own.
 """
 from __future__ import annotations
 
@@ -44,7 +44,9 @@ def with_groups_of_processes(trace: str) -> str:
     for line in trace.splitlines():
         now, verb, *fields = [*line.split(), ""]
         if verb == "fork":
-            lines.append(f"{now} fork {fields[0]} {group_of(now, fields[1], fields[0])} {fields[2]}")
+            lines.append(
+                f"{now} fork {fields[0]} {group_of(now, fields[1], fields[0])} {fields[2]}"
+            )
         elif verb == "move":
             lines.append(f"{now} move {fields[0]} {group_of(now, fields[1], fields[0])}")
         elif verb == "rmgroup":
@@ -70,7 +72,8 @@ def base(name: str) -> str:
 
 
 def check_parts_by_process(room: Room) -> None:
-    """In random traces, with threads and moves, times by process are those of groups of processes."""
+    """In random traces, with threads and moves, times by process are those of groups of processes.
+    """
     for seed in range(TRACES):
         trace = Load(seed, 1).trace()
         with_companion(room, "a.trace", trace, companion(trace, {}, processes=THREADS))
@@ -80,11 +83,15 @@ def check_parts_by_process(room: Room) -> None:
             wanted: Counter[tuple[str, int]] = Counter()
             for part in plain[it["group"]]["while_ran"]:
                 if part["group"] is not None:
-                    wanted[base(part["group"]), int(part["group"].partition("#")[0].rpartition("/p")[2])] += part["ns"]
+                    wanted[
+                        base(part["group"]),
+                        int(part["group"].partition("#")[0].rpartition("/p")[2]),
+                    ] += part["ns"]
             found: Counter[tuple[str, int]] = Counter()
             for part in it["while_ran"]:
                 shares = part.get("processes", [])
-                must_be("the parts of a part", sum(share["ns"] for share in shares), part["ns"] if part["group"] is not None else 0)
+                must_be("the parts of a part", sum(share["ns"] for share in shares),
+                        part["ns"] if part["group"] is not None else 0)
                 for share in shares:
                     found[part["group"].partition("#")[0], share["pids"][0]] += share["ns"]
             must_be(f"trace {seed}, who ran while {it['group']} waited", found, wanted)
@@ -100,7 +107,8 @@ def check_names_in_the_text(room: Room) -> None:
     """A group's processes are named after its times, and left out with --no-names."""
     with open(RUNAWAY, encoding="ascii") as file:
         trace = file.read()
-    with_companion(room, "r.trace", trace, companion(trace, {1: "httpd", 2: "indexer", 3: "import"}))
+    with_companion(room, "r.trace", trace,
+                   companion(trace, {1: "httpd", 2: "indexer", 3: "import"}))
     words = (BLAME, "r.trace", "--group", "/batch/index", "--from", "14:01:40", "--to", "14:03:40")
     done = room.run(*words)
     must_be("the status", (done.status, done.error), (0, ""))

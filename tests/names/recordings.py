@@ -27,7 +27,9 @@ def made(room: Room, folder: str, *words: str) -> tuple[str, Companion, str]:
 
 
 def check_tasks_of_a_recording(room: Room) -> None:
-    """Each task of the trace is in the companion, with its names before and after exec; a part of the recording knows them too."""
+    """Each task of the trace is in the companion, with its names before and after exec; a part of
+    the recording knows them too.
+    """
     with recording("exec-2") as folder:
         trace, found, said = made(room, folder, "--start", START)
         forks = sorted((int(label), int(now)) for now, label in FORK.findall(trace))
@@ -39,8 +41,13 @@ def check_tasks_of_a_recording(room: Room) -> None:
         renamed = [it for it in found.tasks if len({name for _, name in it.names}) > 1]
         must(renamed != [], "some task has several names")
         _, part, _ = made(room, folder, "--from", "5")
-        names = {it.task: it.name_at(5 * SECOND) for it in found.tasks if it.first <= 5 * SECOND and it.name}
-        must_be("a name before the part", next(it for it in part.tasks if it.task == 1).name, names[1])
+        names = {
+            it.task: it.name_at(5 * SECOND)
+            for it in found.tasks
+            if it.first <= 5 * SECOND and it.name
+        }
+        must_be("a name before the part", next(it for it in part.tasks if it.task == 1).name,
+                names[1])
         _, bare, _ = made(room, folder, "--no-names")
         must_be("without names", (bare.tasks, bare.busy, bare.containers), ([], [], {}))
 
@@ -63,11 +70,15 @@ def check_an_anonymous_recording(room: Room) -> None:
         hidden, anonymous, _ = made(room, folder, "--anonymize")
     paths = set(re.findall(r"^\d+ group (\S+)$", trace, re.MULTILINE))
     text = "\n".join([hidden, *lines_of(anonymous)])
-    for secret in {*(part for path in paths for part in path.split("/") if part), *(it.name for it in found.tasks if len(it.name) > 2)}:
+    for secret in {
+        *(part for path in paths for part in path.split("/") if part),
+        *(it.name for it in found.tasks if len(it.name) > 2),
+    }:
         must(secret not in text, f"{secret} is gone")
     must_be("the lines", len(hidden.splitlines()), len(trace.splitlines()))
     must_be("what check says", room.run("psi_oomd", "check", "x.trace").status, 0)
-    must_be("the times", [line.split()[0] for line in hidden.splitlines()], [line.split()[0] for line in trace.splitlines()])
+    must_be("the times", [line.split()[0] for line in hidden.splitlines()],
+            [line.split()[0] for line in trace.splitlines()])
 
 
 def check_the_clock_of_a_recording(room: Room) -> None:
@@ -76,7 +87,8 @@ def check_the_clock_of_a_recording(room: Room) -> None:
         _, found, said = made(room, folder, "--from", "3", "--to", "4", "--tz", "+05:45")
     assert found.start
     shown = re.search(r"0 is (\S+) (\S+) UTC", said)
-    must_be("the start", shown and wall_text(found.start._replace(ahead=0))[:23], shown and f"{shown[1]}T{shown[2]}")
+    must_be("the start", shown and wall_text(found.start._replace(ahead=0))[:23],
+            shown and f"{shown[1]}T{shown[2]}")
     must_be("the zone", found.start.ahead, (5 * 3600 + 45 * 60) * SECOND)
     done = room.run(PSITRACE, "x.trace.names", "-o", "y.trace")
     must_be("a companion in place of a recording", (done.status, done.output), (2, ""))

@@ -38,13 +38,17 @@ def check_that_rules_differ_where_stored(room: Room) -> None:
     """psi_oomd's own kills with the same files: 39 experiments differ."""
     for it in FOUND:
         run = run_of(room, it)
-        words = (run.trace, "--rules", run.config, "--tick-ms", "1000", "--interval-s", str(it.interval))
+        words = (run.trace, "--rules", run.config, "--tick-ms", "1000", "--interval-s",
+                 str(it.interval))
         done = room.run("psi_oomd", "replay", *words, "--report-s", "0")
         if it.rules == "refused":
             must_be(f"{it.name}: the status", done.status, 3)
             continue
         kills = [it_.split() for it_ in done.output.splitlines() if it_.startswith("kill ")]
-        found = [f"{int(at) / 10**9:g}s:{path}{who(ruleset, action)}" for _, at, ruleset, action, path in kills]
+        found = [
+            f"{int(at) / 10**9:g}s:{path}{who(ruleset, action)}"
+            for _, at, ruleset, action, path in kills
+        ]
         must_be(f"{it.name}: psi_oomd's kills", " ".join(found) or "none", it.rules)
     must_be("how many differ", sum(it.oomd != it.rules for it in FOUND), 39)
 
@@ -81,8 +85,12 @@ def some_rules() -> dict[str, str]:
     found = {it: written(watching(it, "*/*,*/*/*")) for it in actions}
     found["down"] = written(watching(GROWTH, "*", recursive="true"))
     io = plugin("pressure_above", "/", resource="io", threshold=5, duration=2)
-    found["io"] = written(rules([io], plugin("kill_by_pressure", "*", resource="io", post_action_delay=5)))
-    found["always"] = written(rules(ALWAYS, plugin(GROWTH, "*,*/*", size_threshold=70, post_action_delay=2)))
+    found["io"] = written(
+        rules([io], plugin("kill_by_pressure", "*", resource="io", post_action_delay=5))
+    )
+    found["always"] = written(
+        rules(ALWAYS, plugin(GROWTH, "*,*/*", size_threshold=70, post_action_delay=2))
+    )
     with open(os.path.join(TOP, "tests/oomd/oomd.json"), encoding="utf-8") as file:
         found["debian"] = file.read()
     return found

@@ -43,7 +43,8 @@ def alone(check: Callable[[Room], None]) -> Callable[[Room], None]:
         paths = [os.path.join(TOP, it) for it in ("tests", "tools")]
         name, module = check.__name__, check.__module__
         source = (
-            f"import sys; sys.path[:0] = {paths!r}; from shared.rooms import Room; from {module} import {name}; "
+            f"import sys; sys.path[:0] = {paths!r}; from shared.rooms import Room; from {module} "
+            f"import {name}; "
             f"{name}.__wrapped__(Room({room.program!r}, {room.path!r}))"
         )
         done = subprocess.run([sys.executable, "-B", "-c", source], capture_output=True, text=True)
@@ -92,7 +93,9 @@ def must_agree(what: str, it: Engine, kills: list[Kill]) -> None:
     """Every kill is allowed by the emulation: the same, or one of equal rank."""
     for own, other in zip(it.decisions, kills):
         found = own.kill()
-        same = (found.moment, found.ruleset, found.action) == (other.moment, other.ruleset, other.action)
+        same = (found.moment, found.ruleset, found.action) == (
+            other.moment, other.ruleset, other.action
+        )
         must(same and own.may_kill(other.path), f"{what}: oomd {other}, the emulation {found}")
     must_be(f"{what}: how many kills", len(it.decisions), len(kills))
 
@@ -103,7 +106,11 @@ def must_be_stored(what: str, it: Engine, wanted: str) -> None:
         must(it.crash, f"{what}: oomd crashes, and the emulation doesn't say so")
         return
     stored = kills_of(wanted)
-    found = [[spelled(own.kill()).replace(own.victim.path, path) for path in (own.victim.path, *own.victim.equals)]
+    found = [
+             [
+                 spelled(own.kill()).replace(own.victim.path, path)
+                 for path in (own.victim.path, *own.victim.equals)
+             ]
              for own in it.decisions]  # fmt: skip
     must_be(f"{what}: how many kills, {found}", len(found), len(stored))
     for own, kill in zip(found, stored):

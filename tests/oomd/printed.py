@@ -37,8 +37,11 @@ def kills(room: Room, *words: str) -> list[tuple[int, str]]:
 
 
 def check_the_whole_output(room: Room) -> None:
-    story = Story("/a", "/b", "/e").task("/a").task("/b").mem(0, "/a", 60 * MIB).mem(0, "/b", 40 * MIB)
-    words = put(room, story.mem(0, "/e", 20 * MIB).put(0, "prefer /b avoid"), 2, rules(ALWAYS, plugin(GROWTH, "*")))
+    story = (
+        Story("/a", "/b", "/e").task("/a").task("/b").mem(0, "/a", 60 * MIB).mem(0, "/b", 40 * MIB)
+    )
+    words = put(room, story.mem(0, "/e", 20 * MIB).put(0, "prefer /b avoid"), 2,
+                rules(ALWAYS, plugin(GROWTH, "*")))
     done = room.run(OOMD, *words, "--interval-s", "1")
     done.must_print("the output", 0, f"""1 s  would kill /a
      by ruleset 0 'r', action 0 '{GROWTH}'
@@ -68,12 +71,17 @@ def check_json(room: Room) -> None:
     words = put(room, story, 2, rules(ALWAYS, plugin(SWAP, "*", dry="true")))
     record = room.run(OOMD, *words, "--interval-s", "1", "--json").json()
     assert isinstance(record, dict)
-    must_be("what it was asked", (record["trace"], record["config"], record["interval_s"]), ("t.trace", "c.json", 1))
-    must_be("the looks", (record["oomd"], record["looks"], record["binary"], record["compared"]), ("0.5.0", 2, None, None))
+    must_be("what it was asked", (record["trace"], record["config"], record["interval_s"]),
+            ("t.trace", "c.json", 1))
+    must_be("the looks", (record["oomd"], record["looks"], record["binary"], record["compared"]),
+            ("0.5.0", 2, None, None))
     (kill,) = record["decisions"]
-    must_be("who", [kill[it] for it in ("moment_ns", "ruleset", "ruleset_name", "action", "plugin")], [SECOND, 0, "r", 0, SWAP])
+    must_be("who",
+            [kill[it] for it in ("moment_ns", "ruleset", "ruleset_name", "action", "plugin")],
+            [SECOND, 0, "r", 0, SWAP])
     must_be("whom", (kill["victim"], kill["equal"], kill["dry"]), ("/a", ["/b"], True))
-    must_be("candidates", [(it["path"], it["rank"]) for it in kill["candidates"]], [("/a", "swap 50"), ("/b", "swap 50")])
+    must_be("candidates", [(it["path"], it["rank"]) for it in kill["candidates"]],
+            [("/a", "swap 50"), ("/b", "swap 50")])
     text = room.run(OOMD, *words, "--interval-s", "1").output
     must("equal in rank, so oomd may kill it instead: /b\n" in text, text)
     must("dry: oomd would only log this kill\n" in text, text)
@@ -84,7 +92,9 @@ def check_many_candidates(room: Room) -> None:
     for it in range(8):
         story.task(f"/{it}").mem(0, f"/{it}", it * MIB)
     words = put(room, story, 1, rules(ALWAYS, plugin(GROWTH, "*")))
-    few, every = (room.run(OOMD, *words, "--interval-s", "1", *more).output for more in ((), ("--all",)))
+    few, every = (
+        room.run(OOMD, *words, "--interval-s", "1", *more).output for more in ((), ("--all",))
+    )
     must("     not 3 more, which --all shows\n" in few, few)
     must_be("how many", (few.count("     not /"), every.count("     not /")), (4, 7))
 
@@ -95,7 +105,12 @@ def check_nobody(room: Room) -> None:
     done = room.run(OOMD, *words, "--interval-s", "1")
     lines = done.output.splitlines()
     must_be("the first line", lines[0], "nobody would be killed")
-    must(lines[1].startswith("c.json: ruleset 0 'r', group 0 'g', item 0 'pressure_above': at most 1"), lines[1])
+    must(
+        lines[1].startswith(
+            "c.json: ruleset 0 'r', group 0 'g', item 0 'pressure_above': at most 1"
+        ),
+        lines[1],
+    )
     must(lines[1].endswith(" % of /a, at 2 s; limit 15 % for 3 s"), lines[1])
 
 
@@ -112,21 +127,29 @@ def check_given_numbers(room: Room) -> None:
     story = Story("/s", "/s/a", "/s/b").task("/s/a").task("/s/b")
     story.mem(0, "/s", 100 * MIB).mem(0, "/s/a", 60 * MIB).mem(0, "/s/b", 40 * MIB)
     words = put(room, story, 1, rules(ALWAYS, plugin(GROWTH, "s/*", size_threshold=0)))
-    low = [f"--given=/s{it}/memory.low={size * MIB}" for it, size in (("", 30), ("/a", 60), ("/b", 0))]
+    low = [
+        f"--given=/s{it}/memory.low={size * MIB}" for it, size in (("", 30), ("/a", 60), ("/b", 0))
+    ]
     must_be("the largest", kills(room, *words), [(1, "/s/a")])
     # 30 MiB of its 60 are protected, since its parent has no more: 30 remain, and /s/b has 40.
     must_be("with protection", kills(room, *words, *low), [(1, "/s/b")])
     must_be("without the parent's", kills(room, *words, *low[1:]), [(1, "/s/a")])
-    dying = rules([plugin("nr_dying_descendants", "s", count=3, lte="false")], plugin(GROWTH, "s/*"))
+    dying = rules([plugin("nr_dying_descendants", "s", count=3, lte="false")],
+                  plugin(GROWTH, "s/*"))
     words = put(room, story, 1, dying)
     must_be("no dying group", kills(room, *words), [])
     must_be("four", kills(room, *words, "--given", "/s/nr_dying_descendants=4"), [(1, "/s/a")])
-    must("left" not in room.run(OOMD, *words).error and "no dying groups" in room.run(OOMD, *words).error, "it is said")
+    must(
+        "left" not in room.run(OOMD, *words).error
+        and "no dying groups" in room.run(OOMD, *words).error,
+        "it is said",
+    )
 
 
 def check_warm(room: Room) -> None:
     """A condition that holds at the start kills before it, and growth has a past."""
-    words = put(room, Story("/a").task("/a").mem(0, "/a", 5), 2, rules(ALWAYS, plugin(GROWTH, "a", post_action_delay=2)))
+    words = put(room, Story("/a").task("/a").mem(0, "/a", 5), 2,
+                rules(ALWAYS, plugin(GROWTH, "a", post_action_delay=2)))
     must_be("without a past", kills(room, *words), [(1, "/a")])
     must_be("with one", kills(room, *words, "--warm", "3"), [(-2, "/a"), (0, "/a"), (2, "/a")])
 
@@ -136,7 +159,8 @@ def check_drop_ins(room: Room) -> None:
     `disable-on-drop-in`.
     """
     story = Story("/a", "/b").task("/a").task("/b").mem(0, "/a", 5).mem(0, "/b", 5)
-    part = room.file("part.json", written({"rulesets": [{"name": "r", "actions": [plugin(GROWTH, "b")]}]}))
+    part = room.file("part.json",
+                     written({"rulesets": [{"name": "r", "actions": [plugin(GROWTH, "b")]}]}))
     for switches, wanted in (
         ({}, [(1, "/a")]),
         ({"actions": True}, [(1, "/b"), (1, "/a")]),
@@ -147,19 +171,29 @@ def check_drop_ins(room: Room) -> None:
         must_be(f"by {switches}", kills(room, *words), wanted)
         if not switches:
             said = room.run(OOMD, *words).error
-            must("Error: Action drop-in configs disabled: it goes on without this file" in said, said)
+            must("Error: Action drop-in configs disabled: it goes on without this file" in said,
+                 said)
         if both.has_oomd():
-            record = json.loads(room.run(OOMD, *words, "--interval-s=1", "--json", "--binary", "--sandbox", both.sandbox()).output)
+            record = json.loads(
+                room.run(
+                    OOMD, *words, "--interval-s=1", "--json", "--binary", "--sandbox",
+                    both.sandbox(),
+                ).output
+            )
             found = [(it["moment_ns"] // SECOND, it["victim"]) for it in record["binary"]["kills"]]
             must_be(f"by oomd and {switches}", found, wanted)
 
 
 def check_left_out_plugins(room: Room) -> None:
     """Plugins that a trace can't serve are named, with what they might change."""
-    actions = [plugin("kill_by_io_cost", "*"), plugin("systemd_restart", service="x"), plugin(GROWTH, "a")]
+    actions = [
+        plugin("kill_by_io_cost", "*"), plugin("systemd_restart", service="x"), plugin(GROWTH, "a")
+    ]
     config = rules([plugin("senpai", "a"), *ALWAYS, plugin("dump_cgroup_overview", "a")], *actions)
-    done = room.run(OOMD, *put(room, Story("/a").task("/a").mem(0, "/a", 5), 2, config), "--interval-s", "1")
-    must_be("the kill", done.output.splitlines()[:2], ["1 s  would kill /a", f"     by ruleset 0 'r', action 2 '{GROWTH}'"])
+    done = room.run(OOMD, *put(room, Story("/a").task("/a").mem(0, "/a", 5), 2, config),
+                    "--interval-s", "1")
+    must_be("the kill", done.output.splitlines()[:2],
+            ["1 s  would kill /a", f"     by ruleset 0 'r', action 2 '{GROWTH}'"])
     for name in ("senpai", "kill_by_io_cost", "systemd_restart"):
         must(f"'{name}': left out: " in done.error, f"{name} isn't in {done.error}")
     must_be("the others aren't named", done.error.count("left out"), 3)
@@ -173,20 +207,29 @@ def check_plugins_in_any_place(room: Room) -> None:
     go, end = plugin("exists", "a"), plugin("exists", "nope")
     kill = plugin(GROWTH, "a", post_action_delay=1)
     for actions, wanted in (
-        ([go, kill], [(1, "/a"), (2, "/a")]), ([end, kill], []), ([plugin("continue"), kill], [(1, "/a"), (2, "/a")]),
+        ([go, kill], [(1, "/a"), (2, "/a")]), ([end, kill], []),
+        ([plugin("continue"), kill], [(1, "/a"), (2, "/a")]),
         ([plugin("stop"), kill], []),
     ):  # fmt: skip
         words = put(room, story, 2, rules(ALWAYS, *actions))
         must_be(f"by {actions}", kills(room, *words), wanted)
         if both.has_oomd():
-            record = json.loads(room.run(OOMD, *words, "--interval-s=1", "--json", "--binary", "--sandbox", both.sandbox()).output)
-            must_be(f"oomd by {actions}", record["binary"]["agreement"], "the same kills as 0.5.0 as emulated")
+            record = json.loads(
+                room.run(
+                    OOMD, *words, "--interval-s=1", "--json", "--binary", "--sandbox",
+                    both.sandbox(),
+                ).output
+            )
+            must_be(f"oomd by {actions}", record["binary"]["agreement"],
+                    "the same kills as 0.5.0 as emulated")
 
 
 def check_accounts_that_are_off(room: Room) -> None:
     """A group whose account is off has no pressure."""
     above = plugin("pressure_above", "a", resource="memory", threshold=10, duration=0)
-    trace = Story("/a").stalls("/a", 0, 9).put(4.5, "pressure /a off").put(6.5, "pressure /a on").text(9)
+    trace = Story(
+        "/a"
+    ).stalls("/a", 0, 9).put(4.5, "pressure /a off").put(6.5, "pressure /a on").text(9)
     file = room.file("v2.trace", trace.replace("psitrace 1", "psitrace 2"))
     config = room.file("v.json", written(rules([above], plugin(GROWTH, "a", post_action_delay=0))))
     found = [at for at, _ in kills(room, file, "--config", config)]
@@ -197,7 +240,8 @@ def check_oomd_itself(room: Room) -> None:
     """The output with --binary, and its log with the trace's times."""
     if not both.has_oomd():
         return
-    words = (RUNAWAY, "--config", RUNAWAY_RULES, "--binary", "--sandbox", both.sandbox(), "--log", "log")
+    words = (RUNAWAY, "--config", RUNAWAY_RULES, "--binary", "--sandbox", both.sandbox(), "--log",
+             "log")
     lines = room.run(OOMD, *words).output.splitlines()
     who = "ruleset 0 'batch work is short of memory', action 0 'kill_by_memory_size_or_growth'"
     must(f"150 s  by oomd: would kill /batch/import, {who}" in lines, "\n".join(lines))
@@ -205,7 +249,8 @@ def check_oomd_itself(room: Room) -> None:
     must(line.endswith(": 60 looks, 1 kill; the same kills as 0.5.0 as emulated"), line)
     with open(f"{room.path}/log", encoding="utf-8") as file:
         log = file.read()
-    must("== start\n" in log and "== 150 s\n" in log and "would have tried to kill" in log, log[:2000])
+    must("== start\n" in log and "== 150 s\n" in log and "would have tried to kill" in log,
+         log[:2000])
 
 
 def check_a_page(room: Room) -> None:
@@ -214,7 +259,10 @@ def check_a_page(room: Room) -> None:
     must_be("the status, where standard error was " + done.error, done.status, 0)
     with open(f"{room.path}/page.html", encoding="utf-8") as file:
         page = file.read()
-    for text in ("What oomd would have done", "By the algorithm of oomd 0.5.0, which looked 60 times", "150 s", "tools/oomd --config="):
+    for text in (
+        "What oomd would have done", "By the algorithm of oomd 0.5.0, which looked 60 times",
+        "150 s", "tools/oomd --config=",
+    ):
         must(text in page, f"{text!r} isn't on the page")
     bad = room.file("bad.json", written(rules(ALWAYS, plugin(GROWTH, "a", other=1))))
     done = room.run("tools/report", RUNAWAY, "--oomd", bad, "-o", "no.html")

@@ -97,10 +97,14 @@ class Load:
         elif chance < 0.06:
             self.remove()
         elif chance < 0.1:
-            path, wish = self.draw.choice(self.groups), self.draw.choice(("prefer", "avoid", "none"))
+            path, wish = self.draw.choice(self.groups), self.draw.choice(
+                ("prefer", "avoid", "none")
+            )
             self.put(f"prefer {path} {wish}")
         elif chance < 0.13:
-            self.put(f"pressure {self.draw.choice(self.groups)} {self.draw.choice(('off', 'on', 'on'))}")
+            self.put(
+                f"pressure {self.draw.choice(self.groups)} {self.draw.choice(('off', 'on', 'on'))}"
+            )
         elif chance < 0.16:
             task = self.draw.choice(list(self.homes))
             self.homes[task] = self.draw.choice(self.groups)
@@ -119,7 +123,8 @@ class Load:
 
 
 def some_patterns(draw: random.Random) -> str:
-    one = ("*", "*/*", "a", "a/*", "*/b", "/", "nope", "a,b,*", "[ab]", "?", "w*.service/", "b/*,*", "{a}")
+    one = ("*", "*/*", "a", "a/*", "*/b", "/", "nope", "a,b,*", "[ab]", "?", "w*.service/", "b/*,*",
+           "{a}")
     return ",".join(draw.choices(one, k=draw.choice((1, 1, 2))))
 
 
@@ -130,7 +135,9 @@ def some_size(draw: random.Random) -> str:
 def some_detector(draw: random.Random) -> Config:
     where, duration = some_patterns(draw), draw.choice((0, 0, 1, 3, 10))
     kind = draw.randrange(9)
-    pressure = {"resource": draw.choice(("io", "memory")), "threshold": draw.choice((0, 1, 5, 20, 40))}
+    pressure = {
+        "resource": draw.choice(("io", "memory")), "threshold": draw.choice((0, 1, 5, 20, 40))
+    }
     if kind < 3:
         return plugin("pressure_above", where, **pressure, duration=duration)
     if kind < 4:
@@ -144,7 +151,9 @@ def some_detector(draw: random.Random) -> Config:
         return plugin("swap_free", threshold_pct=draw.choice((5, 30, 60)))
     if kind < 8:
         return plugin("exists", where, negate=draw.choice(("true", "false", "0")))
-    return draw.choice((plugin("continue"), plugin("nr_dying_descendants", where, count=draw.randrange(2))))
+    return draw.choice(
+        (plugin("continue"), plugin("nr_dying_descendants", where, count=draw.randrange(2)))
+    )
 
 
 def some_action(draw: random.Random) -> Config:
@@ -178,7 +187,8 @@ def some_config(draw: random.Random) -> Config:
         ]
         actions = [some_action(draw) for _ in range(draw.choice((1, 1, 2, 3)))]
         if draw.random() < 0.1:
-            actions.insert(draw.randrange(len(actions) + 1), plugin(draw.choice(("stop", "continue"))))
+            actions.insert(draw.randrange(len(actions) + 1),
+                           plugin(draw.choice(("stop", "continue"))))
         more = {"post_action_delay": str(draw.choice((0, 3, 8)))} if draw.random() < 0.5 else {}
         found.append({"name": f"r{number}", "detectors": groups, "actions": actions, **more})
     return {"rulesets": found}

@@ -51,8 +51,10 @@ CONFIGURATIONS: tuple[tuple[Any, str | None], ...] = (
     ({"rulesets": [ruleset(ALWAYS)]}, "missing DetectorGroups or missing Actions"),
     ({"rulesets": [{"name": "r", "actions": [KILL]}]}, "missing DetectorGroups or missing Actions"),
     ({"rulesets": [ruleset([], KILL)]}, "DetectorGroup is missing Detectors"),
-    ({"rulesets": [{"name": "r", "detectors": [ALWAYS], "actions": [KILL]}]}, "DetectorGroup is missing name"),
-    ({"rulesets": [{"name": "r", "detectors": [3], "actions": [KILL]}]}, "DetectorGroup is missing name"),
+    ({"rulesets": [{"name": "r", "detectors": [ALWAYS], "actions": [KILL]}]},
+     "DetectorGroup is missing name"),
+    ({"rulesets": [{"name": "r", "detectors": [3], "actions": [KILL]}]},
+     "DetectorGroup is missing name"),
     (rules(ALWAYS, {"args": {}}), "Plugin is missing name"),
     (rules(ALWAYS, 3), "Plugin is missing name"),  # type: ignore[arg-type]
     (rules(ALWAYS, KILL, post_action_delay="x"), "stoi"),
@@ -71,7 +73,8 @@ CONFIGURATIONS: tuple[tuple[Any, str | None], ...] = (
     (see("exists", cgroup="a", negate="yes"), INIT), (see("exists", cgroup="a", negate=True), None),
     (see("exists", cgroup="a", negate=1), None), (see("exists", cgroup="a", negate=None), None),
     (see("exists", cgroup=""), None), (see("continue", anything="x"), None), (see("stop"), None),
-    (see("pressure_above", **PRESSURE), None), (see("pressure_above", **{**PRESSURE, "resource": "cpu"}), INIT),
+    (see("pressure_above", **PRESSURE), None),
+    (see("pressure_above", **{**PRESSURE, "resource": "cpu"}), INIT),
     (see("pressure_above", **{**PRESSURE, "duration": "x"}), INIT),
     (see("pressure_above", **{**PRESSURE, "duration": "3s"}), None),
     (see("pressure_above", **{**PRESSURE, "threshold": -1}), None),
@@ -79,28 +82,35 @@ CONFIGURATIONS: tuple[tuple[Any, str | None], ...] = (
     (see("pressure_above", **{**PRESSURE, "threshold": 7.5}), None),
     (see("pressure_rising_beyond", **PRESSURE, fast_fall_ratio=".5"), None),
     (see("pressure_rising_beyond", **PRESSURE, fast_fall_ratio="x"), INIT),
-    (see("memory_above", **MEMORY), None), (see("memory_above", **{**MEMORY, "threshold": "1G 2M"}), None),
+    (see("memory_above", **MEMORY), None),
+    (see("memory_above", **{**MEMORY, "threshold": "1G 2M"}), None),
     (see("memory_above", **{**MEMORY, "threshold": "100MB"}), INIT),
     (see("memory_above", **{**MEMORY, "threshold": "101%"}), INIT),
     (see("memory_above", **{**MEMORY, "threshold": ".5G"}), INIT),
     (see("memory_above", cgroup="a", duration=1), 'Required arg "threshold"'),
     (see("memory_above", cgroup="a", duration=1, threshold_anon="5%"), None),
     (see("memory_above", **{**MEMORY, "threshold": "?"}, threshold_anon="5%"), None),
-    (see("memory_reclaim", cgroup="a", duration=""), INIT), (see("swap_free", threshold_pct="15%"), None),
+    (see("memory_reclaim", cgroup="a", duration=""), INIT),
+    (see("swap_free", threshold_pct="15%"), None),
     (see("swap_free", threshold_pct=99999999999), INIT),
     (see("nr_dying_descendants", cgroup="a", count=-1), INIT),
     (see("nr_dying_descendants", cgroup="a", count=1, lte="true"), None),
     (see("dump_cgroup_overview", cgroup="a", always="1"), None),
-    (act(SWAP, cgroup="a", threshold="10x"), INIT), (act(SWAP, cgroup="a", foo="1"), 'Unknown arg "foo"'),
-    (act(SWAP, cgroup="a", threshold="5%"), None), (act(SWAP, threshold="5%"), 'Required arg "cgroup"'),
-    (act(GROWTH, cgroup="a", min_growth_ratio="1.25"), None), (act(GROWTH, cgroup="a", min_growth_ratio="x"), INIT),
-    (act(GROWTH, cgroup="a", post_action_delay=-1), INIT), (act(GROWTH, cgroup="a", dry="maybe"), INIT),
+    (act(SWAP, cgroup="a", threshold="10x"), INIT),
+    (act(SWAP, cgroup="a", foo="1"), 'Unknown arg "foo"'),
+    (act(SWAP, cgroup="a", threshold="5%"), None),
+    (act(SWAP, threshold="5%"), 'Required arg "cgroup"'),
+    (act(GROWTH, cgroup="a", min_growth_ratio="1.25"), None),
+    (act(GROWTH, cgroup="a", min_growth_ratio="x"), INIT),
+    (act(GROWTH, cgroup="a", post_action_delay=-1), INIT),
+    (act(GROWTH, cgroup="a", dry="maybe"), INIT),
     (act("kill_by_pressure", cgroup="a"), 'Required arg "resource"'),
     (act("kill_by_pg_scan", cgroup="a", recursive="True", debug=0), None),
 )  # fmt: skip
 # Texts, not all of them JSON, and whether oomd accepts them.
 TEXTS = (
-    ("// a comment\n{}", True), ("{/* another */}", True), ('{"rulesets":[],}', True), ("{} more", True),
+    ("// a comment\n{}", True), ("{/* another */}", True), ('{"rulesets":[],}', True),
+    ("{} more", True),
     ("", False), ("{", False), ("{'a':1}", False), ('{"a":NaN}', False),
 )  # fmt: skip
 
@@ -117,13 +127,19 @@ def reason(data: bytes) -> str | None:
 def check_each_configuration(_: Room) -> None:
     for value, wanted in CONFIGURATIONS:
         found = reason(json.dumps(value).encode())
-        must((found is None) == (wanted is None) and (wanted or "") in (found or ""), f"{value}: {found}, not {wanted}")
+        must((found is None) == (wanted is None) and (wanted or "") in (found or ""),
+             f"{value}: {found}, not {wanted}")
 
 
 def check_places(_: Room) -> None:
     """An error names the file, the ruleset, the group and the plugin."""
     found = reason(json.dumps(see("exists")).encode()) or ""
-    must(found.startswith("c.json: ruleset 0 'r', group 0 'g', item 0 'exists': oomd refuses this: "), found)
+    must(
+        found.startswith(
+            "c.json: ruleset 0 'r', group 0 'g', item 0 'exists': oomd refuses this: "
+        ),
+        found,
+    )
     found = reason(json.dumps(act(SWAP)).encode()) or ""
     must(found.startswith("c.json: ruleset 0 'r', action 0 'kill_by_swap_usage': "), found)
 
@@ -147,14 +163,18 @@ def check_configurations_by_oomd(room: Room) -> None:
         words = [oomd, "--kmsg-override", os.path.join(room.path, "kmsg"), "--check-config", path]
         with open(os.path.join(room.path, "kmsg"), "w", encoding="utf-8"):
             pass
-        done = subprocess.run(words, capture_output=True, text=True, env={**os.environ, "INLINE_LOGGING": "1"})
-        must_be(f"the status of {text}, which said {done.stderr}", done.returncode == 0, wanted is None)
+        done = subprocess.run(words, capture_output=True, text=True,
+                              env={**os.environ, "INLINE_LOGGING": "1"})
+        must_be(f"the status of {text}, which said {done.stderr}", done.returncode == 0,
+                wanted is None)
         is_in_words = wanted is None or wanted == ABORTS or wanted in done.stderr
         must(is_in_words, f"{text}: {wanted} isn't in {done.stderr[-500:]}")
 
 
 def check_numbers(_: Room) -> None:
-    for text, wanted in ((" 12", 12), ("+7x", 7), ("-3.9", -3), ("007", 7), ("2147483647", 2**31 - 1)):
+    for text, wanted in (
+        (" 12", 12), ("+7x", 7), ("-3.9", -3), ("007", 7), ("2147483647", 2**31 - 1)
+    ):
         must_be(f"stoi of {text}", stoi(text), wanted)
     for text in ("", "x", "- 1", "2147483648", "99999999999"):
         must(fails(stoi, text), f"stoi takes {text!r}")
@@ -163,13 +183,16 @@ def check_numbers(_: Room) -> None:
     for text in ("", "e5", "1e40", "1e-50"):
         must(fails(stof, text), f"stof takes {text!r}")
     must_be("a 32-bit float", float32(0.1), ctypes.c_float(0.1).value)
-    must_be("32 bits", [signed32(it * GIB) for it in (1, 2, 3, 4, 5)], [GIB, -2 * GIB, -GIB, 0, GIB])
+    must_be("32 bits", [signed32(it * GIB) for it in (1, 2, 3, 4, 5)],
+            [GIB, -2 * GIB, -GIB, 0, GIB])
 
 
 def check_sizes(_: Room) -> None:
     table = {
-        "100": 100 << 20, "-1": -(1 << 20), "+5": 5 << 20, "1536": 1536 << 20, "1.5G": 3 << 29, "1K": 1024,
-        "1.5M 32K 512": 1536 * 1024 + 32768 + 512, "0K 4096": 4096, "1g": 1 << 30, "2T": 2 << 40, "100 ": 100,
+        "100": 100 << 20, "-1": -(1 << 20), "+5": 5 << 20, "1536": 1536 << 20, "1.5G": 3 << 29,
+        "1K": 1024,
+        "1.5M 32K 512": 1536 * 1024 + 32768 + 512, "0K 4096": 4096, "1g": 1 << 30, "2T": 2 << 40,
+        "100 ": 100,
         "50%": GIB // 2, "7.9%": GIB * 7 // 100, "0%": 0, "1e3K": 1024000,
     }  # fmt: skip
     for text, wanted in table.items():
@@ -191,7 +214,8 @@ class Glob(ctypes.Structure):
     """The struct glob_t of <glob.h>."""
 
     _fields_ = [
-        ("pathc", ctypes.c_size_t), ("pathv", ctypes.POINTER(ctypes.c_char_p)), ("offs", ctypes.c_size_t),
+        ("pathc", ctypes.c_size_t), ("pathv", ctypes.POINTER(ctypes.c_char_p)),
+        ("offs", ctypes.c_size_t),
         ("flags", ctypes.c_int), ("calls", ctypes.c_void_p * 5),
     ]  # fmt: skip
 
@@ -218,11 +242,21 @@ def check_patterns(room: Room) -> None:
     names = ("a", "b", "web.service", ".h", r"qemu\x2d1.scope", "user-1000.slice", "a]b", "x-y")
     for name in names:
         os.makedirs(os.path.join(room.path, name, "in", ".deep"))
-    paths = ["/", *("/" + os.path.relpath(folder, room.path) for folder, _, _ in os.walk(room.path) if folder != room.path)]
+    paths = [
+        "/",
+        *(
+            "/" + os.path.relpath(folder, room.path)
+            for folder, _, _ in os.walk(room.path)
+            if folder != room.path
+        ),
+    ]
     patterns = (
-        "/", "", "a", "/a/", "a//in", "*", "*/*", "?", "[ab]", "[!a]", "[^a]*", "[a-b]", "user-*.slice", "{a}", "{a", "a}",
-        "{web}.service", "{a/in}", ".*", ".h", "*/.d*", r"qemu\x2d1.scope", r"qemu\\x2d1.scope", "qemu*", "a, b", "a,b,a", ",,",
-        "[]]*", r"\a", r"\*", "x[-]y", "x[a-z-]y", "nope", "*in*", "**", "*.s*e*", "[", "a[", r"{\}}", "?*/i?", "[z-a]",
+        "/", "", "a", "/a/", "a//in", "*", "*/*", "?", "[ab]", "[!a]", "[^a]*", "[a-b]",
+        "user-*.slice", "{a}", "{a", "a}",
+        "{web}.service", "{a/in}", ".*", ".h", "*/.d*", r"qemu\x2d1.scope", r"qemu\\x2d1.scope",
+        "qemu*", "a, b", "a,b,a", ",,",
+        "[]]*", r"\a", r"\*", "x[-]y", "x[a-z-]y", "nope", "*in*", "**", "*.s*e*", "[", "a[",
+        r"{\}}", "?*/i?", "[z-a]",
     )  # fmt: skip
     for pattern in patterns:
         found = sorted(Patterns(pattern).among(sorted(paths)))

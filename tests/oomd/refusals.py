@@ -22,7 +22,8 @@ NOT_RUN = 2
 
 def must_refuse(what: str, done: Done, *words: str) -> None:
     """Nothing is printed, the status is 2, and the message contains each of the words."""
-    must_be(f"{what}: status and output, where standard error was {done.error!r}", (done.status, done.output), (NOT_RUN, ""))
+    must_be(f"{what}: status and output, where standard error was {done.error!r}",
+            (done.status, done.output), (NOT_RUN, ""))
     for word in words:
         must(word in done.error, f"{what}: {word!r} isn't in {done.error!r}")
 
@@ -40,8 +41,10 @@ def check_refused_configurations(room: Room) -> None:
     where = "bad.json: ruleset 0 'r', action 0 'kill_by_memory_size_or_growth': oomd refuses this: "
     done = room.run(OOMD, trace, "--config", bad)
     must_refuse("an unknown argument", done, where, f'Unknown arg "other" in plugin "{GROWTH}"')
-    must_refuse("no JSON", room.run(OOMD, trace, "--config", room.file("n.json", "{")), "Unable to parse JSON")
-    must_refuse("no file", room.run(OOMD, trace, "--config", "none.json"), "none.json: No such file")
+    must_refuse("no JSON", room.run(OOMD, trace, "--config", room.file("n.json", "{")),
+                "Unable to parse JSON")
+    must_refuse("no file", room.run(OOMD, trace, "--config", "none.json"),
+                "none.json: No such file")
 
 
 def check_refused_traces(room: Room) -> None:
@@ -74,14 +77,18 @@ def check_programs_that_arent_oomd(room: Room) -> None:
     trace, config = files(room)
     spin = room.file("spin", "#!/bin/sh\nwhile :; do :; done\n", 0o755)
     words = [OOMD, trace, "--config", config, "--sandbox", both.sandbox(), "--binary"]
-    must_refuse("no file", room.run(*words, "no-such-oomd"), "there is no such program", "package oomd")
-    must_refuse("true", room.run(*words, "/usr/bin/true"), "isn't oomd", "--list-plugins", "status 0")
+    must_refuse("no file", room.run(*words, "no-such-oomd"), "there is no such program",
+                "package oomd")
+    must_refuse("true", room.run(*words, "/usr/bin/true"), "isn't oomd", "--list-plugins",
+                "status 0")
     must_refuse("a static program", room.run(*words, static(room)), "isn't oomd")
     path = os.path.join(room.path, spin)
     begun = time.monotonic()
     with mock.patch.object(daemon.answer, "__defaults__", (0.5,)):
         try:
-            binary.run_binary(Program(), Run(os.path.join(room.path, trace), os.path.join(room.path, config)), path, both.sandbox())
+            binary.run_binary(Program(),
+                              Run(os.path.join(room.path, trace), os.path.join(room.path, config)),
+                              path, both.sandbox())
             said = "no fault"
         except Fault as fault:
             said = str(fault)
@@ -91,7 +98,9 @@ def check_programs_that_arent_oomd(room: Room) -> None:
 
 def static(room: Room) -> str:
     """Returns the path of a statically linked program."""
-    source, made = os.path.join(room.path, room.file("s.c", "int main(void){return 0;}")), os.path.join(room.path, "static")
+    source, made = os.path.join(
+        room.path, room.file("s.c", "int main(void){return 0;}")
+    ), os.path.join(room.path, "static")
     done = subprocess.run(["cc", "-static", "-o", made, source], capture_output=True)
     return made if done.returncode == 0 else "/usr/bin/true"
 
@@ -100,7 +109,9 @@ def static(room: Room) -> str:
 def check_without_a_compiler(room: Room) -> None:
     """The message says what is missing."""
     daemon.clock_library.cache_clear()
-    with mock.patch.object(subprocess, "run", side_effect=FileNotFoundError(2, "No such file or directory")):
+    with mock.patch.object(
+        subprocess, "run", side_effect=FileNotFoundError(2, "No such file or directory")
+    ):
         said = fault_of(daemon.clock_library)
     must("install a C compiler (package gcc)" in said, said)
     daemon.clock_library.cache_clear()
@@ -138,19 +149,26 @@ def check_oomds_own_refusal(room: Room) -> None:
     bad = room.file("bad.json", written(rules(ALWAYS, plugin(GROWTH, "a", other=1))))
     words = ("--binary", "--sandbox", both.sandbox())
     done = room.run(OOMD, trace, "--config", bad, *words)
-    must_refuse("an unknown argument", done, "bad.json: /", "refuses this: ", f'Unknown arg "other" in plugin "{GROWTH}"')
+    must_refuse("an unknown argument", done, "bad.json: /", "refuses this: ",
+                f'Unknown arg "other" in plugin "{GROWTH}"')
 
 
 def check_a_crash(room: Room) -> None:
     """Both report the time of the crash, and the tool continues to its end."""
     trace, _ = files(room)
-    bad = room.file("bad.json", written(rules(ALWAYS, plugin(GROWTH, "a", growing_size_percentile=100))))
+    bad = room.file("bad.json",
+                    written(rules(ALWAYS, plugin(GROWTH, "a", growing_size_percentile=100))))
     done = room.run(OOMD, trace, "--config", bad, "--interval-s", "1")
     must_be("the status", (done.status, done.error), (0, ""))
     must("1 s  bad.json: ruleset 0 'r', action 0" in done.output, done.output)
-    must("growing_size_percentile 100 makes oomd 0.5.0 crash: nothing is known after this" in done.output, done.output)
+    must(
+        "growing_size_percentile 100 makes oomd 0.5.0 crash: nothing is known after this"
+        in done.output,
+        done.output,
+    )
     if both.has_oomd():
-        done = room.run(OOMD, trace, "--config", bad, "--interval-s", "1", "--binary", "--sandbox", both.sandbox())
+        done = room.run(OOMD, trace, "--config", bad, "--interval-s", "1", "--binary", "--sandbox",
+                        both.sandbox())
         must("oomd: oomd ended at 1 s, by SIGSEGV: " in done.output, done.output + done.error)
 
 

@@ -70,7 +70,8 @@ def real_process() -> Iterator[subprocess.Popen[bytes]]:
 
 
 def without_dry(room: Room, action: str, pid: int, kind: str) -> str:
-    """Runs oomd without `dry` on a group whose list of processes has a real one. Returns its log."""
+    """Runs oomd without `dry` on a group whose list of processes has a real one. Returns its log.
+    """
     story = Story("/a").task("/a").mem(0, "/a", 5 * MIB)
     own = {"service": "ssh.service"} if action == RESTART else {"cgroup": "a"}
     it = plugin(action, **own, post_action_delay=60)
@@ -82,7 +83,9 @@ def without_dry(room: Room, action: str, pid: int, kind: str) -> str:
     def with_process(files: Files, path: str) -> dict[str, str]:
         return {**fixed(files, path), "cgroup.procs": f"{pid}\n"}
 
-    with mock.patch.object(Files, "fixed", with_process), mock.patch.object(dry, "make_dry", lambda it: it):
+    with mock.patch.object(Files, "fixed", with_process), mock.patch.object(
+        dry, "make_dry", lambda it: it
+    ):
         try:
             found = binary.run_binary(Program(), run, "oomd", kind, log)
             ended = f"kills {found.kills} {found.fault}"
@@ -121,7 +124,10 @@ def check_that_the_folder_alone_is_written(room: Room) -> None:
         folder = os.path.join(room.path, kind)
         os.mkdir(folder)
         shut = Sandbox(kind, folder, "/usr/bin/env")
-        tries = 'touch "$0/in"; touch /usr/out /out "$0/../out" 2>/dev/null; ls /; ls /proc; ls /sys/class/net'
+        tries = (
+            'touch "$0/in"; touch /usr/out /out "$0/../out" 2>/dev/null; ls /; ls /proc; ls '
+            '/sys/class/net'
+        )
         words = shut.words(["/bin/sh", "-c", tries, folder])
         done = subprocess.run(words, capture_output=True, text=True, stdin=subprocess.DEVNULL)
         must(os.path.exists(os.path.join(folder, "in")), f"{kind}: its folder: {done.stderr}")

@@ -22,7 +22,8 @@ ESCAPES = {r"\\": "\\", r"\"": '"', r"\n": "\n"}
 
 
 class Family:
-    """The metadata of a family, and the points of its metrics: times in s since 1970, and values."""
+    """The metadata of a family, and the points of its metrics: times in s since 1970, and values.
+    """
 
     def __init__(self, name: str) -> None:
         self.name = name
@@ -79,7 +80,8 @@ class Exposition:
             must(name not in self.families, f"the family {name} stands together")
             self.open = self.families[name] = Family(name)
             self.last = None
-        must(what not in self.open.about and not self.open.metrics, f"{what} of {name} stands once, before its samples")
+        must(what not in self.open.about and not self.open.metrics,
+             f"{what} of {name} stands once, before its samples")
         self.open.about[what] = text
         must(what != "TYPE" or text == "counter", f"{name} is a counter")
         must(what != "UNIT" or name.endswith(f"_{text}"), f"the name {name} ends with its unit")
@@ -93,7 +95,8 @@ class Exposition:
             raise Wrong("a sample stands before all families")
         must_be("the name of a counter's sample", sample.name, f"{family.name}_total")
         if sample.labels != self.last:
-            must(sample.labels not in family.metrics, f"{dict(sample.labels)} of {family.name} stands together")
+            must(sample.labels not in family.metrics,
+                 f"{dict(sample.labels)} of {family.name} stands together")
         self.last = sample.labels
         points = family.metrics.setdefault(sample.labels, [])
         must(not points or points[-1][0] < sample.moment, f"time goes on in {family.name}")

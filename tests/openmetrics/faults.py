@@ -17,8 +17,10 @@ def check_wrong_words(program: str) -> None:
     wrong: list[tuple[list[str], str]] = [
         ([], "the following arguments are required: --start"),
         (["--start"], "argument --start: expected one argument"),
-        (["--start=2026-11-28"], "2026-11-28 isn't a time with its zone, such as 2026-11-28T13:58:12Z"),
-        (["--start=1795874292"], "1795874292 isn't a time with its zone, such as 2026-11-28T13:58:12Z"),
+        (["--start=2026-11-28"],
+         "2026-11-28 isn't a time with its zone, such as 2026-11-28T13:58:12Z"),
+        (["--start=1795874292"],
+         "1795874292 isn't a time with its zone, such as 2026-11-28T13:58:12Z"),
         ([at, "--format=json"], "argument --format: invalid choice: 'json'"),
         ([at, "--label=job"], "'job' isn't a label such as instance=web-7:9100"),
         ([at, "--label=job="], "'job=' isn't a label"),
@@ -31,7 +33,8 @@ def check_wrong_words(program: str) -> None:
     ]
     for words, said in wrong:
         told = metrics_fault(story(program), *words)
-        must(told.startswith("openmetrics: ") and said in told and "usage: openmetrics " in told, f"{words}: {told}")
+        must(told.startswith("openmetrics: ") and said in told and "usage: openmetrics " in told,
+             f"{words}: {told}")
     told = metrics_fault(story(program), at, "--label=job=a", "--label=job=b")
     must_be("a name twice", told, "openmetrics: --label has a name twice: give each name once\n")
 
@@ -39,11 +42,15 @@ def check_wrong_words(program: str) -> None:
 def check_rules_that_cannot_be_read(program: str) -> None:
     fault = functools.partial(metrics_fault, story(program), f"--start={START}")
     must_be("no rules file", fault("--rules=/nowhere"), "openmetrics: no file: /nowhere\n")
-    refused = "psi_oomd refuses the rules file examples/refused.trace: rules: BadJson: it is a trace, not a rules file"
+    refused = (
+        "psi_oomd refuses the rules file examples/refused.trace: rules: BadJson: it is a trace, "
+        "not a rules file"
+    )
     must_be("no rules", fault("--rules=examples/refused.trace"), f"openmetrics: {refused}\n")
     said = fault("--rules=examples/runaway.json", PSI_OOMD="/nowhere")
     advice = "build ./psi_oomd, or let the variable PSI_OOMD name the program"
-    must_be("no program", said, f"openmetrics: /nowhere can't be run (No such file or directory): {advice}\n")
+    must_be("no program", said,
+            f"openmetrics: /nowhere can't be run (No such file or directory): {advice}\n")
 
 
 def check_what_replay_does_not_print(program: str) -> None:
@@ -54,6 +61,8 @@ def check_what_replay_does_not_print(program: str) -> None:
     must_be("an input that stops", told, f"openmetrics: {stops}{ADVICE}\n")
     told = metrics_fault(b"".join(lines[:2] + lines[3:]), start)
     shown = repr(lines[3].decode().rstrip("\n"))
-    must_be("a line less", told, f"openmetrics: line 3: replay prints no such line here: {shown}{ADVICE}\n")
+    must_be("a line less", told,
+            f"openmetrics: line 3: replay prints no such line here: {shown}{ADVICE}\n")
     told = metrics_fault(b"end 5 ticks=0 events=0 kills=0\n", start)
-    must(told.startswith("openmetrics: no report, so there is no metric: ") and "--tick-ms" in told, told)
+    must(told.startswith("openmetrics: no report, so there is no metric: ") and "--tick-ms" in told,
+         told)

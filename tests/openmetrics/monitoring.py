@@ -39,7 +39,10 @@ def check_promtool_finds_nothing(program: str) -> None:
     """`promtool check metrics` reads only the older text."""
     if not is_there("promtool", "its view of the metrics"):
         return
-    text = run([OPENMETRICS, "--start", START, "--format=prometheus", "--rules=examples/runaway.json"], story(program))
+    text = run(
+        [OPENMETRICS, "--start", START, "--format=prometheus", "--rules=examples/runaway.json"],
+        story(program),
+    )
     done = subprocess.run(["promtool", "check", "metrics"], input=text, capture_output=True)
     must_be("what promtool says", (done.returncode, done.stdout + done.stderr), (0, b""))
 
@@ -65,13 +68,19 @@ def prometheus(data: str) -> Iterator[str]:
     with open(f"{data}/empty.yml", "wb"):
         pass
     address = f"127.0.0.1:{free_port()}"
-    words = [f"--storage.tsdb.path={data}", "--storage.tsdb.retention.time=100y", f"--config.file={data}/empty.yml"]
+    words = [
+        f"--storage.tsdb.path={data}", "--storage.tsdb.retention.time=100y",
+        f"--config.file={data}/empty.yml",
+    ]
     with open(f"{data}/log", "wb") as log:
-        server = subprocess.Popen(["prometheus", f"--web.listen-address={address}", *words], stdout=log, stderr=log)
+        server = subprocess.Popen(
+            ["prometheus", f"--web.listen-address={address}", *words], stdout=log, stderr=log
+        )
     try:
         until = time.monotonic() + PATIENCE
         while answer_of(f"http://{address}/-/ready") is None:
-            must(server.poll() is None and time.monotonic() < until, f"a Prometheus is ready: {tail_of(data)}")
+            must(server.poll() is None and time.monotonic() < until,
+                 f"a Prometheus is ready: {tail_of(data)}")
             time.sleep(0.1)
         yield f"http://{address}"
     finally:
@@ -102,7 +111,9 @@ def compare(address: str, name: str, wanted: Exposition, end: Decimal) -> None:
         points = metrics[frozenset(labels.items())]
         must_be(f"points of {labels}, how many", len(series["values"]), len(points))
         for (at, value), (moment, number) in zip(series["values"], points):
-            is_near = abs(Decimal(str(at)) - moment) <= Decimal("0.001") and Decimal(value) == number
+            is_near = (
+                abs(Decimal(str(at)) - moment) <= Decimal("0.001") and Decimal(value) == number
+            )
             must(is_near, f"{name} {labels} at {moment}: {value} at {at}, not {number}")
 
 
@@ -116,23 +127,38 @@ def loaded(text: bytes, data: str) -> Exposition:
 
 
 def check_prometheus_has_each_point(program: str) -> None:
-    if not (is_there("promtool", "import into a Prometheus") and is_there("prometheus", "import into a Prometheus")):
+    if not (
+        is_there("promtool", "import into a Prometheus")
+        and is_there("prometheus", "import into a Prometheus")
+    ):
         return
-    words = [OPENMETRICS, "--start", START, "--rules=examples/runaway.json", "--label=instance=web-7:9100"]
+    words = [
+        OPENMETRICS, "--start", START, "--rules=examples/runaway.json",
+        "--label=instance=web-7:9100",
+    ]
     with tempfile.TemporaryDirectory() as data:
         wanted = loaded(run(words, story(program)), data)
-        last = wanted.points("node_pressure_memory_waiting_seconds_total", instance="web-7:9100")[-1][0]
+        last = wanted.points(
+            "node_pressure_memory_waiting_seconds_total", instance="web-7:9100"
+        )[-1][0]
         with prometheus(f"{data}/blocks") as address:
             for name in wanted.families:
                 compare(address, name, wanted, last)
             kill = asked(address, "sum by (id) (increase(psi_oomd_kills_total[10m])) > 0", last)
-            must_be("whose kills a graph shows", [it["metric"] for it in kill], [{"id": "/batch/import"}])
-            share = asked(address, 'rate(container_pressure_memory_waiting_seconds_total{id="/batch"}[1m])', last - 100)
-            must(len(share) == 1 and 0.5 < float(share[0]["value"][1]) < 1, f"{share} is the share of a minute at 200 s")
+            must_be("whose kills a graph shows", [it["metric"] for it in kill],
+                    [{"id": "/batch/import"}])
+            share = asked(address,
+                          'rate(container_pressure_memory_waiting_seconds_total{id="/batch"}[1m])',
+                          last - 100)
+            must(len(share) == 1 and 0.5 < float(share[0]["value"][1]) < 1,
+                 f"{share} is the share of a minute at 200 s")
 
 
 def check_prometheus_takes_odd_paths(program: str) -> None:
-    if not (is_there("promtool", "odd paths in a Prometheus") and is_there("prometheus", "odd paths in a Prometheus")):
+    if not (
+        is_there("promtool", "odd paths in a Prometheus")
+        and is_there("prometheus", "odd paths in a Prometheus")
+    ):
         return
     printed = run([program, "replay", "-", "--report-s", "1"], ODD_TRACE.encode())
     with tempfile.TemporaryDirectory() as data:

@@ -49,7 +49,9 @@ def totals_of(printed: bytes) -> dict[tuple[str, str, str], list[Point]]:
 
 def moments_of(printed: bytes, verb: str, *words: str) -> list[Decimal]:
     """Returns the times of lines with this verb and these words."""
-    lines = [line.split(" ") for line in printed.decode().splitlines() if line.startswith(f"{verb} ")]
+    lines = [
+        line.split(" ") for line in printed.decode().splitlines() if line.startswith(f"{verb} ")
+    ]
     return [EPOCH + Decimal(line[1]) / 10**9 for line in lines if set(words) <= set(line)]
 
 
@@ -63,7 +65,11 @@ def compare_totals(printed: bytes, metrics: Exposition, **labels: str) -> None:
         if path == "/" and (resource, level) != ("cpu", "full"):
             must_be(f"{name} of the machine", metrics.points(f"node_{name}", **labels), points)
             wanted[f"node_{name}"] += 1
-    found = {f"{name}_total": len(it.metrics) for name, it in metrics.families.items() if "_pressure_" in name}
+    found = {
+        f"{name}_total": len(it.metrics)
+        for name, it in metrics.families.items()
+        if "_pressure_" in name
+    }
     must_be("names of pressure, and how many metrics each has", found, dict(wanted))
 
 
@@ -72,7 +78,8 @@ def must_count(points: list[Point], moments: list[Decimal], rounds: list[Decimal
     up to then.
     """
     at = sorted({EPOCH, *moments, *rounds})
-    must_be("a counter", points, [(moment, Decimal(sum(it <= moment for it in moments))) for moment in at])
+    must_be("a counter", points,
+            [(moment, Decimal(sum(it <= moment for it in moments))) for moment in at])
 
 
 def check_totals_of_the_story(program: str) -> None:
@@ -80,7 +87,8 @@ def check_totals_of_the_story(program: str) -> None:
     compare_totals(story(program), metrics)
     for name, family in metrics.families.items():
         unit = {"UNIT": "seconds"} if "_pressure_" in name else {}
-        must_be(f"what is told of {name}", {**family.about, "HELP": ""}, {"TYPE": "counter", "HELP": "", **unit})
+        must_be(f"what is told of {name}", {**family.about, "HELP": ""},
+                {"TYPE": "counter", "HELP": "", **unit})
         must(family.about["HELP"].endswith("."), f"{family.about['HELP']} is a sentence")
 
 
@@ -88,9 +96,17 @@ def check_the_names_are_those_of_the_field(program: str) -> None:
     """The names are those of `prometheus-node-exporter --collector.pressure` and cAdvisor."""
     names = set(metrics_of(story(program)).families)
     node = {"node_pressure_cpu_waiting_seconds"}
-    node |= {f"node_pressure_{it}_{word}_seconds" for it in ("io", "memory") for word in ("waiting", "stalled")}
+    node |= {
+        f"node_pressure_{it}_{word}_seconds"
+        for it in ("io", "memory")
+        for word in ("waiting", "stalled")
+    }
     words = ("waiting", "stalled")
-    container = {f"container_pressure_{it}_{word}_seconds" for it in ("cpu", "io", "memory") for word in words}
+    container = {
+        f"container_pressure_{it}_{word}_seconds"
+        for it in ("cpu", "io", "memory")
+        for word in words
+    }
     must_be("names", names, node | container | {"psi_oomd_kills", "psi_oomd_trigger_events"})
 
 
@@ -101,19 +117,24 @@ def check_kills_and_signals(program: str) -> None:
     kills = moments_of(printed, "kill", "/batch/import", "ruleset=0", "action=0")
     must(len(kills) == 1, "the story has a kill")
     must_count(metrics.points("psi_oomd_kills_total", id="/batch/import", **KILLER), kills, rounds)
-    limits = (("memory", "some", "1.5", "2"), ("memory", "full", "6", "10"), ("io", "full", "4", "10"))
+    limits = (("memory", "some", "1.5", "2"), ("memory", "full", "6", "10"),
+              ("io", "full", "4", "10"))
     for number, (resource, level, threshold, window) in enumerate(limits):
         signals = moments_of(printed, "event", f"trigger={number}")
-        must(len(signals) > 1 and not set(signals) <= set(rounds), "a trigger signals, also between reports")
+        must(len(signals) > 1 and not set(signals) <= set(rounds),
+             "a trigger signals, also between reports")
         what = {"id": "/batch", "trigger": str(number), "resource": resource, "level": level}
         times = {"threshold_seconds": threshold, "window_seconds": window}
-        must_count(metrics.points("psi_oomd_trigger_events_total", **what, **times), signals, rounds)
+        must_count(metrics.points("psi_oomd_trigger_events_total", **what, **times), signals,
+                   rounds)
     must_be("triggers", len(metrics.families["psi_oomd_trigger_events"].metrics), 3)
 
 
 def check_names_of_rulesets(program: str) -> None:
     metrics = metrics_of(story(program), "--rules", "examples/runaway.json")
-    names = {"ruleset_name": "batch work is short of memory", "plugin": "kill_by_memory_size_or_growth"}
+    names = {
+        "ruleset_name": "batch work is short of memory", "plugin": "kill_by_memory_size_or_growth"
+    }
     points = metrics.points("psi_oomd_kills_total", id="/batch/import", **KILLER, **names)
     must_be("the kill by its names", points[-1:], [(EPOCH + 300, Decimal(1))])
 
@@ -127,7 +148,8 @@ def check_labels(program: str) -> None:
     value = r'a "b" \n'
     metrics = metrics_of(printed, f"--label=instance={value}", "--label", "job=node")
     compare_totals(printed, metrics, instance=value, job="node")
-    points = metrics.points("container_pressure_io_waiting_seconds_total", id=ODD, instance=value, job="node")
+    points = metrics.points("container_pressure_io_waiting_seconds_total", id=ODD, instance=value,
+                            job="node")
     waits = [total for _, total in points]
     must(waits[3] == 7 and waits[-1] == 0, f"{waits} begin at zero with the second life")
 
@@ -136,7 +158,8 @@ def check_no_kill_and_no_signal(program: str) -> None:
     printed = run([program, "replay", "examples/one-wait.trace"])
     metrics = metrics_of(printed)
     compare_totals(printed, metrics)
-    must(not any("psi_oomd" in name for name in metrics.families), "what never happened has no metric")
+    must(not any("psi_oomd" in name for name in metrics.families),
+         "what never happened has no metric")
 
 
 def check_live_lines_are_passed_over(program: str) -> None:
@@ -152,7 +175,8 @@ def check_interrupts(_: str) -> None:
     printed = f"{full.join(heads)}{full}end 2000000000 ticks=1 events=0 kills=0\n".encode()
     metrics = metrics_of(printed)
     compare_totals(printed, metrics)
-    must_be("interrupts", metrics.points("node_pressure_irq_stalled_seconds_total"), [(EPOCH + 2, Decimal(1))])
+    must_be("interrupts", metrics.points("node_pressure_irq_stalled_seconds_total"),
+            [(EPOCH + 2, Decimal(1))])
 
 
 def check_interrupts_of_a_replay(program: str) -> None:
@@ -161,7 +185,8 @@ def check_interrupts_of_a_replay(program: str) -> None:
     compare_totals(printed, metrics)
     found = metrics.points("container_pressure_irq_stalled_seconds_total", id="/a")
     totals = [(2, "0.1"), (4, "0.177777"), (6, "0.177777")]
-    must_be("interrupts of a group", found, [(EPOCH + moment, Decimal(total)) for moment, total in totals])
+    must_be("interrupts of a group", found,
+            [(EPOCH + moment, Decimal(total)) for moment, total in totals])
 
 
 def check_points_that_are_near(_: str) -> None:
@@ -178,16 +203,20 @@ def check_points_that_are_near(_: str) -> None:
     ]
     metrics = metrics_of(f"{''.join(lines)}end 1004000000 ticks=1004 events=2 kills=0\n".encode())
     found = metrics.points("node_pressure_io_waiting_seconds_total")
-    must_be("totals", [(str(at - EPOCH), str(it)) for at, it in found], [("1.001999999", "0.000002"), ("1.004", "0.000003")])
+    must_be("totals", [(str(at - EPOCH), str(it)) for at, it in found],
+            [("1.001999999", "0.000002"), ("1.004", "0.000003")])
     (signals,) = metrics.families["psi_oomd_trigger_events"].metrics.values()
-    must_be("signals", [(str(at - EPOCH), int(it)) for at, it in signals], [("0.001", 1), ("1.001999999", 2), ("1.004", 2)])
+    must_be("signals", [(str(at - EPOCH), int(it)) for at, it in signals],
+            [("0.001", 1), ("1.001999999", 2), ("1.004", 2)])
 
 
 def check_the_older_text(program: str) -> None:
     """The older text has the same points, with the names and timestamps that Prometheus used
     before.
     """
-    old = run([OPENMETRICS, "--start", START, "--format=prometheus"], story(program)).decode().splitlines()
+    old = run(
+        [OPENMETRICS, "--start", START, "--format=prometheus"], story(program)
+    ).decode().splitlines()
     new = run([OPENMETRICS, "--start", START], story(program)).decode().splitlines()
     samples = [line.rsplit(" ", 1) for line in new if not line.startswith("#")]
     wanted = [f"{front} {int(Decimal(moment) * 1000)}" for front, moment in samples]

@@ -45,15 +45,23 @@ class Made:
     def commands(self) -> list[str]:
         return sorted(os.listdir(self.path("bin")))
 
-    def run(self, name: str, *words: str, given: str = "", path_first: str = "") -> subprocess.CompletedProcess[str]:
+    def run(
+        self, name: str, *words: str, given: str = "", path_first: str = ""
+    ) -> subprocess.CompletedProcess[str]:
         """Runs an installed command from another folder, with its own PATH, and no variable that
         names a program.
         """
         path = self.path("bin", name)
         # The tools require Debian's own Python; sh starts the programs.
-        words = (path, *words) if os.access(PYTHON, os.X_OK) or "_" in name else (sys.executable, "-B", path, *words)
-        environment = {"PATH": f"{path_first}/usr/bin:/bin", "LC_ALL": "C.UTF-8", "HOME": os.path.dirname(self.tree)}
-        return subprocess.run(words, cwd="/", env=environment, input=given, capture_output=True, encoding="utf-8")
+        words = (path, *words) if os.access(PYTHON, os.X_OK) or "_" in name else (
+            sys.executable, "-B", path, *words
+        )
+        environment = {
+            "PATH": f"{path_first}/usr/bin:/bin", "LC_ALL": "C.UTF-8",
+            "HOME": os.path.dirname(self.tree),
+        }
+        return subprocess.run(words, cwd="/", env=environment, input=given, capture_output=True,
+                              encoding="utf-8")
 
 
 def is_built(name: str, path: str) -> bool:
@@ -64,11 +72,16 @@ def is_built(name: str, path: str) -> bool:
 
 def make(into: str, programs: dict[str, str], **more: str) -> dict[str, bytes]:
     """Builds both archives in this folder. The printed lines have the archives' sums."""
-    words = [os.path.join(TOP, "tools", "package"), "--program", programs["psi_oomd"], "--observer", programs["psi_observe"]]
+    words = [
+        os.path.join(TOP, "tools", "package"), "--program", programs["psi_oomd"], "--observer",
+        programs["psi_observe"],
+    ]
     words += [] if all(is_built(*it) for it in programs.items()) else ["--unproved"]
     environment = {**os.environ, "SOURCE_DATE_EPOCH": str(SECONDS), **more}
-    done = subprocess.run([*words, "--into", into], env=environment, capture_output=True, encoding="utf-8")
-    must_be("the status of tools/package, and what it said", (done.returncode, done.stderr), (0, ""))
+    done = subprocess.run([*words, "--into", into], env=environment, capture_output=True,
+                          encoding="utf-8")
+    must_be("the status of tools/package, and what it said", (done.returncode, done.stderr),
+            (0, ""))
     found = {}
     for line in done.stdout.splitlines():
         told, _, name = line.partition("  ")
@@ -105,7 +118,9 @@ def files_of(data: bytes, top: str) -> dict[str, tuple[int, str, bytes]]:
         for it in archive.getmembers():
             stream = archive.extractfile(it) if it.isfile() else None
             if not it.isdir():
-                found[os.path.relpath(it.name, top)] = it.mode, it.linkname, stream.read() if stream else b""
+                found[os.path.relpath(it.name, top)] = (
+                    it.mode, it.linkname, stream.read() if stream else b"",
+                )
     return found
 
 
@@ -127,7 +142,9 @@ def data_of(made: Made) -> bytes:
 
 def commands_of_definition() -> list[str]:
     """The commands in the usage line, from its definition."""
-    with open(os.path.join(TOP, "crates", "run_spec", "specs", "Status.antt"), encoding="utf-8") as file:
+    with open(
+        os.path.join(TOP, "crates", "run_spec", "specs", "Status.antt"), encoding="utf-8"
+    ) as file:
         found = re.search(r'"usage: psi_oomd (.*)\\n"', file.read())
     must(found and found[1].count(" or ") > 3, f"the definition has its list: {found}")
     return found[1].split(" or ") if found else []
@@ -135,9 +152,13 @@ def commands_of_definition() -> list[str]:
 
 def offered_by_bash(made: Made, *words: str) -> list[str]:
     """Bash's completions of the last word, in the folder of the examples."""
-    script = '. "$0"; COMP_WORDS=("$@"); COMP_CWORD=$(($# - 1)); _psi_oomd "$1"; printf "%s\\n" "${COMPREPLY[@]}"'
+    script = (
+        '. "$0"; COMP_WORDS=("$@"); COMP_CWORD=$(($# - 1)); _psi_oomd "$1"; printf "%s\\n" '
+        '"${COMPREPLY[@]}"'
+    )
     file, folder = made.path(COMPLETIONS, words[0]), made.path(DOCUMENTS, "examples")
-    done = subprocess.run(["bash", "-c", script, file, *words], cwd=folder, capture_output=True, encoding="utf-8")
+    done = subprocess.run(["bash", "-c", script, file, *words], cwd=folder, capture_output=True,
+                          encoding="utf-8")
     must_be(f"what bash says of {words}", (done.returncode, done.stderr), (0, ""))
     return done.stdout.split()
 
@@ -151,7 +172,9 @@ def offered_by_zsh(made: Made, *words: str) -> list[str]:
     _files() { offer *(N) }
     compset() { word=${word#*=} }
     words=("${@[2,-1]}"); CURRENT=$#words; word=$words[-1]; source "$1" """
-    file, folder = made.path("share/zsh/vendor-completions/_psi_oomd"), made.path(DOCUMENTS, "examples")
+    file, folder = (
+        made.path("share/zsh/vendor-completions/_psi_oomd"), made.path(DOCUMENTS, "examples"),
+    )
     call = ["zsh", "-fc", f"complete_it() {{ {script} }}; complete_it \"$@\"", "zsh", file, *words]
     done = subprocess.run(call, cwd=folder, capture_output=True, encoding="utf-8")
     must_be(f"what zsh says of {words}", done.stderr, "")

@@ -11,7 +11,10 @@ from record.runs import Run
 CONTAINER, SANDBOX, LATE = "4fd3" * 16, "5a" * 32, "77" * 32
 UID = "0a1b2c3d-0000-1111-2222-333344445555"
 POD = "/kubepods.slice/kubepods-pod" + UID.replace("-", "_") + ".slice"
-LABELS = {"io.kubernetes.pod.name": "web-7", "io.kubernetes.pod.namespace": "prod", "io.kubernetes.pod.uid": UID}
+LABELS = {
+    "io.kubernetes.pod.name": "web-7", "io.kubernetes.pod.namespace": "prod",
+    "io.kubernetes.pod.uid": UID,
+}
 PS = {"containers": [{"id": CONTAINER, "metadata": {"name": "nginx"}, "labels": LABELS}]}
 PODS = {"items": [{"id": SANDBOX, "metadata": {"name": "web-7", "namespace": "prod", "uid": UID}}]}
 # A stub of crictl: it logs its arguments, and lists one more container when it is asked again.
@@ -23,7 +26,10 @@ case "$1 $(grep -c . "$(readlink -f "$0").words")" in
 "pods "*) printf '%s\\n' '{json.dumps(PODS)}' ;;
 esac
 """
-WANTED = [f"{UID} prod/web-7", f"{CONTAINER} prod/web-7/nginx", f"{SANDBOX} prod/web-7/sandbox", f"{LATE} late"]
+WANTED = [
+    f"{UID} prod/web-7", f"{CONTAINER} prod/web-7/nginx", f"{SANDBOX} prod/web-7/sandbox",
+    f"{LATE} late",
+]
 
 
 def make_machine(top: str, group: str, command: str, script: str) -> None:
@@ -49,7 +55,8 @@ def check_names_of_pods_and_their_containers(top: str) -> None:
     make_machine(top, f"{POD}/cri-containerd-{CONTAINER}.scope", "crictl", CRICTL)
     run = Run(top, "--seconds", "0.3").ended(0)
     must_be("the names", run.file("containers").decode().splitlines(), sorted(WANTED))
-    must_be("crictl is asked before and after", [it.split()[0] for it in asked(top, "crictl")], ["ps", "pods"] * 2)
+    must_be("crictl is asked before and after", [it.split()[0] for it in asked(top, "crictl")],
+            ["ps", "pods"] * 2)
 
 
 def check_nothing_is_asked_without_containers(top: str) -> None:
@@ -60,14 +67,16 @@ def check_nothing_is_asked_without_containers(top: str) -> None:
 
 
 def check_names_that_are_not_wanted(top: str) -> None:
-    make_machine(top, f"/docker/{CONTAINER}", "docker", "#!/bin/sh\necho >>\"$(readlink -f \"$0\").words\"\n")
+    make_machine(top, f"/docker/{CONTAINER}", "docker",
+                 "#!/bin/sh\necho >>\"$(readlink -f \"$0\").words\"\n")
     run = Run(top, "--seconds", "0.3", "--no-containers").ended(0)
     must("containers" not in os.listdir(run.out), "there are no names")
     must_be("docker isn't asked", asked(top, "docker"), [])
 
 
 def check_a_command_that_fails(top: str) -> None:
-    make_machine(top, f"/machine.slice/libpod-{CONTAINER}.scope", "podman", "#!/bin/sh\necho nonsense\nexit 3\n")
+    make_machine(top, f"/machine.slice/libpod-{CONTAINER}.scope", "podman",
+                 "#!/bin/sh\necho nonsense\nexit 3\n")
     run = Run(top, "--seconds", "0.3").ended(0).says("podman doesn't say the names of containers")
     must("containers" not in os.listdir(run.out), "there are no names")
 

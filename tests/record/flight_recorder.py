@@ -28,11 +28,13 @@ def check_ring_that_fires(top: str) -> None:
     must_be("nothing is written before", os.path.getsize(f"{run.out}/cpu0.raw"), 0)
     fire(top)
     run.ended(0).says("ended by trigger")
-    must_be("the end and the trigger", run.values("end") + run.values("ring"), ["trigger", "memory full 100000 1000000"])
+    must_be("the end and the trigger", run.values("end") + run.values("ring"),
+            ["trigger", "memory full 100000 1000000"])
     must_be("pages", run.file("cpu1.raw"), b"\2" * (2 * folder.PAGE_BYTES))
     markers, fired = read(f"{top}.markers"), float(run.values("fired")[0])
     must_be("one signal", markers.count("psirec fired"), 1)
-    must(re.search(r"fired.*pressure \d+ begin.*stop$", markers), "it goes on for a while after the signal")
+    must(re.search(r"fired.*pressure \d+ begin.*stop$", markers),
+         "it goes on for a while after the signal")
     must(0.6 < time.monotonic() - fired < 5, "and then ends")
     numbers = re.findall(r"^sample (\d+) / io$", run.file("pressure").decode(), re.MULTILINE)
     must_be("the readings are there", numbers, [str(it) for it in range(len(numbers))])
@@ -48,7 +50,8 @@ def check_ring_that_is_stopped(top: str) -> None:
     sent = time.monotonic()
     run.ended(0)
     must(time.monotonic() - sent < 5, "it ends at once, though nothing is due for long")
-    must_be("the end", run.values("end") + run.values("ring") + run.values("fired"), ["signal", "none"])
+    must_be("the end", run.values("end") + run.values("ring") + run.values("fired"),
+            ["signal", "none"])
     must_be("pages", run.file("cpu0.raw"), b"\1" * folder.PAGE_BYTES)
 
 

@@ -78,15 +78,24 @@ def kernel_types(wait_name: str = "in_iowait", functions: dict[str, int] = FUNCT
         text += name.encode() + b"\0"
     named = struct.Struct("<III")
     parts = [named.pack(names["int"], 1 << 24, 4) + struct.pack("<I", 32)]
-    parts.append(named.pack(names["other"], 4 << 24 | 1, 4) + named.pack(names["pid"], 1, names["task_struct"]))
-    parts.append(named.pack(names["task_struct"], 4 << 24 | 1, 4) + named.pack(names["other"], 1, 0))
-    members = named.pack(names[wait_name], 1, 1 << 24 | WAIT_BIT) + named.pack(names["pid"], 1, PID_BIT)
+    parts.append(
+        named.pack(names["other"], 4 << 24 | 1, 4)
+        + named.pack(names["pid"], 1, names["task_struct"])
+    )
+    parts.append(
+        named.pack(names["task_struct"], 4 << 24 | 1, 4) + named.pack(names["other"], 1, 0)
+    )
+    members = (
+        named.pack(names[wait_name], 1, 1 << 24 | WAIT_BIT) + named.pack(names["pid"], 1, PID_BIT)
+    )
     parts.append(named.pack(names["task_struct"], 1 << 31 | 4 << 24 | 2, 2000) + members)
     for name, count in functions.items():
         parts.append(named.pack(names[name], 12 << 24, len(parts) + 2))
         parts.append(named.pack(0, 13 << 24 | count, 0) + struct.pack("<II", 0, 1) * count)
     types = b"".join(parts)
-    return struct.pack("<HBBIIIII", 0xEB9F, 1, 0, 24, 0, len(types), len(types), len(text)) + types + text
+    return struct.pack(
+        "<HBBIIIII", 0xEB9F, 1, 0, 24, 0, len(types), len(types), len(text)
+    ) + types + text
 
 
 def make_pages(top: str, processor: int, pages: bytes) -> None:
@@ -103,17 +112,23 @@ def make_tracing(top: str, overrun: int, oldest: str, pages: int) -> None:
     """Writes the files of tracefs."""
     tracing = f"{top}/tracing"
     os.makedirs(f"{tracing}/instances")
-    for file, text in (("kprobe_events", "p:other/probe do_exit\n"), ("tracing_on", "1\n"), ("trace_clock", "[local] mono\n")):
+    for file, text in (
+        ("kprobe_events", "p:other/probe do_exit\n"), ("tracing_on", "1\n"),
+        ("trace_clock", "[local] mono\n"),
+    ):
         write(f"{tracing}/{file}", text)
     write(f"{tracing}/buffer_size_kb", "1408\n")
     write(f"{tracing}/options/overwrite", "0\n")
     write(f"{tracing}/options/markers", "0\n")
     write(f"{tracing}/events/header_page", HEADER_PAGE)
     for number, event in enumerate((*EVENTS, "ftrace/print")):
-        for file, text in (("enable", "0\n"), ("filter", "none\n"), ("format", f"name: {event}\nID: {number}\n")):
+        for file, text in (
+            ("enable", "0\n"), ("filter", "none\n"), ("format", f"name: {event}\nID: {number}\n")
+        ):
             write(f"{tracing}/events/{event}/{file}", text)
     for processor in range(2):
-        write(f"{tracing}/per_cpu/cpu{processor}/stats", STATS.format(overrun=overrun if processor else 0, oldest=oldest))
+        write(f"{tracing}/per_cpu/cpu{processor}/stats",
+              STATS.format(overrun=overrun if processor else 0, oldest=oldest))
         make_pages(top, processor, bytes([processor + 1]) * (PAGE_BYTES * pages))
     # The text written to the marker must outlive the instance.
     write(f"{top}.markers", "")
@@ -126,12 +141,18 @@ def make_groups(top: str) -> None:
         threads = "".join(f"{it[0]}\n" for it in THREADS if it[5] == group)
         write(f"{top}/cgroup{group}/cgroup.threads", threads)
         for resource in ("io", "memory", "cpu") if group else ():
-            write(f"{top}/cgroup{group}/{resource}.pressure", PRESSURE.format(some=len(group), full=len(resource)))
+            write(f"{top}/cgroup{group}/{resource}.pressure",
+                  PRESSURE.format(some=len(group), full=len(resource)))
     write(f"{top}/cgroup/cgroup.controllers", "cpu io memory\n")
     web = f"{top}/cgroup/system.slice/web.service"
-    for file, text in (("memory.current", "4096\n"), ("memory.swap.current", "8192\n"), ("cgroup.pressure", "0\n")):
+    for file, text in (
+        ("memory.current", "4096\n"), ("memory.swap.current", "8192\n"), ("cgroup.pressure", "0\n")
+    ):
         write(f"{web}/{file}", text)
-    for group, kind in (("system.slice", "domain threaded"), ("system.slice/web.service", "threaded"), ("user slice", "domain")):
+    for group, kind in (
+        ("system.slice", "domain threaded"), ("system.slice/web.service", "threaded"),
+        ("user slice", "domain"),
+    ):
         write(f"{top}/cgroup/{group}/cgroup.type", f"{kind}\n")
     write(f"{web}/memory.stat", "anon 1\nfile 2\npgscan_kswapd 5\npgscan 77\npgsteal 3\n")
 
@@ -140,7 +161,8 @@ def make_processes(top: str) -> None:
     """Writes the files of /proc."""
     for number, process, state, processor, name, _ in THREADS:
         fields = [str(it) for it in range(4, 39)]
-        write(f"{top}/proc/{number}/stat", f"{number} ({name}) {state} {' '.join(fields)} {processor} 0 0\n")
+        write(f"{top}/proc/{number}/stat",
+              f"{number} ({name}) {state} {' '.join(fields)} {processor} 0 0\n")
         write(f"{top}/proc/{number}/status", f"Name:\tx\nTgid:\t{process}\nPid:\t{number}\n")
     write(f"{top}/proc/meminfo", MEMORY)
     write(f"{top}/proc/sys/kernel/sched_schedstats", "0\n")

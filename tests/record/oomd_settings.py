@@ -9,7 +9,10 @@ from harness import must, must_be
 from record.runs import Run
 
 WEB = "/system.slice/web.service"
-SHOWN = "Id=web.service\nControlGroup=/system.slice/web.service\nManagedOOMSwap=auto\nManagedOOMMemoryPressure=kill\n"
+SHOWN = (
+    "Id=web.service\nControlGroup=/system.slice/web.service\nManagedOOMSwap=auto\n"
+    "ManagedOOMMemoryPressure=kill\n"
+)
 # A stub of systemctl: it logs its arguments, and prints this.
 SYSTEMCTL = f"""#!/bin/sh
 echo "$@" >>"$(readlink -f "$0").words"
@@ -29,7 +32,10 @@ STORED = {
     "usr/lib/systemd/user/app.slice": "[Slice]\nManagedOOMSwap=kill\n",
 }
 DATABASE = "etc/systemd/system/db.service"
-SECRET = "[Service]\n# a\nEnvironment=KEY=1 \\\n ManagedOOMSwap=auto\nSlice = \\\n; b\n db.slice\nManagedOOMSwap=kill\n"
+SECRET = (
+    "[Service]\n# a\nEnvironment=KEY=1 \\\n ManagedOOMSwap=auto\nSlice = \\\n; b\n db.slice\n"
+    "ManagedOOMSwap=kill\n"
+)
 KEPT_OF_SECRET = "[Service]\n#\n\n\nSlice = \\\n#\n db.slice\nManagedOOMSwap=kill\n"
 LEFT = {
     "usr/lib/systemd/system/ssh.service": "[Service]\nExecStart=/bin/true\n",
@@ -62,13 +68,23 @@ def check_settings_of_systemd_oomd(top: str) -> None:
     make_booted(top)
     run = Run(top, "--seconds", "0.3").ended(0)
     owner = os.getuid()
-    lines = [f"{path} uid={owner} oom_group={path == WEB:d} avoid=0 omit=0\n" for path in ("/", "/system.slice", WEB, r"/user\x20slice")]
-    wanted = {**STORED, DATABASE: KEPT_OF_SECRET, "version": "systemd 252 (252.39-1)\n", "units": SHOWN, "groups": "".join(lines)}
+    lines = [
+        f"{path} uid={owner} oom_group={path == WEB:d} avoid=0 omit=0\n"
+        for path in ("/", "/system.slice", WEB, r"/user\x20slice")
+    ]
+    wanted = {
+        **STORED, DATABASE: KEPT_OF_SECRET, "version": "systemd 252 (252.39-1)\n", "units": SHOWN,
+        "groups": "".join(lines),
+    }
     must_be("the files", stored_files(run), wanted)
     with open(f"{top}.systemctl/systemctl.words", encoding="ascii") as words:
         asked = words.read().splitlines()
     must_be("systemctl is asked twice", [it.split()[0] for it in asked], ["--version", "show"])
-    must("--type=service,slice,scope" in asked[1] and "ManagedOOMMemoryPressureDurationUSec" in asked[1], asked[1])
+    must(
+        "--type=service,slice,scope" in asked[1]
+        and "ManagedOOMMemoryPressureDurationUSec" in asked[1],
+        asked[1],
+    )
 
 
 def check_attributes_of_groups(top: str) -> None:
@@ -82,7 +98,13 @@ def check_attributes_of_groups(top: str) -> None:
         return
     text = Run(top, "--seconds", "0.3").ended(0).file("systemd/groups").decode()
     found = [tuple(it.split()[place] for place in (0, 3, 4)) for it in text.splitlines()]
-    must_be("attributes", found[:3], [("/", "avoid=0", "omit=0"), ("/system.slice", "avoid=1", "omit=0"), (WEB, "avoid=0", "omit=1")])
+    must_be(
+        "attributes", found[:3],
+        [
+            ("/", "avoid=0", "omit=0"), ("/system.slice", "avoid=1", "omit=0"),
+            (WEB, "avoid=0", "omit=1"),
+        ],
+    )
 
 
 def check_settings_that_are_not_wanted(top: str) -> None:

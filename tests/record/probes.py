@@ -21,7 +21,10 @@ PROBES = (
 # The messages about functions that differ from the expected ones, and the probes that are then left
 # out.
 BOTH = "psi_show, psi_avgs_work"
-MISSING = {"cgroup_attach_task": ("cgroup_attach_task", 1), "psi_show": (BOTH, 2), "psi_avgs_work": (BOTH, 2)}
+MISSING = {
+    "cgroup_attach_task": ("cgroup_attach_task", 1), "psi_show": (BOTH, 2),
+    "psi_avgs_work": (BOTH, 2),
+}
 
 
 
@@ -30,7 +33,8 @@ def by_statistics(run: Run, told: list[str], old: bytes = b"0\n") -> None:
     instance = run.instance()
     must_be("the sysctl meanwhile", read(f"{run.top}/proc/sys/kernel/sched_schedstats"), "1\n")
     must_be("the event", read(f"{instance}/events/sched/sched_stat_iowait/enable"), "1\n")
-    must_be("whether the instance tells that the sysctl was changed", instance.endswith("-schedstats"), old == b"0\n")
+    must_be("whether the instance tells that the sysctl was changed",
+            instance.endswith("-schedstats"), old == b"0\n")
     run.child.terminate()
     run.ended(0).says("waits for IO are told by sched_stat_iowait")
     must("sched/sched_stat_iowait" in run.values("event"), "the event is on")
@@ -51,7 +55,11 @@ def check_kprobes_are_refused(top: str) -> None:
     os.mkdir(f"{top}/tracing/kprobe_events")
     run = Run(top)
     by_statistics(run, ["p"] * len(PROBES))
-    must("psi_task_switch pid" in run.values("no-probe")[2] and "directory" in run.values("no-probe")[2], "the reason is told")
+    must(
+        "psi_task_switch pid" in run.values("no-probe")[2]
+        and "directory" in run.values("no-probe")[2],
+        "the reason is told",
+    )
 
 
 def check_no_probes_are_wanted(top: str) -> None:
@@ -78,7 +86,8 @@ def check_statistics_are_switched_off_meanwhile(top: str) -> None:
 def check_no_kernel_types(top: str) -> None:
     every = ["psi_task_switch", "cgroup_attach_task", BOTH]
     kinds = (
-        (None, every), (b"", every), (b"no types" * 10, every), (b"\0\0" + folder.kernel_types()[2:], every),
+        (None, every), (b"", every), (b"no types" * 10, every),
+        (b"\0\0" + folder.kernel_types()[2:], every),
         (folder.kernel_types("in_iowaits"), ["psi_task_switch"]),
     )  # fmt: skip
     for number, (types, missing) in enumerate(kinds):
@@ -89,18 +98,23 @@ def check_no_kernel_types(top: str) -> None:
         run = Run(f"{top}{number}")
         by_statistics(run, missing)
         found = [it.partition("/")[2] for it in run.values("event") if it.startswith("psirec")]
-        must_be("the other probes", found, [it.split()[0] for it in PROBES if it.split()[1] not in ", ".join(missing)])
+        must_be("the other probes", found,
+                [it.split()[0] for it in PROBES if it.split()[1] not in ", ".join(missing)])
 
 
 def check_functions_of_another_kernel(top: str) -> None:
-    for number, (function, count) in enumerate(it for it in folder.FUNCTIONS.items() if it[0] in MISSING):
+    for number, (function, count) in enumerate(
+        it for it in folder.FUNCTIONS.items() if it[0] in MISSING
+    ):
         machine = f"{top}{number}"
         folder.make_machine(machine)
-        folder.write(f"{machine}/btf", folder.kernel_types(functions={**folder.FUNCTIONS, function: count + 1}))
+        folder.write(f"{machine}/btf",
+                     folder.kernel_types(functions={**folder.FUNCTIONS, function: count + 1}))
         run = Run(machine, "--seconds", "0.3").ended(0)
         what, count = MISSING[function]
         must_be("what is missing", [it.split(":")[0] for it in run.values("no-probe")], [what])
-        must_be("the others", len([it for it in run.values("event") if it.startswith("psirec")]), len(PROBES) - count)
+        must_be("the others", len([it for it in run.values("event") if it.startswith("psirec")]),
+                len(PROBES) - count)
 
 
 def check_wakeups(top: str) -> None:
@@ -113,14 +127,17 @@ def check_wakeups(top: str) -> None:
     must_be("its filter", read(f"{instance}/events/{group}/pch/filter").rstrip(), "set & 4")
     run.child.terminate()
     run.ended(0)
-    must(f"{group}/pch" in run.values("event") and "no probe of wakeups" not in run.said, "it is on, and nothing is missing")
+    must(f"{group}/pch" in run.values("event") and "no probe of wakeups" not in run.said,
+         "it is on, and nothing is missing")
 
 
 def check_wakeups_of_another_kernel(top: str) -> None:
     folder.make_machine(top)
-    folder.write(f"{top}/btf", folder.kernel_types(functions={**folder.FUNCTIONS, "psi_task_change": 4}))
+    folder.write(f"{top}/btf",
+                 folder.kernel_types(functions={**folder.FUNCTIONS, "psi_task_change": 4}))
     run = Run(top, "--wakeups", "--seconds", "0.3").ended(0).says("no probe of wakeups")
-    must_be("what is missing", [it.split(":")[0] for it in run.values("no-probe")], ["psi_task_change"])
+    must_be("what is missing", [it.split(":")[0] for it in run.values("no-probe")],
+            ["psi_task_change"])
 
 
 def check_wakeups_without_probes(top: str) -> None:
@@ -153,8 +170,11 @@ def check_statistics_are_refused(top: str) -> None:
 def check_events_that_can_be_missed(top: str) -> None:
     folder.make_machine(top)
     shutil.rmtree(f"{top}/tracing/events/task")
-    run = Run(top, "--seconds", "0.3").ended(0).says("no event task/task_newtask: new tasks are taken to be in the root group")
-    must_be("what is missing", run.values("no-event"), ["task/task_newtask: No such file or directory"])
+    run = Run(top, "--seconds", "0.3").ended(0).says(
+        "no event task/task_newtask: new tasks are taken to be in the root group"
+    )
+    must_be("what is missing", run.values("no-event"),
+            ["task/task_newtask: No such file or directory"])
     must("task/task_newtask" not in run.values("event"), "and isn't told to be there")
 
 
@@ -175,12 +195,14 @@ def check_what_is_set_meanwhile(top: str) -> None:
         "events/sched/sched_stat_iowait/enable": "0",
     }
     for file, wanted in wanted_files.items():
-        must(read(f"{instance}/{file}").startswith(wanted), f"{file} has {wanted}: {read(f'{instance}/{file}')}")
+        must(read(f"{instance}/{file}").startswith(wanted),
+             f"{file} has {wanted}: {read(f'{instance}/{file}')}")
     waited = time.monotonic() + 10
     while os.path.getsize(f"{run.out}/cpu0.raw") == 0:
         must(time.monotonic() < waited, "the buffers are emptied while it records")
         time.sleep(0.02)
     enabled = [it for it in folder.EVENTS if read(f"{instance}/events/{it}/enable") == "1\n"]
-    must_be("events that are on", enabled, [it for it in folder.EVENTS if it != "sched/sched_stat_iowait"])
+    must_be("events that are on", enabled,
+            [it for it in folder.EVENTS if it != "sched/sched_stat_iowait"])
     run.child.terminate()
     run.ended(0)

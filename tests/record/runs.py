@@ -44,7 +44,9 @@ def end_all(scratch: str) -> None:
 class Run:
     """A recorder with its own folder as the machine, and the results of both."""
 
-    def __init__(self, top: str, *words: str, name: str = "out", prefix: tuple[str, ...] = ()) -> None:
+    def __init__(
+        self, top: str, *words: str, name: str = "out", prefix: tuple[str, ...] = ()
+    ) -> None:
         self.top, self.out, self.before, self.said = top, f"{top}.{name}", folder.listing(top), ""
         self.command = [*prefix, RECORD, "--root", top, self.out, *words]
         nothing, pipe = subprocess.DEVNULL, subprocess.PIPE
@@ -65,7 +67,9 @@ class Run:
         must_be("standard output", printed, "")
         if is_same:
             after = folder.listing(self.top)
-            changed = [it for it in sorted({*self.before, *after}) if self.before.get(it) != after.get(it)]
+            changed = [
+                it for it in sorted({*self.before, *after}) if self.before.get(it) != after.get(it)
+            ]
             must_be("what isn't as before", changed, [])
         return self
 
@@ -89,7 +93,8 @@ class Run:
     def values(self, key: str) -> list[str]:
         """The values of a key of `meta`."""
         lines = self.file("meta").decode().splitlines()
-        must(lines[0] == "recording 2" and lines[-1].startswith("end "), f"the first and the last line of meta: {lines}")
+        must(lines[0] == "recording 2" and lines[-1].startswith("end "),
+             f"the first and the last line of meta: {lines}")
         return [it.partition(" ")[2] for it in lines if it.partition(" ")[0] == key]
 
     def instance(self) -> str:
@@ -97,7 +102,9 @@ class Run:
         waited = time.monotonic() + WAIT_S
         while time.monotonic() < waited and self.child.poll() is None:
             for name in os.listdir(f"{self.top}/tracing/instances"):
-                if read(f"{self.top}/tracing/instances/{name}/tracing_on").startswith("1") and read(f"{self.top}.markers"):
+                if read(
+                    f"{self.top}/tracing/instances/{name}/tracing_on"
+                ).startswith("1") and read(f"{self.top}.markers"):
                     return f"{self.top}/tracing/instances/{name}"
             time.sleep(0.02)
         raise self.killed(f"ended before it recorded, or doesn't record in {WAIT_S} s")
@@ -116,7 +123,9 @@ def awaited(child: subprocess.Popen[str]) -> Iterator[None]:
 
 def read(path: str) -> str:
     """The text of a file; empty if it doesn't exist."""
-    with contextlib.suppress(OSError), open(path, encoding="utf-8", errors="surrogateescape") as file:
+    with contextlib.suppress(OSError), open(
+        path, encoding="utf-8", errors="surrogateescape"
+    ) as file:
         return file.read()
     return ""
 

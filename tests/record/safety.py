@@ -69,7 +69,9 @@ def check_a_swapped_folder_is_not_emptied(top: str) -> None:
     made.close_files()
     with contextlib.suppress(OSError):
         made.discard()
-    must_be("what somebody else has", sorted(os.listdir(f"{top}/precious")) + os.listdir(f"{top}/precious/inner"), ["a", "inner", "b"])
+    must_be("what somebody else has",
+            sorted(os.listdir(f"{top}/precious")) + os.listdir(f"{top}/precious/inner"),
+            ["a", "inner", "b"])
     must_be("what is left of the recording", os.listdir(elsewhere), [])
     must(os.path.islink(f"{top}/link/out"), "the link is somebody's own")
     made, _ = swapped(f"{top}/folder", os.mkdir)
@@ -86,7 +88,8 @@ def check_a_swapped_folder_is_not_written(top: str) -> None:
     made.write_below("systemd/etc/oomd.conf", b"[OOM]\n")
     made.close()
     must_be("what somebody else has", os.listdir(f"{top}/precious"), [])
-    must_be("the recording", sorted(os.listdir(elsewhere)), ["cpu0.raw", "meta", "pressure", "systemd"])
+    must_be("the recording", sorted(os.listdir(elsewhere)),
+            ["cpu0.raw", "meta", "pressure", "systemd"])
 
 
 def check_links_are_not_compressed(top: str) -> None:
@@ -104,7 +107,8 @@ def check_links_are_not_compressed(top: str) -> None:
             compressing.compress(opened, name)
             must(False, f"{name} is compressed")
     must_be("what isn't to be written", read(f"{top}/victim"), "to be kept\n")
-    must_be("the folder", sorted(os.listdir(f"{top}/out")), ["cpu0.0.raw", "cpu1.0.raw", "cpu1.0.raw.gz.part"])
+    must_be("the folder", sorted(os.listdir(f"{top}/out")),
+            ["cpu0.0.raw", "cpu1.0.raw", "cpu1.0.raw.gz.part"])
     os.unlink(f"{top}/out/cpu1.0.raw.gz.part")
     compressing.compress(opened, "cpu1.0.raw")
     os.close(opened)
@@ -129,13 +133,21 @@ def check_a_number_that_is_used_again(top: str) -> None:
     before = folder.listing(top)
     fields = (*range(4, 22), 777, *range(23, 39))
     for number, state in ((901, "S"), (902, "Z"), (903, "S")):
-        folder.write(f"{top}/proc/{number}/stat", f"{number} (a ) b) {state} {' '.join(map(str, fields))} 0 0 0\n")
+        folder.write(f"{top}/proc/{number}/stat",
+                     f"{number} (a ) b) {state} {' '.join(map(str, fields))} 0 0 0\n")
     left = left_of(top, 901, "776") + left_of(top, 902, "777")
     alive = left_of(top, 903, "777")
-    run = Run(top, "--seconds", "0.3").ended(0, is_same=False).says(*(f"what it left is removed, {it}" for it in left))
-    must(not any(it in run.said for it in alive), f"a recorder that runs keeps what it has: {run.said}")
+    run = Run(top, "--seconds", "0.3").ended(0, is_same=False).says(
+        *(f"what it left is removed, {it}" for it in left)
+    )
+    must(not any(it in run.said for it in alive),
+         f"a recorder that runs keeps what it has: {run.said}")
     after = folder.listing(top)
-    names = {path.removeprefix(f"{top}/") for path in after if path not in before and "/proc/" not in path}
+    names = {
+        path.removeprefix(f"{top}/")
+        for path in after
+        if path not in before and "/proc/" not in path
+    }
     must_be("what is left", {it for it in names if "psirec903_777" not in it}, set())
     must("tracing/instances/psirec903_777" in names, "the instance of the recorder that runs")
 
@@ -145,8 +157,11 @@ def check_a_ring_without_markers(top: str) -> None:
     os.unlink(f"{top}/tracing/trace_marker")
     os.symlink("/dev/full", f"{top}/tracing/trace_marker")
     for words in (("--ring",), ("--seconds", "0.3"), ("--seconds", "0.3", "--compress")):
-        run = Run(top, *words).ended(2).says("nothing was recorded: no marker can be written", "No space left")
-        must("Traceback" not in run.said and not os.path.exists(run.out), f"no folder is left: {run.said}")
+        run = Run(top, *words).ended(2).says(
+            "nothing was recorded: no marker can be written", "No space left"
+        )
+        must("Traceback" not in run.said and not os.path.exists(run.out),
+             f"no folder is left: {run.said}")
 
 
 def check_a_ring_whose_markers_end(top: str) -> None:
@@ -192,7 +207,9 @@ def limited(top: str, limit: int) -> tuple[subprocess.Popen[str], str]:
     """Returns a recorder that may make `limit` recordings a day."""
     out = f"{top}.state/new"
     words = [RECORD, "--root", top, out, "--seconds", "0.2", "--daily-limit", str(limit)]
-    STARTED[out] = subprocess.Popen(words, stdout=subprocess.DEVNULL, stderr=subprocess.PIPE, text=True)
+    STARTED[out] = subprocess.Popen(
+        words, stdout=subprocess.DEVNULL, stderr=subprocess.PIPE, text=True
+    )
     return STARTED[out], out
 
 
@@ -205,7 +222,8 @@ def ended(child: subprocess.Popen[str]) -> str:
 
 
 def check_recordings_of_a_day(top: str) -> None:
-    """It waits until the fifth youngest recording is a day old, and then records, again and again."""
+    """It waits until the fifth youngest recording is a day old, and then records, again and again.
+    """
     folder.make_machine(top)
     make_recordings(top, (9 * DAY, DAY - 8, 50, 40, 30, 20, -9 * DAY))
     start = time.monotonic()

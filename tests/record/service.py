@@ -18,7 +18,9 @@ GROUP = "system.slice/web.service"
 UNTIL = ("--ring", "--until", "memory full 100000 1000000", "--after-s", "0.2")
 
 
-def old_recording(path: str, age: float, size: int = 0, first: str = "recording 2", more: str = "end seconds\n") -> None:
+def old_recording(
+    path: str, age: float, size: int = 0, first: str = "recording 2", more: str = "end seconds\n"
+) -> None:
     """A recording that ended `age` s ago, with a raw file of this size."""
     folder.write(f"{path}/meta", f"{first}\n{more}")
     folder.write(f"{path}/cpu0.raw", bytes(size))
@@ -33,11 +35,13 @@ def stored(above: str) -> list[str]:
 def record(top: str, out: str, *words: str) -> subprocess.CompletedProcess[str]:
     """Returns a whole short recording into this folder."""
     command = [RECORD, "--root", top, out, "--seconds", "0.3", *words]
-    return subprocess.run(command, stdin=subprocess.DEVNULL, capture_output=True, text=True, timeout=60)
+    return subprocess.run(command, stdin=subprocess.DEVNULL, capture_output=True, text=True,
+                          timeout=60)
 
 
 def state(*words: str) -> subprocess.CompletedProcess[str]:
-    return subprocess.run([RECORD, "status", *words], stdin=subprocess.DEVNULL, capture_output=True, text=True, timeout=60)
+    return subprocess.run([RECORD, "status", *words], stdin=subprocess.DEVNULL, capture_output=True,
+                          text=True, timeout=60)
 
 
 def check_keep_a_number(top: str) -> None:
@@ -55,7 +59,9 @@ def check_keep_a_number(top: str) -> None:
 
 
 def check_keep_megabytes(top: str) -> None:
-    """The newest recordings stay that fit together; the new one stays even if it alone is too large."""
+    """The newest recordings stay that fit together; the new one stays even if it alone is too
+    large.
+    """
     folder.make_machine(top)
     above = f"{top}.above"
     for number in range(4):
@@ -95,7 +101,13 @@ def check_keep_spares_one_that_is_written(top: str) -> None:
     record(top, f"{above}/new", "--keep", "1")
     must_be("what is left", stored(above), ["new", "written"])
     told = state(above)
-    must(re.search(r"^recording now: written, since 20\S+ \S+ UTC; waits for memory full 100000 1000000$", told.stdout, re.M), told.stdout)
+    must(
+        re.search(
+            r"^recording now: written, since 20\S+ \S+ UTC; waits for memory full 100000 1000000$",
+            told.stdout, re.M,
+        ),
+        told.stdout,
+    )
     run.child.terminate()
     run.child.wait(WAIT_S)
     must("killed" not in state(above).stdout, "it ended by itself")
@@ -104,17 +116,21 @@ def check_keep_spares_one_that_is_written(top: str) -> None:
 def check_status(top: str) -> None:
     """The state has each recording, with its losses and why it ended."""
     above = f"{top}.above"
-    old_recording(f"{above}/b", 10, 2 * MEGABYTE, more="stats cpu0 overrun: 7\nstats cpu0 dropped events: 5\nend max-mb\n")
+    old_recording(f"{above}/b", 10, 2 * MEGABYTE,
+                  more="stats cpu0 overrun: 7\nstats cpu0 dropped events: 5\nend max-mb\n")
     old_recording(f"{above}/a", 20, more="ring memory full 100000 1000000\nstats cpu0 overrun: 7\n")
     done = state(above)
     lines = done.stdout.splitlines()
     must_be("the status", (done.returncode, done.stderr), (0, ""))
-    must(re.fullmatch(rf"{re.escape(above)}: 2 recordings, 2\.0 MB; [0-9]+ MB free", lines[0]), lines[0])
-    must(re.fullmatch(r"b  20\S+ \S+ UTC       2\.0 MB  max-mb, 12 events lost", lines[1]), lines[1])
+    must(re.fullmatch(rf"{re.escape(above)}: 2 recordings, 2\.0 MB; [0-9]+ MB free", lines[0]),
+         lines[0])
+    must(re.fullmatch(r"b  20\S+ \S+ UTC       2\.0 MB  max-mb, 12 events lost", lines[1]),
+         lines[1])
     must(re.fullmatch(r"a  20\S+ \S+ UTC       0\.0 MB  killed", lines[2]), lines[2])
     must_be("the last line", lines[3:], ["no recorder is recording into it now"])
     missing = state(f"{above}/nowhere")
-    must_be("no folder", (missing.returncode, missing.stderr), (2, f"record: {above}/nowhere: No such file or directory\n"))
+    must_be("no folder", (missing.returncode, missing.stderr),
+            (2, f"record: {above}/nowhere: No such file or directory\n"))
 
 
 def values(text: str) -> dict[str, float]:
@@ -122,7 +138,8 @@ def values(text: str) -> dict[str, float]:
     lines, found = text.splitlines(), {}
     for help_, kind, sample in zip(lines[::3], lines[1::3], lines[2::3]):
         name = sample.partition("{")[0]
-        must(help_.startswith(f"# HELP {name} ") and kind == f"# TYPE {name} gauge", f"{help_}, {kind}, {sample}")
+        must(help_.startswith(f"# HELP {name} ") and kind == f"# TYPE {name} gauge",
+             f"{help_}, {kind}, {sample}")
         found[name.removeprefix("psi_record_")] = float(sample.rpartition(" ")[2])
     return found
 
@@ -140,13 +157,17 @@ def check_textfile(top: str) -> None:
         during = values(read(file))
         child.terminate()
         child.communicate(timeout=WAIT_S)
-    must_be("while it records", [during[it] for it in ("recordings", "active", "lost_events")], [1, 1, 7])
+    must_be("while it records", [during[it] for it in ("recordings", "active", "lost_events")],
+            [1, 1, 7])
     after = values(read(file))
-    must_be("afterwards", [after[it] for it in ("recordings", "active", "incomplete_recordings")], [2, 0, 1])
+    must_be("afterwards", [after[it] for it in ("recordings", "active", "incomplete_recordings")],
+            [2, 0, 1])
     must(after["recordings_bytes"] > MEGABYTE and after["free_bytes"] > 0, f"{after}")
     must(abs(after["last_end_timestamp_seconds"] - time.time()) < 60, f"{after}")
     must_be("node_exporter may read it", os.stat(file).st_mode & 0o777, 0o644)
-    must_be("nothing else is left", sorted(it for it in os.listdir(os.path.dirname(top)) if "prom" in it), [os.path.basename(file)])
+    must_be("nothing else is left",
+            sorted(it for it in os.listdir(os.path.dirname(top)) if "prom" in it),
+            [os.path.basename(file)])
     os.unlink(file)
     must_be("the status", state(above, "--textfile", file).returncode, 0)
     must_be("the same from `status`", values(read(file)).keys(), after.keys())
@@ -160,7 +181,8 @@ def make_hook(top: str, lines: str) -> str:
 
 
 def check_hook(top: str) -> None:
-    """The hook gets the folder's name when the recording is complete; its failure changes nothing."""
+    """The hook gets the folder's name when the recording is complete; its failure changes nothing.
+    """
     folder.make_machine(top)
     hook = make_hook(top, f'tail -1 "$1/meta" >"{top}.said"; echo "$1" >>"{top}.said"; exit 7')
     done = record(top, f"{top}.out", "--hook", hook)
@@ -175,7 +197,8 @@ def check_hook_that_others_write(top: str) -> None:
     hook = make_hook(top, "true")
     os.chmod(hook, 0o777)
     done = record(top, f"{top}.out", "--hook", hook)
-    must_be("what is said", (done.returncode, done.stderr.splitlines()[0]), (2, f"record: argument --hook: {hook}: others may write to it"))
+    must_be("what is said", (done.returncode, done.stderr.splitlines()[0]),
+            (2, f"record: argument --hook: {hook}: others may write to it"))
     must(not os.path.exists(f"{top}.out"), "nothing was recorded")
 
 
@@ -184,7 +207,9 @@ def check_hook_and_a_signal(top: str) -> None:
     folder.make_machine(top)
     hook = make_hook(top, f'echo >"{top}.began"; exec sleep 600')
     command = [RECORD, "--root", top, f"{top}.out", "--seconds", "0.3", "--hook", hook]
-    with subprocess.Popen(command, stdin=subprocess.DEVNULL, stderr=subprocess.PIPE, text=True) as child:
+    with subprocess.Popen(
+        command, stdin=subprocess.DEVNULL, stderr=subprocess.PIPE, text=True
+    ) as child:
         waited = time.monotonic() + WAIT_S
         while not os.path.exists(f"{top}.began") and time.monotonic() < waited:
             time.sleep(0.02)

@@ -11,14 +11,20 @@ from record.runs import Run
 
 def check_nothing_is_there(top: str) -> None:
     os.mkdir(top)
-    run = Run(top).ended(2).says("instances isn't there", "cgroup.controllers isn't there", "pressure/cpu can't be read")
+    run = Run(top).ended(2).says(
+        "instances isn't there", "cgroup.controllers isn't there", "pressure/cpu can't be read"
+    )
     must(not os.path.exists(run.out), "nothing is recorded")
 
 
 def check_one_thing_is_missing(top: str) -> None:
-    for number, path in enumerate(("tracing/instances", "cgroup/cgroup.controllers", "proc/pressure/cpu")):
+    for number, path in enumerate(
+        ("tracing/instances", "cgroup/cgroup.controllers", "proc/pressure/cpu")
+    ):
         folder.make_machine(f"{top}{number}")
-        (os.rmdir if path.endswith("s/") or path == "tracing/instances" else os.unlink)(f"{top}{number}/{path}")
+        (
+            os.rmdir if path.endswith("s/") or path == "tracing/instances" else os.unlink
+        )(f"{top}{number}/{path}")
         run = Run(f"{top}{number}").ended(2).says(path)
         must_be("what is told", run.said.count("there must be"), 1)
         must(not os.path.exists(run.out), "nothing is recorded")
@@ -41,14 +47,18 @@ def check_the_folder_is_there_already(top: str) -> None:
 def check_words(top: str) -> None:
     folder.make_machine(top)
     wrong = (
-        ("--seconds", "0"), ("--seconds", "nan"), ("--buffer-kb", "1.5"), ("--max-mb", "-1"), ("--secs", "1"), ("another",),
+        ("--seconds", "0"), ("--seconds", "nan"), ("--buffer-kb", "1.5"), ("--max-mb", "-1"),
+        ("--secs", "1"), ("another",),
         ("--until", "memory full 100000 1000000"), ("--after-s", "3"), ("--ring", "--max-mb", "5"),
-        ("--ring", "--until", "memory full 100000"), ("--ring", "--until", "memory half 100000 1000000"),
-        ("--ring", "--until", "memory full 100000 400000"), ("--ring", "--until", "memory full 2000001 2000000"),
+        ("--ring", "--until", "memory full 100000"),
+        ("--ring", "--until", "memory half 100000 1000000"),
+        ("--ring", "--until", "memory full 100000 400000"),
+        ("--ring", "--until", "memory full 2000001 2000000"),
     )  # fmt: skip
     for words in wrong:
         run = Run(top, *words).ended(2).says("usage: tools/record", "--help")
-        must(run.said.startswith("record: ") and len(run.said.splitlines()) == 2, f"what is wrong comes first: {run.said}")
+        must(run.said.startswith("record: ") and len(run.said.splitlines()) == 2,
+             f"what is wrong comes first: {run.said}")
         must(not os.path.exists(run.out), f"{words}: nothing is recorded")
 
 

@@ -14,7 +14,9 @@ WEB = "/system.slice/web.service"
 
 
 def check_a_whole_machine(top: str) -> None:
-    run = whole(top, "--seconds", "1.1", "--memory-s", "0.5", "--pressure-s", "0.5", pages=40).ended(0)
+    run = whole(
+        top, "--seconds", "1.1", "--memory-s", "0.5", "--pressure-s", "0.5", pages=40
+    ).ended(0)
     must_be("no probe is missing", run.values("no-probe") + run.values("no-event"), [])
     events = [it for it in folder.EVENTS if it != "sched/sched_stat_iowait"]
     found = [re.sub(r"^psirec\d+_\d+/", "", it) for it in run.values("event")]
@@ -23,9 +25,11 @@ def check_a_whole_machine(top: str) -> None:
     must_be("the end", run.values("end"), ["seconds"])
     must_be("bytes", run.values("bytes"), [str(2 * 40 * folder.PAGE_BYTES)])
     for processor in range(2):
-        must_be("pages", run.file(f"cpu{processor}.raw"), bytes([processor + 1]) * (40 * folder.PAGE_BYTES))
+        must_be("pages", run.file(f"cpu{processor}.raw"),
+                bytes([processor + 1]) * (40 * folder.PAGE_BYTES))
     must("cpu1 overrun: 0" in run.values("stats"), "the kernel's counts are there")
-    must_be("files", sorted(os.listdir(run.out)), ["cpu0.raw", "cpu1.raw", "formats", "meta", "pressure", "snapshot"])
+    must_be("files", sorted(os.listdir(run.out)),
+            ["cpu0.raw", "cpu1.raw", "formats", "meta", "pressure", "snapshot"])
     seconds = float(run.values("seconds")[0])
     must(1.1 <= seconds < 3, f"it takes its time: {seconds}")
 
@@ -34,13 +38,20 @@ def check_the_two_clocks(top: str) -> None:
     before = time.time() - time.monotonic()
     run = whole(top).ended(0)
     found = re.fullmatch(r"realtime (\d+\.\d{6}) monotonic (\d+\.\d{6})", run.values("moment")[0])
-    must(found and abs(float(found[1]) - float(found[2]) - before) < 0.01, f"the clocks belong together: {found}")
+    must(found and abs(float(found[1]) - float(found[2]) - before) < 0.01,
+         f"the clocks belong together: {found}")
 
 
 def check_formats(top: str) -> None:
     run = whole(top).ended(0)
     text = run.file("formats").decode()
-    must(text.startswith(f"== header_page\n{folder.HEADER_PAGE}== sched/sched_switch\nname: sched/sched_switch\nID: 0\n"), text)
+    must(
+        text.startswith(
+            f"== header_page\n{folder.HEADER_PAGE}== sched/sched_switch\nname: sched/sched_switch\n"
+            "ID: 0\n"
+        ),
+        text,
+    )
     heads = re.findall("^== (.*)$", text, re.MULTILINE)
     must_be("the formats", heads, ["header_page", *run.values("event"), "ftrace/print"])
     must_be("each has its text", len(re.findall("^name: ", text, re.MULTILINE)), len(heads) - 1)
@@ -75,7 +86,8 @@ def check_preferences(top: str) -> None:
         print(f"preferences are skipped, there are no attributes here: {error}")
         return
     run = Run(top, "--seconds", "0.3").ended(0)
-    must_be("preferences", re.findall(r"^group (\S+ \w+)$", run.file("snapshot").decode(), re.MULTILINE)[1:3],
+    must_be("preferences",
+            re.findall(r"^group (\S+ \w+)$", run.file("snapshot").decode(), re.MULTILINE)[1:3],
             ["/system.slice prefer", f"{WEB} omit"])  # fmt: skip
 
 
@@ -83,10 +95,15 @@ def check_pressure_files(top: str) -> None:
     run = whole(top, "--seconds", "0.5", "--pressure-s", "0.2").ended(0)
     wanted = ""
     for number in range(3):
-        for group, path in (("", "/"), ("/system.slice", "/system.slice"), (WEB, WEB), ("/user slice", r"/user\x20slice")):
+        for group, path in (
+            ("", "/"), ("/system.slice", "/system.slice"), (WEB, WEB),
+            ("/user slice", r"/user\x20slice"),
+        ):
             for kind in ("io", "memory", "cpu"):
                 some, full = (1000, 500) if not group else (len(group), len(kind))
-                wanted += f"sample {number} {path} {kind}\n" + folder.PRESSURE.format(some=some, full=full)
+                wanted += f"sample {number} {path} {kind}\n" + folder.PRESSURE.format(
+                    some=some, full=full
+                )
     must_be("the readings", run.file("pressure").decode(), wanted)
 
 
@@ -119,7 +136,12 @@ def check_a_group_that_vanishes(top: str) -> None:
     samples = re.findall(r"mem (/g\w+ \d+ \d+ \d+)", read(f"{top}.markers"))
     must_be("a group without memory has no sample", samples, ["/going 4096 0 0"])
     text = run.file("snapshot").decode()
-    must("group /gone none\ngroup /system" in text and "task 999" not in text and "task 101" not in text, text)
+    must(
+        "group /gone none\ngroup /system" in text
+        and "task 999" not in text
+        and "task 101" not in text,
+        text,
+    )
     must("/gone" not in run.file("pressure").decode(), "no pressure of what isn't there")
 
 
@@ -171,7 +193,8 @@ def check_accounting_without_its_file(top: str) -> None:
     run.ended(0, is_same=False)
     must_be("changes", changes_of_accounting(top), [])
     old = Run(top, "--seconds", "0.3", "--memory-s", "0.1", name="old").ended(0)
-    must("unaccounted" not in old.file("snapshot").decode(), "nothing is unaccounted where there is no such file")
+    must("unaccounted" not in old.file("snapshot").decode(),
+         "nothing is unaccounted where there is no such file")
     must_be("changes without the file", changes_of_accounting(top), [])
 
 

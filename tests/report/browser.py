@@ -33,8 +33,13 @@ class Socket:
     def __init__(self, port: int, path: str) -> None:
         self.stream = socket.create_connection(("127.0.0.1", port), SECONDS)
         key = base64.b64encode(os.urandom(16)).decode()
-        head = f"GET {path} HTTP/1.1\r\nHost: 127.0.0.1:{port}\r\nUpgrade: websocket\r\nConnection: Upgrade\r\n"
-        self.stream.sendall(f"{head}Sec-WebSocket-Key: {key}\r\nSec-WebSocket-Version: 13\r\n\r\n".encode())
+        head = (
+            f"GET {path} HTTP/1.1\r\nHost: 127.0.0.1:{port}\r\nUpgrade: websocket\r\n"
+            "Connection: Upgrade\r\n"
+        )
+        self.stream.sendall(
+            f"{head}Sec-WebSocket-Key: {key}\r\nSec-WebSocket-Version: 13\r\n\r\n".encode()
+        )
         self.file = self.stream.makefile("rb")
         must(b" 101 " in self.file.readline(), "the browser takes the socket")
         while self.file.readline().strip():
@@ -43,9 +48,13 @@ class Socket:
     def send(self, text: str) -> None:
         data, mask = text.encode(), os.urandom(4)
         length = bytes([0x80 | len(data)]) if len(data) < 126 else (
-            b"\xfe" + struct.pack(">H", len(data)) if len(data) < 1 << 16 else b"\xff" + struct.pack(">Q", len(data))
+            b"\xfe" + struct.pack(">H", len(data))
+            if len(data) < 1 << 16
+            else b"\xff" + struct.pack(">Q", len(data))
         )  # fmt: skip
-        self.stream.sendall(b"\x81" + length + mask + bytes(it ^ mask[place % 4] for place, it in enumerate(data)))
+        self.stream.sendall(
+            b"\x81" + length + mask + bytes(it ^ mask[place % 4] for place, it in enumerate(data))
+        )
 
     def receive(self) -> str:
         """Returns the next text, from one frame or several."""
@@ -127,12 +136,16 @@ class Page:
 
     def look(self, width: int, height: int = 900, scheme: str = "light", media: str = "") -> None:
         """Sets the size (pixels), the reader's colour scheme (light or dark) and the medium."""
-        self.ask("Emulation.setDeviceMetricsOverride", width=width, height=height, deviceScaleFactor=1, mobile=False)
-        self.ask("Emulation.setEmulatedMedia", media=media, features=[{"name": "prefers-color-scheme", "value": scheme}])
+        self.ask("Emulation.setDeviceMetricsOverride", width=width, height=height,
+                 deviceScaleFactor=1, mobile=False)
+        self.ask("Emulation.setEmulatedMedia", media=media,
+                 features=[{"name": "prefers-color-scheme", "value": scheme}])
 
     def picture(self, clip: Optional[dict[str, float]] = None) -> bytes:
         """Returns a PNG of the window, or of a part of the page."""
-        more: dict[str, Any] = {"clip": {**clip, "scale": 1}, "captureBeyondViewport": True} if clip else {}
+        more: dict[str, Any] = (
+            {"clip": {**clip, "scale": 1}, "captureBeyondViewport": True} if clip else {}
+        )
         return base64.b64decode(self.ask("Page.captureScreenshot", format="png", **more)["data"])
 
     def mouse(self, kind: str, x: float, y: float, **more: Any) -> None:
@@ -152,15 +165,22 @@ class Page:
         """Presses a key, with its name and its code."""
         for kind in ("keyDown", "keyUp"):
             more = {"text": text} if text and kind == "keyDown" else {}
-            self.ask("Input.dispatchKeyEvent", type=kind, key=name, windowsVirtualKeyCode=code, modifiers=modifiers, **more)
+            self.ask("Input.dispatchKeyEvent", type=kind, key=name, windowsVirtualKeyCode=code,
+                     modifiers=modifiers, **more)
 
 
 def flags(folder: str) -> list[str]:
     """Returns the browser's arguments: no requests to the network, and no sandbox if run as root,
     since Chromium would refuse.
     """
-    found = ["--headless", "--disable-gpu", "--hide-scrollbars", "--no-first-run", "--disable-extensions", "--disable-dev-shm-usage"]
-    found += ["--disable-background-networking", "--disable-component-update", "--disable-sync", f"--user-data-dir={folder}"]
+    found = [
+        "--headless", "--disable-gpu", "--hide-scrollbars", "--no-first-run",
+        "--disable-extensions", "--disable-dev-shm-usage",
+    ]
+    found += [
+        "--disable-background-networking", "--disable-component-update", "--disable-sync",
+        f"--user-data-dir={folder}",
+    ]
     return found + (["--no-sandbox"] if os.geteuid() == 0 else [])
 
 
@@ -185,7 +205,9 @@ def opened_browser(path: str) -> Iterator[Page]:
         process = subprocess.Popen(words, stdout=subprocess.DEVNULL, stderr=subprocess.DEVNULL)
         try:
             port = port_of(folder, process)
-            with urllib.request.urlopen(f"http://127.0.0.1:{port}/json/list", timeout=SECONDS) as answer:
+            with urllib.request.urlopen(
+                f"http://127.0.0.1:{port}/json/list", timeout=SECONDS
+            ) as answer:
                 pages = [it for it in json.load(answer) if it["type"] == "page"]
             stream = Socket(port, pages[0]["webSocketDebuggerUrl"].partition(f":{port}")[2])
             try:

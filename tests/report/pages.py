@@ -34,7 +34,10 @@ class Node:
         found = []
         for it in self.children:
             if isinstance(it, Node):
-                is_wanted = all(value in it.attributes.get(name.rstrip("_"), "").split(" ") for name, value in wanted.items())
+                is_wanted = all(
+                    value in it.attributes.get(name.rstrip("_"), "").split(" ")
+                    for name, value in wanted.items()
+                )
                 found += [it] if it.tag == tag and is_wanted else []
                 found += it.find(tag, **wanted)
         return found
@@ -72,7 +75,8 @@ def read(page: bytes) -> Node:
 
 def run(program: str, *words: str, folder: str = TOP) -> subprocess.CompletedProcess[bytes]:
     environment = {**os.environ, "PSI_OOMD": program}
-    return subprocess.run([sys.executable, os.path.join(TOP, REPORT), *words], cwd=folder, capture_output=True, env=environment)
+    return subprocess.run([sys.executable, os.path.join(TOP, REPORT), *words], cwd=folder,
+                          capture_output=True, env=environment)
 
 
 def page_of(program: str, *words: str, folder: str = TOP) -> bytes:
@@ -87,7 +91,8 @@ def story(program: str) -> bytes:
     """Returns the page of the story, made as in README."""
     with tempfile.TemporaryDirectory() as folder:
         os.symlink(os.path.join(TOP, "examples"), os.path.join(folder, "examples"))
-        page_of(program, "examples/runaway.trace", "--rules", "examples/runaway.json", "-o", "runaway.html", folder=folder)
+        page_of(program, "examples/runaway.trace", "--rules", "examples/runaway.json", "-o",
+                "runaway.html", folder=folder)
         with open(os.path.join(folder, "runaway.html"), "rb") as file:
             return file.read()
 
@@ -103,5 +108,10 @@ def data_of(page: Node) -> dict[str, Any]:
 def same(page: bytes) -> str:
     """The page without what differs from run to run."""
     text = CHANGING.sub(r"\1", page.decode())
-    must(text.count('class="made"') == text.count('class="commit"') == text.count('class="program"') == 1, "each stands there once")
+    must(
+        text.count('class="made"') == text.count('class="commit"') == text.count(
+            'class="program"'
+        ) == 1,
+        "each stands there once",
+    )
     return text

@@ -31,7 +31,10 @@ REACHED = "input, button, summary, a[href], figure:not([hidden]) > .scroll > svg
 # Not reachable: inside closed or hidden elements.
 CLOSED = "details .wide, figure[hidden] summary"
 VALUES = 'document.querySelector("figure[data-panel]:not([hidden]) .values").textContent'
-SHOWN = '[...document.querySelectorAll("figure[data-panel]")].filter((it) => it.offsetHeight > 0).length'
+SHOWN = (
+    '[...document.querySelectorAll("figure[data-panel]")].filter((it) => it.offsetHeight > '
+    '0).length'
+)
 TIME = 'document.getElementById("time").textContent'
 
 
@@ -50,7 +53,8 @@ def shown(program: str) -> Iterator[Page]:
         page.open(name)
         yield page
         must_be("what stands on the console", page.faults, [])
-        must_be("what was asked for", {it for it in page.asked if not it.startswith("data:")}, {f"file://{name}"})
+        must_be("what was asked for", {it for it in page.asked if not it.startswith("data:")},
+                {f"file://{name}"})
 
 
 def is_skipped() -> bool:
@@ -71,8 +75,14 @@ def place_of(page: Page, seconds: float) -> tuple[float, float]:
 def values_of(program: str, seconds: int) -> str:
     """Returns the values below the first picture at a time (s), from psi_oomd's output."""
     printed = Printed(run([program, "replay", "examples/runaway.trace", "--report-s", "2"]))
-    looks = [(level, average) for level in ("some", "full") for average in ("avg10", "avg60", "avg300")]
-    cells = [f"{' '.join(look)} {dict(printed.shares['/batch', 'memory', *look])[seconds * SECOND]:.2f} %" for look in looks]
+    looks = [
+        (level, average) for level in ("some", "full") for average in ("avg10", "avg60", "avg300")
+    ]
+    cells = [
+        f"{' '.join(look)} {dict(printed.shares['/batch', 'memory', *look])[seconds * SECOND]:.2f} "
+        "%"
+        for look in looks
+    ]
     return f"{seconds} s: {', '.join(cells)}"
 
 
@@ -89,14 +99,20 @@ def check_pointer_and_zoom(program: str) -> None:
         left, right = place_of(page, 100)[0], place_of(page, 190)[0]
         page.drag(left, right, y)
         begin, end = (float(it) for it in re.findall(r"[0-9.]+", page.value(TIME)))
-        must(abs(begin - 100) < 1 and abs(end - 190) < 1, f"the time that is shown: {page.value(TIME)}")
+        must(abs(begin - 100) < 1 and abs(end - 190) < 1,
+             f"the time that is shown: {page.value(TIME)}")
         x, y, width, height = page.value(BOX)
         page.mouse("mouseMoved", x + width * (112 + 824 / 2) / 960, y + height * 0.6)
-        must_be("values in the middle", page.value(VALUES), values_of(program, int((begin + end) / 4) * 2))
-        texts = page.value(f"[...{PICTURE}.querySelectorAll('g.time text')].map((it) => it.textContent)")
-        must_be("the numbers of the time", texts, [str(it) for it in range(0, 301, 10) if begin <= it <= end])
+        must_be("values in the middle", page.value(VALUES),
+                values_of(program, int((begin + end) / 4) * 2))
+        texts = page.value(
+            f"[...{PICTURE}.querySelectorAll('g.time text')].map((it) => it.textContent)"
+        )
+        must_be("the numbers of the time", texts,
+                [str(it) for it in range(0, 301, 10) if begin <= it <= end])
         kill = page.value(f"{PICTURE}.querySelector('g.kill').getBoundingClientRect().x")
-        must(abs(kill - (x + (112 + (146 - begin) / (end - begin) * 824) * width / 960)) < 8, f"the kill stands at {kill}")
+        must(abs(kill - (x + (112 + (146 - begin) / (end - begin) * 824) * width / 960)) < 8,
+             f"the kill stands at {kill}")
         page.key(*ESCAPE)
         page.value(f"{PICTURE}.focus()")
         page.key(*ESCAPE)
@@ -104,12 +120,19 @@ def check_pointer_and_zoom(program: str) -> None:
 
 
 def check_pictures_are_redrawn_alike(program: str) -> None:
-    """If all of the time is shown, the script draws the lines exactly as the charts' modules did."""
+    """If all of the time is shown, the script draws the lines exactly as the charts' modules did.
+    """
     if is_skipped():
         return
-    still = [it.attributes["points"] for it in read(story(program)).find("figure", class_="more")[0].find("polyline")]
+    still = [
+        it.attributes["points"]
+        for it in read(story(program)).find("figure", class_="more")[0].find("polyline")
+    ]
     with shown(program) as page:
-        script = '[...document.querySelectorAll("figure.more polyline")].map((it) => it.getAttribute("points"))'
+        script = (
+            '[...document.querySelectorAll("figure.more polyline")].map((it) => '
+            'it.getAttribute("points"))'
+        )
         drawn = page.value(script)
 
     def ends(points: str) -> list[float]:
@@ -117,23 +140,41 @@ def check_pictures_are_redrawn_alike(program: str) -> None:
 
     must(len(still) >= 6, f"{len(still)} lines")
     for one, other in zip(still, drawn):
-        must(all(abs(a - b) < 0.02 for a, b in zip(ends(one), ends(other))), f"from {ends(one)}, not {ends(other)}")
+        must(all(abs(a - b) < 0.02 for a, b in zip(ends(one), ends(other))),
+             f"from {ends(one)}, not {ends(other)}")
 
 
 def check_groups_and_resources(program: str) -> None:
     """A click on a checkbox shows or hides a group."""
     if is_skipped():
         return
-    figures = [it.attributes for it in read(story(program)).find("figure") if "data-panel" in it.attributes]
+    figures = [
+        it.attributes for it in read(story(program)).find("figure") if "data-panel" in it.attributes
+    ]
     with shown(program) as page:
         first = sum(it["data-group"] in ("/batch", "/batch/import") for it in figures)
         must_be("pictures at first", page.value(SHOWN), first)
         for name, value, wanted in (
             ("group", "/", first + sum(it["data-group"] == "/" for it in figures)),
-            ("resource", "io", sum(it["data-group"] in ("/", "/batch", "/batch/import") and it["data-resource"] != "io" for it in figures)),
+            (
+                "resource", "io",
+                sum(
+                    it["data-group"] in ("/", "/batch", "/batch/import")
+                    and it["data-resource"] != "io"
+                    for it in figures
+                ),
+            ),
         ):
-            box = f"document.querySelector('input[name={name}][value=\"{value}\"]').getBoundingClientRect()"
-            page.click(*(page.value(f"{box}.{side} + {box}.{length} / 2") for side, length in (("x", "width"), ("y", "height"))))
+            box = (
+                f"document.querySelector('input[name={name}][value=\"{value}\"]').getBoundingClient"
+                "Rect()"
+            )
+            page.click(
+                *(
+                    page.value(f"{box}.{side} + {box}.{length} / 2")
+                    for side, length in (("x", "width"), ("y", "height"))
+                )
+            )
             must_be(f"pictures after a click on {value}", page.value(SHOWN), wanted)
 
 
@@ -144,11 +185,15 @@ def check_keys_alone(program: str) -> None:
     if is_skipped():
         return
     with shown(program) as page:
-        wanted, closed = (page.value(f"document.querySelectorAll({it!r}).length") for it in (REACHED, CLOSED))
+        wanted, closed = (
+            page.value(f"document.querySelectorAll({it!r}).length") for it in (REACHED, CLOSED)
+        )
         seen = set()
         for _ in range(wanted + 5):
             page.key(*TAB)
-            seen.add(page.value("[...document.querySelectorAll('*')].indexOf(document.activeElement)"))
+            seen.add(
+                page.value("[...document.querySelectorAll('*')].indexOf(document.activeElement)")
+            )
             if page.value("document.activeElement === document.body"):
                 break
         must(len(seen) >= wanted - closed, f"{len(seen)} places are reached, of {wanted - closed}")
@@ -192,12 +237,18 @@ def check_looks(program: str) -> None:
         page.look(1100, scheme="dark")
         must_be("dark", page.value(ground), "rgb(22, 25, 29)")
         pictures.append(page.picture())
-        must(all(it[:8] == b"\x89PNG\r\n\x1a\n" and len(it) > 20_000 for it in pictures) and pictures[0] != pictures[1], "two pictures")
+        must(
+            all(it[:8] == b"\x89PNG\r\n\x1a\n" and len(it) > 20_000 for it in pictures)
+            and pictures[0] != pictures[1],
+            "two pictures",
+        )
         for width in (360, 768, 1600):
             page.look(width)
-            must(page.value("document.documentElement.scrollWidth") <= width, f"nothing is beyond the side at {width}")
+            must(page.value("document.documentElement.scrollWidth") <= width,
+                 f"nothing is beyond the side at {width}")
         printed = page.ask("Page.printToPDF", preferCSSPageSize=True)
-    must_be("pages of paper", re.findall(rb"/Count ([0-9]+)", base64.b64decode(printed["data"])), [b"2"])
+    must_be("pages of paper", re.findall(rb"/Count ([0-9]+)", base64.b64decode(printed["data"])),
+            [b"2"])
 
 
 def check_breaks_on_paper(program: str) -> None:
@@ -206,8 +257,13 @@ def check_breaks_on_paper(program: str) -> None:
         return
     with shown(program) as page:
         page.look(1100, media="print")
-        for element, style, count in (("table", "breakInside", 5), ("h3", "breakAfter", 1), ("caption", "breakAfter", 5)):
-            found = page.value(f"[...document.querySelectorAll('{element}')].map((it) => getComputedStyle(it).{style})")
+        for element, style, count in (
+            ("table", "breakInside", 5), ("h3", "breakAfter", 1), ("caption", "breakAfter", 5)
+        ):
+            found = page.value(
+                f"[...document.querySelectorAll('{element}')].map((it) => "
+                f"getComputedStyle(it).{style})"
+            )
             must(len(found) >= count and set(found) == {"avoid"}, f"{style} of {element}: {found}")
 
 
@@ -223,7 +279,9 @@ def check_texts_of_pictures_fit(program: str) -> None:
         pictures = re.findall(rb"(?s)<svg .*?</svg>", page)
         must(len(pictures) > 8, f"{name} has pictures: {len(pictures)}")
         for number, picture in enumerate(pictures):
-            svg = ElementTree.fromstring(picture.replace(b"<svg ", b'<svg xmlns="http://www.w3.org/2000/svg" ', 1))
+            svg = ElementTree.fromstring(
+                picture.replace(b"<svg ", b'<svg xmlns="http://www.w3.org/2000/svg" ', 1)
+            )
             if svg.get("class") != "strip":
                 must_fit(f"picture {number} of {name}", svg)
             if not svg.get("class"):
@@ -235,7 +293,11 @@ def rules_of_style(page: bytes, medium: str) -> dict[str, str]:
     (style,) = re.findall(r"(?s)<style>(.*?)</style>", page.decode())[:1]
     found: dict[str, str] = {}
     start = style.index(f"@media {medium} {{") + len(f"@media {medium} {{")
-    end = next(at for at in range(start, len(style)) if style[start : at + 1].count("}") > style[start : at + 1].count("{"))
+    end = next(
+        at
+        for at in range(start, len(style))
+        if style[start : at + 1].count("}") > style[start : at + 1].count("{")
+    )
     for selectors, declarations in re.findall(r"([^{}]+)\{([^{}]*)\}", style[start:end]):
         for one in selectors.split(","):
             found[one.strip()] = found.get(one.strip(), "") + declarations
@@ -248,8 +310,10 @@ def check_breaks_without_a_browser(program: str) -> None:
     """
     style = rules_of_style(story(program), "print")
     for selector, declaration in (
-        ("table", "break-inside: avoid"), ("tr", "break-inside: avoid"), (".pictures figure", "break-inside: avoid"),
-        ("caption", "break-after: avoid"), ("h2", "break-after: avoid"), ("h3", "break-after: avoid"),
+        ("table", "break-inside: avoid"), ("tr", "break-inside: avoid"),
+        (".pictures figure", "break-inside: avoid"),
+        ("caption", "break-after: avoid"), ("h2", "break-after: avoid"),
+        ("h3", "break-after: avoid"),
     ):  # fmt: skip
         must(declaration in style.get(selector, ""), f"{selector} on paper: {style.get(selector)}")
     page = read(story(program))
@@ -257,7 +321,8 @@ def check_breaks_without_a_browser(program: str) -> None:
         nodes = [it for it in parent.children if not isinstance(it, str)]
         for heading, other in zip(nodes, [*nodes[1:], None]):
             if heading.tag in ("h2", "h3"):
-                must(other is not None and other.tag not in ("h1", "h2"), f"after '{heading.text()}' comes what it is about")
+                must(other is not None and other.tag not in ("h1", "h2"),
+                     f"after '{heading.text()}' comes what it is about")
     tables = [it for it in page.find("table") if it.find("caption")]
     must(len(tables) > 5, f"tables have captions: {len(tables)}")
 
@@ -266,11 +331,18 @@ def check_scales_that_differ(program: str) -> None:
     """A picture says if its scale ends below 100 percent; the one beside it may end elsewhere."""
     page = read(story(program))
     figures = [it for it in page.find("figure") if "data-panel" in it.attributes]
-    marks = [[span.text() for name in it.find("text", class_="name") for span in name.find("tspan")] for it in figures]
+    marks = [
+        [span.text() for name in it.find("text", class_="name") for span in name.find("tspan")]
+        for it in figures
+    ]
     panels = data_of(page)["panels"]
-    wanted = [[f"scale to {it['most'] // 100} %"] if not it["step"] and it["most"] < 10_000 else [] for it in panels]
+    wanted = [
+        [f"scale to {it['most'] // 100} %"] if not it["step"] and it["most"] < 10_000 else []
+        for it in panels
+    ]
     must_be("marks of scales", marks, wanted)
-    must(0 < len([it for it in wanted if it]) < len(wanted), f"some scales end below 100 percent: {wanted}")
+    must(0 < len([it for it in wanted if it]) < len(wanted),
+         f"some scales end below 100 percent: {wanted}")
 
 
 def check_a_phone(program: str) -> None:
@@ -279,19 +351,35 @@ def check_a_phone(program: str) -> None:
         return
     with shown(program) as page:
         page.look(390)
-        widths = page.value('[...document.querySelectorAll("figure[data-panel]:not([hidden]) svg")].map((it) => it.clientWidth)')
-        must(len(widths) >= 6 and all(300 < it <= 390 for it in widths), f"the pictures' widths: {widths}")
-        labels = page.value('[...document.querySelectorAll("figure[data-panel] svg .path")].filter((it) => it.getClientRects().length).length')
+        widths = page.value(
+            '[...document.querySelectorAll("figure[data-panel]:not([hidden]) svg")].map((it) => '
+            'it.clientWidth)'
+        )
+        must(len(widths) >= 6 and all(300 < it <= 390 for it in widths),
+             f"the pictures' widths: {widths}")
+        labels = page.value(
+            '[...document.querySelectorAll("figure[data-panel] svg .path")].filter((it) => '
+            'it.getClientRects().length).length'
+        )
         must_be("labels of upright lines", labels, 0)
-        height = page.value(f"parseFloat(getComputedStyle({PICTURE}.querySelector('.time text')).fontSize)")
-        must(height * widths[0] / 960 > 8, f"numbers of the time are {height * widths[0] / 960} pixels high")
+        height = page.value(
+            f"parseFloat(getComputedStyle({PICTURE}.querySelector('.time text')).fontSize)"
+        )
+        must(height * widths[0] / 960 > 8,
+             f"numbers of the time are {height * widths[0] / 960} pixels high")
 
 
 def check_one_label_for_each_kill(program: str) -> None:
     """The first picture has them; vertical lines cross all pictures."""
     figures = [it for it in read(story(program)).find("figure") if "data-panel" in it.attributes]
-    labels = [len([text for mark in it.find("g", class_="kill") for text in mark.find("text")]) for it in figures]
-    lines = [len([line for mark in it.find("g", class_="kill") for line in mark.find("line")]) for it in figures]
+    labels = [
+        len([text for mark in it.find("g", class_="kill") for text in mark.find("text")])
+        for it in figures
+    ]
+    lines = [
+        len([line for mark in it.find("g", class_="kill") for line in mark.find("line")])
+        for it in figures
+    ]
     must_be("labels", labels, [1] + [0] * (len(figures) - 1))
     must_be("lines", lines, [1] * len(figures))
 
@@ -307,9 +395,12 @@ def check_by_the_browsers_own_words(program: str) -> None:
         with open(name, "wb") as file:
             file.write(story(program))
         words = [path, *flags(os.path.join(folder, "profile"))]
-        told = subprocess.run([*words, "--dump-dom", f"file://{name}"], capture_output=True, text=True, timeout=300)
-        must('<html lang="en" class="live">' in told.stdout and "0 s to 300 s" in told.stdout, f"the script ran: {told.stderr[:500]}")
-        subprocess.run([*words, f"--screenshot={picture}", f"file://{name}"], capture_output=True, timeout=300)
+        told = subprocess.run([*words, "--dump-dom", f"file://{name}"], capture_output=True,
+                              text=True, timeout=300)
+        must('<html lang="en" class="live">' in told.stdout and "0 s to 300 s" in told.stdout,
+             f"the script ran: {told.stderr[:500]}")
+        subprocess.run([*words, f"--screenshot={picture}", f"file://{name}"], capture_output=True,
+                       timeout=300)
         must(os.path.getsize(picture) > 20_000, "there is a picture")
 
 

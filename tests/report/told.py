@@ -37,8 +37,22 @@ def rows_of(section: Node) -> list[list[str]]:
 def check_the_first_sentence(program: str) -> None:
     """Its numbers are those that the commands print."""
     page = read(story(program))
-    was = Printed(run([program, "replay", "examples/runaway.trace", "--rules", "examples/runaway.json", "--report-s", "2"]))
-    other = Printed(run([program, "whatif", "examples/runaway.trace", "--rules", "examples/runaway.json", "--report-s", "2"]))
+    was = Printed(
+        run(
+            [
+                program, "replay", "examples/runaway.trace", "--rules", "examples/runaway.json",
+                "--report-s", "2",
+            ]
+        )
+    )
+    other = Printed(
+        run(
+            [
+                program, "whatif", "examples/runaway.trace", "--rules", "examples/runaway.json",
+                "--report-s", "2",
+            ]
+        )
+    )
     key = "/batch", "memory", "some", "avg10"
     highest = max(share for _, share in was.shares[key])
     at = next(moment for moment, share in was.shares[key] if share == highest)
@@ -47,9 +61,12 @@ def check_the_first_sentence(program: str) -> None:
     later = next(moment for moment, _ in was.shares[key] if moment >= kill[0] + 30 * SECOND)
     cut = [int(dict(it.shares[key])[later] * 10 + 1e-9) / 10 for it in (other, was)]
     must_be("the sentence", lead_of(page), (
-        f"/batch stalled for memory, at its worst from {above[0] // SECOND} s to {above[-1] // SECOND} s: up to {highest:.2f} percent"
-        f" of the time over 10 s (at {at // SECOND} s). Ruleset 0 ‘batch work is short of memory’ would have killed /batch/import at"
-        f" {kill[0] // SECOND} s; without it /batch would have had at most {cut[0]} percent in place of {cut[1]} at {later // SECOND} s."
+        f"/batch stalled for memory, at its worst from {above[0] // SECOND} s to "
+        f"{above[-1] // SECOND} s: up to {highest:.2f} percent"
+        f" of the time over 10 s (at {at // SECOND} s). Ruleset 0 ‘batch work is short of memory’ "
+        "would have killed /batch/import at"
+        f" {kill[0] // SECOND} s; without it /batch would have had at most {cut[0]} percent in "
+        f"place of {cut[1]} at {later // SECOND} s."
     ))  # fmt: skip
 
 
@@ -63,22 +80,35 @@ def check_the_commands(program: str) -> None:
     for link in page.find("a", class_="from"):
         must(link.attributes["href"][1:] in commands, f"{link.text()} is a command of the page")
     words = [it.split() for it in commands.values()]
-    must(all(it[0] == "psi_oomd" or os.path.exists(os.path.join(TOP, it[0])) for it in words), f"these are commands: {words}")
+    must(all(it[0] == "psi_oomd" or os.path.exists(os.path.join(TOP, it[0])) for it in words),
+         f"these are commands: {words}")
     (blame,) = [it for it in words if it[0] == "tools/blame" and "--group=/batch" in it]
     told = json.loads(run([os.path.join(TOP, blame[0]), *blame[1:]]))["groups"][0]
     cells = rows_of(page.find("section", id="blame")[0])
     for part in told["while_ran"]:
-        row = [part["group"], f"{part['ns'] / SECOND:.3f}", f"{100 * part['ns'] / told['waited_ns']:.1f} %"]
+        row = [
+            part["group"], f"{part['ns'] / SECOND:.3f}",
+            f"{100 * part['ns'] / told['waited_ns']:.1f} %",
+        ]
         must(row in cells, f"{row} is in a table")
     for name in ("runaway.trace", "runaway.json"):
-        said = subprocess.run(["sha256sum", f"examples/{name}"], cwd=TOP, capture_output=True, text=True, check=True).stdout.split()[0]
+        said = subprocess.run(
+            ["sha256sum", f"examples/{name}"], cwd=TOP, capture_output=True, text=True, check=True
+        ).stdout.split()[0]
         must([f"examples/{name}", said] in rows_of(made), f"the sum of {name}")
 
 
 def check_values_for_the_script(program: str) -> None:
     """The pointer shows what the replay printed, and events and kills are at their times."""
     page = read(story(program))
-    printed = Printed(run([program, "replay", "examples/runaway.trace", "--rules", "examples/runaway.json", "--report-s", "1"]))
+    printed = Printed(
+        run(
+            [
+                program, "replay", "examples/runaway.trace", "--rules", "examples/runaway.json",
+                "--report-s", "1",
+            ]
+        )
+    )
     data, figures = data_of(page), page.find("figure")
     found = 0
     for figure in figures:
@@ -91,10 +121,13 @@ def check_values_for_the_script(program: str) -> None:
             shares = printed.shares[path, resource, level, average]
             wanted = {moment // 10**6: round(100 * share) for moment, share in shares}
             rows = {at: value for at, value in zip(panel["t"], values) if at is not None}
-            must(rows and rows.items() <= wanted.items(), f"{path} {resource} {look}: {rows} are of {wanted}")
-            must_be(f"{path} {resource} {look}: the highest", max(rows.values()), max(wanted.values()))
+            must(rows and rows.items() <= wanted.items(),
+                 f"{path} {resource} {look}: {rows} are of {wanted}")
+            must_be(f"{path} {resource} {look}: the highest", max(rows.values()),
+                    max(wanted.values()))
         for level, moments in panel["e"].items():
-            must_be("events", moments, [moment // 10**6 for moment in printed.events[path, resource, level]])
+            must_be("events", moments,
+                    [moment // 10**6 for moment in printed.events[path, resource, level]])
         must(printed.kills[0][0] // 10**6 in panel["marks"], "the kill stands there")
         found += 1
     must(found >= 6, f"there are {found} pictures")
@@ -131,8 +164,19 @@ def check_thinned_values(program: str) -> None:
     for which, shares in series.shares.items():
         wanted = highest_of(series.moments, shares, end)
         must_be(f"the highest of {which}", highest_of(few.moments, few.shares[which], end), wanted)
-    gaps = [place for place in range(1, len(few.rounds)) if few.rounds[place] - few.rounds[place - 1] > 1]
-    must_be("gaps", [(few.moments[it - 1] <= 40_000 * SECOND, few.moments[it] >= 41_000 * SECOND) for it in gaps], [(True, True)])
+    gaps = [
+        place
+        for place in range(1, len(few.rounds))
+        if few.rounds[place] - few.rounds[place - 1] > 1
+    ]
+    must_be(
+        "gaps",
+        [
+            (few.moments[it - 1] <= 40_000 * SECOND, few.moments[it] >= 41_000 * SECOND)
+            for it in gaps
+        ],
+        [(True, True)],
+    )
 
 
 def check_detectors(program: str) -> None:
@@ -144,19 +188,22 @@ def check_detectors(program: str) -> None:
         runs = Runs()
         folder = os.path.join(TOP, "examples")
         with open(os.path.join(folder, "detectors.json"), encoding="utf-8") as file:
-            found = truths(runs, json.load(file)["rulesets"], os.path.join(folder, "plugins.trace"), [])
+            found = truths(runs, json.load(file)["rulesets"], os.path.join(folder, "plugins.trace"),
+                           [])
         firsts = {number: found[Place(number)][0] // SECOND for number in range(6)}
         must_be("when each fired first", firsts, {0: 20, 1: 16, 2: 26, 3: 10, 4: 16, 5: 26})
         must_be("the evaluations", [it // SECOND for it in found[ALWAYS]][:4], [6, 10, 16, 20])
         with open(os.path.join(folder, "runaway.json"), encoding="utf-8") as file:
-            found = truths(runs, json.load(file)["rulesets"], os.path.join(folder, "runaway.trace"), [])
+            found = truths(runs, json.load(file)["rulesets"], os.path.join(folder, "runaway.trace"),
+                           [])
     finally:
         os.environ["PSI_OOMD"] = before
     printed = Printed(run([program, "replay", "examples/runaway.trace", "--report-s", "1"]))
     full = dict(printed.shares["/batch", "memory", "full", "avg10"])
     held = [at for at in found[ALWAYS] if full[at] > 40]
     must_be("when the condition held", found[Place(0, 0, 0, True)], held)
-    must_be("when it was true", found[Place(0, 0, 0)], [at for at in held if at - held[0] >= 20 * SECOND])
+    must_be("when it was true", found[Place(0, 0, 0)],
+            [at for at in held if at - held[0] >= 20 * SECOND])
     first = found[ALWAYS].index(held[0])
     must_be("that it held at a stretch", held, found[ALWAYS][first : first + len(held)])
 
@@ -167,19 +214,28 @@ def check_how_near(program: str) -> None:
     """
     printed = Printed(run([program, "replay", "examples/runaway.trace", "--report-s", "1"]))
     shares = printed.shares["/batch", "memory", "full", "avg10"]
-    evaluated = [(share, moment // SECOND) for moment, share in shares if moment // SECOND % 10 in (0, 6)]
+    evaluated = [
+        (share, moment // SECOND) for moment, share in shares if moment // SECOND % 10 in (0, 6)
+    ]
     share, at = max(evaluated, key=lambda it: (it[0], -it[1]))
     (rules,) = read(story(program)).find("section", id="rules")
-    must(f"highest {share:.2f} % (/batch at {at} s)" in rules.text(), f"how near it came: {rules.text()}")
+    must(f"highest {share:.2f} % (/batch at {at} s)" in rules.text(),
+         f"how near it came: {rules.text()}")
     with tempfile.TemporaryDirectory() as folder:
         with open(os.path.join(TOP, "examples", "runaway.json"), encoding="utf-8") as file:
             text = file.read().replace('"threshold":"40"', '"threshold":"90"')
         with open(os.path.join(folder, "high.json"), "w", encoding="utf-8") as file:
             file.write(text)
-        page = read(page_of(program, os.path.join(TOP, "examples", "runaway.trace"), "--rules", "high.json", folder=folder))
+        page = read(
+            page_of(
+                program, os.path.join(TOP, "examples", "runaway.trace"), "--rules", "high.json",
+                folder=folder,
+            )
+        )
     must("would have killed nobody; nearest was ruleset 0" in lead_of(page), lead_of(page))
     (rules,) = page.find("section", id="rules")
-    must("It never fired: at most 1 of 2 detectors were true at once." in rules.text(), rules.text())
+    must("It never fired: at most 1 of 2 detectors were true at once." in rules.text(),
+         rules.text())
     must(f"{90 - share:.2f} % below" in rules.text(), "how far it is from firing")
 
 
@@ -187,11 +243,14 @@ def check_names_are_shown(program: str) -> None:
     """A name that looks like an element is shown as text, and so is a file's."""
     with tempfile.TemporaryDirectory() as folder:
         with open(os.path.join(TOP, "examples", "runaway.json"), encoding="utf-8") as file:
-            text = file.read().replace("batch work is short of memory", "<script>alert(1)</script>").replace("stalled and", "</p><b>")
+            text = file.read().replace(
+                "batch work is short of memory", "<script>alert(1)</script>"
+            ).replace("stalled and", "</p><b>")
         name = "a <img src=x> b.json"
         with open(os.path.join(folder, name), "w", encoding="utf-8") as file:
             file.write(text)
-        given = page_of(program, os.path.join(TOP, "examples", "runaway.trace"), "--rules", name, folder=folder)
+        given = page_of(program, os.path.join(TOP, "examples", "runaway.trace"), "--rules", name,
+                        folder=folder)
     page = read(given)
     must_be("scripts", len(page.find("script")), 2)
     must_be("images", len(page.find("img")) + len(page.find("b")), 0)
@@ -214,7 +273,9 @@ def check_an_hour(program: str) -> None:
         lines.append(f"{now} switch {cpu} {then} {'preempt' if running[cpu] else 'idle'}")
         queues[cpu] += [running[cpu]] if running[cpu] else []
         running[cpu] = then
-        lines += [f"{now} mem {draw.choice(groups)} {draw.randrange(2**30)} 0 0"] if draw.random() < 0.3 else []
+        lines += [
+            f"{now} mem {draw.choice(groups)} {draw.randrange(2**30)} 0 0"
+        ] if draw.random() < 0.3 else []
     with tempfile.TemporaryDirectory() as folder:
         with open(os.path.join(folder, "hour.trace"), "w", encoding="ascii") as file:
             file.write("\n".join([*lines, f"{now} end\n"]))
@@ -225,20 +286,28 @@ def check_an_hour(program: str) -> None:
 def check_stored_pages(program: str) -> None:
     """The stored pages of the examples equal what the command makes now."""
     with open(os.path.join(TOP, "examples", "runaway.html"), "rb") as file:
-        must(same(file.read()) == same(story(program)), "examples/runaway.html is what its command makes: make it anew")
+        must(same(file.read()) == same(story(program)),
+             "examples/runaway.html is what its command makes: make it anew")
     with tempfile.TemporaryDirectory() as folder:
         os.symlink(os.path.join(TOP, "examples"), os.path.join(folder, "examples"))
         page_of(program, "examples/real/debian-2cpu.trace", "-o", "debian-2cpu.html", folder=folder)
         with open(os.path.join(folder, "debian-2cpu.html"), "rb") as made, \
                 open(os.path.join(TOP, "examples", "real", "debian-2cpu.html"), "rb") as stored:  # fmt: skip
-            must(same(stored.read()) == same(made.read()), "examples/real/debian-2cpu.html is what its command makes: make it anew")
+            must(same(stored.read()) == same(made.read()),
+                 "examples/real/debian-2cpu.html is what its command makes: make it anew")
 
 
 def check_nothing_from_elsewhere(program: str) -> None:
     """The page names nothing that a browser would fetch, and its script is short."""
     page = read(story(program))
-    for node in [it for tag in ("script", "img", "link", "iframe", "image", "use") for it in page.find(tag)]:
-        must(not {"src", "href", "xlink:href"} & node.attributes.keys(), f"{node.tag} names nothing: {node.attributes}")
-    must(not re.search(r"url\(|@import|https?://(?!www\.w3\.org/2000/svg)", story(program).decode()), "there is no address")
+    for node in [
+        it for tag in ("script", "img", "link", "iframe", "image", "use") for it in page.find(tag)
+    ]:
+        must(not {"src", "href", "xlink:href"} & node.attributes.keys(),
+             f"{node.tag} names nothing: {node.attributes}")
+    must(
+        not re.search(r"url\(|@import|https?://(?!www\.w3\.org/2000/svg)", story(program).decode()),
+        "there is no address",
+    )
     with open(os.path.join(TOP, "tools", "psireport", "page.js"), encoding="utf-8") as file:
         must(len(file.readlines()) < 150, "the script is short")

@@ -1,4 +1,6 @@
-"""Checks of the page's verdict: what stalled most, which ruleset came nearest, what a kill would have changed, and its caveats."""
+"""Checks of the page's verdict: what stalled most, which ruleset came nearest, what a kill would
+have changed, and its caveats.
+"""
 from __future__ import annotations
 
 import json
@@ -23,7 +25,10 @@ SECOND = 10**9
 RUNAWAY = os.path.join(TOP, "examples", "runaway.trace")
 
 # A task of the root always waits for IO, and the only group is empty.
-ROOT = "psitrace 1 cpus=1\n0 group /idle\n0 fork 1 / 0\n0 switch 0 1 idle\n0 switch 0 0 iowait\n60000000000 end\n"
+ROOT = (
+    "psitrace 1 cpus=1\n0 group /idle\n0 fork 1 / 0\n0 switch 0 1 idle\n0 switch 0 0 iowait\n"
+    "60000000000 end\n"
+)
 # Half of the time goes to interrupts, and nothing else happens.
 INTERRUPTS = "psitrace 2 cpus=1\n0 group /a\n0 fork 1 /a 0\n0 switch 0 1 idle\n" + "".join(
     f"{second}000000000 irq 0 500000000\n" for second in range(1, 41)
@@ -35,16 +40,29 @@ def stalled(task: int, start: int, end: int) -> list[tuple[int, str]]:
     sleeps during the stall and after it.
     """
     cpu = task - 1
-    begin = [(0, f"switch {cpu} {task} idle"), (start, f"stall {task}"), (start, f"switch {cpu} 0 sleep")]
-    return begin + [(end, it) for it in (f"wake {task} {cpu}", f"switch {cpu} {task} idle", f"unstall {task}", f"switch {cpu} 0 sleep")]
+    begin = [
+        (0, f"switch {cpu} {task} idle"), (start, f"stall {task}"), (start, f"switch {cpu} 0 sleep")
+    ]
+    return begin + [
+        (end, it) for it in (
+            f"wake {task} {cpu}", f"switch {cpu} {task} idle", f"unstall {task}",
+            f"switch {cpu} 0 sleep",
+        )
+    ]
 
 
 def two_stalls(end: int, other: int = 14, first: int = 10, host: str = "host 1000000 0 0") -> str:
     """Returns a trace in which /a/b stalls from 2 s to `first`, and /x from 2 s to `other` (s)."""
     made = [(0, host)] if host else []
-    made += [(0, it) for it in ("group /a", "group /a/b", "group /x", "fork 1 /a/b 0", "fork 2 /x 1")]
+    made += [
+        (0, it) for it in ("group /a", "group /a/b", "group /x", "fork 1 /a/b 0", "fork 2 /x 1")
+    ]
     events = sorted([*stalled(1, 2, first), *stalled(2, 2, other)], key=lambda it: it[0])
-    lines = [f"{second * SECOND} {text}" for second, text in [*made, *events, (end, "end")] if second <= end]
+    lines = [
+        f"{second * SECOND} {text}" for second, text in [
+            *made, *events, (end, "end")
+        ] if second <= end
+    ]
     return "\n".join(["psitrace 1 cpus=2", *lines, ""])
 
 
@@ -56,14 +74,20 @@ def detector(name: str, **args: str) -> dict[str, Any]:
 
 
 def pressure(cgroup: str, threshold: str, duration: str = "0") -> dict[str, Any]:
-    return detector("pressure_above", cgroup=cgroup, resource="memory", threshold=threshold, duration=duration)
+    return detector("pressure_above", cgroup=cgroup, resource="memory", threshold=threshold,
+                    duration=duration)
 
 
 def ruleset(name: str, cgroup: str, *detectors: dict[str, Any]) -> dict[str, Any]:
-    return {"name": name, "detectors": [["group", *detectors]], "actions": [detector("kill_by_memory_size_or_growth", cgroup=cgroup)]}
+    return {
+        "name": name, "detectors": [["group", *detectors]],
+        "actions": [detector("kill_by_memory_size_or_growth", cgroup=cgroup)],
+    }
 
 
-def page(program: str, trace: str, rulesets: Optional[list[dict[str, Any]]] = None, *words: str) -> Node:
+def page(
+    program: str, trace: str, rulesets: Optional[list[dict[str, Any]]] = None, *words: str
+) -> Node:
     """Returns the page of a trace, passed as text or as a path, with rules."""
     with tempfile.TemporaryDirectory() as folder:
         if trace.startswith("psitrace"):
@@ -85,7 +109,11 @@ def title_of(found: Node) -> str:
 
 def highest(program: str, trace: str, *key: str) -> float:
     """Returns the highest printed share, in percent."""
-    return max(it for _, it in Printed(run([program, "replay", "-", "--report-s", "1"], trace.encode())).shares[key])  # type: ignore[index]
+    return max(  # type: ignore[index]
+        it for _, it in Printed(
+            run([program, "replay", "-", "--report-s", "1"], trace.encode())
+        ).shares[key]
+    )
 
 
 def check_the_root_alone(program: str) -> None:
@@ -93,14 +121,19 @@ def check_the_root_alone(program: str) -> None:
     found = page(program, ROOT)
     most = highest(program, ROOT, "/", "io", "some", "avg10")
     must(most > 99, f"the root waits: {most}")
-    must(lead_of(found).startswith("The machine waited for IO, ") and f"up to {most:.2f} percent" in lead_of(found), lead_of(found))
+    must(
+        lead_of(found).startswith("The machine waited for IO, ")
+        and f"up to {most:.2f} percent" in lead_of(found),
+        lead_of(found),
+    )
     must_be("the title", title_of(found), "Incident: IO pressure of /")
 
 
 def check_interrupts_alone(program: str) -> None:
     """Interrupts count as a stall if there is no other."""
     found = page(program, INTERRUPTS)
-    must(lead_of(found).startswith("The machine was held up by interrupts, at its worst from "), lead_of(found))
+    must(lead_of(found).startswith("The machine was held up by interrupts, at its worst from "),
+         lead_of(found))
     must_be("the title", title_of(found), "Incident: interrupt pressure of /")
 
 
@@ -108,20 +141,40 @@ def check_the_nearest_ruleset(program: str) -> None:
     """The nearest ruleset is the one closest to a threshold. A detector for a group's existence
     doesn't count.
     """
-    full = Printed(run([program, "replay", "examples/runaway.trace", "--report-s", "1"])).shares["/batch", "memory", "full", "avg10"]
-    share, at = max(((share, moment) for moment, share in full if moment // SECOND % 10 in (0, 6)), key=lambda it: (it[0], -it[1]))
+    full = Printed(
+        run([program, "replay", "examples/runaway.trace", "--report-s", "1"])
+    ).shares["/batch", "memory", "full", "avg10"]
+    share, at = max(((share, moment) for moment, share in full if moment // SECOND % 10 in (0, 6)),
+                    key=lambda it: (it[0], -it[1]))
     far = ruleset("far", "web", detector("exists", cgroup="web"), pressure("web", "10"))
     high, low = (ruleset(f"above {it}", "batch/*", pressure("batch", it)) for it in ("99", "90"))
     for rulesets, number in (([far, high, low], 2), ([low, high, far], 0), ([high, low], 1)):
-        wanted = f"nearest was ruleset {number} ‘above 90’: full memory pressure of /batch over 10 s was {share:.2f} percent at"
-        must(f"{wanted} {at // SECOND} s, {90 - share:.2f} below the threshold of 90." in lead_of(page(program, RUNAWAY, rulesets)), f"{rulesets}")
+        wanted = (
+            f"nearest was ruleset {number} ‘above 90’: full memory pressure of /batch over 10 s "
+            f"was {share:.2f} percent at"
+        )
+        must(
+            f"{wanted} {at // SECOND} s, {90 - share:.2f} below the threshold of 90."
+            in lead_of(page(program, RUNAWAY, rulesets)),
+            f"{rulesets}",
+        )
     alone = lead_of(page(program, RUNAWAY, [far]))
     must("killed nobody; nothing that they watch came near a threshold." in alone, alone)
-    lasting = lead_of(page(program, RUNAWAY, [high, ruleset("long", "batch/*", pressure("batch", "40", "9999"))]))
-    must(f"ruleset 1 ‘long’: full memory pressure of /batch over 10 s was {share:.2f} percent at {at // SECOND} s, above the"
+    lasting = lead_of(
+        page(program, RUNAWAY, [high, ruleset("long", "batch/*", pressure("batch", "40", "9999"))])
+    )
+    must(
+         f"ruleset 1 ‘long’: full memory pressure of /batch over 10 s was {share:.2f} percent at "
+         f"{at // SECOND} s, above the"
          " threshold of 40 for 94 s at most, 9905 s short of 9999 s." in lasting, lasting)  # fmt: skip
-    nowhere = lead_of(page(program, RUNAWAY, [ruleset("nowhere", "nowhere/*", pressure("batch", "40"))]))
-    must("killed nobody; ruleset 0 ‘nowhere’ fired at 126 s, and no live group matches 'nowhere/*'." in nowhere, nowhere)
+    nowhere = lead_of(
+        page(program, RUNAWAY, [ruleset("nowhere", "nowhere/*", pressure("batch", "40"))])
+    )
+    must(
+        "killed nobody; ruleset 0 ‘nowhere’ fired at 126 s, and no live group matches 'nowhere/*'."
+        in nowhere,
+        nowhere,
+    )
 
 
 def check_a_kill_after_the_stall(program: str) -> None:
@@ -129,9 +182,14 @@ def check_a_kill_after_the_stall(program: str) -> None:
     number twice.
     """
     found = page(program, OVER, [ruleset("late", "a/*", pressure("a", "5", "10"))])
-    must("would have killed /a/b at 16 s, which says little before 30 s; the kill would have changed nothing: the stall was over." in
+    must(
+         "would have killed /a/b at 16 s, which says little before 30 s; the kill would have "
+         "changed nothing: the stall was over."
+         in
          lead_of(found), lead_of(found))  # fmt: skip
-    still = lead_of(page(program, two_stalls(60, first=50), [ruleset("early", "a/*", pressure("a", "5", "10"))]))
+    still = lead_of(
+        page(program, two_stalls(60, first=50), [ruleset("early", "a/*", pressure("a", "5", "10"))])
+    )
     must("; without it /a would have had at most " in still, still)
 
 
@@ -142,26 +200,43 @@ def check_the_worst_group(program: str) -> None:
     shares = [highest(program, OVER, path, "memory", "some", "avg10") for path in ("/x", "/a")]
     must(shares[0] > shares[1], f"{shares}")
     said = lead_of(found)
-    must(said.startswith("/x stalled for memory, at its worst from ") and f"up to {shares[0]:.2f} percent" in said, said)
-    must("/a, which the rules watch, stalled for memory, " in said and f"up to {shares[1]:.2f} percent" in said, said)
-    drawn = [it.attributes["data-group"] for it in found.find("figure") if "data-group" in it.attributes]
+    must(
+        said.startswith("/x stalled for memory, at its worst from ")
+        and f"up to {shares[0]:.2f} percent" in said,
+        said,
+    )
+    must(
+        "/a, which the rules watch, stalled for memory, " in said
+        and f"up to {shares[1]:.2f} percent" in said,
+        said,
+    )
+    drawn = [
+        it.attributes["data-group"] for it in found.find("figure") if "data-group" in it.attributes
+    ]
     must({"/x", "/a"} <= set(drawn), f"both are drawn: {drawn}")
 
 
 def check_short_traces(program: str) -> None:
     """The first sentence says what the averages can't show."""
-    little, less = "averages mean little before 30 s, those over 60 and 300 s before 3 min", "averages over 60 and 300 s mean little before 3 min"
+    little, less = (
+        "averages mean little before 30 s, those over 60 and 300 s before 3 min",
+        "averages over 60 and 300 s mean little before 3 min",
+    )
     for end, wanted in ((20, little), (29, little), (30, less), (179, less), (180, "")):
         first = re.split(r"(?<=\.) ", lead_of(page(program, two_stalls(end))))[0]
         must(first.endswith(f"; {wanted}." if wanted else " s)."), f"{end} s: {first}")
     nobody = lead_of(page(program, two_stalls(20), [ruleset("high", "a/*", pressure("a", "99"))]))
-    must("The rules would have killed nobody, which says little before 30 s; nearest was " in nobody, nobody)
+    must(
+        "The rules would have killed nobody, which says little before 30 s; nearest was " in nobody,
+        nobody,
+    )
 
 
 def check_a_machine_without_swap(program: str) -> None:
     rules = [ruleset("swap", "a/*", detector("swap_free", threshold_pct="10"))]
     must("the machine has no swap" in page(program, OVER, rules).text(), "a host without swap")
-    must("the trace says nothing of swap" in page(program, two_stalls(60, host=""), rules).text(), "a trace without a host")
+    must("the trace says nothing of swap" in page(program, two_stalls(60, host=""), rules).text(),
+         "a trace without a host")
 
 
 def check_control_characters(program: str) -> None:
@@ -177,27 +252,40 @@ def check_rules_on_other_groups(program: str) -> None:
     """A pattern that matches no group is reported right after the first sentences."""
     found = page(program, OVER, [ruleset("slip", "a/*", pressure("/aa", "5"))])
     notes = [it.text() for it in found.find("p", class_="note")]
-    must_be("the note", notes, ["No group of the trace matches 'aa' of ruleset 'slip': there the rules can do nothing."])
+    must_be(
+        "the note", notes,
+        ["No group of the trace matches 'aa' of ruleset 'slip': there the rules can do nothing."],
+    )
     text = found.text()
-    must(text.index("No group of the trace matches") < text.index("What happened when"), "it is near the top")
-    must_be("no note", page(program, OVER, [ruleset("right", "a/*", pressure("a", "5"))]).find("p", class_="note"), [])
+    must(text.index("No group of the trace matches") < text.index("What happened when"),
+         "it is near the top")
+    must_be(
+        "no note",
+        page(program, OVER, [ruleset("right", "a/*", pressure("a", "5"))]).find("p", class_="note"),
+        [],
+    )
 
 
 def check_a_group_by_its_last_component(program: str) -> None:
     """It names the group as its path does. Only the page's own command differs."""
-    by_name, by_path = (same(page_of(program, RUNAWAY, "--group", it)) for it in ("import", "/batch/import"))
-    must(by_name.replace(" --group import", " --group /batch/import") == by_path, "both pages are the same")
+    by_name, by_path = (
+        same(page_of(program, RUNAWAY, "--group", it)) for it in ("import", "/batch/import")
+    )
+    must(by_name.replace(" --group import", " --group /batch/import") == by_path,
+         "both pages are the same")
 
 
 def check_words_that_name_nothing(program: str) -> None:
     """A missing group, a folder as the page, and each file by its purpose."""
     every = "/, /batch, /batch/import, /batch/index, /web"
     for word, near in (("bacth", "/batch, .."), ("/bathc", "/batch, .."), ("/nosuch", every)):
-        must_be(word, fault(program, 11, RUNAWAY, "--group", word), f"no group {word} in the replay, which has {near}")
+        must_be(word, fault(program, 11, RUNAWAY, "--group", word),
+                f"no group {word} in the replay, which has {near}")
     for words, status, wanted in (
         (["nope.trace"], 4, "there is no trace nope.trace"),
         ([RUNAWAY, "--rules", "nope.json"], 4, "there is no rules file nope.json"),
-        ([RUNAWAY, "--rules", RUNAWAY, "--drop-in", "nope.json"], 4, "there is no drop-in file nope.json"),
+        ([RUNAWAY, "--rules", RUNAWAY, "--drop-in", "nope.json"], 4,
+         "there is no drop-in file nope.json"),
         ([RUNAWAY, "--rules", TOP], 5, f"the rules file {TOP} is a folder"),
         ([RUNAWAY, "--recording", "nope"], 4, "the recording nope isn't a folder"),
     ):
@@ -207,7 +295,8 @@ def check_words_that_name_nothing(program: str) -> None:
     with tempfile.TemporaryDirectory() as folder:
         page_folder = os.path.join(folder, "page")
         os.mkdir(page_folder)
-        must_be("a folder", fault(program, 2, RUNAWAY, "-o", page_folder), f"{page_folder} is a folder: name a file in it")
+        must_be("a folder", fault(program, 2, RUNAWAY, "-o", page_folder),
+                f"{page_folder} is a folder: name a file in it")
         must_be("what is there", os.listdir(folder), ["page"])
 
 
@@ -215,7 +304,8 @@ def trust_text(compared: str, said: str) -> str:
     """Returns the page's part on a recording, for these messages of compare and psitrace."""
     run_ = SimpleNamespace(number=1, text=lambda: compared, said=said)
     element = ElementTree.Element("body")
-    recording(element, SimpleNamespace(recorded=SimpleNamespace(compared=run_, summary=run_, is_same=True)))  # type: ignore[arg-type]
+    recording(element,  # type: ignore[arg-type]
+              SimpleNamespace(recorded=SimpleNamespace(compared=run_, summary=run_, is_same=True)))
     (section,) = read(ElementTree.tostring(element, "utf-8", method="html")).find("section")
     for it in section.find("details"):
         it.children = []
@@ -227,13 +317,21 @@ def check_repairs_and_causes(program: str) -> None:
     them.
     """
     del program
-    verdict, cause = "3 of 9 totals from 0.5 s on are beyond (!) their limits: 2.5 %", "3 of cpu are too small: the kernel counts"
+    verdict, cause = (
+        "3 of 9 totals from 0.5 s on are beyond (!) their limits: 2.5 %",
+        "3 of cpu are too small: the kernel counts",
+    )
     rows = "\n".join(f"| {it} | io |" for it in ("group", "-", "/", "/a"))
-    harmless = "psitrace: mended: wait for IO ended at a migration: 2261\npsitrace: mended: number changed by exec: 3"
+    harmless = (
+        "psitrace: mended: wait for IO ended at a migration: 2261\n"
+        "psitrace: mended: number changed by exec: 3"
+    )
     text = trust_text(f"times\n\n{rows}\n\n{verdict}\n{cause}\n", harmless)
-    must(verdict in text and cause in text and text.index(verdict) < text.index(cause), f"both are shown: {text}")
+    must(verdict in text and cause in text and text.index(verdict) < text.index(cause),
+         f"both are shown: {text}")
     must("the less the trace can be trusted" not in text, f"nothing is distrusted: {text}")
     harm = f"{harmless}\npsitrace: mended: task ran that wasn't known to be ready there: 87"
     text = trust_text(f"times\n\n{rows}\n\n{verdict}\n{cause}\n", harm)
-    must("the less the trace can be trusted" in text and "to be ready there: 87" in text, f"real damage is: {text}")
+    must("the less the trace can be trusted" in text and "to be ready there: 87" in text,
+         f"real damage is: {text}")
     must("ended at a migration" not in text, f"and the harmless repair isn't: {text}")

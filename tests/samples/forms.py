@@ -15,15 +15,23 @@ KINDS = {"some": "waiting", "full": "stalled"}
 
 def rows() -> list[Row]:
     """Returns a machine with a slice and two services. cAdvisor's label id is a group's path."""
-    found = steady("/", "io", TIMES, 0.2, 0.05, base=1000) + steady("/", "cpu", TIMES, 0.3, 0.0) + steady("/", "memory", TIMES, 0.1, 0.02)
-    for path, share in (("/a.slice", 0.3), ("/a.slice/b.service", 0.5), ("/a.slice/c.service", 0.1)):
+    found = steady(
+        "/", "io", TIMES, 0.2, 0.05, base=1000
+    ) + steady("/", "cpu", TIMES, 0.3, 0.0) + steady("/", "memory", TIMES, 0.1, 0.02)
+    for path, share in (
+        ("/a.slice", 0.3), ("/a.slice/b.service", 0.5), ("/a.slice/c.service", 0.1)
+    ):
         found += steady(path, "io", TIMES, share, share / 2, base=77)
-        found += steady(path, "memory", TIMES, share / 3, share / 4) + steady(path, "cpu", TIMES, share / 2, share / 5)
+        found += steady(path, "memory", TIMES, share / 3, share / 4) + steady(
+            path, "cpu", TIMES, share / 2, share / 5
+        )
     return found
 
 
 def series() -> dict[tuple[str, str], list[tuple[float, str]]]:
-    """By the name of a metric and the group its values at times, in seconds as exporters write them."""
+    """By the name of a metric and the group its values at times, in seconds as exporters write
+    them.
+    """
     found: dict[tuple[str, str], list[tuple[float, str]]] = {}
     for row in rows():
         for level, total in (("some", row.some), ("full", row.full)):
@@ -35,11 +43,15 @@ def series() -> dict[tuple[str, str], list[tuple[float, str]]]:
 
 
 def labels(group: str) -> dict[str, str]:
-    return {"instance": "it:9100"} if group == "/" else {"id": group, "instance": "it:8080", "image": 'a "b" \\c'}
+    return {"instance": "it:9100"} if group == "/" else {
+        "id": group, "instance": "it:8080", "image": 'a "b" \\c'
+    }
 
 
 def text_labels(group: str) -> str:
-    quoted = {key: value.replace("\\", "\\\\").replace('"', '\\"') for key, value in labels(group).items()}
+    quoted = {
+        key: value.replace("\\", "\\\\").replace('"', '\\"') for key, value in labels(group).items()
+    }
     return ",".join(f'{key}="{value}"' for key, value in quoted.items())
 
 
@@ -48,18 +60,25 @@ def prometheus(indent: int | None = None) -> str:
     for (name, group), values in series().items():
         metric = {"__name__": name, **labels(group)}
         result.append({"metric": metric, "values": [[at, value] for at, value in values]})
-    return json.dumps({"status": "success", "data": {"resultType": "matrix", "result": result}}, indent=indent)
+    return json.dumps({"status": "success", "data": {"resultType": "matrix", "result": result}},
+                      indent=indent)
 
 
 def openmetrics() -> str:
     lines = ["# TYPE node_pressure_io_waiting_seconds counter"]
-    lines += [f"{name}{{{text_labels(group)}}} {value} {at:.3f}" for (name, group), values in series().items() for at, value in values]
+    lines += [
+        f"{name}{{{text_labels(group)}}} {value} {at:.3f}"
+        for (name, group), values in series().items()
+        for at, value in values
+    ]
     return "\n".join([*lines, "go_goroutines 7 1700000000.0", "# EOF"]) + "\n"
 
 
 def dump() -> str:
     return "".join(
-        f'{{__name__="{name}",{text_labels(group)}}} {value} {round(at * 1000)}\n' for (name, group), values in series().items() for at, value in values
+        f'{{__name__="{name}",{text_labels(group)}}} {value} {round(at * 1000)}\n'
+        for (name, group), values in series().items()
+        for at, value in values
     )  # fmt: skip
 
 
@@ -71,7 +90,12 @@ def stale_dump() -> str:
 
 def json_lines() -> str:
     return "".join(
-        json.dumps({"time": START + it.at, "group": it.group, it.resource: {"some": it.some, "full": it.full}}) + "\n"
+        json.dumps(
+            {
+                "time": START + it.at, "group": it.group,
+                it.resource: {"some": it.some, "full": it.full},
+            }
+        ) + "\n"
         for it in sorted(rows(), key=lambda it: it.at)
     )
 
@@ -82,7 +106,11 @@ def loop() -> str:
     for at in TIMES:
         lines.append(f"{START + at}.000000000")
         for it in (it for it in rows() if it.at == at):
-            file = f"/proc/pressure/{it.resource}" if it.group == "/" else f"/sys/fs/cgroup{it.group}/{it.resource}.pressure"
+            file = (
+                f"/proc/pressure/{it.resource}"
+                if it.group == "/"
+                else f"/sys/fs/cgroup{it.group}/{it.resource}.pressure"
+            )
             for level, total in (("some", it.some), ("full", it.full)):
                 lines.append(f"{file}:{level} avg10=0.00 avg60=0.00 avg300=0.00 total={total}")
     return "\n".join(lines) + "\n"
@@ -100,8 +128,11 @@ def traces(room: Room, texts: Iterable[tuple[str, str | bytes]]) -> dict[str, st
 
 def check_all_formats_give_the_same_trace(program: str) -> None:
     texts: list[tuple[str, str | bytes]] = [
-        ("csv", csv(rows())), ("JSON lines", json_lines()), ("a query of Prometheus", prometheus()), ("the same, indented", prometheus(2)),
-        ("promtool tsdb dump", dump()), ("a dump with a stale marker", stale_dump()), ("OpenMetrics", openmetrics()), ("a loop", loop()), ("csv, compressed", gzip.compress(csv(rows()).encode())),
+        ("csv", csv(rows())), ("JSON lines", json_lines()), ("a query of Prometheus", prometheus()),
+        ("the same, indented", prometheus(2)),
+        ("promtool tsdb dump", dump()), ("a dump with a stale marker", stale_dump()),
+        ("OpenMetrics", openmetrics()), ("a loop", loop()),
+        ("csv, compressed", gzip.compress(csv(rows()).encode())),
     ]  # fmt: skip
     with room_of(program) as room:
         found = traces(room, texts)
@@ -129,7 +160,8 @@ def check_names_of_groups(program: str) -> None:
         room.file("samples", csv(rows()))
         room.make("samples", "--rename", "/a.slice=/system.slice/web", "--groups", "2")
         groups = {path for _, path, _ in room.totals()}
-        must_be("groups that were renamed, to a depth of two", groups, {"/", "/system.slice", "/system.slice/web"})
+        must_be("groups that were renamed, to a depth of two", groups,
+                {"/", "/system.slice", "/system.slice/web"})
         answer = json.loads(prometheus())
         for one in answer["data"]["result"]:
             it = one["metric"]
@@ -138,7 +170,8 @@ def check_names_of_groups(program: str) -> None:
         room.file("pods", json.dumps(answer))
         room.make("pods", "--labels", "pod,container")
         groups = {path for _, path, _ in room.totals()}
-        must_be("groups by labels", groups, {"/", "/a.slice", "/a.slice/b.service", "/a.slice/c.service"})
+        must_be("groups by labels", groups,
+                {"/", "/a.slice", "/a.slice/b.service", "/a.slice/c.service"})
 
 
 def check_the_root_by_two_exporters(program: str) -> None:
@@ -147,12 +180,17 @@ def check_the_root_by_two_exporters(program: str) -> None:
     ours = [it for it in answer["data"]["result"] if it["metric"]["__name__"].startswith("node")]
     for it in ours:
         name = it["metric"]["__name__"].replace("node", "container")
-        other = {"metric": {"__name__": name, "id": "/", "instance": "it:8080"}, "values": [[at + 1.5, value] for at, value in it["values"]]}
+        other = {
+            "metric": {"__name__": name, "id": "/", "instance": "it:8080"},
+            "values": [[at + 1.5, value] for at, value in it["values"]],
+        }
         answer["data"]["result"].append(other)
     with room_of(program) as room:
         plain = traces(room, [("plain", prometheus()), ("both", json.dumps(answer))])
         must(plain["plain"] == plain["both"], "the second root changes nothing")
-        answer["data"]["result"] = [it for it in answer["data"]["result"] if not it["metric"]["__name__"].startswith("node")]
+        answer["data"]["result"] = [
+            it for it in answer["data"]["result"] if not it["metric"]["__name__"].startswith("node")
+        ]
         room.file("samples", json.dumps(answer))
         room.make("samples")
         must(room.totals()[60, "/", "io"][0] > 11_000_000, "the root is cAdvisor's")

@@ -18,23 +18,32 @@ def events(trace: str) -> list[tuple[float, str, str]]:
 
 
 def root() -> list[Row]:
-    return steady("/", "io", TIMES, 0.1, 0.0) + steady("/", "memory", TIMES, 0.0, 0.0) + steady("/", "cpu", TIMES, 0.2, 0.0)
+    return steady("/", "io", TIMES, 0.1, 0.0) + steady("/", "memory", TIMES, 0.0, 0.0) + steady(
+        "/", "cpu", TIMES, 0.2, 0.0
+    )
 
 
 def check_groups_come_and_go(program: str) -> None:
     """/new comes between 35 and 40 s, /old goes after 60 s; /stays is there."""
     new = steady("/new", "io", range(40, 121, 5), 0.5, 0.1, start=37.0)
-    old, stays = steady("/old", "io", range(0, 61, 5), 0.3, 0.0), steady("/stays", "io", TIMES, 0.4, 0.2, base=5000)
+    old, stays = steady("/old", "io", range(0, 61, 5), 0.3, 0.0), steady(
+        "/stays", "io", TIMES, 0.4, 0.2, base=5000
+    )
     with room_of(program) as room:
         room.file("samples", csv([*root(), *new, *old, *stays]))
         room.make("samples")
-        found = [(at, verb, path) for at, verb, path in events(room.text("it.trace")) if path != "/stays"]
-        must_be("groups that come and go", [(verb, path) for _, verb, path in found], [("group", "/old"), ("group", "/new"), ("rmgroup", "/old")])
+        found = [
+            (at, verb, path) for at, verb, path in events(room.text("it.trace")) if path != "/stays"
+        ]
+        must_be("groups that come and go", [(verb, path) for _, verb, path in found],
+                [("group", "/old"), ("group", "/new"), ("rmgroup", "/old")])
         times = [at for at, _, _ in found]
-        must(times[0] == 0 and 34 <= times[1] < 40 and 60 <= times[2] < 62, f"when they do: {times}")
+        must(times[0] == 0 and 34 <= times[1] < 40 and 60 <= times[2] < 62,
+             f"when they do: {times}")
         totals = room.totals()
         must_match(totals, [*root(), *new, *old, *stays], made={"/new": 37.0})
-        must((64, "/old", "io") not in totals and (34, "/new", "io") not in totals, "they aren't there before and after")
+        must((64, "/old", "io") not in totals and (34, "/new", "io") not in totals,
+             "they aren't there before and after")
 
 
 def check_a_group_that_begins_anew(program: str) -> None:
@@ -57,23 +66,39 @@ def check_a_group_that_begins_anew(program: str) -> None:
 
 def check_a_group_above_that_begins_anew(program: str) -> None:
     """What is below it goes on as a new group."""
-    above = steady("/s", "io", range(0, 61, 5), 0.3, 0.1) + steady("/s", "io", range(65, 121, 5), 0.3, 0.1, start=62.0)
+    above = steady("/s", "io", range(0, 61, 5), 0.3, 0.1) + steady(
+        "/s", "io", range(65, 121, 5), 0.3, 0.1, start=62.0
+    )
     below = steady("/s/t", "io", TIMES, 0.4, 0.2)
     with room_of(program) as room:
         room.file("samples", csv([*root(), *above, *below, *steady("/u", "io", TIMES, 0.1, 0.0)]))
         room.make("samples")
-        found = [(verb, path) for _, verb, path in events(room.text("it.trace")) if path.startswith("/s")]
+        found = [
+            (verb, path) for _, verb, path in events(room.text("it.trace")) if path.startswith("/s")
+        ]
         lives = [("group", "/s"), ("group", "/s/t")]
         must_be("lives", found, [*lives, ("rmgroup", "/s/t"), ("rmgroup", "/s"), *lives])
-        after = [it._replace(some=it.some - 24_800_000, full=it.full - 12_400_000) for it in below if it.at >= 70]
+        after = [
+            it._replace(
+                some=it.some - 24_800_000, full=it.full - 12_400_000
+            ) for it in below if it.at >= 70
+        ]
         totals = room.totals()
-        must_be("growth below it goes on", totals[120, "/s/t", "io"][0] - totals[70, "/s/t", "io"][0], after[-1].some - after[0].some)
+        must_be("growth below it goes on",
+                totals[120, "/s/t", "io"][0] - totals[70, "/s/t", "io"][0],
+                after[-1].some - after[0].some)
 
 
 def check_gaps(program: str) -> None:
-    """Nothing was read for two minutes: groups stay, and totals lie on the line between. A root whose totals fall began anew."""
+    """Nothing was read for two minutes: groups stay, and totals lie on the line between. A root
+    whose totals fall began anew.
+    """
     times = [*range(0, 61, 5), *range(180, 241, 5)]
-    found = [it for path in ("/", "/a") for resource in ("io", "memory", "cpu") for it in steady(path, resource, times, 0.25, 0.0)]
+    found = [
+        it for path in ("/", "/a") for resource in ("io", "memory", "cpu") for it in steady(
+            path, resource, times, 0.25, 0.0
+        )
+    ]
     with room_of(program) as room:
         room.file("samples", csv(found))
         done = room.make("samples")
@@ -81,44 +106,94 @@ def check_gaps(program: str) -> None:
         must_be("groups", [path for _, _, path in events(room.text("it.trace"))], ["/a"])
         totals = room.totals()
         must_match(totals, found)
-        must(abs(totals[120, "/a", "io"][0] - 30_000_000) <= 2, f"in the gap: {totals[120, '/a', 'io']}")
-        room.file("samples", csv([it for it in found if it.at <= 60] + [it._replace(some=it.some // 9) for it in found if it.at >= 180]))
+        must(abs(totals[120, "/a", "io"][0] - 30_000_000) <= 2,
+             f"in the gap: {totals[120, '/a', 'io']}")
+        room.file(
+            "samples",
+            csv(
+                [it for it in found if it.at <= 60]
+                + [it._replace(some=it.some // 9) for it in found if it.at >= 180]
+            ),
+        )
         room.make("samples")
         must(room.totals()[240, "/", "io"][0] >= 15_000_000, "the root's total never falls")
 
 
 def check_memory(program: str) -> None:
-    """Samples of memory come at their times, and between two of them where they change much; rules see them."""
-    sizes = [f"{START + at}.000,/a,mem,{100_000_000 + at * 10_000_000},0,{at * 100}" for at in TIMES]
-    hosts = [f"{START + at}.000,/,host,4000000000,1000000000,{1_000_000_000 - at * 5_000_000}" for at in TIMES]
-    rule = {"name": "pressure_above", "args": {"cgroup": "a", "resource": "io", "threshold": "10", "duration": "0"}}
+    """Samples of memory come at their times, and between two of them where they change much; rules
+    see them.
+    """
+    sizes = [
+        f"{START + at}.000,/a,mem,{100_000_000 + at * 10_000_000},0,{at * 100}" for at in TIMES
+    ]
+    hosts = [
+        f"{START + at}.000,/,host,4000000000,1000000000,{1_000_000_000 - at * 5_000_000}"
+        for at in TIMES
+    ]
+    rule = {
+        "name": "pressure_above",
+        "args": {"cgroup": "a", "resource": "io", "threshold": "10", "duration": "0"},
+    }
     reclaim = {"name": "memory_reclaim", "args": {"cgroup": "a", "duration": "10"}}
     action = {"name": "kill_by_memory_size_or_growth", "args": {"cgroup": "*"}}
-    rules = str({"rulesets": [{"name": "it", "detectors": [["it", rule, reclaim]], "actions": [action]}]}).replace("'", '"')
+    rules = str(
+        {"rulesets": [{"name": "it", "detectors": [["it", rule, reclaim]], "actions": [action]}]}
+    ).replace("'", '"')
     with room_of(program) as room:
         room.file("rules.json", rules)
-        room.file("samples", csv(root() + steady("/a", "io", TIMES, 0.9, 0.8) + steady("/idle", "io", TIMES, 0, 0), [*sizes, *hosts]))
+        room.file(
+            "samples",
+            csv(
+                root() + steady("/a", "io", TIMES, 0.9, 0.8) + steady("/idle", "io", TIMES, 0, 0),
+                [*sizes, *hosts],
+            ),
+        )
         room.make("samples")
         lines = [line.split() for line in room.text("it.trace").splitlines()]
-        found = {int(it[0]) // 10**9: (int(it[3]), int(it[5])) for it in lines if it[1:3] == ["mem", "/a"]}
+        found = {
+            int(it[0]) // 10**9: (int(it[3]), int(it[5]))
+            for it in lines
+            if it[1:3] == ["mem", "/a"]
+        }
         for at in (0, 10, 60, 120):
             must_be(f"the memory at {at} s", found[at], (100_000_000 + at * 10_000_000, at * 100))
-        must_be("the machine's at 60 s", next(it[3:] for it in lines if it[1] == "host" and it[0] == "60000000000"), ["1000000000", "700000000"][0:2])
-        killed = room.run("psi_oomd", "replay", "it.trace", "--rules=rules.json", "--report-s=0", status=0).output
+        must_be("the machine's at 60 s",
+                next(it[3:] for it in lines if it[1] == "host" and it[0] == "60000000000"),
+                ["1000000000", "700000000"][0:2])
+        killed = room.run(
+            "psi_oomd", "replay", "it.trace", "--rules=rules.json", "--report-s=0", status=0
+        ).output
         must("/a\n" in killed and "kill " in killed, f"a rule on memory kills: {killed}")
 
 
 def check_rules_see_idle_groups(program: str) -> None:
     """A group without pressure has a task too, so a rule can choose it."""
-    sizes = [f"{START + at}.000,{path},mem,{size},0,0" for at in TIMES for path, size in (("/a", 1000), ("/idle", 900_000))]
-    rule = {"name": "pressure_above", "args": {"cgroup": "a", "resource": "io", "threshold": "10", "duration": "0"}}
+    sizes = [
+        f"{START + at}.000,{path},mem,{size},0,0" for at in TIMES for path, size in (
+            ("/a", 1000), ("/idle", 900_000)
+        )
+    ]
+    rule = {
+        "name": "pressure_above",
+        "args": {"cgroup": "a", "resource": "io", "threshold": "10", "duration": "0"},
+    }
     action = {"name": "kill_by_memory_size_or_growth", "args": {"cgroup": "*"}}
-    rules = str({"rulesets": [{"name": "it", "detectors": [["it", rule]], "actions": [action]}]}).replace("'", '"')
+    rules = str(
+        {"rulesets": [{"name": "it", "detectors": [["it", rule]], "actions": [action]}]}
+    ).replace("'", '"')
     with room_of(program) as room:
         room.file("rules.json", rules)
-        room.file("samples", csv(root() + steady("/a", "io", TIMES, 0.9, 0.8) + steady("/idle", "io", TIMES, 0, 0), sizes))
+        room.file(
+            "samples",
+            csv(
+                root() + steady("/a", "io", TIMES, 0.9, 0.8) + steady("/idle", "io", TIMES, 0, 0),
+                sizes,
+            ),
+        )
         room.make("samples")
-        killed = room.run("psi_oomd", "replay", "it.trace", "--rules=rules.json", "--report-s=0", status=0).output
+        killed = room.run(
+            "psi_oomd", "replay", "it.trace", "--rules=rules.json", "--report-s=0", status=0
+        ).output
         must(killed.splitlines()[0].endswith(" /idle"), f"the largest is killed: {killed}")
 
 
@@ -130,20 +205,28 @@ def check_a_past(program: str) -> None:
             for resource in ("io", "memory", "cpu"):
                 total = round(at * 0.4e6) if resource == "io" else 0
                 shares = "40.00,40.00,40.00" if resource == "io" else "0.00,0.00,0.00"
-                lines.append(f"{START + at}.000,{path},{resource},{total},0,{shares},0.00,0.00,0.00")
+                lines.append(
+                    f"{START + at}.000,{path},{resource},{total},0,{shares},0.00,0.00,0.00"
+                )
     with room_of(program) as room:
         room.file("samples", csv([], lines))
         room.make("samples", "--lead-in", "12min")
         printed = room.run("psi_oomd", "replay", "it.trace", "--report-s=2", status=0).output
-        found = re.search(r"report 720000000000 /a io\nsome avg10=([\d.]+) avg60=([\d.]+) avg300=([\d.]+) ", printed)
-        must(found and all(38 <= float(it) <= 42 for it in found.groups()), f"averages after the past: {found and found.groups()}")
+        found = re.search(
+            r"report 720000000000 /a io\nsome avg10=([\d.]+) avg60=([\d.]+) avg300=([\d.]+) ",
+            printed,
+        )
+        must(found and all(38 <= float(it) <= 42 for it in found.groups()),
+             f"averages after the past: {found and found.groups()}")
         room.file("samples", csv(root()))
         done = room.make("samples", "--lead-in", "12min", status=2)
         must("--lead-in needs avg10" in done.said, f"without averages: {done.said}")
 
 
 def check_averages_say_when_a_total_grew(program: str) -> None:
-    """A stall of 10 s at the end of an interval of 30 s: with avg10 of the samples the trace comes nearer to it than without."""
+    """A stall of 10 s at the end of an interval of 30 s: with avg10 of the samples the trace comes
+    nearer to it than without.
+    """
 
     def total(at: float) -> float:
         return min(max(at - 80, 0), 10)
@@ -162,7 +245,10 @@ def check_averages_say_when_a_total_grew(program: str) -> None:
         for words in ((), ("--averages", "no"), ("--averages", "yes")):
             room.make("samples", *words)
             printed = room.run("psi_oomd", "replay", "it.trace", "--report-s=2", status=0).output
-            highest.append(max(float(it) for it in re.findall(r"/a io\nsome avg10=([\d.]+)", printed)))
-            must(abs(room.totals()[90, "/a", "io"][0] - 10_000_000) <= 2, "the total at the sample is right")
+            highest.append(
+                max(float(it) for it in re.findall(r"/a io\nsome avg10=([\d.]+)", printed))
+            )
+            must(abs(room.totals()[90, "/a", "io"][0] - 10_000_000) <= 2,
+                 "the total at the sample is right")
     must_be("yes is the default from 14 s on", highest[0], highest[2])
     must(highest[1] < 35 and highest[2] > 50, f"the highest avg10, of 63 on the machine: {highest}")

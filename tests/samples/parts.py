@@ -29,17 +29,37 @@ def stalled(at: float) -> float:
 
 
 def rows() -> list[Row]:
-    found = [Row(at, path, "memory", round(stalled(at) * share), round(stalled(at) * share * 0.9)) for at in TIMES
+    found = [
+             Row(at, path, "memory", round(stalled(at) * share), round(stalled(at) * share * 0.9))
+             for at in TIMES
              for path, share in (("/", 300_000), ("/a", 900_000))]  # fmt: skip
-    busy = [it for path, share in (("/", 0.2), ("/a", 0.1), ("/b", 0.3)) for it in steady(path, "io", TIMES, share, share / 2)]
+    busy = [
+        it for path, share in (("/", 0.2), ("/a", 0.1), ("/b", 0.3)) for it in steady(
+            path, "io", TIMES, share, share / 2
+        )
+    ]
     late = steady("/late", "io", range(LATE, LENGTH + 1, 5), 0.05, 0.02, LATE)
-    return found + busy + late + steady("/b", "cpu", TIMES, 0.2, 0.1) + steady("/", "cpu", TIMES, 0.1, 0)
+    return found + busy + late + steady("/b", "cpu", TIMES, 0.2, 0.1) + steady(
+        "/", "cpu", TIMES, 0.1, 0
+    )
 
 
 def rules() -> str:
-    rule = {"name": "pressure_above", "args": {"cgroup": "a", "resource": "memory", "threshold": "40", "duration": "10"}}
+    rule = {
+        "name": "pressure_above",
+        "args": {"cgroup": "a", "resource": "memory", "threshold": "40", "duration": "10"},
+    }
     action = {"name": "kill_by_pressure", "args": {"cgroup": "*", "resource": "memory"}}
-    return json.dumps({"rulesets": [{"name": "it", "post_action_delay": "300", "detectors": [["it", rule]], "actions": [action]}]})
+    return json.dumps(
+        {
+            "rulesets": [
+                {
+                    "name": "it", "post_action_delay": "300", "detectors": [["it", rule]],
+                    "actions": [action],
+                }
+            ]
+        }
+    )
 
 
 def make(room: Room) -> list[str]:
@@ -47,8 +67,12 @@ def make(room: Room) -> list[str]:
     room.file("rules.json", rules())
     room.file("samples", csv(rows()))
     done = room.make("samples", "--lines", "100000")
-    names = ["it.trace", *(f"it.{number}.trace" for number in range(2, 20) if room.has(f"it.{number}.trace"))]
-    must(len(names) > 1 and f"in {len(names)} traces that overlap by 15 min" in done.said, f"several traces: {names}, {done.said}")
+    names = [
+        "it.trace",
+        *(f"it.{number}.trace" for number in range(2, 20) if room.has(f"it.{number}.trace")),
+    ]
+    must(len(names) > 1 and f"in {len(names)} traces that overlap by 15 min" in done.said,
+         f"several traces: {names}, {done.said}")
     return names
 
 
@@ -58,36 +82,48 @@ def check_parts_are_one(program: str) -> None:
         names = make(room)
         room.run("samples", "samples", "-o", "whole.trace", status=0)
         lines = sum(room.text(name).count("\n") for name in names)
-        must(lines > room.text("whole.trace").count("\n"), "the parts have more lines than the whole, since they overlap")
+        must(lines > room.text("whole.trace").count("\n"),
+             "the parts have more lines than the whole, since they overlap")
         room.file("want", "at most 8 kills\nkill /a by it\nno kill of /late\n")
-        must("/late" not in room.text(names[0]) and "/late" in room.text(names[-1]), "a part has a group that an earlier one doesn't have")
+        must("/late" not in room.text(names[0]) and "/late" in room.text(names[-1]),
+             "a part has a group that an earlier one doesn't have")
         found = []
         for traces in ([*reversed(names)], ["whole.trace"]):
-            done = room.run("rules", "expect", "want", *traces, "--rules", "rules.json", "--json", status=0)
+            done = room.run("rules", "expect", "want", *traces, "--rules", "rules.json", "--json",
+                            status=0)
             answer = json.loads(done.output)["traces"]
             must_be("how many traces they are", len(answer), 1)
             found.append([(it["moment_ns"] // 10**9, it["path"]) for it in answer[0]["kills"]])
         must_be("kills of the whole", len(found[1]), len(STALLS))
         must_be("kills of the parts", found[0], found[1])
         for (at, path), (begin, end) in zip(found[0], STALLS):
-            must(path == "/a" and begin < at < end + 15, f"a kill at {at} s, of a stall from {begin} to {end} s")
+            must(path == "/a" and begin < at < end + 15,
+                 f"a kill at {at} s, of a stall from {begin} to {end} s")
 
 
 def check_fleet_takes_parts_as_one(program: str) -> None:
     """tools/fleet counts parts as one trace, and a kill in their overlap once."""
-    parts = (Sampled(5 * SECOND, 5 * SECOND, False, 7, 1, 0, 0), Sampled(5 * SECOND, 5 * SECOND, False, 7, 2, 2700 * SECOND, 900 * SECOND))
+    parts = (Sampled(5 * SECOND, 5 * SECOND, False, 7, 1, 0, 0),
+             Sampled(5 * SECOND, 5 * SECOND, False, 7, 2, 2700 * SECOND, 900 * SECOND))
     kills = ((1000, 3000), (300, 1200))
     with room_of(program) as room:
         room.file("rules.json", rules())
         names, answers = [], []
         for number, (mark, times) in enumerate(zip(parts, kills)):
-            name = room.file(f"{number}.trace", "".join(["psitrace 1 cpus=1\n", *mark.lines(), f"{3600 * SECOND} end\n"]))
+            name = room.file(
+                f"{number}.trace",
+                "".join(["psitrace 1 cpus=1\n", *mark.lines(), f"{3600 * SECOND} end\n"]),
+            )
             names.append(os.path.join(room.path, name))
             lines = [f"kill {at * SECOND} ruleset=0 action=0 /a" for at in times]
-            answers.append(Answer([*lines, f"end {3600 * SECOND} ticks=1800 events=2 kills={len(times)}"]))
-        found = summary(argparse.Namespace(rules=os.path.join(room.path, "rules.json")), names, answers)
+            answers.append(
+                Answer([*lines, f"end {3600 * SECOND} ticks=1800 events=2 kills={len(times)}"])
+            )
+        found = summary(argparse.Namespace(rules=os.path.join(room.path, "rules.json")), names,
+                        answers)
         must_be("how many traces they are", found["traces"], 1)
-        must_be("kills: that at 300 s of the second part is the first one's at 3000 s", found["kills_by_path"], {"/a": 3})
+        must_be("kills: that at 300 s of the second part is the first one's at 3000 s",
+                found["kills_by_path"], {"/a": 3})
 
 
 def check_totals_of_parts(program: str) -> None:
@@ -97,11 +133,13 @@ def check_totals_of_parts(program: str) -> None:
             found = re.search(r"start-ms:(\d+):skip-ms:(\d+)$", room.text(name).splitlines()[1])
             assert found
             start, totals = int(found[1]) // 1000, room.totals(name)
-            must_be("what a later part leaves to the one before", int(found[2]), 0 if not start else 900_000)
+            must_be("what a later part leaves to the one before", int(found[2]),
+                    0 if not start else 900_000)
             last = max(at for at, _, _ in totals)
             at = (start + last) // 10 * 10 - start
             wanted = round((stalled(start + at) - stalled(start)) * 900_000)
-            must(abs(totals[at, "/a", "memory"][0] - wanted) <= 2, f"{name} at {at} s: {totals[at, '/a', 'memory']}, not {wanted}")
+            must(abs(totals[at, "/a", "memory"][0] - wanted) <= 2,
+                 f"{name} at {at} s: {totals[at, '/a', 'memory']}, not {wanted}")
 
 
 def check_from_and_to(program: str) -> None:
@@ -110,18 +148,24 @@ def check_from_and_to(program: str) -> None:
         room.file("samples", csv(rows()))
         room.make("samples", "--from", "590", "--to", "690")
         first = room.text("it.trace")
-        must(abs(room.totals()[100, "/a", "memory"][0] - 54_000_000) <= 2, "the stall from 600 to 660 s is in it")
+        must(abs(room.totals()[100, "/a", "memory"][0] - 54_000_000) <= 2,
+             "the stall from 600 to 660 s is in it")
         room.make("samples", "--from", "2023-11-14T22:23:10Z", "--to", "2023-11-14T22:24:50Z")
         must_be("the time of 590 s", START + 590, 1_700_000_590)
         must(room.text("it.trace") == first, "it is the same by the clock")
         done = room.make("samples", "--from", "6000", status=12)
-        must("--from 6000 is after the end of the samples, 5400 s" in done.said, f"after the end: {done.said}")
+        must("--from 6000 is after the end of the samples, 5400 s" in done.said,
+             f"after the end: {done.said}")
 
 
 def check_rows_beyond_memory(_program: str) -> None:
     """Rows that don't fit in memory come in the same order, from any time on."""
     rng, store = random.Random(5), Store()
-    rows = [(rng.randrange(10**6), f"/g{rng.randrange(9)}", 2 * rng.randrange(3), (number, number), (0, number)) for number in range(5000)]
+    rows = [
+        (rng.randrange(10**6), f"/g{rng.randrange(9)}", 2 * rng.randrange(3), (number, number),
+         (0, number))
+        for number in range(5000)
+    ]
     before, store_module.MOST_IN_MEMORY = store_module.MOST_IN_MEMORY, 700
     try:
         for row in rows:

@@ -18,17 +18,25 @@ from machines import Machine, big_tree, small_tree  # noqa: E402
 from sampling import csv_of  # noqa: E402
 
 STORED = os.path.join(TOP, "tests", "data")
-RECORDINGS = sorted(it.removesuffix(".tar.xz") for it in os.listdir(STORED) if it.endswith(".tar.xz"))
+RECORDINGS = sorted(
+    it.removesuffix(".tar.xz") for it in os.listdir(STORED) if it.endswith(".tar.xz")
+)
 # Of a hundred totals of a recording at most this many may be off, and must be reported.
 MOST_OFF = 1.5
-OFF = re.compile(r"samples: (\S+) (io|memory|cpu) (some|full): (\d+) totals are off, by (\d+) us at most")
-SUMMARY = re.compile(r"samples: (\d+) lines on (\d+) processors; (\d+) totals were compared with a replay")
-READING = re.compile(r"sample (\d+) (\S+) (io|memory|cpu)\nsome [^\n]*total=(\d+)\nfull [^\n]*total=(\d+)\n")
+OFF = re.compile(
+    r"samples: (\S+) (io|memory|cpu) (some|full): (\d+) totals are off, by (\d+) us at most"
+)
+SUMMARY = re.compile(
+    r"samples: (\d+) lines on (\d+) processors; (\d+) totals were compared with a replay"
+)
+READING = re.compile(
+    r"sample (\d+) (\S+) (io|memory|cpu)\nsome [^\n]*total=(\d+)\nfull [^\n]*total=(\d+)\n"
+)
 
 
 class Summary(NamedTuple):
-    """What the tool says of a trace: how many totals it compared, how many it reports to be off, and by how much (us) at most by group
-    and resource.
+    """What the tool says of a trace: how many totals it compared, how many it reports to be off,
+    and by how much (us) at most by group and resource.
     """
 
     compared: int
@@ -52,14 +60,19 @@ def summary_of(said: str) -> Summary:
 
 
 def growths(text: str) -> dict[tuple[str, str], tuple[int, int]]:
-    """By how much the totals of each file grew from the first reading to the last one, for groups that are in all readings."""
+    """By how much the totals of each file grew from the first reading to the last one, for groups
+    that are in all readings.
+    """
     found: dict[tuple[str, str], list[tuple[int, int]]] = {}
     numbers = set()
     for number, path, resource, some, full in READING.findall(text):
         numbers.add(number)
         found.setdefault((path, resource), []).append((int(some), int(full)))
     whole = {key: values for key, values in found.items() if len(values) == len(numbers)}
-    return {key: (values[-1][0] - values[0][0], values[-1][1] - values[0][1]) for key, values in whole.items()}
+    return {
+        key: (values[-1][0] - values[0][0], values[-1][1] - values[0][1])
+        for key, values in whole.items()
+    }
 
 
 def recordings(room: Room) -> Iterator[tuple[str, str]]:
@@ -71,7 +84,9 @@ def recordings(room: Room) -> Iterator[tuple[str, str]]:
 
 
 def check_stored_recordings(program: str) -> None:
-    """The last totals lie between what the machine had at its last two readings, since the last tick is at or after the last one."""
+    """The last totals lie between what the machine had at its last two readings, since the last
+    tick is at or after the last one.
+    """
     with room_of(program) as room:
         for name, folder in recordings(room):
             done = room.make(folder)
@@ -88,7 +103,8 @@ def check_stored_recordings(program: str) -> None:
                 full = 0 if (path, resource) == ("/", "cpu") else full
                 near = summary.near(path, resource)
                 is_near = abs(found[0] - some) <= near and abs(found[1] - full) <= near
-                must(is_near, f"{name}: {path} {resource} grew by {found} us, not {(some, full)} us")
+                must(is_near,
+                     f"{name}: {path} {resource} grew by {found} us, not {(some, full)} us")
 
 
 def simulated(room: Room, machine: Machine, every: int) -> list[Row]:
@@ -112,7 +128,8 @@ def must_reproduce(program: str, machine: Machine, every: int, most_off: float) 
         rows = simulated(room, machine, every)
         done = room.make("it.csv")
         summary = summary_of(done.said)
-        must(summary.off * 100 <= most_off * summary.compared, f"too many totals are off: {done.said}")
+        must(summary.off * 100 <= most_off * summary.compared,
+             f"too many totals are off: {done.said}")
         count = must_match(room.totals(), rows, summary.near)
         must(count > len(rows) // 3, f"only {count} samples of {len(rows)} were compared")
 
@@ -136,11 +153,16 @@ def check_a_wrong_program_is_seen(program: str) -> None:
     """A replay that isn't what the samples say: the status is 4, and nothing is written."""
     with room_of(program) as room:
         simulated(room, Machine(15, 20, 4, small_tree(3), 3), 2)
-        script = f"#!/bin/sh\n{program} \"$@\" | sed 's/^\\(some .*total=\\)\\([0-9]*\\)\\([0-9]\\)\\([0-9]\\)$/\\1\\2\\4\\3/'\n"
+        script = (
+            f"#!/bin/sh\n{program} \"$@\" | sed 's/^\\(some "
+            ".*total=\\)\\([0-9]*\\)\\([0-9]\\)\\([0-9]\\)$/\\1\\2\\4\\3/'\n"
+        )
         wrong = os.path.join(room.path, room.file("wrong", script, 0o755))
         done = room.run("samples", "it.csv", "-o", "it.trace", program=wrong, status=4)
-        must("totals differ: nothing is written" in done.said and "by the samples" in done.said, f"what it says: {done.said}")
-        must_be("files that are left", sorted(it for it in os.listdir(room.path) if "trace" in it), ["machine.trace"])
+        must("totals differ: nothing is written" in done.said and "by the samples" in done.said,
+             f"what it says: {done.said}")
+        must_be("files that are left", sorted(it for it in os.listdir(room.path) if "trace" in it),
+                ["machine.trace"])
 
 
 def check_totals_of_wakeups_by_the_program(program: str) -> None:
@@ -149,8 +171,14 @@ def check_totals_of_wakeups_by_the_program(program: str) -> None:
         simulated(room, Machine(16, 20, 4, small_tree(3), 3), 2)
         room.make("it.csv")
         room.run("psi_oomd", "check", "it.trace", status=0)
-        numbers = [int(line.split()[2]) for line in room.text("it.trace").splitlines() if line.split()[1] == "fork"]
+        numbers = [
+            int(line.split()[2])
+            for line in room.text("it.trace").splitlines()
+            if line.split()[1] == "fork"
+        ]
         must(len(numbers) > 5 and min(numbers) >= 4_000_000_000, f"numbers of tasks: {numbers[:5]}")
         groups: Totals = room.totals()
-        must({path for _, path, _ in groups} >= {"/", "/system.slice"}, "groups are there, and the one of the mark isn't")
-        must(not any("psi-samples" in path for _, path, _ in groups), "the group of the mark has no report")
+        must({path for _, path, _ in groups} >= {"/", "/system.slice"},
+             "groups are there, and the one of the mark isn't")
+        must(not any("psi-samples" in path for _, path, _ in groups),
+             "the group of the mark has no report")

@@ -26,7 +26,9 @@ class Tick:
 
 
 class Clocks:
-    """The times (ns) of the groups that had the path, on each processor after each of its changes, and the ticks."""
+    """The times (ns) of the groups that had the path, on each processor after each of its changes,
+    and the ticks.
+    """
 
     def __init__(self, trace: str, path: str, tick: int) -> None:
         header, *lines = trace.splitlines()

@@ -6,7 +6,8 @@ from collections.abc import Callable
 from dataclasses import dataclass, field
 
 PLAIN_NAMES = (b"a", b"kworker/0:1", b"web")
-ODD_NAMES = (b"a ==> b", b"x pid=5", b"n next_pid=9", b"s prev_state=Z", b"", b" ", b"#c", b"b-1 [1] 2.0: c", b"\xff\t")
+ODD_NAMES = (b"a ==> b", b"x pid=5", b"n next_pid=9", b"s prev_state=Z", b"", b" ", b"#c",
+             b"b-1 [1] 2.0: c", b"\xff\t")
 NAMES = PLAIN_NAMES + ODD_NAMES
 STATES = (b"R", b"R+", b"S", b"D", b"D|K", b"I", b"X", b"Z")
 HEADS = (
@@ -24,9 +25,12 @@ OTHERS = (
     b"\n",
 )
 PIECES = (
-    b": sched_switch: ", b": sched_wakeup: ", b": sched_wakeup_new: ", b": sched_migrate_task: ", b" ==> ", b" pid=",
-    b" prev_pid=", b" next_pid=", b" prev_state=", b" target_cpu=", b" dest_cpu=", b"[001]", b"[0000]", b" 1.5: ",
-    b"4294967296", b"4294967295", b"00000000000", b"0", b"9", b" ", b"#", b"\r", b"\n", b".", b"=", b"x" * 500,
+    b": sched_switch: ", b": sched_wakeup: ", b": sched_wakeup_new: ", b": sched_migrate_task: ",
+    b" ==> ", b" pid=",
+    b" prev_pid=", b" next_pid=", b" prev_state=", b" target_cpu=", b" dest_cpu=", b"[001]",
+    b"[0000]", b" 1.5: ",
+    b"4294967296", b"4294967295", b"00000000000", b"0", b"9", b" ", b"#", b"\r", b"\n", b".", b"=",
+    b"x" * 500,
 )  # fmt: skip
 
 
@@ -49,7 +53,9 @@ class Scheduler:
     def line(self, cpu: int, event: bytes) -> bytes:
         """Returns a line on this processor, with a random form of head."""
         moment = b"%d.%06d" % divmod(self.now, 10**6)
-        return self.rng.choice(HEADS) % (self.name(), self.runs.get(cpu, 0), cpu, moment) + event + b"\n"
+        return self.rng.choice(HEADS) % (
+            self.name(), self.runs.get(cpu, 0), cpu, moment
+        ) + event + b"\n"
 
     def name(self) -> bytes:
         """Returns a random task name; names aren't compared."""
@@ -60,10 +66,18 @@ class Scheduler:
         state `state`, and task `pid` runs next, or none if that is 0.
         """
         before = self.runs.pop(cpu, 0)
-        left = b"prev_comm=%b prev_pid=%d prev_prio=120 prev_state=%b" % (self.name(), before, state)
-        line = self.line(cpu, b"sched_switch: %b ==> next_comm=%b next_pid=%d next_prio=120" % (left, self.name(), pid))
+        left = b"prev_comm=%b prev_pid=%d prev_prio=120 prev_state=%b" % (
+            self.name(), before, state
+        )
+        line = self.line(
+            cpu,
+            b"sched_switch: %b ==> next_comm=%b next_pid=%d next_prio=120"
+            % (left, self.name(), pid),
+        )
         if before:
-            self.modes[before] = {b"R": "ready", b"X": "gone", b"Z": "gone"}.get(state[:1], "asleep")
+            self.modes[before] = (
+                {b"R": "ready", b"X": "gone", b"Z": "gone"}.get(state[:1], "asleep")
+            )
         if pid:
             self.runs[cpu], self.modes[pid] = pid, "running"
         return line
@@ -88,7 +102,9 @@ class Scheduler:
             return self.switch(cpu, self.rng.choice([it for it in STATES if it[:1] != b"R"]), 0)
         if self.rng.random() < 0.3:
             self.places[pid] = self.rng.randrange(self.cpus)
-            told = b"comm=%b pid=%d prio=120 orig_cpu=%d dest_cpu=%d" % (self.name(), pid, cpu, self.places[pid])
+            told = b"comm=%b pid=%d prio=120 orig_cpu=%d dest_cpu=%d" % (
+                self.name(), pid, cpu, self.places[pid]
+            )
             return self.line(cpu, b"sched_migrate_task: " + told)
         return self.switch(cpu, self.rng.choice(STATES) if self.runs.get(cpu) else b"R", pid)
 

@@ -51,13 +51,19 @@ class Machine:
         """
         if group in self.off:
             return [False] * 7
-        tasks = [task for task in self.tasks.values() if task.cpu == cpu and self.is_under(task.group, group)]
+        tasks = [
+            task
+            for task in self.tasks.values()
+            if task.cpu == cpu and self.is_under(task.group, group)
+        ]
         waits = any(task.at == "iowait" for task in tasks)
         stalled = any(task.is_stalled for task in tasks)
         ready = [task for task in tasks if task.at == "ready"]
         running = [task for task in tasks if task.at == "running"]
         active = ready + running
-        is_memory_full = all(task.is_stalled for task in active) or any(task.is_stalled for task in running)
+        is_memory_full = all(task.is_stalled for task in active) or any(
+            task.is_stalled for task in running
+        )
         return [
             waits,
             waits and not active,

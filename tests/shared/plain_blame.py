@@ -1,8 +1,8 @@
 """Who ran while a group waited, and who stalled at the same time, by a plain walk: the reference
 for tools/blame.
 
-It follows docs/TRACES.md alone: after each event it looks at all tasks of tests/shared/machine.py, on each
-processor, for each group.
+It follows docs/TRACES.md alone: after each event it looks at all tasks of tests/shared/machine.py,
+on each processor, for each group.
 """
 from __future__ import annotations
 
@@ -40,7 +40,11 @@ def would_wait(machine: Machine, cpu: int, victims: set[int]) -> bool:
     """Returns whether a task would wait there if the tasks of these groups, one of which runs,
     didn't exist: one more task could run.
     """
-    ready = [task for task in machine.tasks.values() if task.cpu == cpu and task.at == "ready" and task.group not in victims]
+    ready = [
+        task
+        for task in machine.tasks.values()
+        if task.cpu == cpu and task.at == "ready" and task.group not in victims
+    ]
     return len(ready) > 1
 
 
@@ -74,7 +78,8 @@ def walk(trace: str, start: int, to: int, victim: str) -> Plain:
     header, *lines = trace.splitlines()
     machine = Machine(int(header.partition("cpus=")[2]))
     plain = Plain(
-        collections.Counter(), collections.Counter(), Pairs(), {WAITS_FOR_IO: Pairs(), IN_A_STALL: Pairs()},
+        collections.Counter(), collections.Counter(), Pairs(),
+        {WAITS_FOR_IO: Pairs(), IN_A_STALL: Pairs()},
         collections.Counter(), collections.Counter(),
     )  # fmt: skip
     victims = {0} if victim == "/" else set[int]()

@@ -14,7 +14,9 @@ def value_text(value: Any) -> str:
     """Returns a value of an event as a word."""
     if not isinstance(value, bytes):
         return str(value)
-    return "".join(chr(byte) if 32 < byte < 127 and byte != 92 else f"\\{byte:03o}" for byte in value)
+    return "".join(
+        chr(byte) if 32 < byte < 127 and byte != 92 else f"\\{byte:03o}" for byte in value
+    )
 
 
 def least_of(form: Format) -> int:
@@ -22,7 +24,10 @@ def least_of(form: Format) -> int:
     empty.
     """
     fields = [form.fields[name] for name in (CURRENT, *(fields_of(form.name) or ()))]
-    is_text = [field.size == 0 or "[" in field.type and not field.type.startswith("__data_loc") for field in fields]
+    is_text = [
+        field.size == 0 or "[" in field.type and not field.type.startswith("__data_loc")
+        for field in fields
+    ]
     return max(field.offset + (0 if text else field.size) for field, text in zip(fields, is_text))
 
 

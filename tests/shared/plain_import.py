@@ -105,7 +105,8 @@ def switch_of(cpu: int, tail: bytes) -> Switch:
     state = after_last(b" prev_state=", left)
     if not state:
         raise Bad("BadLine")
-    return Switch(cpu, number(b" prev_pid=", left), number(b" next_pid=", right), HOW.get(state[:1], "sleep"))
+    return Switch(cpu, number(b" prev_pid=", left), number(b" next_pid=", right),
+                  HOW.get(state[:1], "sleep"))
 
 
 def task_and_cpu(tail: bytes, key: bytes) -> tuple[int, int]:
@@ -149,10 +150,14 @@ class Importer:
     def acts_of(self, seen: Seen) -> list[str]:
         """Returns the verbs and fields that a line becomes."""
         if isinstance(seen, Switch):
-            return [] if seen.next and self.runs.get(seen.cpu) == seen.next else self.arrival(seen) + self.turn(seen)
+            return [] if seen.next and self.runs.get(
+                seen.cpu
+            ) == seen.next else self.arrival(seen) + self.turn(seen)
         task = self.tasks.get(seen.pid)
         if isinstance(seen, Migration):
-            return [f"migrate {seen.pid} {seen.cpu}"] if task and task.mode == "ready" and task.cpu != seen.cpu else []
+            return [
+                f"migrate {seen.pid} {seen.cpu}"
+            ] if task and task.mode == "ready" and task.cpu != seen.cpu else []
         if task is None:
             return [f"fork {seen.pid} / {seen.cpu}"]
         return [f"wake {seen.pid} {seen.cpu}"] if task.mode == "asleep" else []
@@ -176,7 +181,9 @@ class Importer:
         runner = self.runs.get(seen.cpu)
         if runner is None:
             return [f"switch {seen.cpu} {seen.next} idle"] if seen.next else []
-        return [f"switch {seen.cpu} {seen.next} {seen.how if runner == seen.previous else 'preempt'}"]
+        return [
+            f"switch {seen.cpu} {seen.next} {seen.how if runner == seen.previous else 'preempt'}"
+        ]
 
     def play(self, act: str) -> None:
         """Applies an event to the table of tasks."""

@@ -49,10 +49,13 @@ class Observed:
         self.texts: dict[tuple[int | None, int, int], str] = {}
 
     def all_due(self) -> Iterator[Due]:
-        """For each tick at which the path is live, a sample on each processor, from processor 0 on."""
+        """For each tick at which the path is live, a sample on each processor, from processor 0 on.
+        """
         before = [0] * len(self.clocks.changes)
         for tick in self.clocks.ticks:
-            for cpu, (least, most) in enumerate(zip(before, tick.counts) if tick.group is not None else ()):
+            for cpu, (least, most) in enumerate(
+                zip(before, tick.counts) if tick.group is not None else ()
+            ):
                 yield Due(tick, cpu, least, most)
             before = tick.counts
 
@@ -71,7 +74,10 @@ class Observed:
         """
         board = f"tick={len(self.clocks.ticks)} events={self.signals} kills=0"
         lines = [f"board observer={observer} {board}" for observer in range(observers)]
-        return [line.encode() for line in (*lines, f"end {self.end} samples={observers * len(self.due)}")]
+        return [
+            line.encode()
+            for line in (*lines, f"end {self.end} samples={observers * len(self.due)}")
+        ]
 
 
 class Observer:
@@ -89,7 +95,13 @@ class Observer:
         if due is None:
             raise Wrong("a sample that isn't due")
         least = max(due.least, self.last.get(due.cpu, 0))
-        must(least <= count <= due.most, f"its count isn't from {least} to {due.most}, at {due.tick.moment} on processor {due.cpu}")
+        must(
+            least <= count <= due.most,
+            (
+                f"its count isn't from {least} to {due.most}, at {due.tick.moment} on processor "
+                f"{due.cpu}"
+            ),
+        )
         wanted = self.observed.line(due, self.number, count)
         must(line == wanted, f"it isn't {wanted!r}")
         self.last[due.cpu] = count
@@ -110,7 +122,8 @@ def compare(printed: bytes, observed: Observed, observers: int) -> None:
             tick = seen[int(found[1])].take(line, int(found[2]))
         except Wrong as wrong:
             raise Wrong(f"line {number} is {line!r}: {wrong}") from None
-        must(moment <= tick.moment, f"line {number} is {line!r}: a sample of {tick.moment} after one of {moment}")
+        must(moment <= tick.moment,
+             f"line {number} is {line!r}: a sample of {tick.moment} after one of {moment}")
         moment = tick.moment
     must_be("the lines after the samples", lines[count:], observed.last_lines(observers))
 

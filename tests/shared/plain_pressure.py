@@ -1,7 +1,7 @@
 """The output of `replay` and `stall` for a trace, computed with the formulas in docs/PRESSURE.md.
 
-What tasks do, which states hold and which tasks interrupts delay comes from tests/shared/machine.py, which
-follows the rules alone.
+What tasks do, which states hold and which tasks interrupts delay comes from
+tests/shared/machine.py, which follows the rules alone.
 """
 from __future__ import annotations
 
@@ -60,7 +60,9 @@ class Group:
 
     def sample(self, now: int) -> None:
         """Adds the growth of the times to the totals and averages, at a tick (ns)."""
-        growths = [[time - before for time, before in zip(*them)] for them in zip(self.times, self.sampled)]
+        growths = [
+            [time - before for time, before in zip(*them)] for them in zip(self.times, self.sampled)
+        ]
         self.sampled = [list(times) for times in self.times]
         weights = [PRESSURE["weight"](growth[NONIDLE]) for growth in growths]
         for place, averages in self.averages.items():
@@ -74,7 +76,9 @@ class Group:
         is_zero = self.path == "/" and place == PRESSURES - 1
         averages = [0] * 3 if is_zero else self.averages[place].averages.values()
         texts = [PRESSURE["percent_text"](average) for average in averages]
-        shares = " ".join(f"avg{seconds}={text}" for seconds, text in zip(PRESSURE["FACTORS"], texts))
+        shares = " ".join(
+            f"avg{seconds}={text}" for seconds, text in zip(PRESSURE["FACTORS"], texts)
+        )
         return f"{level} {shares} total={0 if is_zero else self.totals[place] // 1000}"
 
     def report(self, now: int, version: int) -> Iterator[str]:
@@ -89,7 +93,9 @@ class Group:
 
 @dataclasses.dataclass
 class Watch:
-    """A trigger of the trace: the fields of its line, the group that it watches, the state's number, and the page's trigger."""
+    """A trigger of the trace: the fields of its line, the group that it watches, the state's
+    number, and the page's trigger.
+    """
 
     fields: list[str]
     group: Group
@@ -123,7 +129,10 @@ class Replay:
         shown = TIMES if self.version == 2 else INTERRUPTS
         for cpu in range(self.machine.cpus):
             for path in sorted(self.live):
-                yield f"stall cpu={cpu} {path} {' '.join(map(str, self.live[path].times[cpu][:shown]))}"
+                yield (
+                    f"stall cpu={cpu} {path} "
+                    f"{' '.join(map(str, self.live[path].times[cpu][:shown]))}"
+                )
 
     def go_to(self, moment: int, is_end: bool) -> Iterator[str]:
         """Advances to this time (ns). A tick at exactly this time comes after its events."""
@@ -144,7 +153,9 @@ class Replay:
     def take(self, verb: str, fields: list[str]) -> None:
         changed = self.machine.take(verb, *fields)
         if verb == "group":
-            self.live[fields[0]] = Group(self.machine.live[fields[0]], fields[0], self.machine.cpus, self.now)
+            self.live[fields[0]] = Group(
+                self.machine.live[fields[0]], fields[0], self.machine.cpus, self.now
+            )
         elif verb == "rmgroup":
             del self.live[fields[0]]
         elif verb == "trigger":
@@ -157,7 +168,9 @@ class Replay:
     def watch(self, fields: list[str]) -> None:
         path, resource, level, threshold, window = fields
         group, state = self.live[path], 2 * RESOURCES.index(resource) + LEVELS.index(level)
-        trigger = PRESSURE["Trigger"](self.now, group.totals[state], int(threshold) * 1000, int(window) * 1000)
+        trigger = PRESSURE["Trigger"](
+            self.now, group.totals[state], int(threshold) * 1000, int(window) * 1000
+        )
         self.watches.append(Watch(fields, group, state, trigger))
 
     def tick(self) -> Iterator[str]:
@@ -174,7 +187,9 @@ class Replay:
 
     def is_report(self) -> bool:
         period, before = self.run.period, self.now - self.run.tick
-        return self.now + self.run.tick > self.end or bool(period) and self.now // period > before // period
+        return self.now + self.run.tick > self.end or bool(
+            period
+        ) and self.now // period > before // period
 
 
 # ---------------------------------------------------------------- the program held against it
@@ -191,12 +206,19 @@ def difference(run: Run, words: list[str], wanted: list[str]) -> str:
     for number, (found, line) in enumerate(zip(printed, wanted), 1):
         if found != line:
             return f"line {number} of {words[1]} is {found}, and by the page {line}"
-    return "" if len(printed) == len(wanted) else f"{words[1]} prints {len(printed)} lines, and by the page {len(wanted)}"
+    return "" if len(printed) == len(
+        wanted
+    ) else f"{words[1]} prints {len(printed)} lines, and by the page {len(wanted)}"
 
 
 def fault_of(run: Run, program: str) -> str:
     """Returns the first difference between `replay` or `stall` and the page's formulas, or ''."""
     replay = Replay(run)
     wanted = list(replay.output())
-    words = [program, "replay", "-", f"--tick-ms={run.tick // 10**6}", f"--report-s={run.period // 10**9}"]
-    return difference(run, words, wanted) or difference(run, [program, "stall", "-"], list(replay.stall()))
+    words = [
+        program, "replay", "-", f"--tick-ms={run.tick // 10**6}",
+        f"--report-s={run.period // 10**9}",
+    ]
+    return difference(run, words, wanted) or difference(
+        run, [program, "stall", "-"], list(replay.stall())
+    )

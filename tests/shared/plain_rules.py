@@ -69,7 +69,9 @@ def number(most: int) -> Form:
 def ratio(text: str) -> Optional[str]:
     """Returns a number of at most 1000 with up to three decimals; it is printed with three."""
     found = re.fullmatch(NUMBER + PART, text, re.ASCII)
-    return f"{found[1]}.{(found[2] or '').ljust(3, '0')}" if found and int(found[1]) <= 1000 else None
+    return (
+        f"{found[1]}.{(found[2] or '').ljust(3, '0')}" if found and int(found[1]) <= 1000 else None
+    )
 
 
 def size(text: str) -> Optional[str]:
@@ -87,7 +89,10 @@ def size(text: str) -> Optional[str]:
 
 
 def truth(text: str) -> Optional[str]:
-    return {"true": "true", "True": "true", "1": "true", "false": "false", "False": "false", "0": "false"}.get(text)
+    return {
+        "true": "true", "True": "true", "1": "true", "false": "false", "False": "false",
+        "0": "false",
+    }.get(text)
 
 
 def resource(text: str) -> Optional[str]:
@@ -97,7 +102,10 @@ def resource(text: str) -> Optional[str]:
 def pattern(text: str) -> Optional[str]:
     """Returns the root, or components separated by slashes; a leading slash isn't printed."""
     parts = text.removeprefix("/").split("/")
-    is_good = all(re.fullmatch(r"[A-Za-z0-9_.@:\\*-]+", part, re.ASCII) and part not in (".", "..") for part in parts)
+    is_good = all(
+        re.fullmatch(r"[A-Za-z0-9_.@:\\*-]+", part, re.ASCII) and part not in (".", "..")
+        for part in parts
+    )
     return text if text == "/" else text.removeprefix("/") if is_good else None
 
 
@@ -108,7 +116,8 @@ def patterns(text: str) -> Optional[str]:
 
 PERCENT, SECONDS = number(100), number(MOST_SECONDS)
 MATCHES = ("cgroup", patterns, None)
-WATCHED = (MATCHES, ("resource", resource, None), ("threshold", PERCENT, None), ("duration", SECONDS, None))
+WATCHED = (MATCHES, ("resource", resource, None), ("threshold", PERCENT, None),
+           ("duration", SECONDS, None))
 Arguments = tuple[tuple[str, Form, Optional[str]], ...]
 DETECTORS: dict[str, Arguments] = {
     "pressure_above": WATCHED,
@@ -174,7 +183,8 @@ def json_of(data: bytes) -> Any:
     counts.
     """
     try:
-        value = json.loads(data.decode("utf-8"), parse_int=float_token, parse_float=float_token, parse_constant=refuse)
+        value = json.loads(data.decode("utf-8"), parse_int=float_token, parse_float=float_token,
+                           parse_constant=refuse)
         for text in texts_in(value):
             text.encode("utf-8")
     except (ValueError, RecursionError):
@@ -244,7 +254,9 @@ def group(value: Any, place: Place) -> Group:
     if not items:
         raise Refused(place, "MissingKey")
     name = of_kind(items[0], str, place)
-    return Group(name, [plugin(it, DETECTORS, (), (*place, ("item", k))) for k, it in enumerate(items[1:])])
+    return Group(
+        name, [plugin(it, DETECTORS, (), (*place, ("item", k))) for k, it in enumerate(items[1:])]
+    )
 
 
 def ruleset(value: Any, is_part: bool, place: Place) -> Ruleset:
@@ -253,7 +265,9 @@ def ruleset(value: Any, is_part: bool, place: Place) -> Ruleset:
     """
     value = of_kind(value, dict, place)
     name = member(value, "name", str, place)
-    delay = argument(value["post_action_delay"], SECONDS, place) if "post_action_delay" in value else "15"
+    delay = argument(
+        value["post_action_delay"], SECONDS, place
+    ) if "post_action_delay" in value else "15"
     groups = actions = None
     if not is_part or "detectors" in value:
         items = short(member(value, "detectors", list, place), MOST_ITEMS, place)
@@ -269,7 +283,8 @@ def read(data: bytes, is_drop_in: bool = False) -> list[Ruleset]:
     """Returns the rulesets of a rules file, or the parts of a drop-in file, from its bytes."""
     if len(data) > LONGEST:
         raise Refused((), "TooLong")
-    rulesets = short(member(of_kind(json_of(data), dict, ()), "rulesets", list, ()), MOST_RULESETS, ())
+    rulesets = short(member(of_kind(json_of(data), dict, ()), "rulesets", list, ()), MOST_RULESETS,
+                     ())
     return [ruleset(it, is_drop_in, (("ruleset", i),)) for i, it in enumerate(rulesets)]
 
 
@@ -295,8 +310,12 @@ def joined(base: list[Ruleset], parts: list[Ruleset]) -> list[Ruleset]:
 
 def value_of(it: Ruleset) -> dict[str, Any]:
     """Returns a ruleset as a JSON value."""
-    groups = [[group.name, *(one._asdict() for one in group.detectors)] for group in it.groups or []]
-    return {"name": it.name, "detectors": groups, "actions": [one._asdict() for one in it.actions or []]}
+    groups = [
+        [group.name, *(one._asdict() for one in group.detectors)] for group in it.groups or []
+    ]
+    return {
+        "name": it.name, "detectors": groups, "actions": [one._asdict() for one in it.actions or []]
+    }
 
 
 def text_of(rulesets: list[Ruleset]) -> str:

@@ -42,7 +42,9 @@ class State:
     def read(self, path: str) -> list[int] | None:
         """Returns the figures that systemd-oomd reads for it."""
         found = self.sample(path)
-        return [found[0] if found else 0, 0, 0] if path == "/" else None if path in self.off else found
+        return [
+            found[0] if found else 0, 0, 0
+        ] if path == "/" else None if path in self.off else found
 
     def runs(self, path: str) -> bool:
         return any(path == "/" or f"{it}/".startswith(f"{path}/") for it in self.homes.values())
@@ -61,7 +63,9 @@ def state_at(lines: list[Line], moment: int) -> State:
         elif verb == "rmgroup":
             last = state.sample(words[0])
             above = words[0].rpartition("/")[0] or "/"
-            state.gone[above] = state.gone.get(above, 0) + (last[2] if last else state.gone.get(words[0], 0))
+            state.gone[above] = state.gone.get(above, 0) + (
+                last[2] if last else state.gone.get(words[0], 0)
+            )
             for kept in (state.made, state.samples, state.gone, state.wishes):
                 kept.pop(words[0], None)  # type: ignore[attr-defined]
             state.off.discard(words[0])
@@ -101,8 +105,14 @@ def by_swap(lines: list[Line], end: int) -> Iterator[Decision]:
         if max(0, memory - root[0]) >= memory * 1000 // 10000 or free >= swap * 1000 // 10000:
             was_told = False
             continue
-        swaps = {path: found[1] for path in state.leaves() if (found := state.read(path)) and found[1] > swap * 5 // 100}
-        victim = first_of(state, sorted(swaps, key=lambda it: (state.wishes.get(it) == "avoid", -swaps[it], it)))
+        swaps = {
+            path: found[1]
+            for path in state.leaves()
+            if (found := state.read(path)) and found[1] > swap * 5 // 100
+        }
+        victim = first_of(
+            state, sorted(swaps, key=lambda it: (state.wishes.get(it) == "avoid", -swaps[it], it))
+        )
         if victim or not was_told:
             yield now, victim, "swap"
         was_told = victim is None
@@ -112,22 +122,35 @@ def by_swap(lines: list[Line], end: int) -> Iterator[Decision]:
 Key = tuple[str, int]
 
 
-def by_pressure(lines: list[Line], end: int, averages: dict[tuple[int, str], int], limit: int, length: int) -> Iterator[Decision]:
+def by_pressure(
+    lines: list[Line], end: int, averages: dict[tuple[int, str], int], limit: int, length: int
+) -> Iterator[Decision]:
     """Decisions by memory pressure: a look each second."""
     known: dict[Key, list[int | None]] = {}
     lost, told, totals, risen = set[Key](), set[Key](), dict[Key, int](), dict[str, int]()
     count, rests, had = 0, 0, set[Key]()
     for now in range(SECOND, end + 1, SECOND):
         state = state_at(lines, now)
-        reads = {(path, made): found for path, made in state.made.items() if (found := state.read(path))}
+        reads = {
+            (path, made): found for path, made in state.made.items() if (found := state.read(path))
+        }
         if state.count != count:
             count, before = state.count, totals
             totals = {key: found[2] for key, found in reads.items()}
-            old = {key: before.get(key, total if is_first(lines, key) else 0) for key, total in totals.items()}
-            risen = {key[0]: total - (old[key] if old[key] <= total else 0) for key, total in totals.items()}
+            old = {
+                key: before.get(key, total if is_first(lines, key) else 0)
+                for key, total in totals.items()
+            }
+            risen = {
+                key[0]: total - (old[key] if old[key] <= total else 0)
+                for key, total in totals.items()
+            }
         lost |= {(path, made) for path, made in state.made.items() if path in state.off}
         watched = {key: found[2] for key, found in reads.items() if key not in lost}
-        known = {key: known.get(key, [None, total if is_first(lines, key) else 0, None]) for key, total in watched.items()}
+        known = {
+            key: known.get(key, [None, total if is_first(lines, key) else 0, None])
+            for key, total in watched.items()
+        }
         for key, total in watched.items():
             since, scanned, last = known[key]
             last = now if total != scanned and (total > (scanned or 0) or total > 0) else last
@@ -136,7 +159,11 @@ def by_pressure(lines: list[Line], end: int, averages: dict[tuple[int, str], int
             told -= {key} if since is None else set()
         above = {key: it for key, it in known.items() if it[0] is not None}
         targets = sorted(key for key, it in above.items() if now - (it[0] or 0) >= length)
-        here = {(it, state.made[it]) for it in state.leaves() if above and any(is_inside(it, key[0]) for key in watched)}
+        here = {
+            (it, state.made[it]) for it in state.leaves() if above and any(
+                is_inside(it, key[0]) for key in watched
+            )
+        }
         had_before, had = had, here
         if not targets or now < rests:
             continue
@@ -150,7 +177,9 @@ def by_pressure(lines: list[Line], end: int, averages: dict[tuple[int, str], int
                 continue
             had, rests = here, now + 15 * SECOND
             told.discard(key)
-            yield now, most_scanned(state, key[0], {it: risen[it] for it, made in here & had_before}), "memory pressure"
+            yield now, most_scanned(
+                state, key[0], {it: risen[it] for it, made in here & had_before}
+            ), "memory pressure"
             break
 
 
@@ -161,7 +190,12 @@ def most_scanned(state: State, above: str, risen: dict[str, int]) -> str | None:
     inside = [it for it in state.leaves() if is_inside(it, above)]
     found = {it: state.read(it) or [0, 0, 0] for it in inside}
     ranks = {it: risen.get(it, all_[2]) for it, all_ in found.items() if all_[0] or all_[2]}
-    return first_of(state, sorted(ranks, key=lambda it: (state.wishes.get(it) == "avoid", -ranks[it], -found[it][0], it)))
+    return first_of(
+        state,
+        sorted(
+            ranks, key=lambda it: (state.wishes.get(it) == "avoid", -ranks[it], -found[it][0], it)
+        ),
+    )
 
 
 def is_inside(path: str, above: str) -> bool:
@@ -177,9 +211,11 @@ def decisions(text: str, printed: str, limit: int, length: int) -> list[Decision
     """Returns the decisions for a trace, from psi_oomd's output for it, in order of time."""
     lines = [(int(it.split()[0]), it.split()[1:]) for it in text.splitlines()[1:-1]]
     end = int(text.splitlines()[-1].split()[0])
-    found = re.findall(r"^report (\d+) (\S+) memory\nsome .*\nfull avg10=(\d+)\.(\d\d)", printed, re.MULTILINE)
+    found = re.findall(r"^report (\d+) (\S+) memory\nsome .*\nfull avg10=(\d+)\.(\d\d)", printed,
+                       re.MULTILINE)
     averages = {(int(at), path): int(whole + part) for at, path, whole, part in found}
-    return sorted([*by_swap(lines, end), *by_pressure(lines, end, averages, limit, length)], key=lambda it: it[0])
+    return sorted([*by_swap(lines, end), *by_pressure(lines, end, averages, limit, length)],
+                  key=lambda it: it[0])
 
 
 def random_trace(seed: int) -> str:
@@ -196,7 +232,9 @@ def random_trace(seed: int) -> str:
         if kind < 0.15 and inner not in scanned and inner.count("/") < 4:
             scanned[inner] = 0
             lines.append(f"{moment} group {inner}")
-        elif kind < 0.2 and path != "/" and not any(it.startswith(path) for it in [*homes.values(), *(set(scanned) - {path})]):
+        elif kind < 0.2 and path != "/" and not any(
+            it.startswith(path) for it in [*homes.values(), *(set(scanned) - {path})]
+        ):
             del scanned[path]
             lines.append(f"{moment} rmgroup {path}")
         elif kind < 0.32:
@@ -218,8 +256,13 @@ def random_trace(seed: int) -> str:
         elif kind < 0.6:
             lines.append(f"{moment} prefer {path} {draw.choice(('avoid', 'none', 'prefer'))}")
         elif kind < 0.68:
-            lines += [f"{moment} host 1000 1000 {draw.choice((0, 50, 99, 100, 500))}", f"{moment} mem / {draw.choice((899, 901, 950))} 0 0"]
+            lines += [
+                f"{moment} host 1000 1000 {draw.choice((0, 50, 99, 100, 500))}",
+                f"{moment} mem / {draw.choice((899, 901, 950))} 0 0",
+            ]
         elif kind < 0.97 and path != "/":
             scanned[path] += draw.randrange(3)
-            lines.append(f"{moment} mem {path} {draw.randrange(5)} {draw.randrange(200)} {scanned[path]}")
+            lines.append(
+                f"{moment} mem {path} {draw.randrange(5)} {draw.randrange(200)} {scanned[path]}"
+            )
     return "\n".join(["psitrace 2 cpus=1", *lines, f"{moment + SECOND} end\n"])

@@ -15,12 +15,16 @@ from shared.machine import Machine, parent_of
 
 LONGEST_LINE = 512
 MOST_MOMENT, MOST_NUMBER = 2 * 10**15, 2**64 - 1
-MOST_EVENTS, MOST_GROUPS, MOST_TASKS, MOST_TRIGGERS, MOST_PRESSURES = 4_000_000, 1024, 65_536, 256, 65_536
+MOST_EVENTS, MOST_GROUPS, MOST_TASKS, MOST_TRIGGERS, MOST_PRESSURES = (
+    4_000_000, 1024, 65_536, 256, 65_536,
+)
 MOST_INTERRUPTS = 10**9
 # The causes for a line that is spelled correctly, in their order.
 ORDER = (
-    "TimeBack", "TimeTooLate", "TooManyEvents", "TooManyGroups", "TooManyTasks", "TooManyTriggers", "TooManyPressures",
-    "UnknownGroup", "GroupExists", "NoParent", "GroupBusy", "RootPressure", "UnknownTask", "TaskExists", "BadWindow", "BadCpu",
+    "TimeBack", "TimeTooLate", "TooManyEvents", "TooManyGroups", "TooManyTasks", "TooManyTriggers",
+    "TooManyPressures",
+    "UnknownGroup", "GroupExists", "NoParent", "GroupBusy", "RootPressure", "UnknownTask",
+    "TaskExists", "BadWindow", "BadCpu",
     "NotRunning", "NotReady", "NotBlocked", "WrongHow", "InStall", "NotInStall", "IrqTooLong",
 )  # fmt: skip
 Refusal = tuple[int, str]
@@ -32,7 +36,9 @@ Form = Callable[[str], bool]
 
 def number(least: int, most: int) -> Form:
     """Returns a form: a decimal number in a range, without leading zeros."""
-    return lambda text: bool(re.fullmatch("0|[1-9][0-9]{0,19}", text, re.ASCII)) and least <= int(text) <= most
+    return lambda text: bool(
+        re.fullmatch("0|[1-9][0-9]{0,19}", text, re.ASCII)
+    ) and least <= int(text) <= most
 
 
 def word(*words: str) -> Form:
@@ -44,7 +50,10 @@ def is_path(text: str) -> bool:
     255 bytes in total.
     """
     parts = text[1:].split("/")
-    are_names = all(re.fullmatch(r"[A-Za-z0-9_.@:\\-]+", part, re.ASCII) and part not in (".", "..") for part in parts)
+    are_names = all(
+        re.fullmatch(r"[A-Za-z0-9_.@:\\-]+", part, re.ASCII) and part not in (".", "..")
+        for part in parts
+    )
     return text == "/" or (text[:1] == "/" and are_names and len(parts) <= 32 and len(text) <= 255)
 
 
@@ -114,7 +123,9 @@ class World:
 
     def causes(self, moment: int, verb: str, fields: list[str], most: int) -> Iterator[str]:
         """Yields all causes against the event, if times may be up to `most` ns."""
-        limits = (moment < self.last, "TimeBack"), (moment > most, "TimeTooLate"), (self.events >= MOST_EVENTS, "TooManyEvents")
+        limits = (moment < self.last, "TimeBack"), (moment > most, "TimeTooLate"), (
+            self.events >= MOST_EVENTS, "TooManyEvents"
+        )
         yield from (cause for stands, cause in limits if stands)
         against = getattr(self, f"against_{verb}", None)
         if verb == "irq":
@@ -142,7 +153,9 @@ class World:
         live, tasks = self.machine.live, self.machine.tasks.values()
         yield path not in live, "UnknownGroup"
         has_child = any(it != "/" and parent_of(it) == path for it in live)
-        yield path == "/" or has_child or any(task.group == live.get(path) for task in tasks), "GroupBusy"
+        yield path == "/" or has_child or any(
+            task.group == live.get(path) for task in tasks
+        ), "GroupBusy"
 
     def against_prefer(self, path: str, *_: str) -> Iterator[tuple[bool, str]]:
         yield path not in self.machine.live, "UnknownGroup"
@@ -189,10 +202,14 @@ class World:
         yield path not in self.machine.live, "UnknownGroup"
         yield pid not in self.machine.tasks, "UnknownTask"
 
-    def against_trigger(self, path: str, _resource: str, _level: str, threshold: str, window: str) -> Iterator[tuple[bool, str]]:
+    def against_trigger(
+        self, path: str, _resource: str, _level: str, threshold: str, window: str
+    ) -> Iterator[tuple[bool, str]]:
         yield self.triggers >= MOST_TRIGGERS, "TooManyTriggers"
         yield path not in self.machine.live, "UnknownGroup"
-        yield not (500_000 <= int(window) <= 10_000_000 and 1 <= int(threshold) <= int(window)), "BadWindow"
+        yield not (
+            500_000 <= int(window) <= 10_000_000 and 1 <= int(threshold) <= int(window)
+        ), "BadWindow"
 
     def against_pressure(self, path: str, _switched: str) -> Iterator[tuple[bool, str]]:
         yield self.pressures >= MOST_PRESSURES, "TooManyPressures"
@@ -247,7 +264,8 @@ def refusal_of(data: bytes, most: int = MOST_MOMENT) -> Optional[Refusal]:
         fault = fault or fault_of_spelling(version, text)
         if not fault:
             moment, verb, *fields = text.split(" ")
-            fault = min(world.causes(int(moment), verb, fields, most), key=ORDER.index, default=None)
+            fault = min(world.causes(int(moment), verb, fields, most), key=ORDER.index,
+                        default=None)
         if fault:
             return count, fault
         world.take(int(moment), verb, fields)

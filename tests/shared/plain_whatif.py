@@ -1,8 +1,8 @@
 """The trace that remains after the kills of its rules, by a plain walk: the reference for `psi_oomd
 whatif`.
 
-It follows docs/COMMANDS.md alone, event by event over the tasks of tests/shared/machine.py. The victims
-are those that a replay of the trace printed.
+It follows docs/COMMANDS.md alone, event by event over the tasks of tests/shared/machine.py. The
+victims are those that a replay of the trace printed.
 """
 from __future__ import annotations
 
@@ -51,7 +51,8 @@ def trace_of(text: str) -> Trace:
     """Parses a text, which must be a trace."""
     header, *lines = text.splitlines()
     parts = (line.split(" ") for line in lines)
-    return Trace(header, [Event(int(moment), verb, tuple(fields)) for moment, verb, *fields in parts])
+    return Trace(header,
+                 [Event(int(moment), verb, tuple(fields)) for moment, verb, *fields in parts])
 
 
 def kills_of(printed: str) -> list[Kill]:
@@ -66,7 +67,8 @@ def kills_of(printed: str) -> list[Kill]:
 def members(machine: Machine, path: str) -> list[str]:
     """Returns the numbers of the tasks in the live group with this path and below it, ascending."""
     top = machine.live[path]
-    return sorted((pid for pid, task in machine.tasks.items() if machine.is_under(task.group, top)), key=int)
+    return sorted((pid for pid, task in machine.tasks.items() if machine.is_under(task.group, top)),
+                  key=int)
 
 
 def exit_of(machine: Machine, pid: str, moment: int) -> list[Event]:
@@ -129,7 +131,8 @@ def without(trace: Trace, kill: Kill) -> Trace:
         for event in events:
             supposed.take(event.verb, *event.fields)
         exits += events
-    return Trace(trace.header, [*front, *exits, *rest_of(as_recorded, set(dead), trace.events[len(front) :])])
+    return Trace(trace.header,
+                 [*front, *exits, *rest_of(as_recorded, set(dead), trace.events[len(front) :])])
 
 
 # ---------------------------------------------------------------- kill by kill

@@ -14,7 +14,9 @@ class Printed:
     """
 
     def __init__(self, printed: bytes) -> None:
-        self.shares: dict[tuple[str, str, str, str], list[tuple[int, float]]] = collections.defaultdict(list)
+        self.shares: dict[tuple[str, str, str, str], list[tuple[int, float]]] = (
+            collections.defaultdict(list)
+        )
         self.events: dict[tuple[str, str, str], list[int]] = collections.defaultdict(list)
         self.kills: list[tuple[int, str]] = []
         head: list[str] = []
@@ -23,7 +25,9 @@ class Printed:
                 head = words[1:]
             elif words[0] in LEVELS:
                 for average, share in (word.split("=") for word in words[1:4]):
-                    self.shares[head[1], head[2], words[0], average].append((int(head[0]), float(share)))
+                    self.shares[head[1], head[2], words[0], average].append(
+                        (int(head[0]), float(share))
+                    )
             elif words[0] == "event":
                 self.events[words[3], words[4], words[5]].append(int(words[1]))
             elif words[0] == "kill":

@@ -19,7 +19,9 @@ from psireplay.program import built_program  # noqa: E402
 
 # What each program prints for a small input, so that another program isn't taken for it.
 TRACE = os.path.join(TOP, "examples", "one-wait.trace")
-PAGES = [os.path.join(TOP, "crates", "psi_convert_main", "data", name) for name in ("table", "cpu0.raw")]
+PAGES = [
+    os.path.join(TOP, "crates", "psi_convert_main", "data", name) for name in ("table", "cpu0.raw")
+]
 PRINTED = {
     "psi_oomd": (("check", TRACE), b"ok lines=5 events=4 end=2000000000\n"),
     "psi_observe": ((TRACE, "1", "/none"), b"end 2000000000 samples=0\n"),

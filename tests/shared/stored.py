@@ -39,7 +39,8 @@ class Done(NamedTuple):
 def run(words: list[str], given: bytes = b"", program: str = "") -> Done:
     """Runs a program; `program` is the psi_oomd that it uses."""
     environment = {**os.environ, "PYTHONDONTWRITEBYTECODE": "1", "PSI_OOMD": program}
-    done = subprocess.run(words, input=given, capture_output=True, timeout=SECONDS, env=environment, cwd=TOP)
+    done = subprocess.run(words, input=given, capture_output=True, timeout=SECONDS, env=environment,
+                          cwd=TOP)
     return Done(done.returncode, done.stdout, done.stderr.decode())
 
 
@@ -106,13 +107,17 @@ def digest_of(trace: bytes) -> str:
 
 def digests() -> dict[str, str]:
     """Returns the stored sha256 of each recording's trace."""
-    return {name: digest for digest, name in (line.split() for line in stored("traces.sha256").splitlines())}
+    return {
+        name: digest
+        for digest, name in (line.split() for line in stored("traces.sha256").splitlines())
+    }
 
 
 def converted(folder: str, *words: str, status: int = 0) -> Done:
     """Returns the result of psitrace for a recording."""
     done = tool("psitrace", folder, *words)
-    must_be(f"the status of psitrace {' '.join(words)}, which said {done.said}", done.status, status)
+    must_be(f"the status of psitrace {' '.join(words)}, which said {done.said}", done.status,
+            status)
     return done
 
 

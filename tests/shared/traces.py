@@ -224,7 +224,8 @@ def text_of(name: str) -> str:
 
 
 def fixed_runs() -> list[Run]:
-    """The traces above, and some of the examples, each with a path that is, was or never is live."""
+    """The traces above, and some of the examples, each with a path that is, was or never is live.
+    """
     return [
         Run("one-wait", text_of("one-wait.trace"), "/", 2000, 10),
         Run("one-wait-in-ticks", text_of("one-wait.trace"), "/", 300, 1),
@@ -263,13 +264,15 @@ def fixed_runs() -> list[Run]:
 
 
 class Maker:
-    """Makes a valid random trace: in each turn time passes, or not, and a possible event happens."""
+    """Makes a valid random trace: in each turn time passes, or not, and a possible event happens.
+    """
 
     PATHS: tuple[str, ...] = ("/a", "/a/b", "/a/b/c", "/d", "/d/e")
     # The least and the largest number of turns.
     TURNS = (30, 120)
     # How often each verb comes, by the version of the trace.
-    FIRST = dict(fork=2, switch=8, wake=4, stall=2, unstall=2, migrate=2, move=3, group=4, rmgroup=2, side=1)
+    FIRST = dict(fork=2, switch=8, wake=4, stall=2, unstall=2, migrate=2, move=3, group=4,
+                 rmgroup=2, side=1)
     OFTEN = {1: FIRST, 2: {**FIRST, "irq": 8, "pressure": 5}}
 
     def __init__(self, seed: int, version: int) -> None:
@@ -301,7 +304,16 @@ class Maker:
 
     def path(self) -> str:
         """The root, or a path that some group has had."""
-        return self.draw.choice(["/", *(path for path in self.PATHS if any(line.endswith(f" group {path}") for line in self.lines))])
+        return self.draw.choice(
+            [
+                "/",
+                *(
+                    path for path in self.PATHS if any(
+                        line.endswith(f" group {path}") for line in self.lines
+                    )
+                ),
+            ]
+        )
 
     def cpu(self) -> str:
         return str(self.draw.randrange(self.machine.cpus))
@@ -336,21 +348,35 @@ class Maker:
         return [("migrate", pid, self.cpu()) for pid in self.task("ready")]
 
     def some_move(self) -> list[Event]:
-        return [("move", pid, self.some(self.machine.live)[0]) for pid in self.task("ready", "running", "sleep", "iowait")]
+        return [
+            ("move", pid, self.some(self.machine.live)[0])
+            for pid in self.task("ready", "running", "sleep", "iowait")
+        ]
 
     def some_stall(self) -> list[Event]:
-        return [("stall", pid) for pid in self.task("running") if not self.machine.tasks[pid].is_stalled]
+        return [
+            ("stall", pid) for pid in self.task("running") if not self.machine.tasks[pid].is_stalled
+        ]
 
     def some_unstall(self) -> list[Event]:
-        stalled = (pid for pid, task in self.machine.tasks.items() if task.at == "running" and task.is_stalled)
+        stalled = (
+            pid
+            for pid, task in self.machine.tasks.items()
+            if task.at == "running" and task.is_stalled
+        )
         return [("unstall", pid) for pid in self.some(stalled)]
 
     def some_group(self) -> list[Event]:
         live = self.machine.live
-        return [("group", path) for path in self.some(it for it in self.PATHS if it not in live and parent_of(it) in live)]
+        return [
+            ("group", path) for path in self.some(
+                it for it in self.PATHS if it not in live and parent_of(it) in live
+            )
+        ]
 
     def some_rmgroup(self) -> list[Event]:
-        """A group without children is removed, and perhaps created again at once, after its tasks."""
+        """A group without children is removed, and perhaps created again at once, after its tasks.
+        """
         live = self.machine.live
         parents = {parent_of(path) for path in live if path != "/"}
         for path in self.some(it for it in live if it != "/" and it not in parents):
@@ -364,7 +390,9 @@ class Maker:
         most a second.
         """
         busy = [cpu for cpu in range(self.machine.cpus) if self.machine.running(cpu)]
-        cpu = self.draw.choice(busy if busy and self.draw.random() < 0.8 else range(self.machine.cpus))
+        cpu = self.draw.choice(
+            busy if busy and self.draw.random() < 0.8 else range(self.machine.cpus)
+        )
         most = min(self.now - self.last_interrupts[cpu], 1000 * MS)
         self.last_interrupts[cpu] = self.now
         return [("irq", str(cpu), str(self.draw.choice((0, most, self.draw.randint(0, most)))))]
@@ -374,23 +402,33 @@ class Maker:
         at once.
         """
         switches = self.draw.choice((("on",), ("off",), ("off",), ("off", "on"), ("on", "off")))
-        return [("pressure", path, to) for path in self.some(it for it in self.machine.live if it != "/") for to in switches]
+        return [
+            ("pressure", path, to) for path in self.some(
+                it for it in self.machine.live if it != "/"
+            ) for to in switches
+        ]
 
     def some_side(self) -> list[Event]:
         """An event that changes neither a processor nor a group."""
         (path,) = self.some(self.machine.live)
-        resource, level = self.draw.choice(("io", "memory", "cpu")), self.draw.choice(("some", "full"))
-        sides: list[Event] = [("mem", path, "4096", "0", "7"), ("prefer", path, "avoid"), ("host", "4096", "0", "0")]
+        resource, level = (
+            self.draw.choice(("io", "memory", "cpu")), self.draw.choice(("some", "full")),
+        )
+        sides: list[Event] = [
+            ("mem", path, "4096", "0", "7"), ("prefer", path, "avoid"), ("host", "4096", "0", "0")
+        ]
         return self.some([*sides, ("trigger", path, resource, level, "50000", "500000")])
 
 
 def random_run(number: int, version: int = 1, kind: type[Maker] = Maker) -> Run:
-    """A random trace of this version by this kind of maker; the same number gives the same trace."""
+    """A random trace of this version by this kind of maker; the same number gives the same trace.
+    """
     maker = kind(number, version)
     trace = maker.trace()
     # Mostly with the ticks that it was made for.
     tick_ms = maker.tick // MS * maker.draw.choice((2, 2, 2, 1, 7)) // 2
-    return Run(f"random-{number}" + "-with-interrupts" * (version - 1), trace, maker.path(), tick_ms, maker.draw.choice((0, 1, 10)))
+    return Run(f"random-{number}" + "-with-interrupts" * (version - 1), trace, maker.path(),
+               tick_ms, maker.draw.choice((0, 1, 10)))
 
 
 def all_runs() -> Iterator[Run]:

@@ -53,7 +53,12 @@ class Trace:
     extra: list[tuple[float, str]] = field(default_factory=list)
 
     def groups(self) -> list[str]:
-        found = {path[:end] for path in self.leaves for end in range(1, len(path) + 1) if end == len(path) or path[end] == "/"}
+        found = {
+            path[:end]
+            for path in self.leaves
+            for end in range(1, len(path) + 1)
+            if end == len(path) or path[end] == "/"
+        }
         return sorted(found)
 
     def lines(self) -> list[tuple[float, str]]:
@@ -65,13 +70,18 @@ class Trace:
                 lines.append((0, f"switch {cpu} 0 sleep"))
             for begin, end in leaf.stalls:
                 lines += [(begin, f"stall {number}"), (end, f"unstall {number}")]
-            lines += [(at, f"mem {path} {leaf.memory} {leaf.swap} {leaf.scans * at}") for at in range(self.seconds)]
+            lines += [
+                (at, f"mem {path} {leaf.memory} {leaf.swap} {leaf.scans * at}")
+                for at in range(self.seconds)
+            ]
         return [*lines, *self.extra]
 
     def text(self) -> str:
         lines = [it for it in self.lines() if it[0] <= self.seconds]
         told = [f"{round(at * SECOND)} {line}" for at, line in sorted(lines, key=lambda it: it[0])]
-        return "\n".join([f"psitrace 2 cpus={len(self.leaves)}", *told, f"{self.seconds * SECOND} end\n"])
+        return "\n".join(
+            [f"psitrace 2 cpus={len(self.leaves)}", *told, f"{self.seconds * SECOND} end\n"]
+        )
 
 
 def put(room: Room, files: dict[str, str], folder: str = "settings") -> None:
@@ -87,18 +97,24 @@ def told(room: Room, trace: Trace, *words: str) -> Done:
     return room.run(OOMD, "t.trace", "--settings", "settings", *words)
 
 
-def decided(room: Room, trace: Trace, folder: str, version: int | None = None) -> tuple[Decisions, list[str]]:
+def decided(
+    room: Room, trace: Trace, folder: str, version: int | None = None
+) -> tuple[Decisions, list[str]]:
     """Returns the times (s) and victims for a folder of settings, and the messages."""
     file = os.path.join(room.path, room.file(f"{folder}.trace", trace.text()))
     settings = Settings(os.path.join(room.path, folder), version)
     program = Program()
     program.path = room.program
     engine = replayed(program, file, settings, 1)
-    said = [it.replace(f"{room.path}/", "") for it in [*settings.notes, *warnings(engine, settings)]]
+    said = [
+        it.replace(f"{room.path}/", "") for it in [*settings.notes, *warnings(engine, settings)]
+    ]
     return [(it.moment / SECOND, it.victim) for it in engine.decisions], said
 
 
-def decisions(room: Room, trace: Trace, files: dict[str, str], version: int | None = None, said: str = "") -> Decisions:
+def decisions(
+    room: Room, trace: Trace, files: dict[str, str], version: int | None = None, said: str = ""
+) -> Decisions:
     """Returns the times (s) and victims; there must be no other message than `said`."""
     put(room, files)
     found, notes = decided(room, trace, "settings", version)
@@ -110,7 +126,10 @@ def stalled(seconds: int = 45, **more: Leaf) -> Trace:
     """One of three services always waits for memory, and scans less than the second and more than
     the third.
     """
-    leaves = {"a": Leaf(3000, 0, 10, ((0, seconds),)), "b": Leaf(1000, 0, 20), "c": Leaf(9000, 0, 5), **more}
+    leaves = {
+        "a": Leaf(3000, 0, 10, ((0, seconds),)), "b": Leaf(1000, 0, 20), "c": Leaf(9000, 0, 5),
+        **more,
+    }
     return Trace(seconds, {f"{SLICE}/{name}.service": leaf for name, leaf in leaves.items()})
 
 
@@ -118,7 +137,13 @@ def swap_trace(memory: int, free: int, *leaves: tuple[str, int]) -> Trace:
     """Returns a machine with 1000 bytes of memory and of swap; at 2.1 s `memory` bytes are used and
     `free` bytes of swap are free.
     """
-    extra = [(0.0, "host 1000 1000 1000"), (0.0, "mem / 100 0 0"), (2.1, f"host 1000 1000 {free}"), (2.1, f"mem / {memory} 0 0")]
+    extra = [
+        (0.0, "host 1000 1000 1000"), (0.0, "mem / 100 0 0"), (2.1, f"host 1000 1000 {free}"),
+        (2.1, f"mem / {memory} 0 0"),
+    ]
     tops = {path[: path.index("/", 1)] for path, _ in leaves}
-    extra += [(0.0, f"mem {top} 200 {sum(swap for path, swap in leaves if path.startswith(top))} 0") for top in sorted(tops)]
+    extra += [
+        (0.0, f"mem {top} 200 {sum(swap for path, swap in leaves if path.startswith(top))} 0")
+        for top in sorted(tops)
+    ]
     return Trace(3, {path: Leaf(100, swap) for path, swap in leaves}, extra)

@@ -9,7 +9,9 @@ from shared.rooms import Room
 from psirules.program import Program
 from psisystemd.replayed import replayed
 from psisystemd.settings import Settings
-from systemd.slices import SECOND, A, B, UNITS, SWAPPED, Leaf, Trace, put, told, decisions, swap_trace
+from systemd.slices import (
+    SECOND, A, B, UNITS, SWAPPED, Leaf, Trace, put, told, decisions, swap_trace,
+)
 
 
 def check_swap(room: Room) -> None:
@@ -21,15 +23,19 @@ def check_swap(room: Room) -> None:
         found = decisions(room, swap_trace(memory, free, (A, 300), (B, 500)), {})
         must_be(f"memory {memory}, free {free}", found, [(2.1, victim)] if victim else [])
     conf = {"etc/systemd/oomd.conf": "[OOM]\nSwapUsedLimit=50%\n"}
-    must_be("another limit", decisions(room, swap_trace(501, 499, (A, 300), (B, 200)), conf), [(2.1, A)])
+    must_be("another limit", decisions(room, swap_trace(501, 499, (A, 300), (B, 200)), conf),
+            [(2.1, A)])
 
 
 def check_who_has_swap(room: Room) -> None:
     """Candidates have more than 5 percent of all swap."""
     put(room, SWAPPED)
-    must_be("50 of 1000 are too few", decisions(room, swap_trace(999, 0, (A, 50), (B, 40)), {}), [(2.1, None)])
+    must_be("50 of 1000 are too few", decisions(room, swap_trace(999, 0, (A, 50), (B, 40)), {}),
+            [(2.1, None)])
     must_be("51 aren't", decisions(room, swap_trace(999, 0, (A, 51), (B, 40)), {}), [(2.1, A)])
-    part = {f"{UNITS}/-.slice.d/swap.conf": "", f"{UNITS}/t.slice": "[Slice]\nManagedOOMSwap=kill\n"}
+    part = {
+        f"{UNITS}/-.slice.d/swap.conf": "", f"{UNITS}/t.slice": "[Slice]\nManagedOOMSwap=kill\n"
+    }
     found = decisions(room, swap_trace(999, 0, (A, 500), ("/t.slice/d.service", 100)), part)
     must_be("below the watched group alone", found, [(2.1, "/t.slice/d.service")])
 
@@ -40,7 +46,9 @@ def check_swap_that_stays_used(room: Room) -> None:
     """
     put(room, SWAPPED)
     leaves = {A: Leaf(100, 300), B: Leaf(100, 500)}
-    full: list[tuple[float, str]] = [(at, line) for at in range(6) for line in ("host 1000 1000 0", "mem / 999 0 0")]
+    full: list[tuple[float, str]] = [
+        (at, line) for at in range(6) for line in ("host 1000 1000 0", "mem / 999 0 0")
+    ]
     trace = Trace(6, leaves, full)
     moments = [0.15, 1.05, 2.1, 3.0, 4.05, 5.1]
     must_be("each sample", decisions(room, trace, {}), [(at, B) for at in moments])
@@ -53,17 +61,26 @@ def check_no_swap(room: Room) -> None:
     put(room, SWAPPED)
     none = Trace(2, {A: Leaf()}, [(0, "host 1000 0 0"), (0, "mem / 999 0 0")])
     done = told(room, none)
-    done.must_print("a machine without swap", 0, "nobody would be killed\nwatched for memory pressure: no group of the trace\n"
+    done.must_print("a machine without swap", 0,
+                                                 "nobody would be killed\n"
+                                                 "watched for memory pressure: no group of the "
+                                                 "trace\n"
                                                  "watched for swap: the machine has none\n")  # fmt: skip
     done = told(room, Trace(2, {A: Leaf()}))
-    must_be("it isn't known", done.error, "systemd-oomd: swap can't be judged: the trace has no `host` line, or no `mem` line of /\n")
+    must_be(
+        "it isn't known", done.error,
+        "systemd-oomd: swap can't be judged: the trace has no `host` line, or no `mem` line of /\n",
+    )
 
 
 def check_a_plain_reading(room: Room) -> None:
     """For random traces a plain version, which reads the whole trace again at each look, gives the
     same result.
     """
-    kill = "[Slice]\nManagedOOMSwap=kill\nManagedOOMMemoryPressure=kill\nManagedOOMMemoryPressureLimit=10%\n"
+    kill = (
+        "[Slice]\nManagedOOMSwap=kill\nManagedOOMMemoryPressure=kill\n"
+        "ManagedOOMMemoryPressureLimit=10%\n"
+    )
     put(room, {f"{UNITS}/slice.d/a.conf": f"{kill}ManagedOOMMemoryPressureDurationSec=2s\n"})
     settings, program = os.path.join(room.path, "settings"), Program()
     program.path = room.program
@@ -71,7 +88,9 @@ def check_a_plain_reading(room: Room) -> None:
     for seed in range(30):
         text = plain_systemd.random_trace(seed)
         trace = os.path.join(room.path, room.file(f"{seed}.trace", text))
-        printed = room.run("psi_oomd", "replay", trace, "--tick-ms", "1000", "--report-s", "1").output
+        printed = room.run(
+            "psi_oomd", "replay", trace, "--tick-ms", "1000", "--report-s", "1"
+        ).output
         wanted = plain_systemd.decisions(text, printed, 1000, 2 * SECOND)
         engine = replayed(program, trace, Settings(settings), 1)
         must_be(f"seed {seed}", [(it.moment, it.victim, it.by) for it in engine.decisions], wanted)

@@ -27,12 +27,19 @@ from systemd.slices import (
 
 
 def check_what_is_told(room: Room) -> None:
-    wishes = {f"{UNITS}/{it}.service": f"[Service]\nManagedOOMPreference={wish}\n" for it, wish in (("c", "avoid"), ("d", "omit"))}
+    wishes = {
+        f"{UNITS}/{it}.service": f"[Service]\nManagedOOMPreference={wish}\n"
+        for it, wish in (("c", "avoid"), ("d", "omit"))
+    }
     put(room, {**WATCHED, **wishes})
     trace = stalled(41, d=Leaf(700, 0, 99))
     lines = told(room, trace).output.splitlines()
     must_be("the victim", lines[0], f"40 s  would kill {B}")
-    must(lines[1].startswith("      memory pressure of /s.slice 98.") and lines[1].endswith(" % > 60 % for 30 s"), lines[1])
+    must(
+        lines[1].startswith("      memory pressure of /s.slice 98.")
+        and lines[1].endswith(" % > 60 % for 30 s"),
+        lines[1],
+    )
     must_be("the others", lines[2:6], [
         "      chosen: scanned 20 pages in 1 s, memory 1000",
         f"      not {A}: scanned 10 pages in 1 s, memory 2.9K",
@@ -52,7 +59,11 @@ def check_many_others(room: Room) -> None:
 
 def check_the_story(room: Room) -> None:
     """With 50 percent for 20 s: psi_oomd's equivalent rules kill at the same times."""
-    kills = [moment for moment, _, _, _ in room.kills(RUNAWAY, "--rules", room.file("r.json", story_rules()), *EACH_SECOND)]
+    kills = [
+        moment for moment, _, _, _ in room.kills(
+            RUNAWAY, "--rules", room.file("r.json", story_rules()), *EACH_SECOND
+        )
+    ]
     found = json.loads(room.run(OOMD, RUNAWAY, "--settings", STORY, "--json").output)
     must_be("the moments", [it["moment_ns"] for it in found["decisions"]], kills)
     must_be("the victims", {it["victim"] for it in found["decisions"]}, {"/batch/import"})
@@ -60,13 +71,22 @@ def check_the_story(room: Room) -> None:
 
 
 def story_rules() -> str:
-    """Rules with a delay of 15 s that kill the largest of the groups that are watched in the story."""
+    """Rules with a delay of 15 s that kill the largest of the groups that are watched in the story.
+    """
     detectors = [
-        {"name": "pressure_above", "args": {"cgroup": "batch", "resource": "memory", "threshold": "50", "duration": "20"}},
+        {
+            "name": "pressure_above",
+            "args": {"cgroup": "batch", "resource": "memory", "threshold": "50", "duration": "20"},
+        },
         {"name": "memory_reclaim", "args": {"cgroup": "batch/*", "duration": "30"}},
     ]
-    action = {"name": "kill_by_memory_size_or_growth", "args": {"cgroup": "batch/*", "size_threshold": "0"}}
-    return json.dumps({"rulesets": [{"name": "batch", "detectors": [["short", *detectors]], "actions": [action]}]})
+    action = {
+        "name": "kill_by_memory_size_or_growth",
+        "args": {"cgroup": "batch/*", "size_threshold": "0"},
+    }
+    return json.dumps(
+        {"rulesets": [{"name": "batch", "detectors": [["short", *detectors]], "actions": [action]}]}
+    )
 
 
 def check_comparing(room: Room) -> None:
@@ -75,16 +95,23 @@ def check_comparing(room: Room) -> None:
     killer = "ruleset 0 'batch work is short of memory', action 0 'kill_by_memory_size_or_growth'"
     must_be("oomd's rules", first, f"146 s  by {RUNAWAY_RULES}: would kill /batch/import, {killer}")
     must_be("systemd-oomd", second, "154 s  would kill /batch/import")
-    must(f"first kill: the same victim, 8 s earlier by {RUNAWAY_RULES}\n" in done.output, done.output)
-    record = json.loads(room.run(OOMD, RUNAWAY, "--settings", STORY, "--compare", RUNAWAY_RULES, "--json").output)["compared"]
-    must_be("as JSON", [(it["moment_ns"], it["path"]) for it in record["kills"]], [(146 * SECOND, "/batch/import")])
+    must(f"first kill: the same victim, 8 s earlier by {RUNAWAY_RULES}\n" in done.output,
+         done.output)
+    record = json.loads(
+        room.run(OOMD, RUNAWAY, "--settings", STORY, "--compare", RUNAWAY_RULES, "--json").output
+    )["compared"]
+    must_be("as JSON", [(it["moment_ns"], it["path"]) for it in record["kills"]],
+            [(146 * SECOND, "/batch/import")])
     put(room, {**WATCHED})
     other = told(room, stalled(), "--compare", RUNAWAY_RULES)
     must("first kill: by systemd-oomd alone\n" in other.output, other.output)
 
 
 def check_expectations(room: Room) -> None:
-    want = "first /batch/import from 150 to 160\nkill /batch/import by memory pressure\nno kill of /web\nno kill before 154\n"
+    want = (
+        "first /batch/import from 150 to 160\nkill /batch/import by memory pressure\n"
+        "no kill of /web\nno kill before 154\n"
+    )
     room.file("want.txt", want)
     words = ("expect", "want.txt", RUNAWAY, "--by", "systemd-oomd", "--settings", STORY)
     done = room.run(RULES, *words)
@@ -95,18 +122,23 @@ def check_expectations(room: Room) -> None:
     with open(RUNAWAY, "rb") as trace:
         given = room.run(RULES, *words[:2], "-", *words[3:], "--json", given=trace.read())
     record = json.loads(given.output)
-    must_be("who it was, as JSON", record["traces"][0]["kills"][0]["ruleset_name"], "memory pressure")
+    must_be("who it was, as JSON", record["traces"][0]["kills"][0]["ruleset_name"],
+            "memory pressure")
     for more, wrong in (
-        (("--by", "systemd-oomd"), "--by systemd-oomd wants the settings of a machine: give --settings FOLDER"),
-        (("--by", "systemd-oomd", "--settings", STORY, "--rules", "r"), "--rules, --tick-ms and --interval-s aren't for --by systemd-oomd"),
-        (("--rules", "r", "--settings", STORY), "--settings and --systemd are for --by systemd-oomd"),
+        (("--by", "systemd-oomd"),
+         "--by systemd-oomd wants the settings of a machine: give --settings FOLDER"),
+        (("--by", "systemd-oomd", "--settings", STORY, "--rules", "r"),
+         "--rules, --tick-ms and --interval-s aren't for --by systemd-oomd"),
+        (("--rules", "r", "--settings", STORY),
+         "--settings and --systemd are for --by systemd-oomd"),
         ((), "the following arguments are required: --rules"),
     ):
         done = room.run(RULES, "expect", "want.txt", RUNAWAY, *more)
         must((done.status, done.output) == (2, "") and wrong in done.error, f"{more}: {done}")
     room.file("want.txt", "kill /a by reclaim\n")
     done = room.run(RULES, *words)
-    must_be("there is no such cause", (done.status, "has no ruleset 'reclaim'" in done.error), (2, True))
+    must_be("there is no such cause", (done.status, "has no ruleset 'reclaim'" in done.error),
+            (2, True))
 
 
 def check_rules_of_settings(room: Room) -> None:
@@ -115,7 +147,8 @@ def check_rules_of_settings(room: Room) -> None:
     must_be("nothing is lost", (done.status, done.error), (0, ""))
     kills = room.kills(RUNAWAY, "--rules", room.file("r.json", done.output), *EACH_SECOND)
     must_be("the first", kills[0][::3], (154 * SECOND, "/batch/import"))
-    must_be("lint finds nothing", room.run(RULES, "lint", "r.json").without_notes(), Done(0, "", ""))
+    must_be("lint finds nothing", room.run(RULES, "lint", "r.json").without_notes(),
+            Done(0, "", ""))
     put(room, {**WATCHED, **SWAPPED})
     done = room.run(RULES, "from-systemd", "settings")
     words = ("--rules", room.file("r.json", done.output), *EACH_SECOND, "-")
@@ -129,26 +162,58 @@ def check_what_rules_cant_say(room: Room) -> None:
     """A line for each, and a status."""
     conf = "[OOM]\nSwapUsedLimit=89.5%\nDefaultMemoryPressureDurationSec=1500ms\n"
     put(room, {
-        **SWAPPED, "etc/systemd/oomd.conf": conf, f"{UNITS}/t.slice": WATCHED[f"{UNITS}/s.slice"] + "ManagedOOMMemoryPressureLimit=12.5%\n",
-        f"{UNITS}/user@.service.d/a.conf": "[Service]\nManagedOOMMemoryPressure=kill\nManagedOOMPreference=omit\n",
+        **SWAPPED, "etc/systemd/oomd.conf": conf,
+        f"{UNITS}/t.slice": WATCHED[f"{UNITS}/s.slice"] + "ManagedOOMMemoryPressureLimit=12.5%\n",
+        f"{UNITS}/user@.service.d/a.conf": (
+            "[Service]\nManagedOOMMemoryPressure=kill\nManagedOOMPreference=omit\n"
+        ),
         f"{UNITS}/x.scope": "[Scope]\nManagedOOMMemoryPressure=kill\n",
         f"{UNITS}/y.service": "[Service]\nOOMPolicy=kill\nManagedOOMPreference=avoid\n",
     })  # fmt: skip
     done = room.run(RULES, "from-systemd", "settings")
     must_be("the status", done.status, 1)
     for wanted in (
-        "etc/systemd/oomd.conf line 2: a limit of 89.5 %: thresholds are whole, so it is written 90 % (LOST)",
-        "etc/systemd/oomd.conf line 3: a duration with a part of a second: it is written 2 s (LOST)",
-        f"{UNITS}/t.slice line 3: a limit of 12.5 %: thresholds are whole, so it is written 13 % (LOST)",
-        "line 2: of several groups of user@.service the greatest pressure counts for all of them (LOST)",
-        f"{UNITS}/x.scope line 2: x.scope is watched, but files don't say where its group is: no rule watches it (LOST)",
-        "user@.service: ManagedOOMPreference=omit: it is never killed there, and rules have no word for that (LOST)",
-        "y.service: ManagedOOMPreference=avoid: rules obey it where the trace says `prefer y.service avoid`\n",
-        "y.service: memory.oom.group: it is killed as a whole there, and rules choose among the groups in it (LOST)",
-        "after a kill systemd-oomd rests for all groups: each of 2 rulesets of memory pressure rests alone (LOST)",
+        (
+            "etc/systemd/oomd.conf line 2: a limit of 89.5 %: thresholds are whole, so it is "
+            "written 90 % (LOST)"
+        ),
+        (
+            "etc/systemd/oomd.conf line 3: a duration with a part of a second: it is written 2 s "
+            "(LOST)"
+        ),
+        (
+            f"{UNITS}/t.slice line 3: a limit of 12.5 %: thresholds are whole, so it is written 13 "
+            "% (LOST)"
+        ),
+        (
+            "line 2: of several groups of user@.service the greatest pressure counts for all of "
+            "them (LOST)"
+        ),
+        (
+            f"{UNITS}/x.scope line 2: x.scope is watched, but files don't say where its group is: "
+            "no rule watches it (LOST)"
+        ),
+        (
+            "user@.service: ManagedOOMPreference=omit: it is never killed there, and rules have no "
+            "word for that (LOST)"
+        ),
+        (
+            "y.service: ManagedOOMPreference=avoid: rules obey it where the trace says `prefer "
+            "y.service avoid`\n"
+        ),
+        (
+            "y.service: memory.oom.group: it is killed as a whole there, and rules choose among "
+            "the groups in it (LOST)"
+        ),
+        (
+            "after a kill systemd-oomd rests for all groups: each of 2 rulesets of memory pressure "
+            "rests alone (LOST)"
+        ),
     ):
         must(wanted in done.error, f"{wanted}\n{done.error}")
-    patterns = [it["detectors"][0][1]["args"]["cgroup"] for it in json.loads(done.output)["rulesets"]]
+    patterns = [
+        it["detectors"][0][1]["args"]["cgroup"] for it in json.loads(done.output)["rulesets"]
+    ]
     must_be("the patterns", patterns, ["/", "t.slice", "user.slice/user-*.slice/user@*.service"])
 
 
@@ -159,9 +224,12 @@ def check_wrong_words(room: Room) -> None:
         (("t.trace",), "required: --settings"),
         (("t.trace", "--settings", "nothing"), "nothing: it is no folder"),
         (("t.trace", "--settings", "/proc/self/fd"), "it has no settings of systemd"),
-        (("t.trace", "--settings", "settings", "--systemd", "new"), "new isn't a whole number from 247 to 9999"),
-        (("t.trace", "--settings", "settings", "--interval-s", "1"), "--interval-s is of the rules of --compare"),
-        (("t.trace", "--settings", "settings", "--compare", "none.json"), "none.json: No such file or directory"),
+        (("t.trace", "--settings", "settings", "--systemd", "new"),
+         "new isn't a whole number from 247 to 9999"),
+        (("t.trace", "--settings", "settings", "--interval-s", "1"),
+         "--interval-s is of the rules of --compare"),
+        (("t.trace", "--settings", "settings", "--compare", "none.json"),
+         "none.json: No such file or directory"),
         (("none.trace", "--settings", "settings"), "no file: none.trace"),
         ((REFUSED, "--settings", "settings"), "trace line 7: NotReady"),
     ):
