@@ -16,8 +16,8 @@ ROOT = pathlib.Path(__file__).resolve().parent.parent
 PAGE = ROOT / "crates" / "README.md"
 HEAD = """# The crates
 
-One line for each crate: the first sentence of its own header. The groups and their order are those of
-`crates.txt`, where each line also lists what the crate stands on.
+One line for each crate: the first sentence of its own header. The groups and their order are those
+of `crates.txt`, where each line also lists what the crate stands on.
 [ARCHITECTURE](../docs/ARCHITECTURE.md) says how they work together. This page is made by
 `bench/crates_page.py --write`.
 """

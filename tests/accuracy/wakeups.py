@@ -8,7 +8,9 @@ import re
 from harness import must, must_be
 from shared.stored import accepted, compared, converted, digest_of, digests, hide, recording, stored
 
-from psiconvert.wakeups import Counting, bounds_of, counted_at, lag_bounds, put_at, with_wakeups  # noqa: E402
+from psiconvert.wakeups import (  # noqa: E402
+    Counting, bounds_of, counted_at, lag_bounds, put_at, with_wakeups,
+)
 from psiread.events import Event, ReadyProbe, Switch, Wakeup  # noqa: E402
 
 # The part of the stored recording that is used, in s.

@@ -4,6 +4,7 @@ wrong lines.
 from __future__ import annotations
 
 import json
+import operator
 import os
 import tempfile
 from unittest import mock
@@ -93,7 +94,7 @@ def check_processors_that_fall_silent(_: str) -> None:
     for name, pages in (("threads", (1, 2, 4)), ("threads", (30, 60, 1)), ("cg-2", (2,))):
         with recording(name) as folder:
             for processor, count in enumerate(pages, 1):
-                change(folder, f"cpu{processor}.raw", lambda it, size=count * PAGE: it[:size])  # type: ignore[misc]
+                change(folder, f"cpu{processor}.raw", operator.itemgetter(slice(count * PAGE)))
             count_bytes(folder)
             for words in ((), ("--from=2",)):
                 plain = tool("psitrace", folder, "--force", *words).output

@@ -29,12 +29,17 @@ RT = """#!/bin/sh
 case $1 in
 try)
     shift
-    [ -z "${LINKED-}" ] || { mkdir "$TMPDIR/rt" && cp "$LINKED" "$TMPDIR/rt/program" && chmod 755 "$TMPDIR/rt/program" && exec sleep "$SLEEP"; }
+    if [ -n "${LINKED-}" ]; then
+        mkdir "$TMPDIR/rt" && cp "$LINKED" "$TMPDIR/rt/program" &&
+            chmod 755 "$TMPDIR/rt/program" && exec sleep "$SLEEP"
+    fi
     ;;
 ci)
     find . -type f -o -name .git | sort >"$SEEN"
     cat crates.txt >>"$SEEN"
-    for crate in crates/*_main; do mkdir "$crate/out" && cp "$MADE" "$crate/out/${crate#crates/}"; done
+    for crate in crates/*_main; do
+        mkdir "$crate/out" && cp "$MADE" "$crate/out/${crate#crates/}"
+    done
     printf '%s' "$SAID"
     exit "$STATUS"
     ;;

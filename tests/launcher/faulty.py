@@ -134,7 +134,8 @@ NO_TRACES = {
     ),
     "empty": (b"", "an empty file"),
     "crlf": (b"psitrace 1 cpus=1\r\n0 end\r\n",
-             "a trace whose lines end in CR LF: tr -d '\\r' < crlf > FILE makes one that psi_oomd takes"),
+             "a trace whose lines end in CR LF: "
+             "tr -d '\\r' < crlf > FILE makes one that psi_oomd takes"),
     "replayed": (b"report 2000000000 / io\n",
                  "what replay prints, and no trace: tools/chart and tools/top read it"),
     "text": (b"# tracer: nop\n#\n",

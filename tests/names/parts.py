@@ -97,7 +97,8 @@ def check_parts_by_process(room: Room) -> None:
             must_be(f"trace {seed}, who ran while {it['group']} waited", found, wanted)
 
 
-TEXT = """/batch/index waited 12.120 s for a processor between 100 s and 220 s (10.1 percent of the time on 1 of 2 processors)
+TEXT = """/batch/index waited 12.120 s for a processor between 100 s and 220 s \
+(10.1 percent of the time on 1 of 2 processors)
   while there ran       s    of it
   /batch/import    12.120  100.0 %  `import` (pid 1003) 12.120 s
 """

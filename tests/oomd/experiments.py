@@ -44,10 +44,10 @@ FOUND: list[Experiment] = []
 
 
 def add(name: str, story: Story, end: float, config: Config, oomd: str, rules: str | None = None,
-        **more: object) -> None:  # fmt: skip
+        **more: Any) -> None:
     """Adds an experiment. Without `rules`, psi_oomd's kills are oomd's."""
     wanted = oomd if rules is None else rules
-    FOUND.append(Experiment(name, story, end, config, oomd, wanted, **more))  # type: ignore[arg-type]
+    FOUND.append(Experiment(name, story, end, config, oomd, wanted, **more))
 
 
 def grow(cgroup: str, delay: int = 600, **more: object) -> Config:

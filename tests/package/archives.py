@@ -167,7 +167,9 @@ def offered_by_zsh(made: Made, *words: str) -> list[str]:
     """Zsh's completions of the last word: replacements of its own functions print what
     matches the word.
     """
-    script = """offer() { local -a found; found=(${(M)@:#${word}*}); print -rl -- $found; (( $#found )) }
+    script = """offer() {
+        local -a found; found=(${(M)@:#${word}*}); print -rl -- $found; (( $#found ))
+    }
     compadd() { shift; offer "$@" }
     _files() { offer *(N) }
     compset() { word=${word#*=} }

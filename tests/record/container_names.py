@@ -16,12 +16,13 @@ LABELS = {
     "io.kubernetes.pod.uid": UID,
 }
 PS = {"containers": [{"id": CONTAINER, "metadata": {"name": "nginx"}, "labels": LABELS}]}
+PS_LATER = {"containers": [{"id": LATE, "metadata": {"name": "late"}}]}
 PODS = {"items": [{"id": SANDBOX, "metadata": {"name": "web-7", "namespace": "prod", "uid": UID}}]}
 # A stub of crictl: it logs its arguments, and lists one more container when it is asked again.
 CRICTL = f"""#!/bin/sh
 echo "$@" >>"$(readlink -f "$0").words"
 case "$1 $(grep -c . "$(readlink -f "$0").words")" in
-"ps 3") printf '%s\\n' '{json.dumps({"containers": [{"id": LATE, "metadata": {"name": "late"}}]})}' ;;
+"ps 3") printf '%s\\n' '{json.dumps(PS_LATER)}' ;;
 "ps "*) printf '%s\\n' '{json.dumps(PS)}' ;;
 "pods "*) printf '%s\\n' '{json.dumps(PODS)}' ;;
 esac

@@ -26,7 +26,8 @@ SECOND = 10**9
 TAB, RIGHT, ESCAPE = ("Tab", 9), ("ArrowRight", 39), ("Escape", 27)
 PICTURE = 'document.querySelector("figure[data-panel]:not([hidden]) svg")'
 BOX = f"""(() => {{ {PICTURE}.scrollIntoView({{block: "center"}});
-  const box = {PICTURE}.getBoundingClientRect(); return [box.x, box.y, box.width, box.height]; }})()"""
+  const box = {PICTURE}.getBoundingClientRect();
+  return [box.x, box.y, box.width, box.height]; }})()"""
 REACHED = "input, button, summary, a[href], figure:not([hidden]) > .scroll > svg[tabindex], .wide"
 # Not reachable: inside closed or hidden elements.
 CLOSED = "details .wide, figure[hidden] summary"

@@ -291,8 +291,9 @@ def check_stored_pages(program: str) -> None:
     with tempfile.TemporaryDirectory() as folder:
         os.symlink(os.path.join(TOP, "examples"), os.path.join(folder, "examples"))
         page_of(program, "examples/real/debian-2cpu.trace", "-o", "debian-2cpu.html", folder=folder)
-        with open(os.path.join(folder, "debian-2cpu.html"), "rb") as made, \
-                open(os.path.join(TOP, "examples", "real", "debian-2cpu.html"), "rb") as stored:  # fmt: skip
+        example = os.path.join(TOP, "examples", "real", "debian-2cpu.html")
+        made_here = os.path.join(folder, "debian-2cpu.html")
+        with open(made_here, "rb") as made, open(example, "rb") as stored:
             must(same(stored.read()) == same(made.read()),
                  "examples/real/debian-2cpu.html is what its command makes: make it anew")
 

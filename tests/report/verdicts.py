@@ -165,8 +165,8 @@ def check_the_nearest_ruleset(program: str) -> None:
     )
     must(
          f"ruleset 1 ‘long’: full memory pressure of /batch over 10 s was {share:.2f} percent at "
-         f"{at // SECOND} s, above the"
-         " threshold of 40 for 94 s at most, 9905 s short of 9999 s." in lasting, lasting)  # fmt: skip
+         f"{at // SECOND} s, above the threshold of 40 for 94 s at most, 9905 s short of 9999 s."
+         in lasting, lasting)
     nowhere = lead_of(
         page(program, RUNAWAY, [ruleset("nowhere", "nowhere/*", pressure("batch", "40"))])
     )

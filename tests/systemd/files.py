@@ -171,7 +171,8 @@ def check_bad_settings(room: Room) -> None:
         (conf, "[OOM\n", "line 1: '[OOM' is no section: write [OOM], or [Slice]"),
         (conf, "[OOM]\nSwapUsedLimit\n", "line 2: 'SwapUsedLimit' is no setting: write NAME=VALUE"),
         (conf, "SwapUsedLimit=90%\n",
-         "line 1: SwapUsedLimit stands before any section, so it is passed over: write [OOM], or [Slice], above"),
+         "line 1: SwapUsedLimit stands before any section, so it is passed over: "
+         "write [OOM], or [Slice], above"),
         (unit, "[Slice]\nManagedOOMSwap=yes\n",
          "line 2: ManagedOOMSwap is 'yes': it has to be auto or kill"),
         (unit, "[Slice]\nManagedOOMPreference=prefer\n",
@@ -185,7 +186,8 @@ def check_bad_settings(room: Room) -> None:
         ("units", "Id=a\nnothing\n",
          "line 2: it is no line of `systemctl show`, which are NAME=VALUE"),
         ("units", "ControlGroup=/a\nManagedOOMMemoryPressureLimit=x\n",
-         "line 2: ManagedOOMMemoryPressureLimit is 'x': it has to be a number up to 4294967295, which is 100%"),
+         "line 2: ManagedOOMMemoryPressureLimit is 'x': "
+         "it has to be a number up to 4294967295, which is 100%"),
         ("version", "260\n",
          "line 1: it isn't what `systemctl --version` says: give the version by --systemd"),
     )  # fmt: skip

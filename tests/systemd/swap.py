@@ -62,10 +62,9 @@ def check_no_swap(room: Room) -> None:
     none = Trace(2, {A: Leaf()}, [(0, "host 1000 0 0"), (0, "mem / 999 0 0")])
     done = told(room, none)
     done.must_print("a machine without swap", 0,
-                                                 "nobody would be killed\n"
-                                                 "watched for memory pressure: no group of the "
-                                                 "trace\n"
-                                                 "watched for swap: the machine has none\n")  # fmt: skip
+                    "nobody would be killed\n"
+                    "watched for memory pressure: no group of the trace\n"
+                    "watched for swap: the machine has none\n")
     done = told(room, Trace(2, {A: Leaf()}))
     must_be(
         "it isn't known", done.error,
