@@ -72,53 +72,53 @@ def here(words: list[str]) -> tuple[int, bytes, str]:
         return status, file.read(), said.getvalue()
 
 
+def traces_of(there: str) -> list[bytes]:
+    """Returns the traces of a recording: whole, and folded."""
+    return [tool("psitrace", there, *words).output for words in ((), ("--fold=1",))]
+
+
+def compress_pages(there: str) -> None:
+    """Compresses the pages of a recording of two processors in parts, as the recorder does."""
+    with tempfile.TemporaryDirectory() as place:
+        made = folder.Folder(f"{place}/made", True)
+        made.open_raw(2)
+        for processor in range(2):
+            with open(f"{there}/cpu{processor}.raw", "rb") as file:
+                while pages := file.read(1 << 16):
+                    made.append_pages(processor, pages)
+            os.unlink(f"{there}/cpu{processor}.raw")
+        finished = made.finish_compressing()
+        must(finished is not None and finished[1] and 0 < finished[0] < 60,
+             f"it was compressed: {finished}")
+        names = os.listdir(f"{place}/made")
+        parts = [name for name in names if name.endswith(".raw.gz")]
+        must(len(parts) > 8 and not any(name.endswith(".raw") for name in names), f"{parts}")
+        for name in parts:
+            shutil.move(f"{place}/made/{name}", there)
+        made.close()
+
+
 def check_pages_that_are_compressed(_: str) -> None:
     """A recording whose pages were compressed while recording gives the same trace, folded or not;
     and so does a recording whose recorder was killed during that.
     """
-    before = folder.PART_BYTES
-    try:
-        folder.PART_BYTES = 1 << 18
-        with recording("cg-2") as there, tempfile.TemporaryDirectory() as place:
-            wanted = [tool("psitrace", there, *words).output for words in ((), ("--fold=1",))]
-            made = folder.Folder(f"{place}/made", True)
-            made.open_raw(2)
-            for processor in range(2):
-                with open(f"{there}/cpu{processor}.raw", "rb") as file:
-                    while pages := file.read(1 << 16):
-                        made.append_pages(processor, pages)
-                os.unlink(f"{there}/cpu{processor}.raw")
-            finished = made.finish_compressing()
-            must(finished is not None and finished[1] and 0 < finished[0] < 60,
-                 f"it was compressed: {finished}")
-            parts = [name for name in os.listdir(f"{place}/made") if name.endswith(".raw.gz")]
-            must(
-                len(parts) > 8
-                and not any(name.endswith(".raw") for name in os.listdir(f"{place}/made")),
-                f"{parts}",
-            )
-            for name in parts:
-                shutil.move(f"{place}/made/{name}", there)
-            made.close()
-            must_be(
-                "the traces",
-                [tool("psitrace", there, *words).output for words in ((), ("--fold=1",))] == wanted,
-                True,
-            )
-            with gzip.open(f"{there}/cpu0.1.raw.gz") as source, open(
-                f"{there}/cpu0.1.raw", "wb"
-            ) as plain:
-                plain.write(source.read())
-            with open(f"{there}/cpu0.1.raw.gz", "wb") as cut:
-                cut.write(b"half")
-            must_be("where a part was about to be compressed",
-                    tool("psitrace", there).output == wanted[0], True)
-            os.unlink(f"{there}/cpu0.1.raw")
-            done = tool("psitrace", there)
-            must_be(f"where a part is broken, of which is said {done.said}",
-                    (done.status, "cpu0.raw: " in done.said), (2, True))
-    finally:
-        folder.PART_BYTES = before
+    with recording("cg-2") as there:
+        wanted = traces_of(there)
+        with mock.patch.object(folder, "PART_BYTES", 1 << 18):
+            compress_pages(there)
+        must_be("the traces are equal", traces_of(there) == wanted, True)
+        with gzip.open(f"{there}/cpu0.1.raw.gz") as source:
+            pages = source.read()
+        with open(f"{there}/cpu0.1.raw", "wb") as plain:
+            plain.write(pages)
+        with open(f"{there}/cpu0.1.raw.gz", "wb") as cut:
+            cut.write(b"half")
+        must_be("where a part was about to be compressed",
+                tool("psitrace", there).output == wanted[0], True)
+        os.unlink(f"{there}/cpu0.1.raw")
+        done = tool("psitrace", there)
+        must_be(f"where a part is broken, of which is said {done.said}",
+                (done.status, "cpu0.raw: " in done.said), (2, True))
 
 
 def check_words_and_faults(_: str) -> None:

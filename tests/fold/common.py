@@ -5,7 +5,6 @@ from __future__ import annotations
 
 import os
 import random
-import re
 from collections.abc import Sequence
 
 from shared.machine import Machine
@@ -15,7 +14,6 @@ from shared.traces import MS, Event, Maker
 
 from psifold.fold import Fold  # noqa: E402
 from psifold.victims import Victim  # noqa: E402
-
 
 
 def folded(trace: str, window: int, victims: Sequence[Victim] = ()) -> tuple[str, Fold]:

@@ -2,11 +2,12 @@
 from __future__ import annotations
 
 import os
+import pathlib
 import shutil
 
 from harness import must_be
 from shared.program import TOP
-from launcher.copies import BUILDS, ENDED, GEN, RIGHT, TOO_LONG, WARNED, Copy, copies
+from launcher.copies import BUILDS, GEN, RIGHT, TOO_LONG, WARNED, Copy, copies
 from launcher.faulty import make_files
 
 
@@ -124,9 +125,8 @@ def check_a_trial_that_is_kept(room: str) -> None:
     need no rt.
     """
     copy = Copy(room, "psi_oomd")
-    place, cache, linked = (
-        copy.give_sources(), os.path.join(room, "cache"), os.path.join(room, "linked"),
-    )
+    place = copy.give_sources()
+    cache, linked = os.path.join(room, "cache"), os.path.join(room, "linked")
     os.makedirs(os.path.join(copy.top, "examples"))
     shutil.copy(os.path.join(TOP, "examples", "one-wait.trace"), os.path.join(copy.top, "examples"))
     make_files(place)
@@ -143,9 +143,8 @@ def check_a_trial_that_is_kept(room: str) -> None:
     must_be("the first run", (status, output, error.endswith(again)), (7, printed, True))
     os.unlink(os.path.join(copy.path, "rt"))
     must_be("the next run", run_kept(copy, cache, *words, place=place), (7, printed, again))
-    kept = [
-        os.path.join(cache, "psi-oomd", it) for it in os.listdir(os.path.join(cache, "psi-oomd"))
-    ]
+    folder = os.path.join(cache, "psi-oomd")
+    kept = [os.path.join(folder, it) for it in os.listdir(folder)]
     must_be("what is kept",
             [(os.stat(it).st_mode & 0o777, it.endswith("-unproved")) for it in kept],
             [(0o700, True)])
@@ -154,9 +153,6 @@ def check_a_trial_that_is_kept(room: str) -> None:
             (7, printed, ""))
     unproved = f"psi_oomd of no known commit: {kept[0]}, an unproved build, which PSI_OOMD names\n"
     must_be("its version", copy.run("--version", PSI_OOMD=kept[0]), (0, unproved, ""))
-    with open(
-        os.path.join(copy.top, "crates", "low", "src", "lib.rt"), "w", encoding="utf-8"
-    ) as file:
-        file.write("changed")
+    pathlib.Path(copy.top, "crates", "low", "src", "lib.rt").write_text("changed", encoding="utf-8")
     must_be("of other sources there is none", run_kept(copy, cache, *words, place=place)[:2],
             (70, ""))

@@ -4,6 +4,7 @@
 from __future__ import annotations
 
 from dataclasses import dataclass
+from typing import Any
 
 from oomd.stories import (
     ALWAYS,
@@ -100,6 +101,9 @@ def detectors() -> None:
         rules(scans("a", 3), grow("a")), "1s:/a", "none")
     new = Story("/s").put(5.05, "group /s/n").task("/s/n", 5.06).mem(5.1, "/s/n", 100, 0, 5000)
     add("scans of a new group", new, 20, rules(scans("s/*", 0), grow("s/*")), "6s:/s/n", "none")
+
+
+def memory_detectors() -> None:
     gone = Story("/s", "/s/a", "/s/b").task("/s/a").mem(0, "/s/b", 1, 0, 9000)
     gone.mem(0, "/s/a", 1, 0, 10).put(8.5, "rmgroup /s/b").mem(8.6, "/s/a", 1, 0, 500)
     add("a group that goes hides scans", gone, 20,
@@ -109,9 +113,8 @@ def detectors() -> None:
     limit = one(host=f"{4 * GIB} 0 0").mem(0, "/a", 2 * GIB).mem(9.5, "/a", 2 * GIB + 1)
     add("memory at its limit isn't above it", limit, 20,
         rules(uses("a", "50%"), grow("a")), "10s:/a")
-    swap = one(host=f"0 {GIB} {GIB // 4}").mem(0, "/a", 1, 5).put(
-        9.5, f"host 0 {GIB} {GIB // 4 - 4096}"
-    )
+    swap = one(host=f"0 {GIB} {GIB // 4}").mem(0, "/a", 1, 5)
+    swap.put(9.5, f"host 0 {GIB} {GIB // 4 - 4096}")
     add("free swap at its limit isn't below it", swap, 20,
         rules([plugin("swap_free", threshold_pct=25)], plugin(SWAP, "a", post_action_delay=600)),
         "10s:/a")
@@ -160,10 +163,12 @@ def victims() -> None:
     lapsed = one().mem(0, "/a", 1).mem(4.5, "/a", 1, 0, 100).mem(9.5, "/a", 1, 0, 300)
     add("a second look after the detectors lapsed", lapsed.mem(14.5, "/a", 1, 0, 500), 20,
         rules(scans("a", 0), scan, post_action_delay=3), "6s:/a 11s:/a 16s:/a", "5s:/a")
+
+
+def victims_that_are_made_again() -> None:
     remade = Story("/s", "/s/a").task("/s").mem(0, "/s/a", 1, 0, 500).put(4.5, "rmgroup /s/a")
-    remade.put(4.6, "group /s/a").task("/s/a", 4.7).mem(4.8, "/s/a", 1, 0, 100).mem(
-        7.5, "/s/a", 1, 0, 700
-    )
+    remade.put(4.6, "group /s/a").task("/s/a", 4.7).mem(4.8, "/s/a", 1, 0, 100)
+    remade.mem(7.5, "/s/a", 1, 0, 700)
     add("a group that is made again is new", remade, 12,
         rules(
             [plugin("exists", "s/a"), *scans("s/a", 0)],
@@ -281,5 +286,8 @@ def swap_totals() -> None:
             wanted, "none")
 
 
-for part in (detectors, victims, growth, below, pauses, spellings, swap_totals):
+for part in (
+    detectors, memory_detectors, victims, victims_that_are_made_again, growth, below, pauses,
+    spellings, swap_totals,
+):
     part()

@@ -27,7 +27,6 @@ MISSING = {
 }
 
 
-
 def by_statistics(run: Run, told: list[str], old: bytes = b"0\n") -> None:
     """Waits for IO come from the kernel's statistics, which are on only during the recording."""
     instance = run.instance()

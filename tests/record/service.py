@@ -11,7 +11,7 @@ import time
 
 from record import machine_folder as folder
 from harness import must, must_be
-from record.runs import RECORD, WAIT_S, Run, awaited, read, whole
+from record.runs import RECORD, WAIT_S, Run, awaited, read
 
 MEGABYTE = 10**6
 GROUP = "system.slice/web.service"

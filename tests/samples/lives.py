@@ -1,6 +1,7 @@
 """Groups that come, go, return and begin anew; gaps; and memory."""
 from __future__ import annotations
 
+import json
 import math
 import re
 
@@ -136,18 +137,11 @@ def check_memory(program: str) -> None:
     }
     reclaim = {"name": "memory_reclaim", "args": {"cgroup": "a", "duration": "10"}}
     action = {"name": "kill_by_memory_size_or_growth", "args": {"cgroup": "*"}}
-    rules = str(
-        {"rulesets": [{"name": "it", "detectors": [["it", rule, reclaim]], "actions": [action]}]}
-    ).replace("'", '"')
+    ruleset = {"name": "it", "detectors": [["it", rule, reclaim]], "actions": [action]}
+    groups = root() + steady("/a", "io", TIMES, 0.9, 0.8) + steady("/idle", "io", TIMES, 0, 0)
     with room_of(program) as room:
-        room.file("rules.json", rules)
-        room.file(
-            "samples",
-            csv(
-                root() + steady("/a", "io", TIMES, 0.9, 0.8) + steady("/idle", "io", TIMES, 0, 0),
-                [*sizes, *hosts],
-            ),
-        )
+        room.file("rules.json", json.dumps({"rulesets": [ruleset]}))
+        room.file("samples", csv(groups, [*sizes, *hosts]))
         room.make("samples")
         lines = [line.split() for line in room.text("it.trace").splitlines()]
         found = {
@@ -159,7 +153,7 @@ def check_memory(program: str) -> None:
             must_be(f"the memory at {at} s", found[at], (100_000_000 + at * 10_000_000, at * 100))
         must_be("the machine's at 60 s",
                 next(it[3:] for it in lines if it[1] == "host" and it[0] == "60000000000"),
-                ["1000000000", "700000000"][0:2])
+                ["1000000000", "700000000"])
         killed = room.run(
             "psi_oomd", "replay", "it.trace", "--rules=rules.json", "--report-s=0", status=0
         ).output

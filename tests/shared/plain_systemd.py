@@ -122,6 +122,28 @@ def by_swap(lines: list[Line], end: int) -> Iterator[Decision]:
 Key = tuple[str, int]
 
 
+def rise(lines: list[Line], key: Key, before: dict[Key, int], total: int) -> int:
+    """Returns by how much a group's total of scanned pages rose since the sample before."""
+    old = before.get(key, total if is_first(lines, key) else 0)
+    return total - (old if old <= total else 0)
+
+
+def followed(
+    known: list[int | None], now: int, total: int, is_above: bool
+) -> list[int | None]:
+    """Returns what is known of a watched group after an evaluation: since when (ns) its pressure
+    is above the limit, its total of scanned pages, and when that last rose (ns).
+    """
+    since, scanned, last = known
+    last = now if total != scanned and (total > (scanned or 0) or total > 0) else last
+    return [(now if since is None else since) if is_above else None, total, last]
+
+
+def leaves_inside(state: State, watched: dict[Key, int]) -> list[str]:
+    """Returns the groups without children that are in a watched group, or are one."""
+    return [it for it in state.leaves() if any(is_inside(it, key[0]) for key in watched)]
+
+
 def by_pressure(
     lines: list[Line], end: int, averages: dict[tuple[int, str], int], limit: int, length: int
 ) -> Iterator[Decision]:
@@ -137,14 +159,7 @@ def by_pressure(
         if state.count != count:
             count, before = state.count, totals
             totals = {key: found[2] for key, found in reads.items()}
-            old = {
-                key: before.get(key, total if is_first(lines, key) else 0)
-                for key, total in totals.items()
-            }
-            risen = {
-                key[0]: total - (old[key] if old[key] <= total else 0)
-                for key, total in totals.items()
-            }
+            risen = {key[0]: rise(lines, key, before, total) for key, total in totals.items()}
         lost |= {(path, made) for path, made in state.made.items() if path in state.off}
         watched = {key: found[2] for key, found in reads.items() if key not in lost}
         known = {
@@ -152,18 +167,12 @@ def by_pressure(
             for key, total in watched.items()
         }
         for key, total in watched.items():
-            since, scanned, last = known[key]
-            last = now if total != scanned and (total > (scanned or 0) or total > 0) else last
-            since = (now if since is None else since) if averages[now, key[0]] > limit else None
-            known[key] = [since, total, last]
-            told -= {key} if since is None else set()
+            is_above = averages[now, key[0]] > limit
+            known[key] = followed(known[key], now, total, is_above)
+            told -= set() if is_above else {key}
         above = {key: it for key, it in known.items() if it[0] is not None}
         targets = sorted(key for key, it in above.items() if now - (it[0] or 0) >= length)
-        here = {
-            (it, state.made[it]) for it in state.leaves() if above and any(
-                is_inside(it, key[0]) for key in watched
-            )
-        }
+        here = {(it, state.made[it]) for it in leaves_inside(state, watched) if above}
         had_before, had = had, here
         if not targets or now < rests:
             continue
@@ -177,9 +186,8 @@ def by_pressure(
                 continue
             had, rests = here, now + 15 * SECOND
             told.discard(key)
-            yield now, most_scanned(
-                state, key[0], {it: risen[it] for it, made in here & had_before}
-            ), "memory pressure"
+            rises = {it: risen[it] for it, made in here & had_before}
+            yield now, most_scanned(state, key[0], rises), "memory pressure"
             break
 
 
@@ -218,10 +226,15 @@ def decisions(text: str, printed: str, limit: int, length: int) -> list[Decision
                   key=lambda it: it[0])
 
 
-def random_trace(seed: int) -> str:
-    """Slices that are created and removed, with tasks that wait for memory, samples, preferences
-    and accounts, often at the times of looks.
+def is_empty(path: str, others: list[str]) -> bool:
+    """Whether no other group and no task is in the group `path`; `others` are the paths of the
+    groups and of the tasks' groups.
     """
+    return sum(it.startswith(path) for it in others) == 1
+
+
+def random_trace(seed: int) -> str:
+    """A trace of slices that come and go, whose tasks wait for memory, often at evaluations."""
     draw, moment, scanned = random.Random(seed), 0, {"/": 0}
     homes: dict[int, str] = {}
     lines, runs, is_stalled, label = ["0 host 1000 1000 500", "0 mem / 500 0 0"], 0, False, 0
@@ -232,9 +245,7 @@ def random_trace(seed: int) -> str:
         if kind < 0.15 and inner not in scanned and inner.count("/") < 4:
             scanned[inner] = 0
             lines.append(f"{moment} group {inner}")
-        elif kind < 0.2 and path != "/" and not any(
-            it.startswith(path) for it in [*homes.values(), *(set(scanned) - {path})]
-        ):
+        elif kind < 0.2 and path != "/" and is_empty(path, [*homes.values(), *scanned]):
             del scanned[path]
             lines.append(f"{moment} rmgroup {path}")
         elif kind < 0.32:
@@ -256,13 +267,10 @@ def random_trace(seed: int) -> str:
         elif kind < 0.6:
             lines.append(f"{moment} prefer {path} {draw.choice(('avoid', 'none', 'prefer'))}")
         elif kind < 0.68:
-            lines += [
-                f"{moment} host 1000 1000 {draw.choice((0, 50, 99, 100, 500))}",
-                f"{moment} mem / {draw.choice((899, 901, 950))} 0 0",
-            ]
+            lines.append(f"{moment} host 1000 1000 {draw.choice((0, 50, 99, 100, 500))}")
+            lines.append(f"{moment} mem / {draw.choice((899, 901, 950))} 0 0")
         elif kind < 0.97 and path != "/":
             scanned[path] += draw.randrange(3)
-            lines.append(
-                f"{moment} mem {path} {draw.randrange(5)} {draw.randrange(200)} {scanned[path]}"
-            )
+            sizes = f"{draw.randrange(5)} {draw.randrange(200)}"
+            lines.append(f"{moment} mem {path} {sizes} {scanned[path]}")
     return "\n".join(["psitrace 2 cpus=1", *lines, f"{moment + SECOND} end\n"])

@@ -11,14 +11,12 @@ import hashlib
 import os
 import re
 import subprocess
-import sys
 import tarfile
 import tempfile
 from collections.abc import Callable, Iterator
 from typing import NamedTuple
 
-from harness import Wrong, must, must_be
-from shared.program import program_of
+from harness import must, must_be
 
 TOP = os.path.dirname(os.path.dirname(os.path.dirname(os.path.abspath(__file__))))
 TOOLS = os.path.join(TOP, "tools")

@@ -12,17 +12,13 @@ from systemd.slices import (
 )
 
 
-def check_which_file_counts(room: Room) -> None:
-    """Each folder of files gives s.slice a limit: 40 percent, which kills at 36 s, or only the
-    default of 60, which kills at 40 s.
-    """
-    low, high = (
-        "[Slice]\nManagedOOMMemoryPressureLimit=40%\n",
-        "[Slice]\nManagedOOMMemoryPressureLimit=60%\n",
-    )
+def files_by_folder() -> dict[str, tuple[dict[str, str], int]]:
+    """Returns settings of s.slice by what they show, and the time (s) of the kill by them."""
+    low, high = (f"[Slice]\nManagedOOMMemoryPressureLimit={it}%\n" for it in (40, 60))
     kill = WATCHED[f"{UNITS}/s.slice"]
     lib, run = "usr/lib/systemd/system", "run/systemd/system"
-    cases = {
+    in_lib = f"{lib}/s.slice.d/a.conf"
+    return {
         "the unit's file in /etc hides that of /usr": (
             {f"{lib}/s.slice": kill + low, f"{UNITS}/s.slice": kill}, 40
         ),
@@ -39,11 +35,7 @@ def check_which_file_counts(room: Room) -> None:
             {f"{run}/s.slice.d/a.conf": kill + low, f"{lib}/s.slice.d/a.conf": high}, 36
         ),
         "an empty one hides": (
-            {
-                f"{UNITS}/s.slice": kill, f"{UNITS}/s.slice.d/a.conf": "",
-                f"{lib}/s.slice.d/a.conf": low,
-            },
-            40,
+            {f"{UNITS}/s.slice": kill, f"{UNITS}/s.slice.d/a.conf": "", in_lib: low}, 40
         ),
         "an empty value undoes": (
             {f"{UNITS}/s.slice": kill + low + "ManagedOOMMemoryPressureLimit=\n"}, 40
@@ -52,18 +44,20 @@ def check_which_file_counts(room: Room) -> None:
             {f"{UNITS}/s.slice": kill, f"{lib}/slice.d/a.conf": low}, 36
         ),
         "another section": (
-            {
-                f"{UNITS}/s.slice": kill,
-                f"{lib}/s.slice.d/a.conf": low.replace("Slice", "Service", 1),
-            },
-            40,
+            {f"{UNITS}/s.slice": kill, in_lib: low.replace("Slice", "Service", 1)}, 40
         ),
         "a long line and comments": (
             {f"{UNITS}/s.slice": kill + "# x\n; y\nManagedOOMMemoryPressureLimit= \\\n# z\n 40%\n"},
             36,
         ),
     }
-    for number, (what, (files, moment)) in enumerate(cases.items()):
+
+
+def check_which_file_counts(room: Room) -> None:
+    """Each folder of files gives s.slice a limit: 40 percent, which kills at 36 s, or only the
+    default of 60, which kills at 40 s.
+    """
+    for number, (what, (files, moment)) in enumerate(files_by_folder().items()):
         put(room, files, f"case{number}")
         must_be(what, decided(room, stalled(), f"case{number}")[0], [(moment, B)])
 
@@ -153,12 +147,12 @@ def check_what_systemd_said(room: Room) -> None:
     must_be("252 has no duration of a unit", decisions(room, stalled(), {}), [(38, B)])
 
 
-def check_bad_settings(room: Room) -> None:
-    """Each is reported with its file and line, and nothing else is printed."""
+def bad_settings() -> tuple[tuple[str, str, str], ...]:
+    """Returns the file, the text and what must be said, for each bad setting."""
     unit, conf = f"{UNITS}/s.slice", "etc/systemd/oomd.conf"
     share = "it has to be a percentage such as 60%, from 0% to 100%, with at most two decimals"
     length = "it has to be a time of at least 1 s, such as 20s or 1min 30s"
-    cases = (
+    return (
         (conf, "[OOM]\nSwapUsedLimit=90\n", f"line 2: SwapUsedLimit is '90': {share}"),
         (conf, "[OOM]\n\nDefaultMemoryPressureLimit=101%\n",
          f"line 3: DefaultMemoryPressureLimit is '101%': {share}"),
@@ -191,7 +185,11 @@ def check_bad_settings(room: Room) -> None:
         ("version", "260\n",
          "line 1: it isn't what `systemctl --version` says: give the version by --systemd"),
     )  # fmt: skip
-    for number, (name, text, wanted) in enumerate(cases):
+
+
+def check_bad_settings(room: Room) -> None:
+    """Each is reported with its file and line, and nothing else is printed."""
+    for number, (name, text, wanted) in enumerate(bad_settings()):
         put(room, {name: text}, f"case{number}")
         must_be(f"{name}: {text!r}", fault_of(room, f"case{number}"),
                 f"case{number}/{name} {wanted}")

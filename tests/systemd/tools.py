@@ -158,6 +158,29 @@ def check_rules_of_settings(room: Room) -> None:
     must_be("of swap", [(moment // SECOND, path) for moment, _, _, path in kills], [(3, B)])
 
 
+# What rules can't say: how the lines of such notes end.
+LOST = (
+    "etc/systemd/oomd.conf line 2: a limit of 89.5 %: thresholds are whole, so it is "
+    "written 90 % (LOST)",
+    "etc/systemd/oomd.conf line 3: a duration with a part of a second: it is written 2 s "
+    "(LOST)",
+    f"{UNITS}/t.slice line 3: a limit of 12.5 %: thresholds are whole, so it is written 13 "
+    "% (LOST)",
+    "line 2: of several groups of user@.service the greatest pressure counts for all of "
+    "them (LOST)",
+    f"{UNITS}/x.scope line 2: x.scope is watched, but files don't say where its group is: "
+    "no rule watches it (LOST)",
+    "user@.service: ManagedOOMPreference=omit: it is never killed there, and rules have no "
+    "word for that (LOST)",
+    "y.service: ManagedOOMPreference=avoid: rules obey it where the trace says `prefer "
+    "y.service avoid`\n",
+    "y.service: memory.oom.group: it is killed as a whole there, and rules choose among "
+    "the groups in it (LOST)",
+    "after a kill systemd-oomd rests for all groups: each of 2 rulesets of memory pressure "
+    "rests alone (LOST)",
+)
+
+
 def check_what_rules_cant_say(room: Room) -> None:
     """A line for each, and a status."""
     conf = "[OOM]\nSwapUsedLimit=89.5%\nDefaultMemoryPressureDurationSec=1500ms\n"
@@ -172,44 +195,7 @@ def check_what_rules_cant_say(room: Room) -> None:
     })  # fmt: skip
     done = room.run(RULES, "from-systemd", "settings")
     must_be("the status", done.status, 1)
-    for wanted in (
-        (
-            "etc/systemd/oomd.conf line 2: a limit of 89.5 %: thresholds are whole, so it is "
-            "written 90 % (LOST)"
-        ),
-        (
-            "etc/systemd/oomd.conf line 3: a duration with a part of a second: it is written 2 s "
-            "(LOST)"
-        ),
-        (
-            f"{UNITS}/t.slice line 3: a limit of 12.5 %: thresholds are whole, so it is written 13 "
-            "% (LOST)"
-        ),
-        (
-            "line 2: of several groups of user@.service the greatest pressure counts for all of "
-            "them (LOST)"
-        ),
-        (
-            f"{UNITS}/x.scope line 2: x.scope is watched, but files don't say where its group is: "
-            "no rule watches it (LOST)"
-        ),
-        (
-            "user@.service: ManagedOOMPreference=omit: it is never killed there, and rules have no "
-            "word for that (LOST)"
-        ),
-        (
-            "y.service: ManagedOOMPreference=avoid: rules obey it where the trace says `prefer "
-            "y.service avoid`\n"
-        ),
-        (
-            "y.service: memory.oom.group: it is killed as a whole there, and rules choose among "
-            "the groups in it (LOST)"
-        ),
-        (
-            "after a kill systemd-oomd rests for all groups: each of 2 rulesets of memory pressure "
-            "rests alone (LOST)"
-        ),
-    ):
+    for wanted in LOST:
         must(wanted in done.error, f"{wanted}\n{done.error}")
     patterns = [
         it["detectors"][0][1]["args"]["cgroup"] for it in json.loads(done.output)["rulesets"]
