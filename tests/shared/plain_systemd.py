@@ -153,9 +153,7 @@ def by_pressure(
     count, rests, had = 0, 0, set[Key]()
     for now in range(SECOND, end + 1, SECOND):
         state = state_at(lines, now)
-        reads = {
-            (path, made): found for path, made in state.made.items() if (found := state.read(path))
-        }
+        reads = {key: found for key in state.made.items() if (found := state.read(key[0]))}
         if state.count != count:
             count, before = state.count, totals
             totals = {key: found[2] for key, found in reads.items()}
@@ -163,21 +161,17 @@ def by_pressure(
         lost |= {(path, made) for path, made in state.made.items() if path in state.off}
         watched = {key: found[2] for key, found in reads.items() if key not in lost}
         known = {
-            key: known.get(key, [None, total if is_first(lines, key) else 0, None])
+            key: followed(known.get(key) or [None, total if is_first(lines, key) else 0, None],
+                          now, total, averages[now, key[0]] > limit)
             for key, total in watched.items()
         }
-        for key, total in watched.items():
-            is_above = averages[now, key[0]] > limit
-            known[key] = followed(known[key], now, total, is_above)
-            told -= set() if is_above else {key}
+        told -= {key for key, it in known.items() if it[0] is None}
         above = {key: it for key, it in known.items() if it[0] is not None}
         targets = sorted(key for key, it in above.items() if now - (it[0] or 0) >= length)
         here = {(it, state.made[it]) for it in leaves_inside(state, watched) if above}
-        had_before, had = had, here
-        if not targets or now < rests:
-            continue
-        had = set()
-        for key in targets:
+        due = targets if now >= rests else []
+        had_before, had = had, set() if due else here
+        for key in due:
             last = known[key][2]
             if last is None or now - last > 30 * SECOND:
                 if key not in told:
@@ -235,8 +229,7 @@ def is_empty(path: str, others: list[str]) -> bool:
 
 def random_trace(seed: int) -> str:
     """A trace of slices that come and go, whose tasks wait for memory, often at evaluations."""
-    draw, moment, scanned = random.Random(seed), 0, {"/": 0}
-    homes: dict[int, str] = {}
+    draw, moment, scanned, homes = random.Random(seed), 0, {"/": 0}, dict[int, str]()
     lines, runs, is_stalled, label = ["0 host 1000 1000 500", "0 mem / 500 0 0"], 0, False, 0
     for _ in range(200):
         moment += draw.choice((0, 0, 0, SECOND // 4, SECOND // 20 * 3, SECOND))
