@@ -55,8 +55,7 @@ def check_a_ring(program: str) -> None:
     """
     with recording("mix-2") as folder:
         for processor, pages in ((0, 150), (1, 60)):
-            change(folder, f"cpu{processor}.raw",  # type: ignore[misc]
-                   lambda it, pages=pages: flag_first_page(it, pages))
+            change(folder, f"cpu{processor}.raw", functools.partial(flag_first_page, pages=pages))
         count_bytes(folder)
         lost = converted(folder, status=3)
         must_be("without the word of a ring", (lost.output, "lost: " in lost.said), (b"", True))
