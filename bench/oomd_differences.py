@@ -23,6 +23,7 @@ import sys
 import tempfile
 from collections.abc import Callable, Iterator
 from dataclasses import dataclass
+from typing import Any
 from unittest import mock
 
 sys.dont_write_bytecode = True
@@ -89,8 +90,8 @@ def size_ranks(self: BySize, look: Look, paths: list[str]) -> Ranked:
     """Ranks by growth over the mean of the last four sizes, for groups with a live task."""
     live = [it for it in paths if look.machine.is_populated(it)]
     past = {look.machine.group(it): HISTORY.get(look.machine.group(it), [])[-PAST:] for it in live}
-    averages = {group: sum(it) / len(it) if it else 0 for group, it in past.items()}
-    look.average = averages  # type: ignore[misc]
+    averages: Any = {group: sum(it) / len(it) if it else 0 for group, it in past.items()}
+    look.average = averages
     return OWN_SIZES(self, look, live)
 
 

@@ -109,11 +109,9 @@ def title_of(found: Node) -> str:
 
 def highest(program: str, trace: str, *key: str) -> float:
     """Returns the highest printed share, in percent."""
-    return max(  # type: ignore[index]
-        it for _, it in Printed(
-            run([program, "replay", "-", "--report-s", "1"], trace.encode())
-        ).shares[key]
-    )
+    printed = Printed(run([program, "replay", "-", "--report-s", "1"], trace.encode()))
+    path, resource, level, average = key
+    return max(share for _, share in printed.shares[path, resource, level, average])
 
 
 def check_the_root_alone(program: str) -> None:
@@ -304,8 +302,9 @@ def trust_text(compared: str, said: str) -> str:
     """Returns the page's part on a recording, for these messages of compare and psitrace."""
     run_ = SimpleNamespace(number=1, text=lambda: compared, said=said)
     element = ElementTree.Element("body")
-    recording(element,  # type: ignore[arg-type]
-              SimpleNamespace(recorded=SimpleNamespace(compared=run_, summary=run_, is_same=True)))
+    recorded = SimpleNamespace(compared=run_, summary=run_, is_same=True)
+    facts: Any = SimpleNamespace(recorded=recorded)
+    recording(element, facts)
     (section,) = read(ElementTree.tostring(element, "utf-8", method="html")).find("section")
     for it in section.find("details"):
         it.children = []
