@@ -32,7 +32,9 @@ def check_ring_that_fires(top: str) -> None:
             ["trigger", "memory full 100000 1000000"])
     must_be("pages", run.file("cpu1.raw"), b"\2" * (2 * folder.PAGE_BYTES))
     markers, fired = read(f"{top}.markers"), float(run.values("fired")[0])
-    must_be("one signal", markers.count("psirec fired"), 1)
+    kinds = sorted(set(re.findall(r"psirec (\w+?)(?=psirec|\W|$)", markers)))
+    must_be(f"how often the marker `psirec fired` is written, among markers {kinds}",
+            markers.count("psirec fired"), 1)
     must(re.search(r"fired.*pressure \d+ begin.*stop$", markers),
          "it goes on for a while after the signal")
     must(0.6 < time.monotonic() - fired < 5, "and then ends")
