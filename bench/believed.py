@@ -253,9 +253,9 @@ def cited_by(item: Item) -> Iterator[Item]:
     module = module_at(source)
     body = module.bodies.get(item.name, "")
     inner, _ = imports_of(body) if item.path.suffix == ".rt" else ({}, {})
-    seen = Module(item.path, module.bodies, module.imports | inner, module.aliases)
+    visible = Module(item.path, module.bodies, module.imports | inner, module.aliases)
     top = KIT if item.path.is_relative_to(KIT) else CRATES
-    for there, name in cited_in(body, seen):
+    for there, name in cited_in(body, visible):
         crate = top / item.path.relative_to(top).parts[0]
         found = item_at(there, name, crate) if there else Item(item.path, name)
         if found is not None and found != item:

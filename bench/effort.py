@@ -227,25 +227,25 @@ def compare(runs: list[Run], programs: dict[str, str], is_stored: bool) -> bool:
     return is_right or is_stored
 
 
-def words_of(given: list[str]) -> tuple[list[str], bool, list[Run]]:
+def words_of(arguments: list[str]) -> tuple[list[str], bool, list[Run]]:
     """Parses the arguments: the program's path if one is named, whether to store the figures, and
     the runs.
     """
     named, is_stored = list[str](), False
-    while given[:1] in (["--program"], ["--store"]):
-        if given[0] == "--store":
-            is_stored, given = True, given[1:]
-        elif len(given) > 1:
-            named, given = given[:2], given[2:]
+    while arguments[:1] in (["--program"], ["--store"]):
+        if arguments[0] == "--store":
+            is_stored, arguments = True, arguments[1:]
+        elif len(arguments) > 1:
+            named, arguments = arguments[:2], arguments[2:]
         else:
             sys.exit(__doc__)
-    unknown = set(given) - {run.name for run in RUNS}
+    unknown = set(arguments) - {run.name for run in RUNS}
     if unknown:
         sys.exit(
             f"effort: no run has the name {', '.join(sorted(unknown))}: "
             f"{', '.join(run.name for run in RUNS)}"
         )
-    return named, is_stored, [run for run in RUNS if not given or run.name in given]
+    return named, is_stored, [run for run in RUNS if not arguments or run.name in arguments]
 
 
 def programs_of(named: list[str], runs: list[Run]) -> dict[str, str]:
@@ -254,8 +254,8 @@ def programs_of(named: list[str], runs: list[Run]) -> dict[str, str]:
     return {"psi_oomd": program_of(named)[0], **{name: program_of([], name)[0] for name in others}}
 
 
-def main(given: list[str]) -> int:
-    named, is_stored, runs = words_of(given)
+def main(arguments: list[str]) -> int:
+    named, is_stored, runs = words_of(arguments)
     missing = [tool for tool in TOOLS if shutil.which(tool) is None]
     if missing:
         print(

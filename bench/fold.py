@@ -73,23 +73,23 @@ class Services:
         for token in range(self.services * 3 // 4):
             yield from self.call(token % self.services, 0)
         while self.due and self.due[0][0] < end:
-            moment, _, what, about = heapq.heappop(self.due)
-            yield from getattr(self, what)(about, moment)
+            time_ns, _, what, about = heapq.heappop(self.due)
+            yield from getattr(self, what)(about, time_ns)
         yield end, "end"
 
-    def later(self, moment: int, what: str, about: int) -> None:
+    def later(self, time_ns: int, what: str, about: int) -> None:
         """Schedules an event for a later time (ns)."""
         self.count += 1
-        heapq.heappush(self.due, (moment, self.count, what, about))
+        heapq.heappush(self.due, (time_ns, self.count, what, about))
 
-    def call(self, service: int, moment: int) -> Iterator[Line]:
+    def call(self, service: int, time_ns: int) -> Iterator[Line]:
         """Passes a token to a service."""
         if self.idle[service]:
-            yield from self.wake(self.idle[service].popleft(), moment)
+            yield from self.wake(self.idle[service].popleft(), time_ns)
         else:
             self.queue[service] += 1
 
-    def wake(self, number: int, moment: int) -> Iterator[Line]:
+    def wake(self, number: int, time_ns: int) -> Iterator[Line]:
         """Wakes a thread, on an idle processor if there is one."""
         cpu = self.home[number]
         if self.running[cpu] or self.ready[cpu]:
@@ -98,35 +98,35 @@ class Services:
                 self.cpus
             ) if self.draw.random() < 0.3 else cpu
         self.home[number] = cpu
-        yield moment, f"wake {number} {cpu}"
+        yield time_ns, f"wake {number} {cpu}"
         self.ready[cpu].append(number)
         if not self.running[cpu]:
-            self.later(moment + self.draw.randrange(1000, 6000), "schedule", cpu)
+            self.later(time_ns + self.draw.randrange(1000, 6000), "schedule", cpu)
 
-    def schedule(self, cpu: int, moment: int) -> Iterator[Line]:
+    def schedule(self, cpu: int, time_ns: int) -> Iterator[Line]:
         """Yields the lines by which an idle processor starts a ready thread."""
         if not self.running[cpu] and self.ready[cpu]:
             number = self.ready[cpu].popleft()
-            yield moment, f"switch {cpu} {number} idle"
-            self.start(number, cpu, moment)
+            yield time_ns, f"switch {cpu} {number} idle"
+            self.start(number, cpu, time_ns)
 
-    def start(self, number: int, cpu: int, moment: int) -> None:
+    def start(self, number: int, cpu: int, time_ns: int) -> None:
         """Begins a thread's turn."""
         self.running[cpu] = number
         left = self.left[number] = (
             self.left.get(number) or self.draw.randrange(self.least, self.most) * 1000
         )
-        self.later(moment + min(left, TURN), "done", cpu)
+        self.later(time_ns + min(left, TURN), "done", cpu)
 
-    def leave(self, cpu: int, moment: int, how: str) -> Iterator[Line]:
+    def leave(self, cpu: int, time_ns: int, how: str) -> Iterator[Line]:
         """The running thread leaves the processor, and the next one runs."""
         following = self.ready[cpu].popleft() if self.ready[cpu] else 0
-        yield moment, f"switch {cpu} {following} {how}"
+        yield time_ns, f"switch {cpu} {following} {how}"
         self.running[cpu] = 0
         if following:
-            self.start(following, cpu, moment)
+            self.start(following, cpu, time_ns)
 
-    def done(self, cpu: int, moment: int) -> Iterator[Line]:
+    def done(self, cpu: int, time_ns: int) -> Iterator[Line]:
         """Ends a turn."""
         number = self.running[cpu]
         self.left[number] -= min(self.left[number], TURN)
@@ -134,35 +134,35 @@ class Services:
         if self.left[number]:
             if self.ready[cpu]:
                 self.ready[cpu].append(number)
-                yield from self.leave(cpu, moment, "preempt")
+                yield from self.leave(cpu, time_ns, "preempt")
             else:
-                self.start(number, cpu, moment)
+                self.start(number, cpu, time_ns)
         elif service < 3 and number not in self.waited and self.draw.random() < 0.03:
             self.waited.add(number)
             self.left[number] = 5000
-            yield from self.leave(cpu, moment, "iowait")
-            self.later(moment + self.draw.randrange(LEAST_IO, MOST_IO), "wake", number)
+            yield from self.leave(cpu, time_ns, "iowait")
+            self.later(time_ns + self.draw.randrange(LEAST_IO, MOST_IO), "wake", number)
         else:
-            yield from self.hand_on(cpu, number, service, moment)
+            yield from self.hand_on(cpu, number, service, time_ns)
 
-    def hand_on(self, cpu: int, number: int, service: int, moment: int) -> Iterator[Line]:
+    def hand_on(self, cpu: int, number: int, service: int, time_ns: int) -> Iterator[Line]:
         """A thread passes its token on, and takes another or sleeps."""
         self.waited.discard(number)
         if service == 5 and self.draw.random() < 0.02:
-            yield from ((moment, f"stall {number}"), (moment, f"unstall {number}"))
-        yield from self.call(self.draw.randrange(self.services), moment)
+            yield from ((time_ns, f"stall {number}"), (time_ns, f"unstall {number}"))
+        yield from self.call(self.draw.randrange(self.services), time_ns)
         if self.queue[service]:
             self.queue[service] -= 1
-            self.start(number, cpu, moment)
+            self.start(number, cpu, time_ns)
         else:
             self.idle[service].append(number)
-            yield from self.leave(cpu, moment, "sleep")
+            yield from self.leave(cpu, time_ns, "sleep")
 
 
 def lines_of(seconds: float, cpus: int, services: int, least: int, most: int) -> Iterator[str]:
     """Yields the lines of a trace, after its header."""
-    for moment, words in Services(cpus, services, least, most).lines(round(seconds * 10**9)):
-        yield f"{moment} {words}"
+    for time_ns, words in Services(cpus, services, least, most).lines(round(seconds * 10**9)):
+        yield f"{time_ns} {words}"
 
 
 def processor_seconds() -> float:
@@ -181,23 +181,22 @@ def measure(lines: list[str], cpus: int, window: float, seconds: float) -> str:
         resource.getrusage(who).ru_maxrss
         for who in (resource.RUSAGE_SELF, resource.RUSAGE_CHILDREN)
     ) / 1024
-    off = max((abs(it) for it in fold.check.behind.values()), default=0)
+    off = max((abs(it) for it in fold.check.shortfalls.values()), default=0)
     each = (
         f"{len(lines) / seconds:.0f} | {fold.counts.written / seconds:.0f} | "
         f"{1e6 * took / len(lines):.1f}"
     )
     return (
-        f"| {window:g} | {each} | {lasted:.1f} | {peak:.0f} | {fold.counts.had} | "
-        f"{fold.counts.kept} | {off} |"
+        f"| {window:g} | {each} | {lasted:.1f} | {peak:.0f} | {fold.counts.states_before} | "
+        f"{fold.counts.states_after} | {off} |"
     )
 
 
-def main(given: list[str]) -> None:
-    is_trace = given[:1] == ["--trace"]
-    words = (
-        [float(word) for word in given[is_trace:]] + [4, 4, 12, 20, 200][len(given) - is_trace :]
-    )
-    seconds, (cpus, services, least, most) = words[0], (int(word) for word in words[1:])
+def main(arguments: list[str]) -> None:
+    is_trace = arguments[:1] == ["--trace"]
+    numbers = [float(word) for word in arguments[is_trace:]]
+    numbers += [4, 4, 12, 20, 200][len(numbers) :]
+    seconds, (cpus, services, least, most) = numbers[0], map(int, numbers[1:])
     lines = lines_of(seconds, cpus, services, least, most)
     if is_trace:
         print(f"psitrace 1 cpus={cpus}")

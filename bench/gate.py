@@ -152,10 +152,10 @@ def dear_walks() -> list[tuple[int, str, str]]:
     function.
     """
     found: dict[tuple[str, str], int] = {}
-    for kept in ROOT.glob("crates/*/out/incremental/*/*.Lts.oantt"):
-        crate, size = kept.parts[len(ROOT.parts) + 1], kept.stat().st_size
+    for stored in ROOT.glob("crates/*/out/incremental/*/*.Lts.oantt"):
+        crate, size = stored.parts[len(ROOT.parts) + 1], stored.stat().st_size
         if size >= DEAR:
-            function = kept.name.removesuffix(".Lts.oantt").partition("-proofs.")[2]
+            function = stored.name.removesuffix(".Lts.oantt").partition("-proofs.")[2]
             found[crate, function] = max(size, found.get((crate, function), 0))
     return sorted(((size, *place) for place, size in found.items()), reverse=True)
 

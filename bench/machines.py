@@ -224,9 +224,10 @@ def main() -> int:
     parser.add_argument("--services", type=int, default=7,
                         help="services, in each slice if --slices says how many there are")
     parser.add_argument("--busy", type=int, default=1000)
-    given = parser.parse_args()
-    tree = big_tree(given.slices, given.services) if given.slices else small_tree(given.services)
-    machine = Machine(given.seed, given.seconds, given.processors, tree, given.busy)
+    options = parser.parse_args()
+    slices, services = options.slices, options.services
+    tree = big_tree(slices, services) if slices else small_tree(services)
+    machine = Machine(options.seed, options.seconds, options.processors, tree, options.busy)
     sys.stdout.writelines(it + "\n" for it in machine.lines())
     return 0
 

@@ -55,15 +55,15 @@ class Pages:
         self.file = open(name, "wb")
         self.page, self.first, self.last = bytearray(), 0, 0
 
-    def add(self, moment: int, data: bytes) -> None:
+    def add(self, time_ns: int, data: bytes) -> None:
         """Adds a record."""
         if not self.page or len(self.page) + len(
             data
-        ) + 4 > PAGE - HEAD or moment - self.last >= LONGEST:
+        ) + 4 > PAGE - HEAD or time_ns - self.last >= LONGEST:
             self.end()
-            self.first = self.last = moment
-        self.page += struct.pack("<I", len(data) // 4 | (moment - self.last) << 5) + data
-        self.last = moment
+            self.first = self.last = time_ns
+        self.page += struct.pack("<I", len(data) // 4 | (time_ns - self.last) << 5) + data
+        self.last = time_ns
 
     def end(self) -> None:
         """Writes the page."""
@@ -105,7 +105,7 @@ class Recording:
         with open(os.path.join(self.folder, name), "w", encoding="ascii") as file:
             file.write(text)
 
-    def take(self, moment: int, words: list[str]) -> None:
+    def take(self, time_ns: int, words: list[str]) -> None:
         """Records a line of the trace."""
         verb = words[0]
         if verb == "group":
@@ -116,17 +116,17 @@ class Recording:
         elif verb == "wake":
             cpu = int(words[2])
             self.home[int(words[1])] = cpu
-            self.pages[cpu].add(moment, self.wakeup.bytes(self.runs[cpu], int(words[1]), cpu))
+            self.pages[cpu].add(time_ns, self.wakeup.bytes(self.runs[cpu], int(words[1]), cpu))
         elif verb == "switch":
             cpu, following, before = int(words[1]), int(words[2]), self.runs[int(words[1])]
             pages = self.pages[cpu]
-            pages.add(moment, self.probe.bytes(before, before, int(words[3] == "iowait")))
-            pages.add(moment, self.switch.bytes(before, before, HOWS[words[3]], following))
+            pages.add(time_ns, self.probe.bytes(before, before, int(words[3] == "iowait")))
+            pages.add(time_ns, self.switch.bytes(before, before, HOWS[words[3]], following))
             self.runs[cpu] = following
         elif verb in self.stalls:
             number = int(words[1])
             cpu = self.home[number]
-            self.pages[cpu].add(moment, self.stalls[verb].bytes(number))
+            self.pages[cpu].add(time_ns, self.stalls[verb].bytes(number))
 
     def end(self) -> None:
         """Writes the pages that aren't full."""
@@ -143,26 +143,27 @@ def later(data: bytes, times: int, length: int) -> Iterator[bytes]:
     heads = [struct.unpack_from("<Q", data, at)[0] for at in range(0, len(data), PAGE)]
     for turn in range(times):
         found = bytearray(data)
-        for place, moment in enumerate(heads):
-            struct.pack_into("<Q", found, place * PAGE, moment + turn * length)
+        for place, time_ns in enumerate(heads):
+            struct.pack_into("<Q", found, place * PAGE, time_ns + turn * length)
         yield bytes(found)
 
 
-def main(given: list[str]) -> None:
-    trace, folder, times = given[0], given[1], int(given[2]) if given[2:] else 1
+def main(arguments: list[str]) -> None:
+    trace, folder = arguments[:2]
+    times = int(arguments[2]) if arguments[2:] else 1
     with open(trace, encoding="ascii") as file:
         recording = Recording(folder, int(file.readline().partition("cpus=")[2]))
         for line in file:
-            moment, *words = line.split()
+            time_ns, *words = line.split()
             # Tasks and groups that begin at 0 are in the snapshot, asleep.
-            if words[0] in ("group", "fork") or int(moment):
-                recording.take(START + int(moment), words)
+            if words[0] in ("group", "fork") or int(time_ns):
+                recording.take(START + int(time_ns), words)
     recording.end()
     for processor in range(recording.processors if times > 1 else 0):
         with open(f"{folder}/cpu{processor}.raw", "rb") as pages:
             data = pages.read()
         with open(f"{folder}/cpu{processor}.raw", "wb") as out:
-            out.writelines(later(data, times, int(moment)))
+            out.writelines(later(data, times, int(time_ns)))
 
 
 if __name__ == "__main__":

@@ -115,11 +115,11 @@ def row(name: str, counted: float | None, peak: int, taken: list[Taken], count: 
     processor = statistics.median(it.processor for it in taken) / statistics.median(
         it.processor for it in count
     )
-    told = "-" if counted is None else f"{counted:,.0f}"
-    return f"{name:<26}{told:>12}{best:>8.2f}{clock:>8.2f}{processor:>11.2f}{peak / 1000:>6.0f}"
+    shown = "-" if counted is None else f"{counted:,.0f}"
+    return f"{name:<26}{shown:>12}{best:>8.2f}{clock:>8.2f}{processor:>11.2f}{peak / 1000:>6.0f}"
 
 
-def tell_hour(program: str, events: int, rounds: int, room: str) -> None:
+def print_hour(program: str, events: int, rounds: int, room: str) -> None:
     """Prints the table of the generated hour."""
     trace = write_trace(program, events, os.path.join(room, "hour.trace"))
     counted = instructions(program, room)
@@ -138,7 +138,7 @@ def tell_hour(program: str, events: int, rounds: int, room: str) -> None:
     os.remove(trace)
 
 
-def tell_greatest(program: str, room: str) -> None:
+def print_greatest(program: str, room: str) -> None:
     """Prints the cost of an hour of the largest machine, with rules and without."""
     trace, rules = os.path.join(room, "greatest.trace"), os.path.join(room, "greatest.json")
     with open(trace, "w", encoding="utf-8") as file:
@@ -157,15 +157,15 @@ def tell_greatest(program: str, room: str) -> None:
 
 
 def main() -> None:
-    program, given = program_of(sys.argv[1:])
+    program, arguments = program_of(sys.argv[1:])
     numbers = {"--rounds": 10, "--events": 3_600_000}
-    while len(given) > 1 and given[0] in numbers:
-        numbers[given[0]], given = int(given[1]), given[2:]
-    if given:
+    while len(arguments) > 1 and arguments[0] in numbers:
+        numbers[arguments[0]], arguments = int(arguments[1]), arguments[2:]
+    if arguments:
         sys.exit(__doc__)
     with tempfile.TemporaryDirectory() as room:
-        tell_hour(program, numbers["--events"], numbers["--rounds"], room)
-        tell_greatest(program, room)
+        print_hour(program, numbers["--events"], numbers["--rounds"], room)
+        print_greatest(program, room)
 
 
 if __name__ == "__main__":

@@ -124,7 +124,7 @@ class Incident:
             self.put(at, f"switch {processor} 0 {state}")
         self.states[task] = state
 
-    def act(self, second: int, shortage: float) -> None:
+    def advance(self, second: int, shortage: float) -> None:
         """Advances the tasks by a second, in five steps."""
         draw, is_storm = self.draw, self.kind == "io" and self.begin <= second < self.stop
         for step in range(5):
@@ -148,7 +148,7 @@ class Incident:
         for second in range(self.length):
             shortage = self.grow(second)
             self.sample(second)
-            self.act(second, shortage)
+            self.advance(second, shortage)
         last = max(self.length * SECOND, max(self.lines)[0])
         body = "".join(f"{at} {text}\n" for at, _, text in sorted(self.lines))
         return f"psitrace 1 cpus={len(self.homes)}\n{body}{last} end\n"

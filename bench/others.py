@@ -173,17 +173,17 @@ def main() -> int:
     )
     parser.add_argument("--events", type=int, default=1_000_000)
     parser.add_argument("--rounds", type=int, default=3)
-    given = parser.parse_args()
+    options = parser.parse_args()
     missing = [it for it in ("perf", "trace-cmd") if shutil.which(it) is None]
     if missing:
         sys.exit(f"bench/others.py: not installed: {', '.join(missing)}")
     program, convert = program_of([])[0], program_of([], "psi_convert")[0]
     with tempfile.TemporaryDirectory() as room:
-        others = perf_readers(given.events, room) + page_readers(convert, given.events, room)
+        others = perf_readers(options.events, room) + page_readers(convert, options.events, room)
         print("| command | events | processor time, us each | wall-clock time, us each |")
         print("|---|---|---|---|")
         for it in [*others, *own_readers(program, others[0].events, room)]:
-            taken = least(it.words, given.rounds)
+            taken = least(it.words, options.rounds)
             processor, clock = (s * 1e6 / it.events for s in (taken.processor, taken.clock))
             print(f"| `{it.name}` | {it.events:,} | {processor:.3f} | {clock:.3f} |", flush=True)
     return 0

@@ -64,7 +64,7 @@ class Recording:
         self.folder, source = folder, read_recording(folder, True)
         self.start = source.start
         self.times = {
-            number: min(it.moment for it in files.values())
+            number: min(it.time_ns for it in files.values())
             for number, files in machine_readings(folder, source).items()
         }
         self.first = min(self.times.values())
@@ -128,12 +128,12 @@ def sampled_recording(recording: Recording, every: int, room: str) -> str:
     return trace
 
 
-def averages(given: argparse.Namespace) -> None:
+def averages(options: argparse.Namespace) -> None:
     """The table of averages."""
-    intervals = [int(it) for it in given.every.split(",")]
+    intervals = [int(it) for it in options.every.split(",")]
     print(f"| recording | readings | event trace | {' | '.join(f'{it} s' for it in intervals)} |")
     whole: dict[str, list[float]] = {}
-    for folder in given.folders:
+    for folder in options.folders:
         recording = Recording(folder)
         with tempfile.TemporaryDirectory() as room:
             trace = os.path.join(room, "events.trace")
@@ -185,14 +185,14 @@ def sampled_trace(trace: str, every: int, room: str) -> str:
 
 
 def replayed(
-    given: argparse.Namespace, intervals: list[int]
+    options: argparse.Namespace, intervals: list[int]
 ) -> Iterator[dict[str, dict[tuple[int, int], str]]]:
     """Yields the kills of each machine: by events at ticks of a second (`truth`) and of two, and by
     samples.
     """
-    for seed in range(given.seed, given.seed + given.machines):
+    for seed in range(options.seed, options.seed + options.machines):
         with tempfile.TemporaryDirectory() as room:
-            file, trace = os.path.join(room, "rules.json"), simulated(seed, given.seconds, room)
+            file, trace = os.path.join(room, "rules.json"), simulated(seed, options.seconds, room)
             with open(file, "w", encoding="ascii") as output:
                 output.write(rules_file())
             found = {
@@ -205,14 +205,14 @@ def replayed(
             yield found
 
 
-def rules_table(given: argparse.Namespace) -> None:
+def rules_table(options: argparse.Namespace) -> None:
     """The tables of rules."""
-    intervals = [int(it) for it in given.every.split(",")]
+    intervals = [int(it) for it in options.every.split(",")]
     columns = ["events, 2 s", *(f"{it} s" for it in intervals)]
     table = {(name, rule): Agreement() for name in columns for rule in range(len(rules()))}
     count = 0
     try:
-        for found in replayed(given, intervals):
+        for found in replayed(options, intervals):
             for name, rule in table:
                 table[name, rule] = table[name, rule].plus(
                     by_rule(found["truth"], rule), by_rule(found[name], rule)
@@ -222,8 +222,8 @@ def rules_table(given: argparse.Namespace) -> None:
     except KeyboardInterrupt:
         pass
     print(
-        f"{count} machines of {given.seconds} s: evaluations at which both fire, of either / same "
-        "victim of these"
+        f"{count} machines of {options.seconds} s: evaluations at which both fire, of either / "
+        "same victim of these"
     )
     print(f"| rule | {' | '.join(columns)} |")
     for rule, text in enumerate(rules()):
@@ -251,7 +251,7 @@ def peak(length: float, begin: float, every: int) -> float:
     def total(at: float) -> float:
         return min(max(at - begin, 0.0), length)
 
-    def seen(at: float) -> float:
+    def known_total(at: float) -> float:
         if not every:
             return total(at)
         before = at // every * every
@@ -259,17 +259,17 @@ def peak(length: float, begin: float, every: int) -> float:
 
     average = best = 0
     for tick in range(1, 100):
-        active = int((seen(2 * tick) - seen(2 * tick - 2)) * 50 + 1e-9) * 2048
+        active = int((known_total(2 * tick) - known_total(2 * tick - 2)) * 50 + 1e-9) * 2048
         average = (average * 1677 + active * 371 + (2047 if active >= average else 0)) // 2048
         best = max(best, average)
     return best / 2048
 
 
-def peaks(given: argparse.Namespace) -> None:
+def peaks(options: argparse.Namespace) -> None:
     """The table of the highest averages of short stalls: the lowest and the highest by when a stall
     begins.
     """
-    intervals = [int(it) for it in given.every.split(",")]
+    intervals = [int(it) for it in options.every.split(",")]
     for length in (2, 5, 10, 20, 30, 60):
         begins = [30 + step / 2 for step in range(60)]
         found = [[peak(length, begin, every) for begin in begins] for every in (0, *intervals)]
@@ -279,15 +279,15 @@ def peaks(given: argparse.Namespace) -> None:
 # ---------------------------------------------------------------- speed
 
 
-def speed(given: argparse.Namespace) -> None:
+def speed(options: argparse.Namespace) -> None:
     """How many times as fast as time a tree of 57 groups is, and the memory that it takes."""
     with tempfile.TemporaryDirectory() as room:
         trace = os.path.join(room, "machine.trace")
         with open(trace, "w", encoding="ascii") as file:
             file.writelines(
-                f"{it}\n" for it in Machine(1, given.seconds, 16, big_tree(8, 6), 14).lines()
+                f"{it}\n" for it in Machine(1, options.seconds, 16, big_tree(8, 6), 14).lines()
             )
-        for every in map(int, given.every.split(",")):
+        for every in map(int, options.every.split(",")):
             name = os.path.join(room, "samples.csv")
             with open(name, "w", encoding="ascii") as file:
                 file.write(csv_of(program_path(), trace, every))
@@ -300,8 +300,8 @@ def speed(given: argparse.Namespace) -> None:
             _, status, usage = os.wait4(child.pid, 0)
             taken = time.monotonic() - begin
             print(
-                  f"{every} s: {given.seconds / taken:.0f} times as fast as time, "
-                  f"{given.seconds / usage.ru_utime:.0f} by its own "
+                  f"{every} s: {options.seconds / taken:.0f} times as fast as time, "
+                  f"{options.seconds / usage.ru_utime:.0f} by its own "
                   f"processor time, {usage.ru_maxrss // 1024} MB, status {status}")  # fmt: skip
 
 
@@ -322,8 +322,8 @@ def main() -> int:
             command.add_argument("--seconds", type=int, default=300)
             command.add_argument("--machines", type=int, default=30)
             command.add_argument("--seed", type=int, default=200)
-    given = parser.parse_args()
-    given.work(given)
+    options = parser.parse_args()
+    options.work(options)
     return 0
 
 

@@ -77,7 +77,7 @@ def believed_files() -> tuple[list[pathlib.Path], list[pathlib.Path]]:
     return definitions, types
 
 
-def is_told(item: believed.Item, types: list[pathlib.Path]) -> bool:
+def is_listed(item: believed.Item, types: list[pathlib.Path]) -> bool:
     """Returns whether the list covers a type: by its file, by its name if contracts see only its
     `Model`, or as a trait's.
     """
@@ -90,7 +90,7 @@ def list_faults() -> Iterator[str]:
     definitions, types = believed_files()
     reached: dict[pathlib.Path, list[str]] = {}
     for item in sorted(believed.believed()):
-        if item.path.suffix == ".antt" or not is_told(item, types):
+        if item.path.suffix == ".antt" or not is_listed(item, types):
             reached.setdefault(item.path, []).append(item.name)
     for path, names in reached.items():
         if path not in definitions:

@@ -49,7 +49,7 @@ def probed(reads: list[int], averages: list[int]) -> Source:
         events.append(Marker(moment + MS, 0, READER, b"psirec pressure %d end\n" % number))
     events += [AverageProbe(moment, 0, 5, GROUP + WORK) for moment in averages]
     events += [AverageProbe(moment, 0, 5, ROOT + WORK) for moment in averages]
-    return Source(sorted(events, key=lambda it: it.moment), 2, 0, reads[-1], has_moments=True)
+    return Source(sorted(events, key=lambda it: it.time_ns), 2, 0, reads[-1], has_sample_times=True)
 
 
 def readings_of(reads: list[int], totals: dict[File, list[int]]) -> Readings:
@@ -159,10 +159,10 @@ def check_readings_with_a_file_too_few(_: str) -> None:
     source = probed(reads, [])
     moments = {
         it: 3 * SECOND + place
-        for place, it in enumerate(it for it in source.events if it.moment == 3 * SECOND)
+        for place, it in enumerate(it for it in source.events if it.time_ns == 3 * SECOND)
     }
     source.events = [
-        it._replace(moment=moments.get(it, it.moment)) if isinstance(it, ShowProbe) else it
+        it._replace(time_ns=moments.get(it, it.time_ns)) if isinstance(it, ShowProbe) else it
         for it in source.events
     ]
     told = Moments(source, readings)
@@ -170,7 +170,7 @@ def check_readings_with_a_file_too_few(_: str) -> None:
         File("/", "io"): 0, File("/", "memory"): 1, File("/", "cpu"): 2, File("/a", "io"): 3,
         File("/a", "cpu"): 5,
     }
-    found = {file: totals.moment - 3 * SECOND for file, totals in told.readings[1].items()}
+    found = {file: totals.time_ns - 3 * SECOND for file, totals in told.readings[1].items()}
     must_be("how long each was read after the first", found, wanted)
 
 

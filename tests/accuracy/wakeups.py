@@ -32,9 +32,9 @@ def check_what_the_probe_tells(_: str) -> None:
     must_be("what is counted", counted_at(EVENTS), {1: 100 * US})
     for counting, moment in ((Counting.PROBE, 100), (Counting.MIDDLE, 130), (Counting.EVENT, 160)):
         events = put_at(EVENTS, counted_at(EVENTS), counting)
-        found = [it.moment // US for it in events if isinstance(it, Wakeup)]
+        found = [it.time_ns // US for it in events if isinstance(it, Wakeup)]
         must_be(f"the wakeups {counting}", found, [moment, 190, 60_000])
-        must_be("the order", [it.moment for it in events], sorted(it.moment for it in events))
+        must_be("the order", [it.time_ns for it in events], sorted(it.time_ns for it in events))
 
 
 def check_bounds_of_a_trace(_: str) -> None:

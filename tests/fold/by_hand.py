@@ -45,7 +45,8 @@ def check_windows_by_hand(program: str) -> None:
     a removal in their places.
     """
     other, fold = folded(IN_TURNS, SECOND)
-    must_be("joint states, before and after", (fold.counts.had, fold.counts.kept), (1, 1))
+    counts = fold.counts.states_before, fold.counts.states_after
+    must_be("joint states, before and after", counts, (1, 1))
     must_be("the times of turns", printed(program, other, "stall"),
             b"stall cpu=0 / 0 0 0 0 1000000000 0 1000000000\n")
     must(len(other.splitlines()) <= 7, f"few lines: {other}")
@@ -109,7 +110,7 @@ def check_how_many_joint_states_there_are(_: str) -> None:
         for number in range(12):
             for maker in (Busy(number, 1), Maker(number + 500, 2)):
                 _, fold = folded(maker.trace(), 2 * maker.tick)
-                most = max([most, *(abs(it) for it in fold.check.behind.values())])
+                most = max([most, *(abs(it) for it in fold.check.shortfalls.values())])
     finally:
         setattr(processor, "few_of", few_of)
     must(most < 10, f"a sum is off by {most} ns")

@@ -84,7 +84,7 @@ def check_no_task_before_its_window(program: str) -> None:
         if " fork " in line and line.endswith(" /b 0")
     ]
     must_be("when /b gets its first task", min(forks), 2 * SECOND + 1)
-    must_be("what rounding left", [left for left in made.check.behind.values() if left], [])
+    must_be("what rounding left", [left for left in made.check.shortfalls.values() if left], [])
 
 
 def check_processors_that_fall_silent(_: str) -> None:

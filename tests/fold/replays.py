@@ -134,7 +134,7 @@ def is_near_whole(fold: Fold) -> bool:
     """Returns whether a sum has a remainder of rounding, so that a total might round to another
     whole us.
     """
-    return any(fold.check.behind.values())
+    return any(fold.check.shortfalls.values())
 
 
 def check_generated_traces(program: str) -> None:

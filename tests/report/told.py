@@ -160,10 +160,10 @@ def check_thinned_values(program: str) -> None:
         series.take(Report(tick * 2 * SECOND, "/a", "io", some, full), number)
     end = 80_001 * SECOND
     few = thinned(series, 0, end)
-    must(len(few.moments) <= 7 * STRETCHES + 2, f"{len(few.moments)} rows are left")
+    must(len(few.times_ns) <= 7 * STRETCHES + 2, f"{len(few.times_ns)} rows are left")
     for which, shares in series.shares.items():
-        wanted = highest_of(series.moments, shares, end)
-        must_be(f"the highest of {which}", highest_of(few.moments, few.shares[which], end), wanted)
+        wanted = highest_of(series.times_ns, shares, end)
+        must_be(f"the highest of {which}", highest_of(few.times_ns, few.shares[which], end), wanted)
     gaps = [
         place
         for place in range(1, len(few.rounds))
@@ -172,7 +172,7 @@ def check_thinned_values(program: str) -> None:
     must_be(
         "gaps",
         [
-            (few.moments[it - 1] <= 40_000 * SECOND, few.moments[it] >= 41_000 * SECOND)
+            (few.times_ns[it - 1] <= 40_000 * SECOND, few.times_ns[it] >= 41_000 * SECOND)
             for it in gaps
         ],
         [(True, True)],

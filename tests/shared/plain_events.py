@@ -48,7 +48,7 @@ class Lines:
         except PageFault:
             raise PageFault("TooLong") from None
         if page.lost:
-            yield f"{page.moment} {processor} lost {max(page.lost, 0)}"
+            yield f"{page.time_ns} {processor} lost {max(page.lost, 0)}"
         for moment, start, end in records_of(data, page):
             record = data[start : min(end, page.end)]
             number = int.from_bytes(record[:2], "little")

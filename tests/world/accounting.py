@@ -99,13 +99,13 @@ def check_accounting_before_the_snapshot(program: str) -> None:
     paths, end = ("/a", "/b", "/c", "/d"), kinds.Marker(9 * MS, 0, 1, b"psirec snapshot end\n")
     events: list[Event] = [
         kinds.Wakeup(MS, 0, 1, 1, 0),
-        end._replace(moment=MS),
+        end._replace(time_ns=MS),
         accounting(2 * MS, "/a", True),
         accounting(3 * MS, "/b", False),
         kinds.GroupMade(4 * MS, 0, 1, 0, b"/d"),
         end,
         accounting(10 * MS, "/c", True),
-        end._replace(moment=11 * MS),
+        end._replace(time_ns=11 * MS),
     ]
     found = played(
         program,

@@ -17,7 +17,7 @@ def source_of(
     events: Sequence[Event], snapshot: Snapshot | None = None, processors: int = 2
 ) -> Source:
     """A recording with these events."""
-    return Source(list(events), processors, events[0].moment, events[-1].moment,
+    return Source(list(events), processors, events[0].time_ns, events[-1].time_ns,
                   snapshot=snapshot or Snapshot())
 
 

@@ -22,18 +22,18 @@ def states_of(parts: list[Sums], processor: int, group: Group) -> States:
     )))  # fmt: skip
 
 
-def must_add_up(parts: list[Sums], live: Iterable[Group], cpus: int, told: Stalls) -> None:
+def must_add_up(parts: list[Sums], live: Iterable[Group], cpus: int, expected: Stalls) -> None:
     """Checks that, for each processor and each group that is live at the end, the sums of the
     stretches equal psi_oomd's times. Raises a Fault if they differ, or if the groups differ.
     """
     groups = {(processor, group.path): group for processor in range(cpus) for group in live}
-    if groups.keys() != told.keys():
-        processor, path = min(groups.keys() ^ told.keys())
-        who = "psi_oomd stall has" if (processor, path) in told else "this tool has"
+    if groups.keys() != expected.keys():
+        processor, path = min(groups.keys() ^ expected.keys())
+        who = "psi_oomd stall has" if (processor, path) in expected else "this tool has"
         raise Fault(f"only {who} a group {path} on processor {processor}: {ADVICE}", Status.NO_SUM)
     for (processor, path), group in groups.items():
         for what, mine, other in zip(
-            WHAT, states_of(parts, processor, group), told[processor, path]
+            WHAT, states_of(parts, processor, group), expected[processor, path]
         ):
             if mine != other:
                 where = f"{what} of {path} on processor {processor}"

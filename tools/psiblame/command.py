@@ -20,7 +20,7 @@ from .figures import DEEPEST, Asker
 from .runners import Runners
 from .sums import Stretches
 from .text import as_text
-from .told import Asked, as_json
+from .json_output import Asked, as_json
 from .trace import Lines, Stalls, as_file, stalls
 from .walk import Named, Walk
 
@@ -54,7 +54,7 @@ HELP = {
 MOST_ENTRIES = 200_000
 
 
-class Given(NamedTuple):
+class Options(NamedTuple):
     """The parsed command line. `values` has all options by name."""
 
     trace: str
@@ -83,9 +83,9 @@ def parser() -> Parser:
     return words
 
 
-def read_words() -> Given:
+def options_of() -> Options:
     it = parser().parse_args()
-    return Given(
+    return Options(
         it.trace,
         list(dict.fromkeys(it.group)),
         it.top,
@@ -97,72 +97,73 @@ def read_words() -> Given:
     )
 
 
-def with_paths(given: Given, known: Known, file: str) -> Given:
-    """Returns `given` with the paths of groups in place of other names, such as container names."""
+def with_paths(options: Options, known: Known, file: str) -> Options:
+    """Returns the options with the paths of groups in place of other names, as of containers."""
     paths = sorted(groups_of(file))
 
     def path_of(word: str) -> str:
         name, sign, life = word.partition("#")
         return known.groups.find(name, paths, "ever lived in the trace") + sign + life
 
-    victim = path_of(given.victim) if given.victim is not None else None
-    return given._replace(groups=list(dict.fromkeys(map(path_of, given.groups))), victim=victim)
+    victim = path_of(options.victim) if options.victim is not None else None
+    return options._replace(groups=list(dict.fromkeys(map(path_of, options.groups))), victim=victim)
 
 
-def asked_time(given: Given, lines: Lines, known: Known) -> Asked:
+def asked_time(options: Options, lines: Lines, known: Known) -> Asked:
     """Returns the requested time span, which must lie within the trace."""
-    span = span_in(given.values, known.wall, lines.end)
-    return Asked(given.trace, lines.end, span.start, span.end, lines.cpus, given.victim, given.top)
+    span = span_in(options.values, known.wall, lines.end)
+    victim, top = options.victim, options.top
+    return Asked(options.trace, lines.end, span.start, span.end, lines.cpus, victim, top)
 
 
-def walked(given: Given, lines: Lines, asked: Asked, told: Stalls, known: Known) -> Walk:
+def walked(options: Options, lines: Lines, asked: Asked, expected: Stalls, known: Known) -> Walk:
     """Plays the whole trace, and checks the sums against psi_oomd's."""
-    victims = Named([given.victim] if given.victim is not None else [], True)
-    runners = Runners(Tasks(known.companion, given.has_threads))
+    victims = Named([options.victim] if options.victim is not None else [], True)
+    runners = Runners(Tasks(known.companion, options.has_threads))
     walk = Walk(
-        lines.cpus, Stretches(asked.start, asked.to), Named(given.groups, False), victims, runners
+        lines.cpus, Stretches(asked.start, asked.to), Named(options.groups, False), victims, runners
     )
     for piece in lines.pieces():
         for line in piece:
             walk.take(*event_in(line))
         if walk.entries() > MOST_ENTRIES:
             walk.fold()
-    must_add_up(walk.stretches.done, walk.live.values(), lines.cpus, told)
+    must_add_up(walk.stretches.done, walk.live.values(), lines.cpus, expected)
     return walk
 
 
-def asked_groups(given: Given, walk: Walk) -> list[Group]:
+def asked_groups(options: Options, walk: Walk) -> list[Group]:
     """Returns the groups that the arguments name, without duplicates."""
-    found = dict.fromkeys(group for word in given.groups for group in walk.named(word))
+    found = dict.fromkeys(group for word in options.groups for group in walk.named(word))
     for group in found:
         if group.number in walk.victims.numbers:
             raise Fault(
-                f"--victim {given.victim} is {walk.name(group)} or above it: without it there is"
+                f"--victim {options.victim} is {walk.name(group)} or above it: without it there is"
                 " no such group"
             )
     return list(found)
 
 
-def work(given: Given) -> str:
+def work(options: Options) -> str:
     """Returns the text to print, after checking the sums of all groups against psi_oomd's."""
-    with as_file(given.trace) as file:
-        refuse_sampled(file, given.trace, "who ran while a group waited")
-        told = stalls(file, given.trace)
+    with as_file(options.trace) as file:
+        refuse_sampled(file, options.trace, "who ran while a group waited")
+        expected = stalls(file, options.trace)
         lines = Lines(file)
-        known = known_of(given.trace, given.values, is_whole=True)
-        given = with_paths(given, known, file)
-        asked = asked_time(given, lines, known)
-        walk = walked(given, lines, asked, told, known)
-    if given.victim is not None:
-        walk.named(given.victim)
-    asker = Asker(walk, asked.cpus, given.depth, asked.to)
-    found = [asker.figures(group) for group in asked_groups(given, walk)]
-    return (as_json if given.is_json else as_text)(walk, found, asker.table(), asked, known)
+        known = known_of(options.trace, options.values, is_whole=True)
+        options = with_paths(options, known, file)
+        asked = asked_time(options, lines, known)
+        walk = walked(options, lines, asked, expected, known)
+    if options.victim is not None:
+        walk.named(options.victim)
+    asker = Asker(walk, asked.cpus, options.depth, asked.to)
+    found = [asker.figures(group) for group in asked_groups(options, walk)]
+    return (as_json if options.is_json else as_text)(walk, found, asker.table(), asked, known)
 
 
 def blame() -> int:
     """Prints what the arguments ask for."""
-    write(work(read_words()).encode())
+    write(work(options_of()).encode())
     return Status.DONE
 
 

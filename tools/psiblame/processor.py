@@ -37,7 +37,7 @@ class Task(world.Task):
         self.life, self.runner = life, runner
 
 
-class Held:
+class GroupTimes:
     """The groups with tasks on a processor that wait for IO, or are in a memory stall, and the time
     (ns) for which each group had such tasks.
 
@@ -109,7 +109,7 @@ class Processor:
         self.rows = Rows()
         self.row = self.rows[NOBODY]
         self.last = 0
-        self.io, self.memory = Held(io), Held(memory)
+        self.io, self.memory = GroupTimes(io), GroupTimes(memory)
 
     def pass_time(self, now: int) -> None:
         """Counts the stretch up to `now` (ns), before the state changes."""

@@ -42,10 +42,10 @@ class Sums:
                 if runner != key:
                     self.alone[group, runner] += time
 
-    def take_held(self, processor: Processor, now: int) -> None:
+    def take_group_times(self, processor: Processor, now: int) -> None:
         """Adds a processor's times of IO waits and memory stalls up to `now` (ns)."""
-        for held, sums in ((processor.io, self.io), (processor.memory, self.memory)):
-            for group, time in held.taken(now).items():
+        for group_times, sums in ((processor.io, self.io), (processor.memory, self.memory)):
+            for group, time in group_times.taken(now).items():
                 sums[processor.number, group] += time
 
 
@@ -71,7 +71,7 @@ class Stretches:
         """Ends the current stretch at `now` (ns), and returns its sums."""
         self.fold(processors, now)
         for processor in processors:
-            self.now.take_held(processor, now)
+            self.now.take_group_times(processor, now)
         self.now.length = now - self.begin
         ended, self.now = self.now, Sums()
         self.done.append(ended)

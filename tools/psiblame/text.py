@@ -12,7 +12,7 @@ from psinames.tasks import Share, shares_text
 from psireplay.groups import Group, Groups
 
 from .figures import Figures, Part
-from .told import Asked
+from .json_output import Asked
 
 MS = 10**6
 # The default number of rows of a kind, and the largest number of characters of a group's name in a
@@ -82,7 +82,7 @@ def with_names(lines: list[str], shares: Sequence[Sequence[Share]], head: str = 
     return [f"{line.ljust(width)}  {text}".rstrip() for line, text in zip(lines, texts)]
 
 
-class Teller:
+class Formatter:
     """Formats the figures of groups of one trace."""
 
     def __init__(self, groups: Groups, asked: Asked, known: Known) -> None:
@@ -279,9 +279,9 @@ def as_text(
     """Returns the lines about the requested groups, or a table and a matrix of all groups if none
     was requested.
     """
-    teller = Teller(groups, asked, known)
+    formatter = Formatter(groups, asked, known)
     if not found:
-        return "\n".join([*teller.table(everyone), "", *teller.matrix(everyone), ""])
+        return "\n".join([*formatter.table(everyone), "", *formatter.matrix(everyone), ""])
     growing = [it for it in everyone if it.growth and any(it.growth)]
     growing.sort(key=lambda it: tuple(it.growth or ()), reverse=True)
-    return "\n\n".join("\n".join(teller.group(it, growing)) for it in found) + "\n"
+    return "\n\n".join("\n".join(formatter.group(it, growing)) for it in found) + "\n"

@@ -25,7 +25,7 @@ STALL = re.compile(
 # The number of bytes in one read, and the time (s) between two updates of the progress line.
 PIECE = 1 << 20
 OFTEN = 0.5
-TOLD: dict[int, str] = {
+MESSAGES: dict[int, str] = {
     ProgramStatus.TRACE_REFUSED: "psi_oomd refuses {name}: {said}",
     ProgramStatus.NO_FILE: "no file: {name}",
     ProgramStatus.READ_FAULT: "psi_oomd can't read {name}: {said}",
@@ -83,8 +83,8 @@ def stalls(file: str, name: str) -> Stalls:
     said = why_refused(done.stderr.strip(), file, name)
     if os.path.isdir(file):
         raise Fault(folder_told(name), ProgramStatus.READ_FAULT)
-    if done.returncode in TOLD:
-        raise Fault(TOLD[done.returncode].format(name=name, said=said), done.returncode)
+    if done.returncode in MESSAGES:
+        raise Fault(MESSAGES[done.returncode].format(name=name, said=said), done.returncode)
     lines = done.stdout.splitlines(keepends=True)
     found = [STALL.fullmatch(line) for line in lines]
     if done.returncode or not lines or not all(found):

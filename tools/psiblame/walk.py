@@ -69,8 +69,8 @@ class Walk(World[Task]):
 
     # ------------------------------------------------------------ time
 
-    def pass_to(self, moment: int) -> None:
-        while moment > self.next_cut:
+    def pass_to(self, time_ns: int) -> None:
+        while time_ns > self.next_cut:
             self.cut(int(self.next_cut))
 
     def cut(self, now: int) -> None:

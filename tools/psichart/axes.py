@@ -35,7 +35,7 @@ GAP = 12
 class Mark(NamedTuple):
     """A time on an axis (ns since the start of the trace), and its label."""
 
-    moment: int
+    time_ns: int
     text: str
 
 
@@ -60,7 +60,7 @@ def byte_step(most: int) -> int:
     return next(step for step in steps if 5 * step >= most)
 
 
-def told_bytes(number: int, step: int) -> str:
+def byte_text(number: int, step: int) -> str:
     """Returns a number of bytes as text, in the largest unit that isn't greater than the step."""
     size = next(it for it in reversed(range(len(SIZES))) if step >= 1024**it)
     return f"{number // 1024**size} {SIZES[size]}"
@@ -83,27 +83,28 @@ class TimeAxis:
             (unit, it) for unit, it in UNITS if self.step >= it or it == SECOND
         )
 
-    def x(self, moment: int) -> float:
+    def x(self, time_ns: int) -> float:
         """Returns the x coordinate (pixels) of a time. It is rounded to two decimals as in the
         picture, so that the time is counted in the pixel column in which it is drawn.
         """
-        return round(LEFT + (moment - self.start) * (RIGHT - LEFT) / (self.end - self.start), 2)
+        return round(LEFT + (time_ns - self.start) * (RIGHT - LEFT) / (self.end - self.start), 2)
 
-    def holds(self, moment: int) -> bool:
-        return self.start <= moment <= self.end
+    def holds(self, time_ns: int) -> bool:
+        return self.start <= time_ns <= self.end
 
     def marks(self) -> Iterator[Mark]:
-        for moment in range(-(-self.start // self.step) * self.step, self.end + 1, self.step):
+        for time_ns in range(-(-self.start // self.step) * self.step, self.end + 1, self.step):
             yield Mark(
-                moment, seconds(moment) if self.unit == "seconds" else str(moment // self.length)
+                time_ns,
+                seconds(time_ns) if self.unit == "seconds" else str(time_ns // self.length),
             )
 
     def caption(self) -> str:
         return f"{self.unit} since the start of the trace"
 
-    def told(self, moment: int) -> str:
+    def time_text(self, time_ns: int) -> str:
         """Returns a time in the format of this axis: `146 s`, `2 h 1 min`."""
-        return f"{seconds(moment)} s" if self.unit == "seconds" else duration(moment)
+        return f"{seconds(time_ns)} s" if self.unit == "seconds" else duration(time_ns)
 
 
 class WallAxis(TimeAxis):
@@ -155,8 +156,8 @@ class WallAxis(TimeAxis):
         )
         return f"time of day, {first.day}{year}{until}, {zone(self.wall.ahead)}"
 
-    def told(self, moment: int) -> str:
-        at = clock_time(self.first + moment)
+    def time_text(self, time_ns: int) -> str:
+        at = clock_time(self.first + time_ns)
         return f"{at.clock} on {at.day}" if self.has_days() else at.clock
 
 

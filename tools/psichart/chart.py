@@ -13,9 +13,9 @@ from psireplay.rules import Rules
 from psireplay.samples import Samples
 
 from .axes import TimeAxis
-from .marks import ROW, Mark, Moment, marks_of, place
+from .marks import ROW, Event, Mark, marks_of, place
 from .panels import MemoryPanel, Panel, PressurePanel
-from .replay import Gone, Replay
+from .replay import Removal, Replay
 from .svg import (
     LEFT,
     RIGHT,
@@ -88,7 +88,7 @@ class Chart:
         self.shown = wanted.names.shown
         self.heading = self.fitting_title()
         self.marks = marks_of(
-            filter(lambda it: self.axis.holds(it.moment), self.moments()), self.axis.x
+            filter(lambda it: self.axis.holds(it.time_ns), self.events()), self.axis.x
         )
         self.unnamed = place(self.marks)
         self.panels = [
@@ -138,14 +138,14 @@ class Chart:
             top = places[-1].bottom + PANEL_GAP
         return places
 
-    def moments(self) -> list[Moment]:
+    def events(self) -> list[Event]:
         """Returns the kills and the removals of groups, as vertical lines."""
         return [self.kill(it) for it in self.replay.kills] + [
-            self.end(it) for it in self.replay.gone()
+            self.end(it) for it in self.replay.removals()
         ]
 
-    def kill(self, kill: Kill) -> Moment:
-        at = self.axis.told(kill.moment)
+    def kill(self, kill: Kill) -> Event:
+        at = self.axis.time_text(kill.moment)
         path = self.shown(kill.path)
         would, who = f"{path} would be killed", f"ruleset {kill.ruleset}, action {kill.action}"
         hint = f"{would} at {at} by {who}"
@@ -160,13 +160,13 @@ class Chart:
         # names the killer.
         second = f"{would} at {at}" if f" by {who}" in self.heading else f"{would} by {who}"
         texts = (f"{would} at {at} by {who}", second, f"{would} at {at}", would, path)
-        return Moment(kill.moment, "kill", hint, texts)
+        return Event(kill.moment, "kill", hint, texts)
 
-    def end(self, gone: Gone) -> Moment:
+    def end(self, removal: Removal) -> Event:
         # Only the first report without the group is known, not the time of its removal.
-        was = f"{self.shown(gone.path)} was gone"
-        by = f"{was} by {self.axis.told(gone.moment)}"
-        return Moment(gone.moment, "gone", by, (by, by, by, was, was))
+        was = f"{self.shown(removal.path)} was gone"
+        by = f"{was} by {self.axis.time_text(removal.time_ns)}"
+        return Event(removal.time_ns, "gone", by, (by, by, by, was, was))
 
     def title(self, most: int) -> str:
         groups = self.replay.groups
@@ -244,7 +244,7 @@ class Chart:
             add(legend, "path", class_="tick some", d=f"M552 {y - 6}v6")
             add(legend, "path", class_="tick full", d=f"M558 {y}v6")
             add(legend, "text", "event of a trigger: some above, full below", x=568, y=y + 4)
-        if any(moment.kind == "kill" for mark in self.marks for moment in mark.moments):
+        if any(event.kind == "kill" for mark in self.marks for event in mark.events):
             kill = add(legend, "g", class_="kill")
             add(kill, "line", x1=834, y1=y - 7, x2=834, y2=y + 7)
             add(kill, "path", d=f"M830 {y - 7}h8l-4 7z")
@@ -282,7 +282,7 @@ class Chart:
         """
         axis = add(self.svg, "g", class_="time")
         for mark in self.axis.marks():
-            x = self.axis.x(mark.moment)
+            x = self.axis.x(mark.time_ns)
             for at in self.places:
                 add(axis, "line", class_="grid", x1=x, y1=at.top, x2=x, y2=at.bottom)
             add(axis, "text", mark.text, x=x, y=self.bottom + 16, text_anchor="middle")
@@ -294,7 +294,7 @@ class Chart:
         marks = add(self.svg, "g", class_="marks")
         for mark in self.marks:
             self.draw_mark(marks, mark)
-        unnamed = sum(len(mark.moments) for mark in self.unnamed)
+        unnamed = sum(len(mark.events) for mark in self.unnamed)
         if unnamed:
             text = (
                 f"{counted(unnamed, 'upright line')} without a path, for want of room: draw less"
@@ -315,7 +315,7 @@ class Chart:
         cross for a removal.
         """
         group = add(marks, "g", class_=mark.kind)
-        add(group, "title", mark.told())
+        add(group, "title", mark.hint())
         y = self.marks_bottom if mark.row is None else self.marks_bottom - ROW * mark.row - 9
         add(group, "line", x1=mark.x, y1=y, x2=mark.x, y2=self.bottom)
         x = decimal(mark.x - 4)

@@ -56,7 +56,7 @@ HELP = {
 }
 
 
-class Given(NamedTuple):
+class Options(NamedTuple):
     """The parsed command line: the trace to replay or None, the trace of the replay on standard
     input, and all options by name.
     """
@@ -91,7 +91,7 @@ def parser() -> Parser:
     return words
 
 
-def read_words() -> Given:
+def options_of() -> Options:
     values = parser().values()
     must_fit(values)
     if values["top"] and values["group"]:
@@ -107,7 +107,7 @@ def read_words() -> Given:
     trace = values["replayed"] if values["trace"] is None else values["trace"]
     groups = list(dict.fromkeys(values["group"] or ["/"]))
     it = values
-    return Given(
+    return Options(
         it["replayed"],
         trace,
         groups,
@@ -120,12 +120,12 @@ def read_words() -> Given:
     )
 
 
-def resources_of(replay: Replay, given: Given) -> list[str]:
+def resources_of(replay: Replay, options: Options) -> list[str]:
     """Returns the resources to draw. Interrupts are included only if a drawn group has reports on
     them.
     """
-    if given.resource:
-        return [given.resource]
+    if options.resource:
+        return [options.resource]
     has_interrupts = any(resource == "irq" for _, resource in replay.series)
     return list(RESOURCES if has_interrupts else RESOURCES[:3])
 
@@ -141,7 +141,7 @@ def must_have_reports(
         for (path, resource), it in replay.series.items()
         if path in groups and resource in resources
     ]
-    if start < end and any(start <= moment <= end for it in series for moment in it.moments):
+    if start < end and any(start <= time_ns <= end for it in series for time_ns in it.times_ns):
         return
     about = f" on {resources[0]}" if len(resources) == 1 and resources[0] == "irq" else ""
     when = f"from {seconds(start)} s to {seconds(end)} s of {seconds(replay.end.moment)} s"
@@ -170,78 +170,77 @@ def read_recorded(name: str, groups: list[str], replay: Replay) -> Replay:
     return recorded
 
 
-def read_printed(printed: IO[bytes], given: Given, known: Known) -> tuple[list[str], Replay]:
+def read_printed(printed: IO[bytes], options: Options, known: Known) -> tuple[list[str], Replay]:
     """Returns the drawn groups, and their reports in the output of a replay. The output is read
     twice unless the command line has the groups' paths.
     """
-    if not given.top and all(
-        it.startswith("/") and known.groups.shown(it) == it for it in given.groups
+    if not options.top and all(
+        it.startswith("/") and known.groups.shown(it) == it for it in options.groups
     ):
-        return given.groups, read_replay(printed, given.groups)
-    with tempfile.TemporaryFile() as kept:
-        shutil.copyfileobj(printed, kept)
-        kept.seek(0)
-        if given.top:
-            groups = [it.path for it in ranked(kept)][: given.top] or ["/"]
+        return options.groups, read_replay(printed, options.groups)
+    with tempfile.TemporaryFile() as copy:
+        shutil.copyfileobj(printed, copy)
+        copy.seek(0)
+        if options.top:
+            groups = [it.path for it in ranked(copy)][: options.top] or ["/"]
         else:
-            paths = sorted(read_replay(kept, []).rounds.paths)
+            paths = sorted(read_replay(copy, []).rounds.paths)
             groups = (
                 list(
                     dict.fromkeys(
-                        known.groups.find(it, paths, "in the replay") for it in given.groups
+                        known.groups.find(it, paths, "in the replay") for it in options.groups
                     )
                 )
                 if paths
                 else ["/"]
             )
-        kept.seek(0)
-        return groups, read_replay(kept, groups)
+        copy.seek(0)
+        return groups, read_replay(copy, groups)
 
 
-def span_of(given: Given, known: Known, replay: Replay) -> tuple[int, int]:
+def span_of(options: Options, known: Known, replay: Replay) -> tuple[int, int]:
     """Returns the start and the end of the drawn time (ns). By default the start is the start of
     the recording.
     """
-    span = span_in(given.values, known.wall, replay.end.moment, "replay")
-    begins = (
-        given.summary.begins if given.summary else known.companion.begins if known.companion else 0
-    )
-    return (span.start if has_start(given.values) else begins), span.end
+    span = span_in(options.values, known.wall, replay.end.moment, "replay")
+    source = options.summary or known.companion
+    begins = source.begins if source else 0
+    return (span.start if has_start(options.values) else begins), span.end
 
 
-def samples_of(given: Given, groups: list[str], end: int) -> Optional[Samples]:
+def samples_of(options: Options, groups: list[str], end: int) -> Optional[Samples]:
     """Returns the memory samples of the groups, or None if there is no trace or if the replayed
     trace has no samples.
     """
-    if given.trace is None:
+    if options.trace is None:
         return None
-    samples = Samples(given.trace, groups, end)
+    samples = Samples(options.trace, groups, end)
     has_some = any(life.samples for lives in samples.lives.values() for life in lives)
-    return samples if has_some or given.replayed is None else None
+    return samples if has_some or options.replayed is None else None
 
 
 def chart() -> int:
     """Draws the chart, and returns the exit status."""
-    given = read_words()
-    rules = Rules(given.rules) if given.rules is not None else None
-    known = known_of(given.trace or STANDARD_INPUT, given.values)
-    if given.replayed is not None:
-        span_in(given.values, known.wall, end_of(given.replayed), "replay")
-    with replayed(given.replayed, given.values, REPORT_S) as printed:
-        groups, replay = read_printed(printed, given, known)
+    options = options_of()
+    rules = Rules(options.rules) if options.rules is not None else None
+    known = known_of(options.trace or STANDARD_INPUT, options.values)
+    if options.replayed is not None:
+        span_in(options.values, known.wall, end_of(options.replayed), "replay")
+    with replayed(options.replayed, options.values, REPORT_S) as printed:
+        groups, replay = read_printed(printed, options, known)
     for what in unmatched(rules.rulesets, replay.rounds.paths | {"/"}) if rules else ():
         complain(f"note: no group of the replay matches {what}")
-    if given.summary:
-        given.summary.must_be_of(replay, given.trace)
-    start, end = span_of(given, known, replay)
+    if options.summary:
+        options.summary.must_be_of(replay, options.trace)
+    start, end = span_of(options, known, replay)
     for path in groups if replay.rounds.paths else ():
         known.groups.find(path, sorted(replay.rounds.paths), "in the replay")
-    resources = resources_of(replay, given)
+    resources = resources_of(replay, options)
     for path in groups:
         must_have_reports(replay, resources, 0, max(1, replay.end.moment), [path])
     must_have_reports(replay, resources, start, end, groups)
-    recorded = read_recorded(given.beside, groups, replay) if given.beside is not None else None
-    samples = samples_of(given, groups, replay.end.moment)
+    recorded = read_recorded(options.beside, groups, replay) if options.beside is not None else None
+    samples = samples_of(options, groups, replay.end.moment)
     picture = Chart(
         Wanted(
             replay,

@@ -11,12 +11,12 @@ ROW = 15
 NAMED = 4
 
 
-class Moment(NamedTuple):
+class Event(NamedTuple):
     """An event at a time (ns): its style, its full description, and labels from the longest to the
     shortest.
     """
 
-    moment: int
+    time_ns: int
     kind: str
     hint: str
     texts: tuple[str, ...]
@@ -27,9 +27,9 @@ class Mark:
     from below, or None.
     """
 
-    def __init__(self, x: float, moments: list[Moment]) -> None:
-        self.x, self.moments = x, moments
-        self.kind = moments[0].kind
+    def __init__(self, x: float, events: list[Event]) -> None:
+        self.x, self.events = x, events
+        self.kind = events[0].kind
         self.row: Optional[int] = None
         self.is_left = False
         self.text = ""
@@ -38,14 +38,14 @@ class Mark:
         """Takes the first event's label with the index `length` (0 is the longest), and adds the
         number of further events.
         """
-        more = f" +{len(self.moments) - 1}" if len(self.moments) > 1 else ""
-        self.text = short(self.moments[0].texts[length], 96 if length == 0 else 64) + more
+        more = f" +{len(self.events) - 1}" if len(self.events) > 1 else ""
+        self.text = short(self.events[0].texts[length], 96 if length == 0 else 64) + more
 
-    def told(self) -> str:
+    def hint(self) -> str:
         """Returns the descriptions of the events, or only the first four if there are more."""
-        lines = [it.hint for it in self.moments[:NAMED]]
+        lines = [it.hint for it in self.events[:NAMED]]
         return "\n".join(
-            lines + ([f"and {len(self.moments) - NAMED} more"] if len(self.moments) > NAMED else [])
+            lines + ([f"and {len(self.events) - NAMED} more"] if len(self.events) > NAMED else [])
         )
 
     def span(self, is_left: bool) -> tuple[float, float]:
@@ -84,17 +84,17 @@ class Mark:
         return False
 
 
-def marks_of(moments: Iterable[Moment], x_of: Callable[[int], float]) -> list[Mark]:
+def marks_of(events: Iterable[Event], x_of: Callable[[int], float]) -> list[Mark]:
     """Returns a mark for each pixel column and kind of event."""
 
-    def column_of(it: Moment) -> tuple[int, str]:
-        return int(x_of(it.moment)), it.kind
+    def column_of(it: Event) -> tuple[int, str]:
+        return int(x_of(it.time_ns)), it.kind
 
     columns = [
         list(column)
-        for _, column in itertools.groupby(sorted(moments, key=column_of), key=column_of)
+        for _, column in itertools.groupby(sorted(events, key=column_of), key=column_of)
     ]
-    return [Mark(x_of(column[0].moment), column) for column in columns]
+    return [Mark(x_of(column[0].time_ns), column) for column in columns]
 
 
 def place_all(marks: list[Mark], length: int, are_kills_first: bool) -> list[Mark]:
@@ -115,7 +115,7 @@ def place(marks: list[Mark]) -> list[Mark]:
     """Places the longest labels with which all marks have room. If there are none, places the
     shortest labels, those of kills first. Removes empty rows, and returns the marks without room.
     """
-    lengths = min((len(mark.moments[0].texts) for mark in marks), default=1)
+    lengths = min((len(mark.events[0].texts) for mark in marks), default=1)
     if not any(not place_all(marks, length, False) for length in range(lengths)):
         place_all(marks, lengths - 1, True)
     rows = sorted({mark.row for mark in marks if mark.row is not None})

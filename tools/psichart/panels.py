@@ -10,7 +10,7 @@ from psicli.times import SECOND
 from psireplay.lines import AVERAGES, LEVELS
 from psireplay.samples import Life, Sample
 
-from .axes import TimeAxis, byte_step, share_step, told_bytes
+from .axes import TimeAxis, byte_step, byte_text, share_step
 from .replay import Replay, Series
 from .svg import (
     LEFT,
@@ -137,9 +137,9 @@ class Panel:
 class Curves:
     """The averages in a group's reports on a resource, as curves in one style."""
 
-    def __init__(self, series: Series, axis: TimeAxis, look: str = "") -> None:
-        self.series, self.axis, self.look = series, axis, look
-        self.shown = [place for place, moment in enumerate(series.moments) if axis.holds(moment)]
+    def __init__(self, series: Series, axis: TimeAxis, style: str = "") -> None:
+        self.series, self.axis, self.style = series, axis, style
+        self.shown = [place for place, time_ns in enumerate(series.times_ns) if axis.holds(time_ns)]
 
     def most(self) -> int:
         """Returns the greatest value of the curves, in hundredths of a percent."""
@@ -154,14 +154,14 @@ class Curves:
     def draw(self, panel: Element, frame: Frame) -> None:
         for average, level in itertools.product(reversed(AVERAGES), LEVELS):
             shares = self.series.shares[level, average]
-            lines = add(panel, "g", class_=f"series {level} {average}{self.look}")
-            look = {"class_": "climbing"} if self.does_climb(average) else {}
+            lines = add(panel, "g", class_=f"series {level} {average}{self.style}")
+            style = {"class_": "climbing"} if self.does_climb(average) else {}
             for places in self.unbroken() if shares else ():
                 points = (
-                    (self.axis.x(self.series.moments[it]), frame.bottom - shares[it] * frame.scale)
+                    (self.axis.x(self.series.times_ns[it]), frame.bottom - shares[it] * frame.scale)
                     for it in places
                 )
-                add_line(lines, thinned(points), **look)
+                add_line(lines, thinned(points), **style)
 
     def does_climb(self, average: str) -> bool:
         """Returns whether the chart only shows the average climbing from 0. A machine that ran
@@ -183,11 +183,11 @@ class Curves:
         """Yields the indexes of consecutive reports. They are split if the group didn't exist for
         two pixels or more.
         """
-        rounds, moments = self.series.rounds, self.series.moments
+        rounds, times_ns = self.series.rounds, self.series.times_ns
         run: list[int] = []
         for place in self.shown:
             if run and rounds[place] > rounds[place - 1] + 1:
-                if self.axis.x(moments[place]) - self.axis.x(moments[place - 1]) >= 2:
+                if self.axis.x(times_ns[place]) - self.axis.x(times_ns[place - 1]) >= 2:
                     yield run
                     run = []
             run.append(place)
@@ -214,7 +214,7 @@ class PressurePanel(Panel):
         super().__init__(name, axis, thresholds)
         self.kind = resource
         found = [replay.series.get((path, resource), Series()) for replay in replays]
-        self.curves = [Curves(series, axis, look) for series, look in zip(found, ("", " was"))]
+        self.curves = [Curves(series, axis, style) for series, style in zip(found, ("", " was"))]
         # The times (ns) of the shown events, for each replay and each level.
         self.events = [
             [
@@ -238,7 +238,7 @@ class PressurePanel(Panel):
         )
 
     def has_events(self) -> bool:
-        return any(moments for events in self.events for moments in events)
+        return any(times_ns for events in self.events for times_ns in events)
 
     def step(self, most: int) -> int:
         return share_step(most)
@@ -265,8 +265,8 @@ class PressurePanel(Panel):
         return RIGHT - SMALL_LETTER * len(self.caveat())
 
     def draw_events(self, panel: Element, top: float) -> None:
-        for row, (level, moments) in enumerate(zip(LEVELS, self.events[0])):
-            columns = itertools.groupby(map(self.axis.x, moments), key=int)
+        for row, (level, times_ns) in enumerate(zip(LEVELS, self.events[0])):
+            columns = itertools.groupby(map(self.axis.x, times_ns), key=int)
             ticks = "".join(
                 f"M{decimal(next(column))} {decimal(top + 7 * row)}v6" for _, column in columns
             )
@@ -323,16 +323,16 @@ class MemoryPanel(Panel):
         return byte_step(most)
 
     def number(self, value: int, step: int) -> str:
-        return told_bytes(value, step)
+        return byte_text(value, step)
 
     def draw_inside(self, panel: Element, frame: Frame) -> None:
         for place, what in enumerate(("memory", "swap") if self.has_swap else ("memory",)):
-            look = f"series {what}-use"
+            style = f"series {what}-use"
             x, y = self.name_end() + MEMORY_ENTRY * place, frame.top - 17
-            add(panel, "polyline", class_=look,
+            add(panel, "polyline", class_=style,
             points=f"{decimal(x)},{decimal(y)} {decimal(x + 32)},{decimal(y)}")  # fmt: skip
             add(panel, "text", what, x=x + 38, y=y + 4)
-            lines = add(panel, "g", class_=look)
+            lines = add(panel, "g", class_=style)
             for samples in self.lives:
                 add_line(lines, thinned_steps(self.steps(samples, what == "swap", frame)))
         if not self.lives:

@@ -17,14 +17,14 @@ class Series:
     """
 
     def __init__(self) -> None:
-        self.moments, self.rounds = array("Q"), array("Q")
+        self.times_ns, self.rounds = array("Q"), array("Q")
         self.shares: dict[Which, array[int]] = {
             (level, it): array("Q") for level in LEVELS for it in AVERAGES
         }
 
     def take(self, report: Report, number: int) -> None:
         """Adds a report, which belongs to round number `number`."""
-        self.moments.append(report.moment)
+        self.times_ns.append(report.moment)
         self.rounds.append(number)
         for level, pressure in (("some", report.some), ("full", report.full)):
             if pressure:
@@ -35,10 +35,10 @@ class Series:
             self.shares[level, average].append(share)
 
 
-class Gone(NamedTuple):
+class Removal(NamedTuple):
     """A group with a report in the previous round, but none in the round at this time (ns)."""
 
-    moment: int
+    time_ns: int
     path: str
 
 
@@ -49,23 +49,24 @@ class Rounds:
 
     def __init__(self) -> None:
         self.number = 0
-        self.moment: Optional[int] = None
+        self.time_ns: Optional[int] = None
         self.before: set[str] = set()
         self.now: set[str] = set()
-        self.gone: list[Gone] = []
+        self.removals: list[Removal] = []
         self.paths: set[str] = set()
 
-    def take(self, moment: int, path: str) -> None:
-        if moment != self.moment:
+    def take(self, time_ns: int, path: str) -> None:
+        if time_ns != self.time_ns:
             self.close()
-            self.moment, self.number = moment, self.number + 1
+            self.time_ns, self.number = time_ns, self.number + 1
         self.now.add(path)
         self.paths.add(path)
 
     def close(self) -> None:
         """Ends the round, and records which groups have no report in it."""
-        if self.moment is not None:
-            self.gone += [Gone(self.moment, path) for path in sorted(self.before - self.now)]
+        if self.time_ns is not None:
+            removed = sorted(self.before - self.now)
+            self.removals += [Removal(self.time_ns, path) for path in removed]
             self.before, self.now = self.now, set()
 
 
@@ -92,10 +93,10 @@ class Replay:
                 event.moment
             )
 
-    def gone(self) -> list[Gone]:
+    def removals(self) -> list[Removal]:
         """Returns the removals of the drawn groups, and of the groups that would be killed."""
         named = {*self.groups, *(kill.path for kill in self.kills)}
-        return [gone for gone in self.rounds.gone if gone.path in named]
+        return [it for it in self.rounds.removals if it.path in named]
 
 
 def read_replay(printed: Iterable[bytes], groups: list[str]) -> Replay:

@@ -101,12 +101,12 @@ def add(
     return element
 
 
-def add_line(parent: Element, points: Iterable[Point], **look: str) -> None:
+def add_line(parent: Element, points: Iterable[Point], **style: str) -> None:
     """Adds a line through these points, with this style. A single point is written twice, so that
     it is drawn as a dot.
     """
     places = [f"{decimal(x)},{decimal(y)}" for x, y in points]
-    add(parent, "polyline", points=" ".join(places * 2 if len(places) == 1 else places), **look)
+    add(parent, "polyline", points=" ".join(places * 2 if len(places) == 1 else places), **style)
 
 
 def counted(number: int, what: str) -> str:

@@ -24,7 +24,7 @@ class Threshold(NamedTuple):
     """
 
     level: int
-    look: str
+    style: str
     text: str
 
 
@@ -33,11 +33,11 @@ def lasting(args: dict[str, str]) -> str:
 
 
 def of_pressure(ruleset: Ruleset, detector: Plugin) -> Threshold:
-    look, what = WATCHED[detector.name]
+    style, what = WATCHED[detector.name]
     args = detector.args
     return Threshold(
         int(args["threshold"]) * 100,
-        look,
+        style,
         f"{what} above {args['threshold']} %{lasting(args)}: {ruleset.name}",
     )
 
@@ -80,9 +80,9 @@ def merged(thresholds: list[Threshold]) -> list[Threshold]:
     """Merges thresholds with equal value and style into one line, which has all their labels."""
     found: dict[tuple[int, str], list[str]] = {}
     for it in thresholds:
-        texts = found.setdefault((it.level, it.look), [])
+        texts = found.setdefault((it.level, it.style), [])
         texts += [] if it.text in texts else [it.text]
-    return [Threshold(level, look, "; ".join(texts)) for (level, look), texts in found.items()]
+    return [Threshold(level, style, "; ".join(texts)) for (level, style), texts in found.items()]
 
 
 class Box(NamedTuple):
@@ -167,7 +167,7 @@ def draw_thresholds(
         y = bottom - it.level * scale
         group = add(panel, "g", class_="rule")
         add(group, "title", it.text)
-        add(group, "polyline", class_=f"threshold {it.look}",
+        add(group, "polyline", class_=f"threshold {it.style}",
             points=f"{LEFT},{y:.2f} {RIGHT},{y:.2f}")  # fmt: skip
         for label in labels_of(it, y):
             box = label.box()

@@ -71,11 +71,11 @@ def asked_of(readings: Sequence[dict[File, Totals]], clocks: Clocks, start: int)
     trace begins at `start` (ns of the recording's clock). Growth is counted from the first reading
     that has the group's files, or from 0 at the creation of a group that was created later.
     """
-    began = max(it.moment for it in readings[0].values()) - start
+    began = max(it.time_ns for it in readings[0].values()) - start
     found = []
     for path in sorted({file.path for file in readings[-1]}):
         ends = {file.resource: totals for file, totals in readings[-1].items() if file.path == path}
-        number = clocks.number_at(path, max(it.moment for it in ends.values()) - start)
+        number = clocks.number_at(path, max(it.time_ns for it in ends.values()) - start)
         if number is None:
             continue
         made = clocks.all[number].made
@@ -88,7 +88,7 @@ def asked_of(readings: Sequence[dict[File, Totals]], clocks: Clocks, start: int)
                     for files in readings
                     if File(path, resource) in files
                 )
-            spans[resource] = before.moment - start, after.moment - start
+            spans[resource] = before.time_ns - start, after.time_ns - start
             machine[resource] = after.some - before.some, after.full - before.full
         found.append(Asked(path, number, spans, machine))
     return found
@@ -140,9 +140,9 @@ def sampling_of(
     files = [
         it
         for it in files
-        if len(it) == len(RESOURCES) and min(totals.moment for totals in it.values()) >= begin
+        if len(it) == len(RESOURCES) and min(totals.time_ns for totals in it.values()) >= begin
     ]
-    own |= {totals.moment for it in files for totals in it.values()}
+    own |= {totals.time_ns for it in files for totals in it.values()}
     period = period_of(hertz)
     phase = fitted_phase(asked, clocks, files, sorted(own), hertz) if len(files) > 1 else 0
     return Sampling(sorted(own | set(range(begin + phase, end, period))), phase)
@@ -151,7 +151,7 @@ def sampling_of(
 def shifted(files: dict[File, Totals], path: str, start: int) -> dict[str, Totals]:
     """Returns a group's totals in a reading by resource, with their times in ns of the trace."""
     return {
-        file.resource: it._replace(moment=it.moment - start)
+        file.resource: it._replace(time_ns=it.time_ns - start)
         for file, it in files.items()
         if file.path == path
     }
@@ -190,7 +190,7 @@ def distance_of(path: str, files: Sequence[dict[str, Totals]], totals: dict[int,
     for before, after in zip(files, files[1:]):
         for resource in RESOURCES:
             one, two = before[resource], after[resource]
-            some, full = grown(totals[one.moment].told, totals[two.moment].told, resource, path)
+            some, full = grown(totals[one.time_ns].told, totals[two.time_ns].told, resource, path)
             machine = two.full - one.full
             whole += (some - two.some + one.some) ** 2 + (
                 full - (0 if has_no_full(path, resource) else machine)

@@ -278,7 +278,7 @@ def by_moments(options: Options) -> tuple[list[Row], Shown]:
             ways = [growths_of(asked, it, sampling, hertz) for it in (clocks, *extremes)]
             rows += [row_of(growth, sampling.phase, others) for growth, *others in zip(*ways)]
     first, last = (
-        min(it.moment for it in told.readings[number].values())
+        min(it.time_ns for it in told.readings[number].values())
         for number in (inside[0], inside[-1])
     )
     fitted = any(row.note for row in rows)

@@ -45,7 +45,7 @@ class Moments:
         self.addresses: dict[int, dict[str, int]] = {}
         self.sampled: dict[int, list[int]] = defaultdict(list)
         self.hertz: int | None = None
-        self.is_known = source.has_moments
+        self.is_known = source.has_sample_times
         if self.is_known:
             self.learn(source)
 
@@ -57,11 +57,11 @@ class Moments:
         works: dict[int, list[int]] = defaultdict(list)
         for event in source.events:
             if isinstance(event, AverageProbe):
-                works[event.work].append(event.moment)
+                works[event.work].append(event.time_ns)
         self.hertz = rate_of(works)
         self.match(source, shows)
         for show in shows:
-            self.sampled[show.group].append(show.moment)
+            self.sampled[show.group].append(show.time_ns)
         offset = offset_of(self.sampled, works)
         for work, moments in works.items():
             self.sampled[work - offset] += moments
@@ -74,7 +74,7 @@ class Moments:
         addresses of the previous reading are used.
         """
         known: dict[str, int] = {}
-        recorder, begins = recorder_of(source), [it.moment for it in shows]
+        recorder, begins = recorder_of(source), [it.time_ns for it in shows]
         spans = spans_of(source)
         for number, files in self.readings.items():
             begin, end = spans[number]
@@ -87,13 +87,13 @@ class Moments:
                 known = {file.path: show.group for file, show in zip(files, own)}
             self.addresses[number] = known
             places = {
-                (show.group, RESOURCES[show.resource]): show.moment
+                (show.group, RESOURCES[show.resource]): show.time_ns
                 for show in own
                 if show.resource < len(RESOURCES)
             }
             self.readings[number] = {
                 file: totals._replace(
-                    moment=places.get((known.get(file.path, 0), file.resource), totals.moment)
+                    time_ns=places.get((known.get(file.path, 0), file.resource), totals.time_ns)
                 )
                 for file, totals in files.items()
             }

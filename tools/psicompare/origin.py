@@ -82,7 +82,7 @@ def must_have_switches_of(source: Source, trace: str, start: int, lead_in: int) 
     """Rejects a trace if too few of its switches after the warm-up are at times of the recording's
     switches. Times are in ns.
     """
-    moments = {event.moment - start for event in source.events if isinstance(event, Switch)}
+    moments = {event.time_ns - start for event in source.events if isinstance(event, Switch)}
     found = count = 0
     for moment, verb, _ in events_of(trace):
         if verb == "switch" and moment > lead_in:

@@ -28,7 +28,7 @@ class Accounts(NamedTuple):
     found: dict[int, list[Account]]
 
 
-def told_by(event: Event) -> Account | None:
+def account_in(event: Event) -> Account | None:
     """Returns a group's accounting according to a marker, None if the event reports something
     else.
     """
@@ -48,7 +48,7 @@ def is_end_of(snapshot: Snapshot, event: Event) -> bool:
     added groups later.
     """
     is_end = isinstance(event, Marker) and event.text.startswith((MARK + SNAPSHOT_ENDS).encode())
-    return is_end and event.moment >= snapshot.moment
+    return is_end and event.time_ns >= snapshot.time_ns
 
 
 def accounts_of(events: Sequence[Event], snapshot: Snapshot) -> Accounts:
@@ -61,7 +61,7 @@ def accounts_of(events: Sequence[Event], snapshot: Snapshot) -> Accounts:
     named: set[str] = set()
     is_listed = False
     for place, event in enumerate(events):
-        account = told_by(event)
+        account = account_in(event)
         if account:
             found[place] = [account]
             if account.path not in named:

@@ -142,10 +142,10 @@ def parser() -> Parser:
     return words
 
 
-def options_of(given: Sequence[str] | None) -> Options:
+def options_of(arguments: Sequence[str] | None) -> Options:
     """Parses the command line."""
     words = parser()
-    found = words.values(given)
+    found = words.values(arguments)
     if len(found["triggers"]) > MOST_TRIGGERS:
         words.error(f"more than {MOST_TRIGGERS} triggers")
     must_fit(found)
@@ -266,8 +266,8 @@ def past_of(options: Options, source: Source, window: Window) -> Past | None:
 
 def put_in_unwritten(source: Source, window: Window) -> None:
     """Inserts the unwritten switches, and counts those within the window."""
-    source.events, moments = with_unwritten(source.events, source.gaps)
-    source.mended[UNWRITTEN] += sum(window.start <= it <= window.end for it in moments)
+    source.events, times_ns = with_unwritten(source.events, source.gaps)
+    source.mended[UNWRITTEN] += sum(window.start <= it <= window.end for it in times_ns)
 
 
 def losses_of(source: Source, window: Window, whole: Window) -> list[str]:
@@ -323,7 +323,7 @@ class Made(NamedTuple):
 
     converted: Converted
     parts: Iterable[bytes]
-    told: list[str]
+    notes: list[str]
     is_longer: bool = False
 
 
@@ -369,7 +369,7 @@ def convert_recording(options: Options) -> int:
         raise Fault(f"--trigger: there is no group {never_made[0]} in the trace", Status.NO_GROUP)
     losses += limit_lines(source, converted) + ["limit: the folded trace is longer than the trace"] * made.is_longer
     anonymous = Anonymous() if options.is_anonymous else None
-    for line in [*summary_of(source, converted, method, window, whole), *made.told, *losses]:
+    for line in [*summary_of(source, converted, method, window, whole), *made.notes, *losses]:
         tell(anonymous.text(line) if anonymous else line)
     if losses and not options.is_forced:
         tell("nothing is written; --force writes what is sound")
@@ -383,15 +383,15 @@ def convert_recording(options: Options) -> int:
     return Status.INCOMPLETE if losses else Status.DONE
 
 
-def psitrace(given: Sequence[str] | None) -> int:
+def psitrace(arguments: Sequence[str] | None) -> int:
     """Does what the arguments ask for, and returns the exit status."""
     try:
-        return convert_recording(options_of(given))
+        return convert_recording(options_of(arguments))
     except (Different, NotATrace) as fault:
         what = "the check of the folded trace found a difference, and nothing is written"
         raise Fault(f"{what}: {fault}", Status.DIFFERENT) from None
 
 
-def main(given: Sequence[str] | None = None) -> int:
-    """Runs the command, with the tool's own arguments if `given` is None; returns the exit status."""
-    return run(lambda: psitrace(given))
+def main(arguments: Sequence[str] | None = None) -> int:
+    """Runs the command, with the tool's own arguments if `arguments` is None; returns the exit status."""
+    return run(lambda: psitrace(arguments))

@@ -35,11 +35,11 @@ def companion(
         known.busy = clocks.finish(length) if clocks else []
         known.window = clocks.length if clocks else 0
         whole = [it for it in converted.world.lives if it.first <= length]
-        known.tasks = whole if converted.folded is None else folded_lives(known)
+        known.tasks = whole if converted.folded is None else busiest_lives(known)
     return known
 
 
-def folded_lives(known: Companion) -> list[Life]:
+def busiest_lives(known: Companion) -> list[Life]:
     """Returns the processes that ran most in some window, with the label 0. A folded trace has
     no other tasks.
     """

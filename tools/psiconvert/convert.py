@@ -22,7 +22,7 @@ from psiworld.limits import MOST_EVENTS, MOST_PROCESSORS, MOST_SWITCHES, MOST_TA
 from psiworld.world import How, State, World
 
 from .accounts import Accounts, accounts_of, is_end_of
-from .first import Beginning, First, beginning_of, tells_of_births
+from .first import Beginning, First, beginning_of, reports_births
 from .lead_in import TICK, Averages, LeadIn
 from .player import Player, Samples
 
@@ -73,7 +73,7 @@ class Converted(NamedTuple):
     folded: Sized | None = None
 
 
-class Told(NamedTuple):
+class Facts(NamedTuple):
     """Facts that are derived from all events together: the indices of the switches that begin a
     wait for IO, and the changes of accounting.
     """
@@ -99,9 +99,9 @@ def snapshot_prior(
     moved = {
         it.task
         for it in events
-        if isinstance(it, Attach) and not it.hierarchy and it.moment < snapshot.moment
+        if isinstance(it, Attach) and not it.hierarchy and it.time_ns < snapshot.time_ns
     }
-    settled = next((it.moment for it in events if is_end_of(snapshot, it)), NEVER)
+    settled = next((it.time_ns for it in events if is_end_of(snapshot, it)), NEVER)
     prior = Prior(groups, off, {}, Samples(), settled)
     for number, task in snapshot.tasks.items():
         if number in beginning.born:
@@ -148,7 +148,7 @@ def first_of(number: int, prior: Prior, beginning: Beginning) -> First:
             State.ASLEEP if is_idle or (state is State.READY and not prior.is_sound) else state,
             processor,
         )
-    if said.state is State.READY and said.moment > prior.settled:
+    if said.state is State.READY and said.time_ns > prior.settled:
         return First(late_state(known), said.processor)
     if said.state is State.ASLEEP and known and known.first.state is State.WAITING:
         return First(State.WAITING, said.processor)
@@ -233,26 +233,28 @@ def chosen(firsts: dict[int, First], prior: Prior, beginning: Beginning) -> list
 # ---------------------------------------------------------------- the whole
 
 
-def place_of(events: Sequence[Event], moment: int) -> int:
-    """Returns the index of the first event at or after `moment` (ns)."""
-    return bisect_left([event.moment for event in events], moment)
+def place_of(events: Sequence[Event], time_ns: int) -> int:
+    """Returns the index of the first event at or after `time_ns` (ns)."""
+    return bisect_left([event.time_ns for event in events], time_ns)
 
 
-def player_of(world: World, source: Source, told: Told) -> Player:
+def player_of(world: World, source: Source, facts: Facts) -> Player:
     """Returns a player of the recording's events in this world."""
-    return Player(world, source.events, told.waits, told.accounts.found, source.snapshot.types)
+    return Player(world, source.events, facts.waits, facts.accounts.found, source.snapshot.types)
 
 
-def prior_of(source: Source, until: int, told: Told, deepest: int | None, is_sound: bool) -> Prior:
+def prior_of(
+    source: Source, until: int, facts: Facts, deepest: int | None, is_sound: bool
+) -> Prior:
     """Returns the state before the event with the index `until`."""
-    beginning = beginning_of(source.events, tells_of_births(source.events))
-    prior = snapshot_prior(source.snapshot, source.events, beginning, told.accounts.off)
+    beginning = beginning_of(source.events, reports_births(source.events))
+    prior = snapshot_prior(source.snapshot, source.events, beginning, facts.accounts.off)
     if not until:
         return prior
     world = World(source.processors, Groups(deepest))
     begin_groups(world, prior)
     begin(world, prior, beginning)
-    player = player_of(world, source, told)
+    player = player_of(world, source, facts)
     for place in range(until):
         player.play(place, source.events[place])
         world.lines.clear()
@@ -280,7 +282,7 @@ def play(player: Player, source: Source, places: range, window: Window) -> str |
     for place in places:
         event = source.events[place]
         written, now = len(world.lines), world.now
-        world.now = max(event.moment - window.start, now)
+        world.now = max(event.time_ns - window.start, now)
         player.play(place, event)
         limit = limit_of(world)
         if limit:
@@ -321,12 +323,12 @@ class Wanted(NamedTuple):
 def convert(source: Source, wanted: Wanted) -> Converted:
     """Converts a recording at once, without folding."""
     window, deepest = wanted.window, wanted.deepest
-    told = Told(
+    facts = Facts(
         waits_for_io(source.events, wanted.method), accounts_of(source.events, source.snapshot)
     )
     is_sound = not any(gap.start < window.start for gap in source.gaps)
     places = range(place_of(source.events, window.start), place_of(source.events, window.end + 1))
-    prior = prior_of(source, places.start, told, deepest, is_sound)
+    prior = prior_of(source, places.start, facts, deepest, is_sound)
     world = World(source.processors, Groups(deepest), wanted.has_interrupts)
     world.upon = wanted.upon
     world.mended.update(prior.mended)
@@ -340,9 +342,9 @@ def convert(source: Source, wanted: Wanted) -> Converted:
     world.clocks = Clocks(WINDOW)
     begin(
         world, prior,
-        beginning_of(source.events[places.start : places.stop], tells_of_births(source.events)),
+        beginning_of(source.events[places.start : places.stop], reports_births(source.events)),
     )
-    player = player_of(world, source, told)
+    player = player_of(world, source, facts)
     limit = play(player, source, places, Window(origin, window.end))
     if world.groups.leaving:
         world.mended["removed group that a task never left"] += len(world.groups.leaving)
@@ -352,9 +354,9 @@ def convert(source: Source, wanted: Wanted) -> Converted:
         f"psitrace {world.version()} cpus={world.processors}", *world.lines, f"{world.now} end",
     ]
     uninterruptible = waits_for_io(source.events, Method.STATE)
-    told_waits = count_in(told.waits, places), count_in(uninterruptible, places)
+    wait_counts = count_in(facts.waits, places), count_in(uninterruptible, places)
     return Converted(
-        lines, world, counts, *told_waits, player.victims, limit, window.start - origin,
+        lines, world, counts, *wait_counts, player.victims, limit, window.start - origin,
         lead_in.left_out if lead_in else 0,
     )
 

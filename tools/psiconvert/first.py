@@ -32,7 +32,7 @@ class First(NamedTuple):
 
     state: State
     processor: int
-    moment: int = 0
+    time_ns: int = 0
 
 
 class Beginning:
@@ -59,27 +59,27 @@ class Beginning:
         """Whether this event is the first that names `task`."""
         return task != 0 and task not in self.tasks and task not in self.born
 
-    def name(self, task: int, state: State, processor: int, moment: int) -> None:
+    def name(self, task: int, state: State, processor: int, time_ns: int) -> None:
         """Records what a task did at the start, if this is the first event that names it. If the
         task moved to another processor before, its state refers to the processor it came from.
         """
         if self.is_new(task):
-            self.tasks[task] = First(state, self.origins.get(task, processor), moment)
+            self.tasks[task] = First(state, self.origins.get(task, processor), time_ns)
 
     def take(self, event: Event) -> None:
         """Takes the next event. It also names the task that runs on the processor on which it
         was written.
         """
         self.runs.setdefault(event.processor, event.current)
-        self.name(event.current, State.RUNNING, event.processor, event.moment)
+        self.name(event.current, State.RUNNING, event.processor, event.time_ns)
         if isinstance(event, Switch):
-            self.name(event.previous, State.RUNNING, event.processor, event.moment)
-            if event.moment > self.latest_ready and self.is_new(event.next):
+            self.name(event.previous, State.RUNNING, event.processor, event.time_ns)
+            if event.time_ns > self.latest_ready and self.is_new(event.next):
                 self.born.add(event.next)
-            self.name(event.next, State.READY, event.processor, event.moment)
+            self.name(event.next, State.READY, event.processor, event.time_ns)
         elif isinstance(event, Wakeup):
             slept = State.WAITING if event.task in self.waited else State.ASLEEP
-            self.name(event.task, slept, event.target, event.moment)
+            self.name(event.task, slept, event.target, event.time_ns)
         elif isinstance(event, Migration):
             if self.is_new(event.task):
                 self.origins.setdefault(event.task, event.origin)
@@ -109,7 +109,7 @@ class Beginning:
             self.depths[task] = depth - 1
 
 
-def tells_of_births(events: Iterable[Event]) -> bool:
+def reports_births(events: Iterable[Event]) -> bool:
     """Whether these events report the creation of tasks."""
     return any(isinstance(event, (NewTask, FirstWakeup)) for event in events)
 
@@ -119,7 +119,7 @@ def beginning_of(events: Sequence[Event], has_births: bool) -> Beginning:
     recording reports the creation of tasks.
     """
     is_open = has_births or not events
-    beginning = Beginning(NEVER if is_open else events[0].moment + LONGEST_READY)
+    beginning = Beginning(NEVER if is_open else events[0].time_ns + LONGEST_READY)
     for event in events:
         beginning.take(event)
     return beginning

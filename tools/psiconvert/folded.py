@@ -34,7 +34,7 @@ from psiworld.world import World
 
 from .accounts import accounts_of
 from .convert import Converted, Prior, Wanted, begin, begin_groups, snapshot_prior, world_prior
-from .first import LONGEST_READY, Beginning, tells_of_births
+from .first import LONGEST_READY, Beginning, reports_births
 from .player import Player
 from .unwritten import UNWRITTEN, Chains
 
@@ -42,7 +42,7 @@ from .unwritten import UNWRITTEN, Chains
 LINES = 5_000
 # The length (ns) of the first part of the events, which is read to find the initial state.
 LOOK_AHEAD = 60 * 10**9
-MOMENT = itemgetter(0)
+BY_TIME = itemgetter(0)
 # A function that returns the events in slices, from the first one each time it is called.
 Slices = Callable[[], Iterable[list[Event]]]
 
@@ -74,10 +74,10 @@ class Spool:
         except OSError as fault:
             raise Unreadable(f"a temporary file in {tempfile.gettempdir()}: {fault.strerror}") from None
 
-    def close(self, events: int, moment: int) -> None:
-        """Ends a trace of `events` lines at `moment` (ns)."""
+    def close(self, events: int, time_ns: int) -> None:
+        """Ends a trace of `events` lines at `time_ns` (ns)."""
         self.file.seek(0, os.SEEK_END)
-        self.write(f"{moment} end\n")
+        self.write(f"{time_ns} end\n")
         self.events = events + 1
 
     def parts(self) -> Iterator[bytes]:
@@ -111,14 +111,14 @@ class Slice:
 
 
 class Mender:
-    """Inserts the unwritten switches among the events. `moments` has the times (ns) of these
+    """Inserts the unwritten switches among the events. `times_ns` has the times (ns) of these
     switches.
     """
 
     def __init__(self, source: Source, silent: set[int]) -> None:
         self.chains = Chains(source.events, source.gaps)
         self.chains.silent = silent
-        self.moments: list[int] = []
+        self.times_ns: list[int] = []
 
     def pairs(self, slices: Iterable[list[Event]]) -> Iterator[Slice]:
         """Yields each slice together with the next one."""
@@ -137,12 +137,12 @@ class Mender:
         """Returns a slice's events with the unwritten switches since its first event, and
         separately the unwritten switches before that.
         """
-        whole, moments = self.chains.mended(events)
-        if not moments:
+        whole, times_ns = self.chains.mended(events)
+        if not times_ns:
             return events, []
-        self.moments += moments
-        whole.sort(key=MOMENT)
-        first = bisect_left(whole, events[0].moment, key=MOMENT) if before else 0
+        self.times_ns += times_ns
+        whole.sort(key=BY_TIME)
+        first = bisect_left(whole, events[0].time_ns, key=BY_TIME) if before else 0
         return whole[first:], whole[:first]
 
 
@@ -156,24 +156,24 @@ class Ahead:
 
     def __init__(self, source: Source, window: Window) -> None:
         self.source, self.start, self.end = source, window.start, min(window.end, window.start + LOOK_AHEAD)
-        self.latest_ready = None if tells_of_births(source.events) else LONGEST_READY
-        self.recording, self.window = self.new(source.events[0].moment), self.new(window.start)
-        self.until = source.events[0].moment + LOOK_AHEAD
+        self.latest_ready = None if reports_births(source.events) else LONGEST_READY
+        self.recording, self.window = self.new(source.events[0].time_ns), self.new(window.start)
+        self.until = source.events[0].time_ns + LOOK_AHEAD
         self.is_begun = False
 
-    def new(self, moment: int) -> Beginning:
-        """Returns an empty initial state, for events that begin at `moment` (ns)."""
-        return Beginning(NEVER if self.latest_ready is None else moment + self.latest_ready)
+    def new(self, time_ns: int) -> Beginning:
+        """Returns an empty initial state, for events that begin at `time_ns` (ns)."""
+        return Beginning(NEVER if self.latest_ready is None else time_ns + self.latest_ready)
 
     def take(self, events: list[Event]) -> bool:
         """Takes the next events, and returns whether more are needed."""
         for event in events:
-            moment = event[0]
-            if moment <= self.until:
+            time_ns = event[0]
+            if time_ns <= self.until:
                 self.recording.take(event)
-            if self.start <= moment <= self.end:
+            if self.start <= time_ns <= self.end:
                 if not self.is_begun:
-                    self.window, self.is_begun = self.new(moment), True
+                    self.window, self.is_begun = self.new(time_ns), True
                 self.window.take(event)
         return not events or events[-1][0] <= max(self.until, self.end)
 
@@ -211,8 +211,9 @@ class Conversion:
     def __init__(self, source: Source, wanted: Wanted, ahead: Ahead, put: Callable[[list[str]], None], window: int) -> None:
         self.source, self.wanted, self.ahead, self.put = source, wanted, ahead, put
         self.window_length = window
-        told = accounts_of(source.events, source.snapshot)
-        self.off, self.accounts = told.off, {source.events[place]: found for place, found in told.found.items()}
+        accounts = accounts_of(source.events, source.snapshot)
+        self.off = accounts.off
+        self.accounts = {source.events[place]: found for place, found in accounts.found.items()}
         self.player: Player | None = None
         self.prior: Prior | None = None
         self.is_begun = False
@@ -232,7 +233,7 @@ class Conversion:
             return known | by_probe(part.events, self.probes) if self.probes or part.has(SwitchProbe) else known
         return {place for place in by_statistics(part.both()) if place < len(part.events)}
 
-    def tell(self, player: Player, part: Slice, waits: set[int]) -> None:
+    def prepare(self, player: Player, part: Slice, waits: set[int]) -> None:
         """Passes to the player what is known of a slice: waits, accounting, and renumberings."""
         player.waits = waits
         player.accounts.clear()
@@ -248,14 +249,14 @@ class Conversion:
     def note_early(self, player: Player, part: Slice) -> None:
         """Counts the renumberings in the next slice that the player already handled in this one."""
         following = part.following if part.has(Exec) else ()
-        told = Counter(event.task for event in following if type(event) is Exec and event.task != event.old)
-        left = {task: sum(place >= len(part.events) for place, _ in player.changes.get(task, ())) for task in told}
-        self.early = Counter({task: count - left[task] for task, count in told.items() if count > left[task]})
+        counts = Counter(event.task for event in following if type(event) is Exec and event.task != event.old)
+        left = {task: sum(place >= len(part.events) for place, _ in player.changes.get(task, ())) for task in counts}
+        self.early = Counter({task: count - left[task] for task, count in counts.items() if count > left[task]})
 
     def play(self, part: Slice) -> bool:
         """Plays a slice, and returns whether the window continues after it."""
         events, window = part.events, self.wanted.window
-        start, end = (bisect_left(events, moment, key=MOMENT) for moment in (window.start, window.end + 1))
+        start, end = (bisect_left(events, time_ns, key=BY_TIME) for time_ns in (window.start, window.end + 1))
         waits = self.waits_in(part)
         if self.prior is None:
             beginning = self.ahead.recording
@@ -263,7 +264,7 @@ class Conversion:
             if start:
                 self.player = self.new_player(World(self.source.processors, Groups(self.wanted.deepest)), beginning)
         if start and self.player and not self.is_begun:
-            self.tell(self.player, part, waits)
+            self.prepare(self.player, part, waits)
             for place in range(start):
                 self.player.play(place, events[place])
                 self.player.world.lines.clear()
@@ -271,7 +272,7 @@ class Conversion:
             if not self.is_begun:
                 self.begin()
             assert self.player
-            self.tell(self.player, part, waits)
+            self.prepare(self.player, part, waits)
             self.play_window(self.player, events, range(start, end))
             self.count(events[start:end], waits, range(start, end))
         if self.player:
@@ -308,9 +309,9 @@ class Conversion:
         switch, wake, migrate, lines = player.switch, player.wake, player.migrate, world.lines
         pairs: Iterable[tuple[int, Any]] = zip(places, events[places.start : places.stop])
         for place, event in pairs:
-            moment = event[0] - start
-            if moment > world.now:
-                world.now = moment
+            time_ns = event[0] - start
+            if time_ns > world.now:
+                world.now = time_ns
                 if len(lines) > LINES:
                     put(lines)
                     lines.clear()
@@ -375,7 +376,7 @@ def convert_folded(source: Source, slices: Slices, ahead: Ahead, silent: set[int
     progress = Progress("psitrace", wanted.window.length())
     try:
         for part in mender.pairs(slices()):
-            progress.show(part.events[0].moment - wanted.window.start if part.events else 0)
+            progress.show(part.events[0].time_ns - wanted.window.start if part.events else 0)
             if not conversion.play(part):
                 break
         world = conversion.end()
@@ -391,9 +392,9 @@ def convert_folded(source: Source, slices: Slices, ahead: Ahead, silent: set[int
         folder.stop()
         raise
     progress.end()
-    source.mended[UNWRITTEN] += sum(wanted.window.start <= it <= wanted.window.end for it in mender.moments)
+    source.mended[UNWRITTEN] += sum(wanted.window.start <= it <= wanted.window.end for it in mender.times_ns)
     spool.header = f"psitrace {world.version()} cpus={source.processors}"
     victims = conversion.player.victims if conversion.player else []
-    told_waits = conversion.waits, conversion.uninterruptible
-    converted = Converted([], world, conversion.counts, *told_waits, victims, limit, folded=spool)
+    wait_counts = conversion.waits, conversion.uninterruptible
+    converted = Converted([], world, conversion.counts, *wait_counts, victims, limit, folded=spool)
     return Folded(converted, spool, outcome)

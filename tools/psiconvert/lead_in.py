@@ -289,7 +289,7 @@ class LeadIn:
             stretch = (
                 2 if tick >= self.ticks - LAST else 1 if tick >= self.ticks - LAST - MIDDLE else 0
             )
-            acts = []
+            changes = []
             own: dict[str, Shares] = {}
             for path in self.paths:
                 shares = [
@@ -297,12 +297,12 @@ class LeadIn:
                     for key, it in zip(PRESSURES, self.wanted(path, stretch))
                 ]
                 own[path] = possible(self.rest_of(path, len(self.stages[path]), shares, own))
-                acts += [
+                changes += [
                     (at, stage, status)
                     for at, status in timeline(own[path])
                     for stage in self.stages[path]
                 ]
-            for at, stage, status in sorted(acts, key=lambda it: it[0]):
+            for at, stage, status in sorted(changes, key=lambda it: it[0]):
                 self.world.now = tick * TICK + int(at * TICK / WHOLE)
                 stage.show(status)
         self.world.now = self.ticks * TICK
@@ -317,7 +317,7 @@ class LeadIn:
         including its descendants, has the wanted shares.
         """
         below = [
-            (len(self.stages[it]), seen_from(own[it], path)) for it in own if is_below(it, path)
+            (len(self.stages[it]), shares_in(own[it], path)) for it in own if is_below(it, path)
         ]
         whole = count + sum(it for it, _ in below)
         rest = [
@@ -332,7 +332,7 @@ def is_below(path: str, above: str) -> bool:
     return path != above and (above == ROOT or above in prefixes_of(path))
 
 
-def seen_from(shares: Shares, path: str) -> Shares:
+def shares_in(shares: Shares, path: str) -> Shares:
     """Returns the shares that the ancestor `path` has from a descendant's processor. For the
     root, the task from outside is one of its own that isn't stalled.
     """

@@ -311,7 +311,7 @@ class Player:
         if event.hierarchy:
             return
         path = self.world.make_group(escaped_path(event.path))
-        is_told = probe is not None and probe.task == event.task
+        is_probed = probe is not None and probe.task == event.task
         first = self.world.tasks.get(event.task)
         if first and first.process != event.task:
             self.types.pop(path, None)  # a thread moved alone, so the group's type isn't plain
@@ -321,9 +321,9 @@ class Player:
         ]  # fmt: skip
         if first and first.group != path:
             self.world.move(first, path)
-        if probe is not None and is_told and not probe.whole:
+        if probe is not None and is_probed and not probe.whole:
             return
-        if others and not is_told and self.types.get(path) != PLAIN_TYPE:
+        if others and not is_probed and self.types.get(path) != PLAIN_TYPE:
             self.mended["first thread of a process moved, the others taken to go with it"] += 1
         for task in others:
             self.world.move(task, path)

@@ -18,7 +18,7 @@ from .convert import Converted
 SETTLED_10, SETTLED_60 = 30, 180
 
 
-def moment_text(realtime: int) -> str:
+def utc_text(realtime: int) -> str:
     """Formats a time (ns since 1970) in UTC."""
     try:
         whole = datetime.fromtimestamp(realtime // SECOND, timezone.utc)
@@ -40,9 +40,9 @@ def waits_text(method: Method, converted: Converted) -> str:
     )
 
 
-def exact_seconds(moment: int) -> str:
+def exact_seconds(time_ns: int) -> str:
     """Formats a time (ns) in seconds with all nine decimals."""
-    return f"{moment // SECOND}.{moment % SECOND:09}"
+    return f"{time_ns // SECOND}.{time_ns % SECOND:09}"
 
 
 def counted(found: dict[str, int]) -> str:
@@ -71,7 +71,7 @@ def whole_lines(source: Source, converted: Converted, window: Window, whole: Win
             f" {exact_seconds(end)}"
         )
     if source.realtime is not None:
-        lines.append(f"0 is {moment_text(window.start - converted.begins + source.realtime)}")
+        lines.append(f"0 is {utc_text(window.start - converted.begins + source.realtime)}")
     return lines
 
 
@@ -91,7 +91,7 @@ def accounting_lines(source: Source, world: World) -> list[str]:
     return lines
 
 
-def told_lines(source: Source, converted: Converted) -> list[str]:
+def note_lines(source: Source, converted: Converted) -> list[str]:
     """Returns the lines about what a trace can't express, or expresses differently."""
     lines = list(source.notes)
     omitted = [
@@ -105,8 +105,8 @@ def told_lines(source: Source, converted: Converted) -> list[str]:
             "times of interrupts are left out: --interrupts writes them, into a trace of version 2"
         )
     lines += [
-        f"the kernel's own killer chose task {task} at {seconds_to_ms(moment)} s"
-        for moment, task in converted.victims
+        f"the kernel's own killer chose task {task} at {seconds_to_ms(time_ns)} s"
+        for time_ns, task in converted.victims
     ]
     return lines
 
@@ -120,7 +120,7 @@ def summary_of(
         *whole_lines(source, converted, window, whole),
         f"events: {counted(converted.counts)}",
         waits_text(method, converted),
-        *told_lines(source, converted),
+        *note_lines(source, converted),
         *(f"mended: {kind}: {count}" for kind, count in sorted(mended.items()) if count),
         *past_lines(converted),
     ]

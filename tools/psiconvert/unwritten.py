@@ -48,7 +48,7 @@ class Chains:
         self.gaps, self.renamed, self.silent = gaps, renamed(events), silent_tasks(events)
         self.running: dict[int, int] = {}
         # The time (ns) of each processor's last event.
-        self.moments: dict[int, int] = {}
+        self.times_ns: dict[int, int] = {}
         # The processor on which each ready task waits, and the time (ns) since which that is known.
         self.ready: dict[int, tuple[int, int]] = {}
 
@@ -57,18 +57,18 @@ class Chains:
         that shows it, and the times (ns) of these switches.
         """
         whole: list[Event] = []
-        moments: list[int] = []
+        times_ns: list[int] = []
         running = self.running
         for event in events:
             processor, runs = event[1], event[3] if isinstance(event, Switch) else event[2]
             if running.get(processor, runs) != runs:
                 missing = self.missing(event, running[processor], runs)
-                moments += (it.moment for it in missing)
+                times_ns += (it.time_ns for it in missing)
                 whole += missing
             running[processor] = runs
             self.take(event)
             whole.append(event)
-        return whole, moments
+        return whole, times_ns
 
     def missing(self, event: Event, known: int, runs: int) -> list[Switch]:
         """Returns the unwritten switches on the event's processor before it, from the task that
@@ -94,42 +94,42 @@ class Chains:
 
     def is_gap(self, event: Event) -> bool:
         """Whether events of the processor were lost right before this one."""
-        since = Window(self.moments[event.processor], event.moment)
+        since = Window(self.times_ns[event.processor], event.time_ns)
         return any(gap.processor == event.processor for gap in overlapping(self.gaps, since))
 
     def switches(self, processor: int, route: Sequence[int]) -> Iterator[Switch]:
         """Yields switches from each task of the route to the next, each at its earliest possible
         time.
         """
-        moment = self.moments[processor]
+        time_ns = self.times_ns[processor]
         for previous, following in zip(route, route[1:]):
             self.ready.pop(previous, None)
-            moment = max(moment, self.ready.pop(following)[1] if following else 0)
+            time_ns = max(time_ns, self.ready.pop(following)[1] if following else 0)
             yield Switch(
-                moment, processor, previous, previous, SLEEPS if previous else STAYS, following
+                time_ns, processor, previous, previous, SLEEPS if previous else STAYS, following
             )
 
     def take(self, event: Event) -> None:
         """Updates the state by a written event."""
-        moment, processor = event[:2]
-        self.moments[processor] = moment
+        time_ns, processor = event[:2]
+        self.times_ns[processor] = time_ns
         if isinstance(event, Switch):
             _, _, _, previous, state, following = event
             self.running[processor] = following
             self.ready.pop(following, None)
             self.ready.pop(previous, None)
             if state == STAYS and previous:
-                self.ready[previous] = processor, moment
+                self.ready[previous] = processor, time_ns
         elif isinstance(event, (Wakeup, FirstWakeup)) or (
             isinstance(event, Migration) and event.task in self.ready
         ):
-            self.ready[event.task] = event.target, moment
+            self.ready[event.task] = event.target, time_ns
 
 
 def with_unwritten(events: Sequence[Event], gaps: Sequence[Gap]) -> tuple[list[Event], list[int]]:
     """Returns the events with the unwritten switches, and the times (ns) of the latter. There
     are none after lost events, since it isn't known which tasks ran during the gap.
     """
-    whole, moments = Chains(events, gaps).mended(events)
+    whole, times_ns = Chains(events, gaps).mended(events)
     whole.sort(key=itemgetter(0))
-    return whole, moments
+    return whole, times_ns

@@ -16,7 +16,7 @@ from psiworld.world import LABEL_STEP
 
 # A probe that precedes a wakeup by more than this (ns) belongs to another change.
 LONGEST_LAG = 50_000_000
-MOMENT = itemgetter(0)
+BY_TIME = itemgetter(0)
 
 
 class Counting(Enum):
@@ -27,22 +27,22 @@ class Counting(Enum):
     EVENT = "event"  # when its event was written
 
 
-def counted_at(events: Sequence[Event], told: dict[int, int] | None = None) -> dict[int, int]:
+def counted_at(events: Sequence[Event], probes: dict[int, int] | None = None) -> dict[int, int]:
     """Returns the time (ns) at which psi counted each wakeup, by the index of the event. A task
     that moves to another processor or group is counted again, so a probe without a wakeup after
-    it is ignored. If events are read in parts, pass the same `told` for each part.
+    it is ignored. If events are read in parts, pass the same `probes` for each part.
     """
-    told = {} if told is None else told
+    probes = {} if probes is None else probes
     found: dict[int, int] = {}
     for place, event in enumerate(events):
         if isinstance(event, ReadyProbe):
-            told[event.task] = event.moment
+            probes[event.task] = event.time_ns
         elif isinstance(event, Switch):
-            told.pop(event.next, None)
+            probes.pop(event.next, None)
         elif isinstance(event, (Wakeup, FirstWakeup)):
-            moment = told.pop(event.task, None)
-            if moment is not None and event.moment - moment < LONGEST_LAG:
-                found[place] = moment
+            time_ns = probes.pop(event.task, None)
+            if time_ns is not None and event.time_ns - time_ns < LONGEST_LAG:
+                found[place] = time_ns
     return found
 
 
@@ -51,33 +51,32 @@ def put_at(events: Sequence[Event], counted: dict[int, int], counting: Counting)
     if counting is Counting.EVENT or not counted:
         return list(events)
     moved: list[Event] = list(events)
-    for place, moment in counted.items():
+    for place, time_ns in counted.items():
         event = events[place]
         moved[place] = event._replace(
-            moment=moment if counting is Counting.PROBE else (moment + event.moment) // 2
+            time_ns=time_ns if counting is Counting.PROBE else (time_ns + event.time_ns) // 2
         )
-    moved.sort(key=MOMENT)
+    moved.sort(key=BY_TIME)
     return moved
 
 
 class Wakeups:
     """Moves the wakeups of a recording to the requested time. `lags` counts by how many ns psi
-    counted them before their events, and `untold` is the number of wakeups without a probe.
+    counted them before their events, and `without_probe` is the number of wakeups without a probe.
     """
 
     def __init__(self, counting: Counting) -> None:
         self.counting = counting
-        self.told: dict[int, int] = {}
+        self.probes: dict[int, int] = {}
         self.lags: Counter[int] = Counter()
-        self.untold = 0
+        self.without_probe = 0
 
     def put(self, events: Sequence[Event]) -> list[Event]:
         """Returns the next events with their wakeups at the requested time."""
-        counted = counted_at(events, self.told)
-        self.lags.update(events[place].moment - moment for place, moment in counted.items())
-        self.untold += sum(isinstance(event, (Wakeup, FirstWakeup)) for event in events) - len(
-            counted
-        )
+        counted = counted_at(events, self.probes)
+        self.lags.update(events[place].time_ns - time_ns for place, time_ns in counted.items())
+        wakeups = sum(isinstance(event, (Wakeup, FirstWakeup)) for event in events)
+        self.without_probe += wakeups - len(counted)
         return put_at(events, counted, self.counting)
 
     def slices(self, slices: Iterable[list[Event]]) -> Iterator[list[Event]]:
@@ -88,8 +87,8 @@ class Wakeups:
         for events in slices:
             moved = self.put(events)
             if before is not None:
-                first = bisect_left(moved, events[0].moment, key=MOMENT) if events else 0
-                yield sorted([*before, *moved[:first]], key=MOMENT) if first else before
+                first = bisect_left(moved, events[0].time_ns, key=BY_TIME) if events else 0
+                yield sorted([*before, *moved[:first]], key=BY_TIME) if first else before
                 moved = moved[first:]
             before = moved
         if before is not None:
@@ -123,7 +122,7 @@ class Wakeups:
         )
         return (
             f"wakeups {way}: {middle:.1f} us apart at the median, {most:.1f} at 99 of 100; unknown"
-            f" of {self.untold}"
+            f" of {self.without_probe}"
         )
 
 
@@ -137,22 +136,22 @@ Bounds = Callable[[str, int], tuple[int, int]]
 def bounds_of(events: Sequence[Event], start: int) -> Bounds:
     """Returns bounds by the probes of a recording, whose trace begins at `start` (ns)."""
     pairs: dict[int, list[tuple[int, int]]] = defaultdict(list)
-    for place, moment in counted_at(events).items():
+    for place, time_ns in counted_at(events).items():
         event = events[place]
-        pairs[event.task].append((moment - start, event.moment - start))  # type: ignore[union-attr]
+        pairs[event.task].append((time_ns - start, event.time_ns - start))  # type: ignore[union-attr]
 
-    def bounds(label: str, moment: int) -> tuple[int, int]:
+    def bounds(label: str, time_ns: int) -> tuple[int, int]:
         own = pairs.get(int(label) % LABEL_STEP, [])
-        while own and own[0][1] < moment:
+        while own and own[0][1] < time_ns:
             own.pop(0)
-        return own[0] if own and own[0][0] <= moment else (moment, moment)
+        return own[0] if own and own[0][0] <= time_ns else (time_ns, time_ns)
 
     return bounds
 
 
 def lag_bounds(lag: int) -> Bounds:
     """Returns bounds without probes: up to `lag` ns before the line."""
-    return lambda _, moment: (moment - lag, moment)
+    return lambda _, time_ns: (time_ns - lag, time_ns)
 
 
 def with_wakeups(lines: Iterable[str], bounds: Bounds, is_first: bool) -> list[str]:
@@ -164,16 +163,16 @@ def with_wakeups(lines: Iterable[str], bounds: Bounds, is_first: bool) -> list[s
     found: list[tuple[int, str]] = []
     for line in lines:
         words = line.split()
-        moment = int(words[0])
+        time_ns = int(words[0])
         if words[1] == "switch":
-            lasts[runs.get(words[2], "")] = lasts[words[3]] = moment
+            lasts[runs.get(words[2], "")] = lasts[words[3]] = time_ns
             runs[words[2]] = words[3]
         elif words[1] == "wake":
-            first, last = bounds(words[2], moment)
-            moment = max(first if is_first else last, lasts.get(words[2], 0))
-            line = f"{moment} {line.partition(' ')[2]}"
+            first, last = bounds(words[2], time_ns)
+            time_ns = max(first if is_first else last, lasts.get(words[2], 0))
+            line = f"{time_ns} {line.partition(' ')[2]}"
         elif words[1] in ("fork", "move", "stall", "unstall", "migrate"):
-            lasts[words[2]] = moment
-        found.append((moment, line))
-    found.sort(key=MOMENT)
+            lasts[words[2]] = time_ns
+        found.append((time_ns, line))
+    found.sort(key=BY_TIME)
     return [line for _, line in found]

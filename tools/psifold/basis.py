@@ -221,12 +221,12 @@ class Basis:
                 sign * (factor * column - own * change) // divisor for column, own in pairs
             ]
         # Times are computed one by one, since intermediate results are far larger than fields.
-        given = times[row] + time * factor
+        row_time = times[row] + time * factor
         times = [
             (
-                sign * (factor * (at + time * part) - given * part) // divisor
+                sign * (factor * (at + time * part) - row_time * part) // divisor
                 if place != row
-                else sign * given
+                else sign * row_time
             )
             for place, (at, part) in enumerate(zip(times, found))
         ]

@@ -88,16 +88,16 @@ class Clock:
         self.since = start
         self.times = [0] * STATES
 
-    def go_to(self, moment: int) -> None:
-        """Adds the time up to `moment` (ns) to each state that holds."""
-        length = moment - self.since
+    def go_to(self, time_ns: int) -> None:
+        """Adds the time up to `time_ns` (ns) to each state that holds."""
+        length = time_ns - self.since
         if length:
-            for state, is_held in enumerate(self.held()):
-                if is_held:
+            for state, holds in enumerate(self.states()):
+                if holds:
                     self.times[state] += length
-            self.since = moment
+            self.since = time_ns
 
-    def held(self) -> tuple[bool, ...]:
+    def states(self) -> tuple[bool, ...]:
         """Returns which states hold, according to the counts, and to whether the running task is
         of the group and in a stall.
         """
@@ -133,8 +133,8 @@ class Clocks:
         self.start = 0
         self.clocks: dict[tuple[int, str], Clock] = {}
 
-    def change(self, moment: int, task: Task, sign: int) -> None:
-        """Adds a task in its present state (sign 1), or removes it (sign -1), at `moment` (ns)."""
+    def change(self, time_ns: int, task: Task, sign: int) -> None:
+        """Adds a task in its present state (sign 1), or removes it (sign -1), at `time_ns` (ns)."""
         chain = chain_of(task.path)
         if any(path in self.without for path in chain):
             return
@@ -142,7 +142,7 @@ class Clocks:
             clock = self.clocks.get((task.processor, path))
             if clock is None:
                 clock = self.clocks[task.processor, path] = Clock(self.start)
-            clock.go_to(moment)
+            clock.go_to(time_ns)
             clock.add(task, sign)
 
     def sums(self, end: int, accounted: set[str]) -> dict[Key, int]:
@@ -181,9 +181,9 @@ class Check:
         self.clocks = [Clocks(())]
         self.interrupts: Counter[tuple[int, str]] = Counter()
         self.interrupted: dict[int, int] = {}
-        self.kept: list[str] = []
+        self.copies: list[str] = []
         # The number of ns that each sum lacks, over all windows up to now.
-        self.behind: Counter[Key] = Counter()
+        self.shortfalls: Counter[Key] = Counter()
         # The time (ns) of the last edge, and the groups that must have tasks after all lines of
         # that time.
         self.edge: tuple[int, set[str]] | None = None
@@ -197,15 +197,15 @@ class Check:
 
     def play(self, line: str) -> None:
         """Replays a line of a window."""
-        moment, verb, *fields = line.split(" ")
-        self.must(int(moment) >= self.now, line)
-        self.pass_edge(int(moment))
-        self.now = int(moment)
-        act = self.verbs.get(verb)
-        if act is None:
-            self.kept.append(line)
+        time_ns, verb, *fields = line.split(" ")
+        self.must(int(time_ns) >= self.now, line)
+        self.pass_edge(int(time_ns))
+        self.now = int(time_ns)
+        play = self.verbs.get(verb)
+        if play is None:
+            self.copies.append(line)
         else:
-            act(line, *fields)
+            play(line, *fields)
 
     def must(self, is_right: object, line: str) -> None:
         """Rejects a line that isn't allowed at this place."""
@@ -278,16 +278,16 @@ class Check:
 
     def between(self, line: str) -> None:
         """Takes a line between two windows."""
-        moment, verb, *fields = line.split(" ")
-        self.pass_edge(int(moment) + (verb == "end"))
+        time_ns, verb, *fields = line.split(" ")
+        self.pass_edge(int(time_ns) + (verb == "end"))
         if verb == "rmgroup":
             left = [number for number, task in self.tasks.items() if task.path == fields[0]]
             if left:
                 raise Different(f"task {left[0]} is in {fields[0]}, which is removed")
             for clocks in self.clocks:
                 clocks.forget(fields[0])
-            for key in [it for it in self.behind if fields[0] in (it.path, *it.without)]:
-                del self.behind[key]
+            for key in [it for it in self.shortfalls if fields[0] in (it.path, *it.without)]:
+                del self.shortfalls[key]
 
     def keep_without(self, removals: list[tuple[str, ...]]) -> None:
         """From the next window on, also compares sums without each of these sets of groups."""
@@ -308,20 +308,20 @@ class Check:
             self.play(line)
         where = f"of the window from {window.start} to {window.end}"
         self.now = max(self.now, window.end)
-        self.compare("a line", where, self.kept, [line for _, line in window.lines])
+        self.compare("a line", where, self.copies, [line for _, line in window.lines])
         self.compare("the moment of a line", where, self.now, window.end)
         self.compare_sums(window, where)
         self.compare("what interrupts took", where, {**self.interrupts}, window.interrupts)
         if window.populated is not None:
             self.compare_tasks(where, window.populated)
             self.edge = window.end, window.populated
-        self.kept, self.interrupts = [], Counter()
+        self.copies, self.interrupts = [], Counter()
 
-    def pass_edge(self, moment: int) -> None:
+    def pass_edge(self, time_ns: int) -> None:
         """Checks the groups that have tasks at an edge, before the first line after it: a tick
         there sees the effect of all lines of its time.
         """
-        if self.edge and moment > self.edge[0]:
+        if self.edge and time_ns > self.edge[0]:
             self.compare_tasks(f"at a tick at {self.edge[0]}", self.edge[1])
             self.edge = None
 
@@ -344,11 +344,11 @@ class Check:
         for key in {*found, *window.sums}:
             off = window.sums.get(key, 0) - found.get(key, 0)
             if off:
-                self.behind[key] += off
-                if abs(self.behind[key]) > MOST_OFF:
+                self.shortfalls[key] += off
+                if abs(self.shortfalls[key]) > MOST_OFF:
                     name = (
                         f"the time of {key.path} on processor {key.processor} in state"
                         f" {key.state + 1}"
                     )
                     without = f" without {', '.join(key.without)}" if key.without else ""
-                    raise Different(f"{name}{without} {where} differs by {self.behind[key]} ns")
+                    raise Different(f"{name}{without} {where} differs by {self.shortfalls[key]} ns")

@@ -19,15 +19,15 @@ from operator import itemgetter
 from psiworld.limits import MOST_TASKS, MOST_TIME
 
 from .check import Check, Key, Window
-from .crew import Crew, Work
 from .lines import MOST_AT_ONCE, Line
-from .processor import Piece, Turn, moments_of
+from .processor import Piece, Turn, interrupt_lines
 from .sums import Plan, plan_of
 from .victims import Victim, Victims
-from .world import Catalog, Changes, FoldWorld, NotATrace, kept_path, shortened
+from .workers import Work, Workers
+from .world import Catalog, Changes, FoldWorld, NotATrace, path_of_copy, shortened
 
 # The verbs of lines that don't concern tasks, accounting or the set of groups.
-KEPT = ("mem", "host", "prefer", "trigger")
+COPIED_VERBS = ("mem", "host", "prefer", "trigger")
 # The most windows that are submitted before the results of the first are needed.
 MOST_WAITING = 3
 
@@ -45,8 +45,8 @@ class Counts:
 
     lines: int = 0
     written: int = 0
-    had: int = 0
-    kept: int = 0
+    states_before: int = 0
+    states_after: int = 0
     windows: int = 0
 
 
@@ -80,7 +80,7 @@ class Fold:
     ) -> None:
         self.length, self.put = length, put
         self.world = FoldWorld(processors)
-        self.crew = Crew(processors)
+        self.workers = Workers(processors)
         self.victims = Victims(victims)
         self.plan: Plan | None = plan_of(self.world, ())
         self.size = Catalog().size()
@@ -92,7 +92,7 @@ class Fold:
         self.states = list(self.world.states)
         self.present: set[str] | None = None
         self.interrupted = [0] * processors
-        self.kept: list[Line] = []
+        self.copies: list[Line] = []
         self.now = 0
         self.counts = Counts()
         self.is_ended = False
@@ -119,64 +119,64 @@ class Fold:
         try:
             for number, line in enumerate(lines, number + 1):
                 words = line.split(" ")
-                moment, act = int(words[0]), verbs.get(words[1])
-                if moment > self.edge:
-                    self.go_to(moment)
-                elif moment < self.now:
+                time_ns, play = int(words[0]), verbs.get(words[1])
+                if time_ns > self.edge:
+                    self.go_to(time_ns)
+                elif time_ns < self.now:
                     raise NotATrace("its moment is before that of the line above")
-                self.now = moment
-                if act:
-                    act(moment, words)
+                self.now = time_ns
+                if play:
+                    play(time_ns, words)
                 else:
-                    self.take_other(moment, words, line)
+                    self.take_other(time_ns, words, line)
         except (KeyError, IndexError, ValueError, NotATrace) as fault:
             why = str(fault) if isinstance(fault, NotATrace) else "a trace can't have it there"
             raise NotATrace(f"line {number + 1}, '{shortened(line)}': {why}") from None
         self.counts.lines = number
 
-    def take_other(self, moment: int, words: list[str], line: str) -> None:
+    def take_other(self, time_ns: int, words: list[str], line: str) -> None:
         """Takes a line whose verb doesn't concern tasks."""
         verb, world = words[1], self.world
         if self.is_ended:
             raise NotATrace("it stands after the end")
-        if verb in KEPT:
-            world.live[kept_path(line.partition(" ")[2])]
-            self.kept.append((moment, line))
+        if verb in COPIED_VERBS:
+            world.live[path_of_copy(line.partition(" ")[2])]
+            self.copies.append((time_ns, line))
         elif verb == "group":
-            self.between(moment, line, lambda: world.group(words[2]))
+            self.between(time_ns, line, lambda: world.group(words[2]))
         elif verb == "rmgroup":
-            self.between(moment, line, lambda: world.rmgroup(words[2]), [words[2]])
+            self.between(time_ns, line, lambda: world.rmgroup(words[2]), [words[2]])
         elif verb == "pressure":
-            self.between(moment, line, lambda: world.pressure(words[2], words[3]))
+            self.between(time_ns, line, lambda: world.pressure(words[2], words[3]))
         elif verb == "end" and len(words) == 2:
-            self.flush(moment, True)
+            self.flush(time_ns, True)
             self.due.append((line, []))
             self.is_ended = True
             self.write(0)
-            self.crew.close()
+            self.workers.close()
         else:
             raise NotATrace("there is no such verb")
 
     def between(
-        self, moment: int, line: str, act: Callable[[], object], removed: Iterable[str] = ()
+        self, time_ns: int, line: str, change: Callable[[], object], removed: Iterable[str] = ()
     ) -> None:
         """Takes a line that ends a window because it changes the groups or their accounting."""
-        self.flush(moment, False, removed)
-        act()
+        self.flush(time_ns, False, removed)
+        change()
         removals, paths = self.victims.removals(self.world), self.world.paths
         self.plan = plan_of(self.world, removals)
         self.due.append((line, [tuple(paths[slot] for slot in it) for it in removals]))
 
     # ------------------------------------------------------------ windows
 
-    def go_to(self, moment: int) -> None:
-        """Ends the windows that end before `moment` (ns). Consecutive windows without events are
+    def go_to(self, time_ns: int) -> None:
+        """Ends the windows that end before `time_ns` (ns). Consecutive windows without events are
         merged.
         """
-        if moment > MOST_TIME:
+        if time_ns > MOST_TIME:
             raise NotATrace(f"its time is beyond {MOST_TIME} ns")
         self.flush(self.edge, True)
-        last = (moment - 1) // self.length * self.length
+        last = (time_ns - 1) // self.length * self.length
         if last > self.edge:
             self.flush(last, True)
         self.edge = last + self.length
@@ -191,28 +191,29 @@ class Fold:
         accounted = {paths[slot] for slot in world.live.values() if slot not in world.off}
         window = Window(self.start, end, accounted=accounted)
         window.populated = set(populated) if is_edge else None
-        window.lines = self.kept
+        window.lines = self.copies
         spent, interrupts = world.close(end), world.close_interrupts()
         turns = {}
         for processor in range(world.processors):
-            told = moments_of(interrupts[processor], paths, self.interrupted[processor], self.first)
-            for it in told:
-                self.interrupted[processor] = it.moment
+            last = self.interrupted[processor]
+            irqs = interrupt_lines(interrupts[processor], paths, last, self.first)
+            for it in irqs:
+                self.interrupted[processor] = it.time_ns
                 before = window.interrupts.get((processor, it.path), 0)
                 window.interrupts[processor, it.path] = before + it.length
             known = populated.items() if is_edge else ()
-            kept = {path: self.kept_of(slot, processor) for path, slot in known}
-            state = set(removed), window.populated, kept, self.states[processor], self.present
-            turns[processor] = Turn(self.start, end, spent[processor], told, *state)
-        self.crew.hand_in(Work(world.catalog.since(self.size), self.plan, turns))
+            needs = {path: self.tasks_needed(slot, processor) for path, slot in known}
+            state = set(removed), window.populated, needs, self.states[processor], self.present
+            turns[processor] = Turn(self.start, end, spent[processor], irqs, *state)
+        self.workers.hand_in(Work(world.catalog.since(self.size), self.plan, turns))
         self.size, self.plan = world.catalog.size(), None
         self.states, self.present = list(world.states), window.populated
         self.due.append(window)
-        self.kept, self.start, self.first = [], end, end + is_edge
+        self.copies, self.start, self.first = [], end, end + is_edge
         self.counts.windows += is_edge
         self.write(MOST_WAITING)
 
-    def kept_of(self, slot: int, processor: int) -> int:
+    def tasks_needed(self, slot: int, processor: int) -> int:
         """Returns how many representatives a group with tasks needs on this processor: one on
         one of the processors. A group that might be killed needs all that may ever be used,
         since a task that is created after the kill would survive it.
@@ -230,11 +231,11 @@ class Fold:
         and the lines after them.
         """
         while self.due and (
-            len(self.crew.waiting) > waiting or not isinstance(self.due[0], Window)
+            len(self.workers.waiting) > waiting or not isinstance(self.due[0], Window)
         ):
             due = self.due.popleft()
             if isinstance(due, Window):
-                lines = self.lines_of(due, self.crew.take_out())
+                lines = self.lines_of(due, self.workers.take_out())
                 self.check.window(due, lines)
                 if self.check.most_tasks > MOST_TASKS:
                     raise TooMany(f"{MOST_TASKS} tasks")
@@ -252,8 +253,8 @@ class Fold:
         paths, each = self.world.paths, [window.lines]
         for processor, piece in sorted(pieces.items()):
             each.append(piece.lines)
-            self.counts.had += piece.had
-            self.counts.kept += piece.kept
+            self.counts.states_before += piece.states_before
+            self.counts.states_after += piece.states_after
             for (slot, state, without), time in piece.sums.items():
                 if time:
                     window.sums[

@@ -25,7 +25,7 @@ MOST_AT_ONCE = 6
 class Interrupt(NamedTuple):
     """An interrupt line: its time (ns), the group of the interrupted task, and its length (ns)."""
 
-    moment: int
+    time_ns: int
     path: str
     length: int
 
@@ -113,17 +113,17 @@ class Writer:
         `present` is given, the first joint state only has tasks in these groups.
         """
         lines: list[Line] = []
-        moment, due = start, list(interrupts)
+        time_ns, due = start, list(interrupts)
         # The order must not depend on the order of sets, so that each run gives the same lines.
         left = {state: durations[state] for state in sorted(durations, key=sorted)}
         while left:
             fitting = (
-                left if moment > start else [state for state in left if is_within(state, present)]
+                left if time_ns > start else [state for state in left if is_within(state, present)]
             )
             state = min(fitting or left, key=self.distance)
-            lines += self.change(moment, state)
-            moment += left.pop(state)
-            while due and (due[0].moment < moment or not left):
+            lines += self.change(time_ns, state)
+            time_ns += left.pop(state)
+            while due and (due[0].time_ns < time_ns or not left):
                 lines += self.interrupt(due.pop(0))
         return lines + [line for it in due for line in self.interrupt(it)]
 
@@ -131,24 +131,24 @@ class Writer:
         """Returns the number of elements by which a joint state differs from the present one."""
         return len(self.state ^ state)
 
-    def interrupt(self, told: Interrupt) -> list[Line]:
+    def interrupt(self, wanted: Interrupt) -> list[Line]:
         """Returns the lines of an interrupt. If no task of its group runs, one runs for zero
         time.
         """
-        runs_there = any(it.path == told.path and runs(it.kind) for it in self.state)
-        line = f"irq {self.processor} {told.length}"
+        runs_there = any(it.path == wanted.path and runs(it.kind) for it in self.state)
+        line = f"irq {self.processor} {wanted.length}"
         if runs_there:
-            return [(told.moment, line)]
+            return [(wanted.time_ns, line)]
         lines = []
-        if not self.asleep.get(told.path):
-            lines += self.perform([Move(told.path, self.new_task(), None, Kind.ASLEEP)])
-        task, before = self.asleep[told.path][-1], self.runner
+        if not self.asleep.get(wanted.path):
+            lines += self.perform([Move(wanted.path, self.new_task(), None, Kind.ASLEEP)])
+        task, before = self.asleep[wanted.path][-1], self.runner
         lines += [
             f"wake {task} {self.processor}",
             f"switch {self.processor} {task} {'preempt' if before else 'idle'}", line,
             f"switch {self.processor} {before} sleep",
         ]  # fmt: skip
-        return [(told.moment, words) for words in lines]
+        return [(wanted.time_ns, words) for words in lines]
 
     def groups(self) -> set[str]:
         """Returns the groups that have representatives."""
@@ -156,7 +156,7 @@ class Writer:
 
     # ------------------------------------------------------------ from one joint state to the next
 
-    def change(self, moment: int, state: JointState) -> list[Line]:
+    def change(self, time_ns: int, state: JointState) -> list[Line]:
         """Returns the lines that change the present joint state to `state`."""
         coming: dict[str, list[Kind]] = {}
         for path, kind in sorted(state - self.state):
@@ -169,7 +169,7 @@ class Writer:
             for path in sorted({*coming, *leaving})
             for move in self.moves(path, leaving.get(path, []), coming.get(path, []))
         ]
-        return [(moment, words) for words in self.perform(moves)]
+        return [(time_ns, words) for words in self.perform(moves)]
 
     def moves(self, path: str, leaving: list[Kind], coming: list[Kind]) -> Iterator[Move]:
         """Yields the moves of a group's representatives. To need few lines, it prefers
@@ -199,7 +199,7 @@ class Writer:
         self.made += 1
         return (self.made - 1) * self.processors + self.processor + 1
 
-    def empty(self, moment: int, paths: Iterable[str]) -> list[Line]:
+    def empty(self, time_ns: int, paths: Iterable[str]) -> list[Line]:
         """Returns the lines that end all representatives in these groups."""
         moves = []
         for path in sorted(set(paths) & self.groups()):
@@ -207,9 +207,9 @@ class Writer:
                 Move(path, task, kind, None) for kind, task in self.busy.get(path, {}).items()
             ]
             moves += [Move(path, task, Kind.ASLEEP, None) for task in self.asleep.get(path, ())]
-        return [(moment, words) for words in self.perform(moves)]
+        return [(time_ns, words) for words in self.perform(moves)]
 
-    def keep(self, moment: int, counts: dict[str, int]) -> list[Line]:
+    def keep(self, time_ns: int, counts: dict[str, int]) -> list[Line]:
         """Returns the lines that give each group at least this number of representatives. New
         ones sleep.
         """
@@ -217,7 +217,7 @@ class Writer:
         for path, count in sorted(counts.items()):
             made = len(self.busy.get(path, ())) + len(self.asleep.get(path, ()))
             moves += [Move(path, self.new_task(), None, Kind.ASLEEP) for _ in range(made, count)]
-        return [(moment, words) for words in self.perform(moves)]
+        return [(time_ns, words) for words in self.perform(moves)]
 
     def perform(self, moves: list[Move]) -> list[str]:
         """Returns the lines for these moves, without times. All turns of zero length form one

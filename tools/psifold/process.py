@@ -42,14 +42,14 @@ class Elsewhere:
     def __init__(self, fold: Fold) -> None:
         context = multiprocessing.get_context("fork")
         there, self.lines = context.Pipe(duplex=False)
-        self.told, said = context.Pipe(duplex=False)
+        self.results, results_end = context.Pipe(duplex=False)
         self.process = context.Process(
-            target=serve, args=(fold, there, said, (self.lines, self.told))
+            target=serve, args=(fold, there, results_end, (self.lines, self.results))
         )
         self.process.start()
         self.found: Outcome | None = None
         there.close()
-        said.close()
+        results_end.close()
 
     def take(self, lines: list[str]) -> None:
         """Sends these lines. If one can't be folded, the other process ends there, and the fault
@@ -68,7 +68,7 @@ class Elsewhere:
             self.lines.send_bytes(END)
         self.lines.close()
         try:
-            self.found, fault = self.told.recv()
+            self.found, fault = self.results.recv()
         except EOFError:
             raise Unreadable("the process that folds has ended: was there no memory?") from None
         self.process.join()
@@ -78,7 +78,7 @@ class Elsewhere:
     def stop(self) -> None:
         """Ends the other process without waiting for an outcome."""
         self.lines.close()
-        self.told.close()
+        self.results.close()
 
     def outcome(self) -> Outcome:
         """Returns the outcome of all lines."""
@@ -87,7 +87,7 @@ class Elsewhere:
 
 
 def serve(
-    fold: Fold, lines: Connection, told: Connection, others: tuple[Connection, Connection]
+    fold: Fold, lines: Connection, results: Connection, others: tuple[Connection, Connection]
 ) -> None:
     """Folds the lines that arrive, and sends the outcome."""
     signal.signal(signal.SIGINT, signal.SIG_IGN)
@@ -102,4 +102,4 @@ def serve(
     except Exception as found:  # it is raised again where the lines come from
         fault = found
     lines.close()
-    told.send((fold.outcome(), fault))
+    results.send((fold.outcome(), fault))

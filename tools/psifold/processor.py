@@ -24,7 +24,7 @@ class Few(NamedTuple):
 
     times: dict[int, int]
     sums: dict[Sum, int]
-    had: int
+    states_before: int
 
 
 def few_of(spent: dict[int, int], sums: Sums, left: Left) -> Few:
@@ -54,33 +54,33 @@ def few_of(spent: dict[int, int], sums: Sums, left: Left) -> Few:
     found = {
         sums.least(states[order[number]], order[number]): time for number, time in whole.items()
     }
-    had = {sums.sum_of(bit): time for bit, time in zip(bits_of(used), totals) if bit != sums.size}
-    return Few(found, had, len(spent))
+    own = {sums.sum_of(bit): time for bit, time in zip(bits_of(used), totals) if bit != sums.size}
+    return Few(found, own, len(spent))
 
 
-def moments_of(
+def interrupt_lines(
     interrupts: Interrupts, paths: Sequence[str], last: int, first: int
 ) -> list[Interrupt]:
     """Returns the interrupts of a window with their times (ns). Each line is as early as
     possible: its whole length fits between the previous line (for the first one: `last`) and its
     own time, which is at least `first`. So the last line isn't later than in the original.
     """
-    told: list[Interrupt] = []
-    moment = last
+    placed: list[Interrupt] = []
+    time_ns = last
     parts = [interrupts.first] if interrupts.first else []
     for slot, length in [*parts, *sorted(interrupts.others.items())]:
         while length:
             part = min(length, MOST_INTERRUPTS)
-            moment = max(moment + part, first)
-            told.append(Interrupt(moment, paths[slot], part))
+            time_ns = max(time_ns + part, first)
+            placed.append(Interrupt(time_ns, paths[slot], part))
             length -= part
-    return told
+    return placed
 
 
 class Turn(NamedTuple):
     """The data for folding a processor's window: its start and end (ns), the time (ns) of each
     joint state, and the time of interrupts. At its end no task may be in `removed`, nor, if
-    `populated` is given, in any group outside of that, and each group in `kept` has at least
+    `populated` is given, in any group outside of that, and each group in `needs` has at least
     this number of tasks. `first` is the joint state at its start. If it starts at an edge, which
     may be a tick, `present` has the groups with tasks at that time: no other group may get one
     before 1 ns has passed.
@@ -92,7 +92,7 @@ class Turn(NamedTuple):
     interrupts: list[Interrupt]
     removed: set[str]
     populated: set[str] | None
-    kept: dict[str, int]
+    needs: dict[str, int]
     first: int = 0
     present: set[str] | None = None
 
@@ -104,8 +104,8 @@ class Piece(NamedTuple):
 
     lines: list[Line]
     sums: dict[Sum, int]
-    had: int
-    kept: int
+    states_before: int
+    states_after: int
 
 
 def states_of(few: Few, catalog: Catalog) -> dict[JointState, int]:
@@ -124,7 +124,7 @@ def with_first(turn: Turn, sums: Sums, left: Left) -> Few:
     for bit in bits_of(column):
         one = sums.sum_of(bit)
         few.sums[one] = few.sums.get(one, 0) + 1
-    return few._replace(had=len(turn.spent))
+    return few._replace(states_before=len(turn.spent))
 
 
 class FoldedProcessor:
@@ -148,10 +148,10 @@ class FoldedProcessor:
         lines += self.writer.empty(
             turn.end, groups & turn.removed if turn.populated is None else groups - turn.populated
         )
-        lines += self.writer.keep(turn.end, turn.kept)
+        lines += self.writer.keep(turn.end, turn.needs)
         return Piece(
-            [(moment, f"{moment} {words}") for moment, words in lines],
+            [(time_ns, f"{time_ns} {words}") for time_ns, words in lines],
             few.sums,
-            few.had,
+            few.states_before,
             len(durations),
         )

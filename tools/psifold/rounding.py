@@ -24,19 +24,19 @@ class Rounding:
     """
 
     def __init__(
-        self, shares: list[Share], divisor: int, columns: list[int], behind: dict[int, int]
+        self, shares: list[Share], divisor: int, columns: list[int], shortfalls: dict[int, int]
     ) -> None:
         self.divisor, self.columns = divisor, columns
         self.times = {number: time // divisor for number, time in shares}
-        self.rests = {number: time % divisor for number, time in shares if time % divisor}
+        self.remainders = {number: time % divisor for number, time in shares if time % divisor}
         # The shortfall of each sum, by its bit in a column, in units of 1/`divisor` ns.
-        self.behind = Counter({bit: left * divisor for bit, left in behind.items()})
-        for number, rest in self.rests.items():
+        self.shortfalls = Counter({bit: left * divisor for bit, left in shortfalls.items()})
+        for number, remainder in self.remainders.items():
             for bit in bits_of(columns[number]):
-                self.behind[bit] += rest
+                self.shortfalls[bit] += remainder
         # The total shortfall of each joint state's sums, by its number, in units of 1/`divisor` ns.
         self.lags = {
-            number: sum(self.behind[bit] for bit in bits_of(columns[number]))
+            number: sum(self.shortfalls[bit] for bit in bits_of(columns[number]))
             for number in self.times
         }
 
@@ -44,19 +44,19 @@ class Rounding:
         """Distributes the remainder, a whole number of ns, to joint states whose times aren't
         whole, so that the sum of squared errors is small.
         """
-        short = set(self.rests)
-        for _ in range(sum(self.rests.values()) // self.divisor):
+        short = set(self.remainders)
+        for _ in range(sum(self.remainders.values()) // self.divisor):
             number = min(sorted(short), key=self.growth)
             short.remove(number)
             self.give(number, 1)
         if self.is_far():
-            self.improve(set(self.rests) - short, short)
+            self.improve(set(self.remainders) - short, short)
         if self.is_far():
             self.improve({number for number, time in self.times.items() if time}, set(self.times))
 
     def is_far(self) -> bool:
         """Whether the error of some sum is larger than may be left to the next window."""
-        return any(abs(left) > MOST_LEFT * self.divisor for left in self.behind.values())
+        return any(abs(left) > MOST_LEFT * self.divisor for left in self.shortfalls.values())
 
     def growth(self, number: int) -> int:
         """Returns by how much the sum of squared errors grows, in units of 1/`divisor`, if this
@@ -67,11 +67,11 @@ class Rounding:
     def give(self, number: int, length: int) -> None:
         """Adds `length` ns to a joint state."""
         self.times[number] += length
-        given, sums = length * self.divisor, self.columns[number]
+        gain, sums = length * self.divisor, self.columns[number]
         for bit in bits_of(sums):
-            self.behind[bit] -= given
+            self.shortfalls[bit] -= gain
         for other in self.lags:
-            self.lags[other] -= given * (sums & self.columns[other]).bit_count()
+            self.lags[other] -= gain * (sums & self.columns[other]).bit_count()
 
     def improve(self, givers: Iterable[int], takers: Iterable[int]) -> None:
         """Moves single ns from givers to takers as long as the sum of squared errors falls. A
@@ -110,5 +110,5 @@ def whole_times(
     rounding = Rounding(shares, divisor, columns, {bit: left[one] for bit, one in sums.items()})
     rounding.round()
     for bit, one in sums.items():
-        left[one] = rounding.behind[bit] // divisor
+        left[one] = rounding.shortfalls[bit] // divisor
     return {number: time for number, time in rounding.times.items() if time}

@@ -74,7 +74,7 @@ def folding_lines(folding: Folding, outcome: Outcome) -> list[str]:
     return [
         (
             f"folded into {counts.windows} windows: lines {counts.lines} to {counts.written}, joint"
-            f" states {counts.had} to {counts.kept}"
+            f" states {counts.states_before} to {counts.states_after}"
         ),
         (
             f"a replay at ticks of {tick}, or of a multiple, prints what it prints of the trace"
@@ -134,12 +134,12 @@ class Progress:
     def __init__(self, name: str, total: int | None = None) -> None:
         self.name, self.total, self.is_shown, self.due = name, total, sys.stderr.isatty(), 0.0
 
-    def show(self, moment: int) -> None:
-        """Shows that everything up to `moment` (ns) is done, at most twice a second."""
+    def show(self, time_ns: int) -> None:
+        """Shows that everything up to `time_ns` (ns) is done, at most twice a second."""
         if self.is_shown and time.monotonic() >= self.due:
             self.due = time.monotonic() + 0.5
             of = f" of {self.total // SECOND}" if self.total is not None else ""
-            print(f"\r{self.name}: {moment // SECOND}{of} s", end="", file=sys.stderr, flush=True)
+            print(f"\r{self.name}: {time_ns // SECOND}{of} s", end="", file=sys.stderr, flush=True)
 
     def end(self) -> None:
         """Erases the progress from the terminal."""

@@ -23,7 +23,7 @@ SHOWN = 100
 NUMBER = r"(?:0|[1-9][0-9]{0,18})"
 PATH = r"(?:/|(?:/(?!\.{1,2}(?:/|$))[A-Za-z0-9_.@:\\-]+){1,32}(?= |$))"
 # The forms of lines that are copied unchanged, without their times. Numbers are checked in
-# `kept_path`.
+# `path_of_copy`.
 GROUP = re.compile(PATH)
 SAMPLE = re.compile(rf"mem ({PATH}) {NUMBER} {NUMBER} {NUMBER}|host {NUMBER} {NUMBER} {NUMBER}")
 PREFERENCE = re.compile(rf"prefer ({PATH}) (?:prefer|avoid|none)")
@@ -41,7 +41,7 @@ def shortened(line: str) -> str:
     return line if len(line) <= SHOWN else f"{line[:SHOWN]} .."
 
 
-def kept_path(line: str) -> str:
+def path_of_copy(line: str) -> str:
     """Returns the group of a line that is copied unchanged, `/` if it names none. `line` has no
     time. Raises NotATrace if it is malformed.
     """
@@ -89,12 +89,12 @@ class Changes:
     def __init__(self) -> None:
         self.came, self.moved, self.last = 0, 0, 0
 
-    def note(self, moment: int, came: bool, moved: bool) -> None:
+    def note(self, time_ns: int, came: bool, moved: bool) -> None:
         """Counts a task that came, moved or did both. Lines at time 0 are skipped, because they
         are the trace's initial state.
         """
-        if moment and (came or moved):
-            self.came, self.moved, self.last = self.came + came, self.moved + moved, moment
+        if time_ns and (came or moved):
+            self.came, self.moved, self.last = self.came + came, self.moved + moved, time_ns
 
 
 class Catalog:
@@ -175,7 +175,7 @@ class FoldWorld:
 
     # ------------------------------------------------------------ tasks
 
-    def change(self, processor: int, moment: int, before: int, after: int) -> None:
+    def change(self, processor: int, time_ns: int, before: int, after: int) -> None:
         """Moves a task of this processor from one element to another, by their keys. ASLEEP
         isn't counted.
         """
@@ -191,10 +191,10 @@ class FoldWorld:
                 bits ^= self.bits.get(after) or self.new_bit(after)
         if bits:
             state, since = self.states[processor], self.since[processor]
-            if moment != since:
+            if time_ns != since:
                 spent = self.spent[processor]
-                spent[state] = spent.get(state, 0) + moment - since
-                self.since[processor] = moment
+                spent[state] = spent.get(state, 0) + time_ns - since
+                self.since[processor] = time_ns
             self.states[processor] = state ^ bits
 
     def new_bit(self, key: int) -> int:
@@ -203,7 +203,7 @@ class FoldWorld:
         self.catalog.keys.append(key)
         return bit
 
-    def fork(self, moment: int, words: list[str]) -> None:
+    def fork(self, time_ns: int, words: list[str]) -> None:
         """Creates a task, ready on a processor."""
         _, _, text, path, processor = words
         number, place = int(text), self.live[path] * KINDS
@@ -214,10 +214,10 @@ class FoldWorld:
         task = self.tasks[number] = Task(place, self.places[processor])
         self.members[place // KINDS] += 1
         if self.watched:
-            self.changes.note(moment, place // KINDS in self.watched, False)
-        self.change(task.processor, moment, 0, place + READY)
+            self.changes.note(time_ns, place // KINDS in self.watched, False)
+        self.change(task.processor, time_ns, 0, place + READY)
 
-    def ready(self, moment: int, words: list[str]) -> None:
+    def ready(self, time_ns: int, words: list[str]) -> None:
         """Makes a task ready, possibly on another processor than before."""
         _, verb, number, processor = words
         task, target, kind = self.tasks[int(number)], self.places[processor], 0
@@ -226,13 +226,13 @@ class FoldWorld:
         before, kind = task.place + task.kind, task.kind & STALLED | READY
         task.kind = kind
         if target == task.processor:
-            self.change(target, moment, before, task.place + kind)
+            self.change(target, time_ns, before, task.place + kind)
         else:
-            self.change(task.processor, moment, before, 0)
+            self.change(task.processor, time_ns, before, 0)
             task.processor = target
-            self.change(target, moment, 0, task.place + kind)
+            self.change(target, time_ns, 0, task.place + kind)
 
-    def switch(self, moment: int, words: list[str]) -> None:
+    def switch(self, time_ns: int, words: list[str]) -> None:
         """Switches from the running task to another one, or to none."""
         _, _, text, following, how = words
         processor, tasks = self.places[text], self.tasks
@@ -242,11 +242,11 @@ class FoldWorld:
             before = task.place + task.kind
             if how == "exit":
                 self.members[task.place // KINDS] -= 1
-                self.change(processor, moment, before, 0)
+                self.change(processor, time_ns, before, 0)
                 del tasks[number]
             else:
                 task.kind = task.kind & STALLED | LEFT_BY[how]
-                self.change(processor, moment, before, task.place + task.kind)
+                self.change(processor, time_ns, before, task.place + task.kind)
         elif how != "idle":
             raise NotATrace(f"no task runs on processor {processor}")
         number = self.runs[processor] = int(following)
@@ -256,9 +256,9 @@ class FoldWorld:
                 raise NotATrace(f"task {number} isn't ready on processor {processor}")
             before = task.place + task.kind
             task.kind |= RUNNING
-            self.change(processor, moment, before, task.place + task.kind)
+            self.change(processor, time_ns, before, task.place + task.kind)
 
-    def stall(self, moment: int, words: list[str]) -> None:
+    def stall(self, time_ns: int, words: list[str]) -> None:
         """Lets the running task enter or leave a stall."""
         _, verb, number = words
         task = self.tasks[int(number)]
@@ -266,21 +266,21 @@ class FoldWorld:
             raise NotATrace(f"task {number} can't be the task of this {verb}")
         before = task.place + task.kind
         task.kind ^= STALLED
-        self.change(task.processor, moment, before, task.place + task.kind)
+        self.change(task.processor, time_ns, before, task.place + task.kind)
 
-    def move(self, moment: int, words: list[str]) -> None:
+    def move(self, time_ns: int, words: list[str]) -> None:
         """Moves a task to another group."""
         _, _, number, path = words
         task = self.tasks[int(number)]
         before = task.place + task.kind
         self.members[task.place // KINDS] -= 1
         if self.watched:
-            self.note_move(moment, task.place // KINDS, self.live[path])
+            self.note_move(time_ns, task.place // KINDS, self.live[path])
         task.place = self.live[path] * KINDS
         self.members[task.place // KINDS] += 1
-        self.change(task.processor, moment, before, task.place + task.kind)
+        self.change(task.processor, time_ns, before, task.place + task.kind)
 
-    def interrupt(self, moment: int, words: list[str]) -> None:
+    def interrupt(self, time_ns: int, words: list[str]) -> None:
         """Takes the time of interrupts from the running task, if there is one."""
         processor, length = self.places[words[2]], int(words[3])
         if not 0 <= length <= MOST_INTERRUPTS or len(words) != 4:
@@ -333,24 +333,24 @@ class FoldWorld:
         )
         self.watched = {slot: found for slot, found in each if found}
 
-    def note_move(self, moment: int, source: int, target: int) -> None:
+    def note_move(self, time_ns: int, source: int, target: int) -> None:
         """Counts a task that moves from one group to another."""
         before, after = self.watched.get(source, set()), self.watched.get(target, set())
-        self.changes.note(moment, not after <= before, bool(before) and source != target)
+        self.changes.note(time_ns, not after <= before, bool(before) and source != target)
 
     # ------------------------------------------------------------ windows
 
-    def close(self, moment: int) -> list[dict[int, int]]:
+    def close(self, time_ns: int) -> list[dict[int, int]]:
         """Ends a window, and returns the ns of each joint state since the previous end, by
         processor.
         """
         closed = self.spent
         for processor, spent in enumerate(closed):
-            if moment != self.since[processor]:
+            if time_ns != self.since[processor]:
                 state = self.states[processor]
-                spent[state] = spent.get(state, 0) + moment - self.since[processor]
+                spent[state] = spent.get(state, 0) + time_ns - self.since[processor]
         self.spent = [{} for _ in range(self.processors)]
-        self.since = [moment] * self.processors
+        self.since = [time_ns] * self.processors
         return closed
 
     def close_interrupts(self) -> list[Interrupts]:

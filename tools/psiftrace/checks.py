@@ -40,12 +40,12 @@ class Sleeps:
         self.waits: Counter[bool] = Counter()
         self.times: Counter[bool] = Counter()
 
-    def end(self, task: int, moment: int, is_wait: bool) -> None:
+    def end(self, task: int, time_ns: int, is_wait: bool) -> None:
         """Ends a task's sleep, if one is in progress."""
         begun = self.begun.pop(task, None)
         if begun is not None:
             self.waits[is_wait] += 1
-            self.times[is_wait] += moment - begun
+            self.times[is_wait] += time_ns - begun
 
 
 class Check:
@@ -78,7 +78,7 @@ class Check:
         self.take_form(head, line, event)
         if event:
             self.kinds[head.kind] += 1
-            self.take_moment(number, event)
+            self.take_time(number, event)
             self.take_event(number, event)
 
     def take_other(self, number: int, line: bytes) -> None:
@@ -98,12 +98,12 @@ class Check:
         elif b"_comm=" not in head.fields and head.kind == "sched_switch":
             self.faults["plain"] += 1
 
-    def take_moment(self, number: int, event: Event) -> None:
+    def take_time(self, number: int, event: Event) -> None:
         """Checks the time of an event."""
-        if self.latest - event.moment > LEAST_BACK:
-            self.backs.append((number, self.latest - event.moment))
-        self.latest = max(self.latest, event.moment)
-        self.firsts.setdefault(event.processor, event.moment)
+        if self.latest - event.time_ns > LEAST_BACK:
+            self.backs.append((number, self.latest - event.time_ns))
+        self.latest = max(self.latest, event.time_ns)
+        self.firsts.setdefault(event.processor, event.time_ns)
 
     def take_event(self, number: int, event: Event) -> None:
         """Checks the contents of an event."""
@@ -112,17 +112,17 @@ class Check:
                 self.strangers.append(number)
             self.runs[event.processor] = event.next
             self.idle += not (event.previous and event.next)
-            self.sleeps.end(event.next, event.moment, False)
+            self.sleeps.end(event.next, event.time_ns, False)
             if event.state == UNINTERRUPTIBLE:
-                self.sleeps.begun[event.previous] = event.moment
+                self.sleeps.begun[event.previous] = event.time_ns
         elif isinstance(event, (Wakeup, FirstWakeup)):
-            self.sleeps.end(event.task, event.moment, False)
+            self.sleeps.end(event.task, event.time_ns, False)
         elif isinstance(event, WaitEnds):
-            self.sleeps.end(event.task, event.moment, True)
+            self.sleeps.end(event.task, event.time_ns, True)
         elif isinstance(event, Exec) and event.task != event.old:
             self.execs.append(number)
         elif isinstance(event, Migration):
-            self.firsts.setdefault(event.origin, event.moment)
+            self.firsts.setdefault(event.origin, event.time_ns)
 
     # ------------------------------------------------------------ what follows
 

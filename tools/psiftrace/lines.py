@@ -37,7 +37,7 @@ class Line(NamedTuple):
     task, its kind, and whether perf wrote the line.
     """
 
-    moment: int
+    time_ns: int
     processor: int
     current: int
     kind: str
@@ -51,9 +51,9 @@ def head_of(line: bytes) -> Line | None:
         found = head.match(line)
         if found:
             current, processor, whole, part, kind, fields = found.groups()
-            moment = int(whole) * 10**9 + int(part.ljust(9, b"0"))
+            time_ns = int(whole) * 10**9 + int(part.ljust(9, b"0"))
             return Line(
-                moment,
+                time_ns,
                 int(processor),
                 int(current),
                 kind.decode(),
@@ -84,7 +84,7 @@ def numbers(kind: type) -> Callable[[Line, tuple[bytes, ...]], Event]:
     """Returns a function that creates an event of this kind from decimal fields."""
 
     def make(line: Line, fields: tuple[bytes, ...]) -> Event:
-        event: Event = kind(line.moment, line.processor, line.current, *map(int, fields))
+        event: Event = kind(line.time_ns, line.processor, line.current, *map(int, fields))
         return event
 
     return make
@@ -94,7 +94,7 @@ def switch(line: Line, fields: tuple[bytes, ...]) -> Event:
     """Returns a switch; if a state has several letters, the first counts, and `R+` is ready."""
     previous, state, following = fields
     return Switch(
-        line.moment,
+        line.time_ns,
         line.processor,
         line.current,
         int(previous),
@@ -105,13 +105,13 @@ def switch(line: Line, fields: tuple[bytes, ...]) -> Event:
 
 def new_task(line: Line, fields: tuple[bytes, ...]) -> Event:
     """Returns a new task, whose flags are hexadecimal."""
-    return NewTask(line.moment, line.processor, line.current, int(fields[0]), int(fields[1], 16))
+    return NewTask(line.time_ns, line.processor, line.current, int(fields[0]), int(fields[1], 16))
 
 
 def attach(line: Line, fields: tuple[bytes, ...]) -> Event:
     """Returns the event of a task that moves to a group."""
     return Attach(
-        line.moment, line.processor, line.current, int(fields[0]), fields[1], int(fields[2])
+        line.time_ns, line.processor, line.current, int(fields[0]), fields[1], int(fields[2])
     )
 
 
@@ -120,18 +120,18 @@ def group(
 ) -> Callable[[Line, tuple[bytes, ...]], Event]:
     """A group is created or removed."""
     return lambda line, fields: kind(
-        line.moment, line.processor, line.current, int(fields[0]), fields[1]
+        line.time_ns, line.processor, line.current, int(fields[0]), fields[1]
     )
 
 
 def stall_ends(line: Line, fields: tuple[bytes, ...]) -> Event:
     """Returns the end of a memory stall, whose flags are hexadecimal."""
-    return StallEnds(line.moment, line.processor, line.current, int(fields[0], 16))
+    return StallEnds(line.time_ns, line.processor, line.current, int(fields[0], 16))
 
 
 def marker(line: Line, fields: tuple[bytes, ...]) -> Event:
     """Returns a line of `trace_marker`."""
-    return Marker(line.moment, line.processor, line.current, fields[0])
+    return Marker(line.time_ns, line.processor, line.current, fields[0])
 
 
 # The forms of the kernel's own print formats, followed by those of trace-cmd's plugins.

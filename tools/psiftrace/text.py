@@ -15,7 +15,7 @@ from psicli.fault import Fault
 from psiread.events import NEVER, Event, FirstWakeup, Gap, Switch, Wakeup
 from psiread.kinds import HEAD, TRACE_HEADER, kind_of, kind_of_file
 from psiread.missing import bound_times
-from psiread.recording import first_moment, first_moments
+from psiread.recording import first_marker_time, first_times
 from psiread.source import Source, Unreadable
 from psirec.layout import START, STOP
 
@@ -136,8 +136,8 @@ class Text:
         """Appends an event."""
         processor, last = event.processor, self.lasts.get(event.processor, 0)
         if processor in self.lost:
-            self.gaps.append(Gap(processor, last, event.moment, self.lost.pop(processor)))
-        self.lasts[processor] = event.moment
+            self.gaps.append(Gap(processor, last, event.time_ns, self.lost.pop(processor)))
+        self.lasts[processor] = event.time_ns
         self.events.append(event)
 
 
@@ -151,10 +151,10 @@ def parts_of(events: list[Event]) -> list[list[Event]]:
     parts: list[list[Event]] = [[]]
     lasts: dict[int, int] = {}
     for event in events:
-        if event.moment + MOST_BACK < lasts.get(event.processor, 0):
+        if event.time_ns + MOST_BACK < lasts.get(event.processor, 0):
             parts.append([])
             lasts = {}
-        lasts[event.processor] = event.moment
+        lasts[event.processor] = event.time_ns
         parts[-1].append(event)
     return parts
 
@@ -165,17 +165,17 @@ def ordered(text: Text, source: Source) -> list[Event]:
     """
     parts = parts_of(text.events)
     longest = max(
-        parts, key=lambda part: max(it.moment for it in part) - min(it.moment for it in part)
+        parts, key=lambda part: max(it.time_ns for it in part) - min(it.time_ns for it in part)
     )
     if len(parts) > 1:
         source.losses.append(
             f"{len(parts)} recordings, one after the other: the longest alone can be had"
         )
-        first, last = min(it.moment for it in longest), max(it.moment for it in longest)
+        first, last = min(it.time_ns for it in longest), max(it.time_ns for it in longest)
         text.gaps = [
             gap for gap in text.gaps if first <= gap.start and (gap.end <= last or gap.end == NEVER)
         ]
-    back = sum(after.moment < before.moment for before, after in zip(longest, longest[1:]))
+    back = sum(after.time_ns < before.time_ns for before, after in zip(longest, longest[1:]))
     if back:
         text.mended["times that went back, and were put in order"] += back
     return sorted(longest, key=itemgetter(0))
@@ -186,14 +186,14 @@ def begin(text: Text, source: Source) -> None:
     event; or, if the buffer was overwritten, at the time from which all processors have events.
     """
     if text.overwritten > 0:
-        whole_from = max(first_moments(source.events).values())
-        source.events = [event for event in source.events if event.moment >= whole_from]
+        whole_from = max(first_times(source.events).values())
+        source.events = [event for event in source.events if event.time_ns >= whole_from]
         source.notes.append(
             f"{text.overwritten} events were overwritten before the first: the trace begins where"
             " all processors have events"
         )
-    marked = first_moment(source.events, START)
-    source.start = source.events[0].moment if marked is None else marked
+    marked = first_marker_time(source.events, START)
+    source.start = source.events[0].time_ns if marked is None else marked
 
 
 # ---------------------------------------------------------------- the whole
@@ -215,13 +215,13 @@ def tell_missing(source: Source) -> None:
         )
 
 
-def processors_of(text: Text, given: int | None, greatest: int) -> int:
+def processors_of(text: Text, wanted: int | None, greatest: int) -> int:
     """Returns the number of processors: the given one, or what follows from the text."""
-    if given is not None and greatest >= given:
+    if wanted is not None and greatest >= wanted:
         raise Fault(
-            f"--cpus {given}: there are events of processor {greatest}, and they count from 0"
+            f"--cpus {wanted}: there are events of processor {greatest}, and they count from 0"
         )
-    return given or max(text.processors, greatest + 1)
+    return wanted or max(text.processors, greatest + 1)
 
 
 def read_text(name: str, processors: int | None) -> Source:
@@ -243,8 +243,8 @@ def read_text(name: str, processors: int | None) -> Source:
     )
     source.gaps = text.gaps
     begin(text, source)
-    stop = first_moment(source.events, STOP)
-    source.stop = source.events[-1].moment if stop is None else stop
+    stop = first_marker_time(source.events, STOP)
+    source.stop = source.events[-1].time_ns if stop is None else stop
     source.mended = text.mended
     tell_missing(source)
     bound_times(source)

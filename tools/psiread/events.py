@@ -1,6 +1,6 @@
 """The events of a recording, the same for pages of ring buffers and for text.
 
-`moment` is in ns of the recording's clock, `processor` is the one on which the event was
+`time_ns` is in ns of the recording's clock, `processor` is the one on which the event was
 written, and `current` the task that ran there (0 is the idle task). Tasks are threads, numbered
 as in the first PID namespace. The names of the kernel's events are those of
 `include/trace/events/{sched,task,cgroup,oom}.h`.
@@ -15,7 +15,7 @@ class Switch(NamedTuple):
     of the kernel's print format for `previous` (`R`: it remains ready).
     """
 
-    moment: int
+    time_ns: int
     processor: int
     current: int
     previous: int
@@ -26,7 +26,7 @@ class Switch(NamedTuple):
 class Wakeup(NamedTuple):
     """`sched_wakeup`: the task is ready on the processor `target`."""
 
-    moment: int
+    time_ns: int
     processor: int
     current: int
     task: int
@@ -36,7 +36,7 @@ class Wakeup(NamedTuple):
 class FirstWakeup(NamedTuple):
     """`sched_wakeup_new`: a new task is ready for the first time. `current` is its parent."""
 
-    moment: int
+    time_ns: int
     processor: int
     current: int
     task: int
@@ -48,7 +48,7 @@ class Migration(NamedTuple):
     processor `origin` to `target`.
     """
 
-    moment: int
+    time_ns: int
     processor: int
     current: int
     task: int
@@ -61,7 +61,7 @@ class NewTask(NamedTuple):
     clone(2).
     """
 
-    moment: int
+    time_ns: int
     processor: int
     current: int
     task: int
@@ -73,7 +73,7 @@ class Exec(NamedTuple):
     number of its process's first thread.
     """
 
-    moment: int
+    time_ns: int
     processor: int
     current: int
     task: int
@@ -85,7 +85,7 @@ class WaitEnds(NamedTuple):
     wakeup.
     """
 
-    moment: int
+    time_ns: int
     processor: int
     current: int
     task: int
@@ -96,7 +96,7 @@ class SwitchProbe(NamedTuple):
     `waits` says whether psi counts the task that leaves as waiting for IO.
     """
 
-    moment: int
+    time_ns: int
     processor: int
     current: int
     task: int
@@ -108,7 +108,7 @@ class ShowProbe(NamedTuple):
     `resource` is an index into RESOURCES, and `group` the address of the group's psi data.
     """
 
-    moment: int
+    time_ns: int
     processor: int
     current: int
     group: int
@@ -120,7 +120,7 @@ class AverageProbe(NamedTuple):
     address of the work, which is a part of the group's psi data.
     """
 
-    moment: int
+    time_ns: int
     processor: int
     current: int
     work: int
@@ -131,7 +131,7 @@ class ReadyProbe(NamedTuple):
     event of the wakeup.
     """
 
-    moment: int
+    time_ns: int
     processor: int
     current: int
     task: int
@@ -140,7 +140,7 @@ class ReadyProbe(NamedTuple):
 class StallBegins(NamedTuple):
     """A probe on `psi_memstall_enter`: `current` enters a memory stall, possibly a nested one."""
 
-    moment: int
+    time_ns: int
     processor: int
     current: int
 
@@ -148,7 +148,7 @@ class StallBegins(NamedTuple):
 class StallEnds(NamedTuple):
     """A probe on `psi_memstall_leave`; `flags` is 0 if `current` is in no other stall."""
 
-    moment: int
+    time_ns: int
     processor: int
     current: int
     flags: int
@@ -159,7 +159,7 @@ class Attach(NamedTuple):
     `task` is its first thread. `hierarchy` is 0 for cgroup 2 only.
     """
 
-    moment: int
+    time_ns: int
     processor: int
     current: int
     hierarchy: int
@@ -173,7 +173,7 @@ class AttachProbe(NamedTuple):
     with all threads.
     """
 
-    moment: int
+    time_ns: int
     processor: int
     current: int
     task: int
@@ -183,7 +183,7 @@ class AttachProbe(NamedTuple):
 class GroupMade(NamedTuple):
     """`cgroup_mkdir`: a group was created."""
 
-    moment: int
+    time_ns: int
     processor: int
     current: int
     hierarchy: int
@@ -193,7 +193,7 @@ class GroupMade(NamedTuple):
 class GroupRemoved(NamedTuple):
     """`cgroup_rmdir`: a group was removed."""
 
-    moment: int
+    time_ns: int
     processor: int
     current: int
     hierarchy: int
@@ -203,7 +203,7 @@ class GroupRemoved(NamedTuple):
 class Victim(NamedTuple):
     """`mark_victim`: the kernel's OOM killer chose the task."""
 
-    moment: int
+    time_ns: int
     processor: int
     current: int
     task: int
@@ -214,7 +214,7 @@ class Interrupts(NamedTuple):
     express it.
     """
 
-    moment: int
+    time_ns: int
     processor: int
     current: int
     delta: int
@@ -223,7 +223,7 @@ class Interrupts(NamedTuple):
 class Marker(NamedTuple):
     """A line that was written into `trace_marker`."""
 
-    moment: int
+    time_ns: int
     processor: int
     current: int
     text: bytes
@@ -234,7 +234,7 @@ class Named(NamedTuple):
     precedes the switch or the `sched_process_exec` in which it was read.
     """
 
-    moment: int
+    time_ns: int
     processor: int
     current: int
     task: int

@@ -57,7 +57,7 @@ class Names:
         if not task:
             return None
         text = name.partition(b"\0")[0]
-        return Named(event.moment, event.processor, event.current, task, text)
+        return Named(event.time_ns, event.processor, event.current, task, text)
 
     def of_exec(self, event: Event, data: bytes, at: int, end: int) -> Optional[Named]:
         """Returns the name that a task gets by exec, which is that of its file. A script may be
@@ -67,7 +67,7 @@ class Names:
         name = text_at(data, at, end, self.fields.file).rpartition(b"/")[2][:MOST_NAME]
         if not name:
             return None
-        return Named(event.moment, event.processor, event.current, event.task, name)
+        return Named(event.time_ns, event.processor, event.current, event.task, name)
 
     def of(self, number: int, event: Event, data: bytes, at: int, end: int) -> Optional[Named]:
         """Returns the new name in the record of an event with this number, None if it has none."""

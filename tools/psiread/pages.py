@@ -18,7 +18,7 @@ from .names import Names
 from .records import Decoder
 
 MISSED = 1 << 31
-MISSED_IS_TOLD = 1 << 30
+MISSED_STORED = 1 << 30
 # The bits of `commit` with the number of used bytes (the largest pages have 1 MB).
 USED = (1 << 30) - 1
 
@@ -27,7 +27,7 @@ PADDING, TIME_EXTENDS = 29, 30
 TIME_BITS = 27
 # The number of time bits in an absolute timestamp record. The bits above are taken from the
 # previous time.
-MOMENT_BITS = 59
+ABSOLUTE_BITS = 59
 
 WORD = struct.Struct("<I").unpack_from
 LONG = struct.Struct("<Q").unpack_from
@@ -43,7 +43,7 @@ class Page(NamedTuple):
     bytes).
     """
 
-    moment: int
+    time_ns: int
     lost: int
     start: int
     end: int
@@ -51,7 +51,7 @@ class Page(NamedTuple):
 
 def page_at(data: bytes, at: int, form: PageFormat) -> Page:
     """Parses the header of the page that begins at the offset `at`."""
-    moment = LONG(data, at)[0]
+    time_ns = LONG(data, at)[0]
     commit = LONG(data, at + 8)[0] if form.commit_size == 8 else WORD(data, at + 8)[0]
     start = at + form.data
     end = start + (commit & USED)
@@ -59,41 +59,41 @@ def page_at(data: bytes, at: int, form: PageFormat) -> Page:
         raise PageFault(f"the page at byte {at} tells of {commit & USED} bytes of records")
     lost = 0
     if commit & MISSED:
-        is_told = commit & MISSED_IS_TOLD and end + 8 <= at + form.size
-        lost = (LONG(data, end)[0] if is_told else 0) or -1
-    return Page(moment, lost, start, end)
+        is_stored = commit & MISSED_STORED and end + 8 <= at + form.size
+        lost = (LONG(data, end)[0] if is_stored else 0) or -1
+    return Page(time_ns, lost, start, end)
 
 
 def records_of(data: bytes, page: Page) -> Iterator[tuple[int, int, int]]:
     """Yields the time (ns), start and end of each event's record in a page."""
-    moment, at, end = page.moment, page.start, page.end
+    time_ns, at, end = page.time_ns, page.start, page.end
     while at + 4 <= end:
         word = WORD(data, at)[0]
-        kind, time = word & 31, word >> 5
+        kind, delta = word & 31, word >> 5
         at += 4
         if 0 < kind < PADDING:
-            moment += time
-            yield moment, at, at + 4 * kind
+            time_ns += delta
+            yield time_ns, at, at + 4 * kind
             at += 4 * kind
             continue
         if at + 4 > end:
             return
         more = WORD(data, at)[0]
         if kind == 0:
-            moment += time
-            yield moment, at + 4, min(at + more, end)
+            time_ns += delta
+            yield time_ns, at + 4, min(at + more, end)
             at += more
         elif kind == PADDING:
-            if time == 0:  # the rest of the page is empty
+            if delta == 0:  # the rest of the page is empty
                 return
-            moment += time
+            time_ns += delta
             at += more
         else:
-            value = time + (more << TIME_BITS)
-            moment = (
-                moment + value
+            value = delta + (more << TIME_BITS)
+            time_ns = (
+                time_ns + value
                 if kind == TIME_EXTENDS
-                else moment >> MOMENT_BITS << MOMENT_BITS | value
+                else time_ns >> ABSOLUTE_BITS << ABSOLUTE_BITS | value
             )
             at += 4
 
@@ -127,15 +127,15 @@ def read_pages(
     for at in range(0, pages * form.size, form.size):
         page = page_at(data, at, form)
         if page.lost and not (is_ring and at == 0):
-            gaps.append(Gap(processor, before, page.moment, max(page.lost, 0)))
-        for moment, start, end in records_of(data, page):
+            gaps.append(Gap(processor, before, page.time_ns, max(page.lost, 0)))
+        for time_ns, start, end in records_of(data, page):
             number = data[start] | data[start + 1] << 8
             decoder = decoders.get(number)
             if decoder:
-                event = decoder(moment, processor, data, start, end)
+                event = decoder(time_ns, processor, data, start, end)
                 name = names.of(number, event, data, start, end) if number in named else None
                 if name:
                     events.append(name)
                 events.append(event)
-            before = moment
+            before = time_ns
     return Pages(events, gaps, len(data) % form.size)

@@ -35,7 +35,7 @@ class File(NamedTuple):
 class Totals(NamedTuple):
     """The totals of a pressure file at a time (ns): the stall times of some and full (us)."""
 
-    moment: int
+    time_ns: int
     some: int
     full: int
 
@@ -70,9 +70,9 @@ def spans_of(source: Source) -> dict[int, tuple[int, int]]:
     spans: dict[int, tuple[int, int]] = {}
     for marker, number, is_begin in reading_markers(source):
         if is_begin:
-            begins[number] = marker.moment
+            begins[number] = marker.time_ns
         elif number in begins:
-            spans[number] = begins[number], marker.moment
+            spans[number] = begins[number], marker.time_ns
     return spans
 
 
@@ -98,29 +98,29 @@ def machine_readings(folder: str, source: Source) -> Readings:
 def replay_series(printed: str) -> Series:
     """Parses the totals that a replay printed. Times are in ns since the trace's start."""
     series: Series = {}
-    for moment, path, resource, some, full in REPORT.findall(printed):
+    for time_ns, path, resource, some, full in REPORT.findall(printed):
         series.setdefault(File(path, resource), []).append(
-            Totals(int(moment), int(some), int(full))
+            Totals(int(time_ns), int(some), int(full))
         )
     return series
 
 
-def totals_at(totals: list[Totals], moment: int) -> Totals:
+def totals_at(totals: list[Totals], time_ns: int) -> Totals:
     """Returns the totals at a time (ns), interpolated linearly between two reports. They are 0
     at time 0.
     """
-    place = bisect_left([it.moment for it in totals], moment)
+    place = bisect_left([it.time_ns for it in totals], time_ns)
     if place == len(totals):
         return totals[-1]
     after = totals[place]
     before = totals[place - 1] if place else Totals(0, 0, 0)
     part = (
-        (moment - before.moment) / (after.moment - before.moment)
-        if after.moment > before.moment
+        (time_ns - before.time_ns) / (after.time_ns - before.time_ns)
+        if after.time_ns > before.time_ns
         else 1.0
     )
     return Totals(
-        moment, *(round(one + (other - one) * part) for one, other in zip(before[1:], after[1:]))
+        time_ns, *(round(one + (other - one) * part) for one, other in zip(before[1:], after[1:]))
     )
 
 
@@ -153,7 +153,7 @@ def made_in(source: Source) -> dict[str, int]:
     group that was created repeatedly it is the last time.
     """
     made = (it for it in source.events if isinstance(it, GroupMade) and not it.hierarchy)
-    return {escaped_path(it.path): it.moment for it in made}
+    return {escaped_path(it.path): it.time_ns for it in made}
 
 
 def first_totals(
@@ -164,7 +164,7 @@ def first_totals(
     has them. None if the group was created later, so that its totals began at 0.
     """
     is_new = file not in readings[0] and made.get(file.path, 0) > max(
-        it.moment for it in readings[0].values()
+        it.time_ns for it in readings[0].values()
     )
     return None if is_new else next(files[file] for files in readings if file in files)
 
@@ -176,7 +176,7 @@ def readings_within(readings: Readings, start: int, end: int) -> list[int]:
     return [
         number
         for number, files in readings.items()
-        if all(start <= it.moment <= end for it in files.values())
+        if all(start <= it.time_ns <= end for it in files.values())
     ]
 
 
@@ -197,19 +197,19 @@ def compared(
             file, [readings[it] for it in inside], made
         )
         if reports:
-            ours = totals_at(reports, before.moment - start) if before else Totals(0, 0, 0)
+            ours = totals_at(reports, before.time_ns - start) if before else Totals(0, 0, 0)
             theirs = before or Totals(start, 0, 0)
             pairs.append(
                 Pair(
                     file,
                     growth(theirs, after),
-                    growth(ours, totals_at(reports, after.moment - start)),
+                    growth(ours, totals_at(reports, after.time_ns - start)),
                 )
             )
     root = File("/", "cpu")
     return Compared(
         inside[0],
         inside[-1],
-        last[root].moment - first[root].moment if root in last and root in first else 0,
+        last[root].time_ns - first[root].time_ns if root in last and root in first else 0,
         pairs,
     )

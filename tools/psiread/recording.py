@@ -48,15 +48,15 @@ def kernel_of(folder: str) -> Kernel:
         raise Unreadable(f"{FORMATS}: {fault}") from None
 
 
-def gaps_behind(processor: int, lost: int, gaps: list[Gap], last: Event | None) -> list[Gap]:
+def gaps_at_end(processor: int, lost: int, gaps: list[Gap], last: Event | None) -> list[Gap]:
     """Returns the events that a processor lost after the last page that was read, as a gap. Only
     the statistics show them, which count all lost events. `gaps` are the known gaps, and `last`
     is the last event.
     """
-    behind = lost - sum(gap.lost for gap in gaps)
+    rest = lost - sum(gap.lost for gap in gaps)
     return (
-        [Gap(processor, last.moment if last else 0, NEVER, behind)]
-        if behind > 0 and all(gap.lost for gap in gaps)
+        [Gap(processor, last.time_ns if last else 0, NEVER, rest)]
+        if rest > 0 and all(gap.lost for gap in gaps)
         else []
     )
 
@@ -77,7 +77,7 @@ def read_processors(folder: str, meta: Meta, source: Source) -> None:
         except (PageFault, struct.error, IndexError) as fault:
             raise Unreadable(f"{name}: {fault}") from None
         source.gaps += read.gaps
-        source.gaps += gaps_behind(
+        source.gaps += gaps_at_end(
             processor,
             overrun.get(processor, 0),
             read.gaps,
@@ -98,19 +98,19 @@ def is_marker(event: Event, word: str) -> bool:
     return isinstance(event, Marker) and event.text.startswith((MARK + word).encode())
 
 
-def first_moments(events: list[Event]) -> dict[int, int]:
+def first_times(events: list[Event]) -> dict[int, int]:
     """Returns the time (ns) of each processor's first event."""
     firsts: dict[int, int] = {}
     for event in events:
-        firsts.setdefault(event.processor, event.moment)
+        firsts.setdefault(event.processor, event.time_ns)
     return firsts
 
 
-def first_moment(events: list[Event], word: str) -> int | None:
+def first_marker_time(events: list[Event], word: str) -> int | None:
     """Returns the time (ns) of the recorder's first marker that begins with `word`, None if
     there is none.
     """
-    return next((event.moment for event in events if is_marker(event, word)), None)
+    return next((event.time_ns for event in events if is_marker(event, word)), None)
 
 
 def begin_ring(source: Source, start: int) -> None:
@@ -118,13 +118,13 @@ def begin_ring(source: Source, start: int) -> None:
     after `start`, when all processors have events, at the next reading of the pressure files, so
     that the totals to compare with are known.
     """
-    whole_from = max([start, *first_moments(source.events).values()])
-    source.events = [event for event in source.events if event.moment >= whole_from]
+    whole_from = max([start, *first_times(source.events).values()])
+    source.events = [event for event in source.events if event.time_ns >= whole_from]
     if not source.events:
         raise Unreadable("no event is left in the ring from where all processors have events")
     source.gaps = [gap for gap in source.gaps if gap.end > whole_from]
     source.whole_from = whole_from
-    source.start = first_moment(source.events, READING) or whole_from
+    source.start = first_marker_time(source.events, READING) or whole_from
 
 
 def tell_losses(source: Source, meta: Meta) -> None:
@@ -135,9 +135,9 @@ def tell_losses(source: Source, meta: Meta) -> None:
         for processor, count in sorted(meta.lost(line).items()):
             source.losses.append(f"cpu {processor}: {count} events by '{line}', nobody knows when")
     if meta.end() is None or meta.ended_early():
-        lasts: dict[int, int] = {event.processor: event.moment for event in source.events}
+        lasts: dict[int, int] = {event.processor: event.time_ns for event in source.events}
         source.gaps += [
-            Gap(processor, moment, NEVER, 0) for processor, moment in sorted(lasts.items())
+            Gap(processor, time_ns, NEVER, 0) for processor, time_ns in sorted(lasts.items())
         ]
     if meta.ended_early():
         source.notes.append(f"the recording ended early: {meta.end()}")
@@ -161,20 +161,20 @@ def read_recording(
     source = Source([], meta.processors(), 0, 0, realtime=meta.realtime())
     source.has_switch_probe = meta.had_event(Probe.SWITCH)
     source.ahead, source.containers = meta.ahead(), containers_of(folder)
-    source.has_moments = meta.had_event(Probe.SHOW) and meta.had_event(Probe.AVERAGE)
+    source.has_sample_times = meta.had_event(Probe.SHOW) and meta.had_event(Probe.AVERAGE)
     source.has_ready_probe = meta.had_event(Probe.READY)
     source.snapshot = snapshot_of(folder)
     read(folder, meta, source)
     if not source.events:
         raise Unreadable("there are no events in it")
-    start = first_moment(source.events, START)
-    source.start = source.events[0].moment if start is None else start
+    start = first_marker_time(source.events, START)
+    source.start = source.events[0].time_ns if start is None else start
     if meta.is_ring():
         begin_ring(source, meta.ring_start())
-    stop = first_moment(source.events, STOP)
-    source.stop = source.events[-1].moment if stop is None else stop
-    source.snapshot.moment = (
-        source.snapshot.moment or first_moment(source.events, SNAPSHOT_BEGINS) or source.start
+    stop = first_marker_time(source.events, STOP)
+    source.stop = source.events[-1].time_ns if stop is None else stop
+    source.snapshot.time_ns = (
+        source.snapshot.time_ns or first_marker_time(source.events, SNAPSHOT_BEGINS) or source.start
     )
     tell_losses(source, meta)
     count = meta.bytes() if meta.has_all_bytes() else None

@@ -49,8 +49,8 @@ def number_decoder(kind: type, form: Format, names: tuple[str, ...]) -> Decoder:
     """Returns a decoder for an event whose fields are the integers `names`."""
     read = integers_of(form, (CURRENT, *names))
 
-    def decode(moment: int, processor: int, data: bytes, start: int, end: int) -> Event:
-        event: Event = made(kind, (moment, processor, *read(data, start)))
+    def decode(time_ns: int, processor: int, data: bytes, start: int, end: int) -> Event:
+        event: Event = made(kind, (time_ns, processor, *read(data, start)))
         return event
 
     return decode
@@ -68,12 +68,10 @@ def switch_decoder(form: Format) -> Decoder:
         known[state] = "R" if state & stays else letters.get(lowest, "R")
         return known[state]
 
-    def decode(moment: int, processor: int, data: bytes, start: int, end: int) -> Event:
+    def decode(time_ns: int, processor: int, data: bytes, start: int, end: int) -> Event:
         current, previous, state, following = read(data, start)
-        event: Event = made(
-            Switch,
-            (moment, processor, current, previous, known.get(state) or letter_of(state), following),
-        )
+        letter = known.get(state) or letter_of(state)
+        event: Event = made(Switch, (time_ns, processor, current, previous, letter, following))
         return event
 
     return decode
@@ -84,9 +82,9 @@ def group_decoder(kind: Union[type[GroupMade], type[GroupRemoved]], form: Format
     read = integers_of(form, (CURRENT, "root"))
     path = form.fields["path"]
 
-    def decode(moment: int, processor: int, data: bytes, start: int, end: int) -> Event:
+    def decode(time_ns: int, processor: int, data: bytes, start: int, end: int) -> Event:
         current, hierarchy = read(data, start)
-        return kind(moment, processor, current, hierarchy, text_at(data, start, end, path))
+        return kind(time_ns, processor, current, hierarchy, text_at(data, start, end, path))
 
     return decode
 
@@ -96,9 +94,9 @@ def attach_decoder(form: Format) -> Decoder:
     read = integers_of(form, (CURRENT, "dst_root", "pid"))
     path = form.fields["dst_path"]
 
-    def decode(moment: int, processor: int, data: bytes, start: int, end: int) -> Event:
+    def decode(time_ns: int, processor: int, data: bytes, start: int, end: int) -> Event:
         current, hierarchy, task = read(data, start)
-        return Attach(moment, processor, current, hierarchy, text_at(data, start, end, path), task)
+        return Attach(time_ns, processor, current, hierarchy, text_at(data, start, end, path), task)
 
     return decode
 
@@ -108,8 +106,8 @@ def marker_decoder(form: Format) -> Decoder:
     read = integers_of(form, (CURRENT,))
     text = form.fields["buf"]
 
-    def decode(moment: int, processor: int, data: bytes, start: int, end: int) -> Event:
-        return Marker(moment, processor, read(data, start)[0], text_at(data, start, end, text))
+    def decode(time_ns: int, processor: int, data: bytes, start: int, end: int) -> Event:
+        return Marker(time_ns, processor, read(data, start)[0], text_at(data, start, end, text))
 
     return decode
 

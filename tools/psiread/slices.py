@@ -27,7 +27,7 @@ from .formats import Format, IntegerReader, integers_of
 from .names import Names
 from .pages import Page, PageFault, page_at, records_of
 from .meta import Meta
-from .recording import gaps_behind, kernel_of
+from .recording import gaps_at_end, kernel_of
 from .source import Source, Unreadable
 
 # The frequent events, which a machine writes thousands of times a second. Markers of memory samples
@@ -46,7 +46,7 @@ FIRST_SAMPLES = 2048
 LEAST_SLICE = 2 * 10**9
 # The number of bytes that are read at once, for all processors together.
 READ_BYTES = 8 << 20
-MOMENT = itemgetter(0)
+BY_TIME = itemgetter(0)
 
 
 class WaitingSwitch(Switch):
@@ -66,7 +66,7 @@ class Records:
         # For a switch the task that leaves and the next task; for its probe the task, and whether
         # that waits.
         self.switch, self.ends_of = reader_of(forms, "sched_switch", ("prev_pid", "next_pid"))
-        self.probe, self.told_by = reader_of(forms, Probe.SWITCH, (Probe.PID, Probe.IO))
+        self.probe, self.read_probe = reader_of(forms, Probe.SWITCH, (Probe.PID, Probe.IO))
         # The numbers of the events that a survey skips.
         self.often = {forms[name].number for name in OFTEN if name in forms}
 
@@ -109,7 +109,7 @@ class Reader:
         self.size = max(size // self.form.size, 1) * self.form.size
         self.rest, self.before, self.gaps = 0, 0, list[Gap]()
         # The last probe whose switch hasn't been read yet: the task, and whether it waits.
-        self.told: tuple[int, ...] | None = None
+        self.pending: tuple[int, ...] | None = None
         self.file = Raw(folder, processor, most)
         self.names = Names(records.kernel.names)
 
@@ -125,7 +125,7 @@ class Reader:
         for at in range(0, len(data), self.form.size):
             page = page_at(data, at, self.form)
             if page.lost and not self.is_ring:
-                self.gaps.append(Gap(self.processor, self.before, page.moment, max(page.lost, 0)))
+                self.gaps.append(Gap(self.processor, self.before, page.time_ns, max(page.lost, 0)))
             self.is_ring = False
             yield page
 
@@ -140,40 +140,40 @@ class Reader:
     def decoded(self, data: bytes) -> list[Event]:
         """Returns the events in these pages without the probes of switches."""
         events: list[Event] = []
-        add, processor, records, told, moment = (
+        add, processor, records, pending, time_ns = (
             events.append,
             self.processor,
             self.records,
-            self.told,
+            self.pending,
             self.before,
         )
-        decoders, switch, probe, told_by = (
+        decoders, switch, probe, read_probe = (
             records.kernel.decoders,
             records.switch,
             records.probe,
-            records.told_by,
+            records.read_probe,
         )
         names, has_name = self.names, self.names.exec
         for page in self.pages(data):
-            for moment, start, end in records_of(data, page):
+            for time_ns, start, end in records_of(data, page):
                 number = data[start] | data[start + 1] << 8
                 if number == probe:
-                    told = told_by(data, start)
+                    pending = read_probe(data, start)
                 elif number == switch:
-                    event: Any = decoders[number](moment, processor, data, start, end)
+                    event: Any = decoders[number](time_ns, processor, data, start, end)
                     name = names.of_switch(event, data, start)
                     if name:
                         add(name)
-                    is_wait = told is not None and told[1] and told[0] == event[3]
+                    is_wait = pending is not None and pending[1] and pending[0] == event[3]
                     add(WaitingSwitch._make(event) if is_wait else event)
-                    told = None
+                    pending = None
                 elif number in decoders:
-                    event = decoders[number](moment, processor, data, start, end)
+                    event = decoders[number](time_ns, processor, data, start, end)
                     if number == has_name and (name := names.of(number, event, data, start, end)):
                         add(name)
                     add(event)
-            self.before = moment
-        self.told = told
+            self.before = time_ns
+        self.pending = pending
         return events
 
 
@@ -189,7 +189,7 @@ class Surveyed:
         self.rare: list[Event] = []
         self.coming, self.leaving = set[int](), set[int]()
         self.last: Event | None = None
-        self.seen: set[int] = set()
+        self.known: set[int] = set()
         self.samples = 0
         while data := reader.data():
             try:
@@ -204,10 +204,10 @@ class Surveyed:
         """Surveys the next pages. The first event of each frequent kind is stored like a rare
         one.
         """
-        records, processor, seen, leave, come = (
+        records, processor, known, leave, come = (
             reader.records,
             reader.processor,
-            self.seen,
+            self.known,
             self.leaving.add,
             self.coming.add,
         )
@@ -217,20 +217,20 @@ class Surveyed:
             records.often,
             records.ends_of,
         )
-        last, moment = None, reader.before
+        last, time_ns = None, reader.before
         for page in reader.pages(data):
-            for moment, start, end in records_of(data, page):
+            for time_ns, start, end in records_of(data, page):
                 number = data[start] | data[start + 1] << 8
                 if number == switch:
                     previous, following = ends_of(data, start)
                     leave(previous)
                     come(following)
-                if number not in often or number not in seen:
+                if number not in often or number not in known:
                     if number not in decoders:
                         continue
-                    self.take_rare(decoders[number](moment, processor, data, start, end), number)
-                last = moment, start, end
-            reader.before = moment
+                    self.take_rare(decoders[number](time_ns, processor, data, start, end), number)
+                last = time_ns, start, end
+            reader.before = time_ns
         if last:
             number = data[last[1]] | data[last[1] + 1] << 8
             self.last = decoders[number](last[0], processor, data, *last[1:])
@@ -241,7 +241,7 @@ class Surveyed:
         self.samples += is_sample
         if not is_sample or self.samples <= FIRST_SAMPLES:
             self.rare.append(event)
-        self.seen.add(number)
+        self.known.add(number)
 
 
 def survey_share(readers: list[Reader], own: Connection, others: list[Connection]) -> None:
@@ -328,7 +328,7 @@ class Survey:
             coming |= found.coming
             leaving |= found.leaving
             source.gaps += found.gaps
-            source.gaps += gaps_behind(
+            source.gaps += gaps_at_end(
                 reader.processor, overrun.get(reader.processor, 0), found.gaps, found.last
             )
             if found.rest:
@@ -337,7 +337,7 @@ class Survey:
                 ] += found.rest
             source.bytes += found.bytes
             source.events += found.rare
-        source.events.sort(key=MOMENT)
+        source.events.sort(key=BY_TIME)
         self.silent = coming - leaving
 
     def slices(self, whole_from: int) -> Iterator[list[Event]]:
@@ -347,8 +347,8 @@ class Survey:
         for events in slices_of(self.readers()):
             yield (
                 events
-                if not events or events[0].moment >= whole_from
-                else [it for it in events if it.moment >= whole_from]
+                if not events or events[0].time_ns >= whole_from
+                else [it for it in events if it.time_ns >= whole_from]
             )
 
 
@@ -362,7 +362,7 @@ def slices_of(readers: list[Reader]) -> Iterator[list[Event]]:
     events: list[Event] = []
     for part in parts_of(readers):
         events += part
-        if events and events[-1].moment - events[0].moment >= LEAST_SLICE:
+        if events and events[-1].time_ns - events[0].time_ns >= LEAST_SLICE:
             yield events
             events = []
     yield events
@@ -377,22 +377,22 @@ def parts_of(readers: list[Reader]) -> Iterator[list[Event]]:
     boundary = 0
     while True:
         for place, events in waiting.items():
-            while place not in ended and (not events or events[-1].moment <= boundary):
+            while place not in ended and (not events or events[-1].time_ns <= boundary):
                 part = readers[place].part()
                 if part is None:
                     ended.add(place)
                 else:
                     events += part
         boundary = min(
-            (events[-1].moment for place, events in waiting.items() if place not in ended),
+            (events[-1].time_ns for place, events in waiting.items() if place not in ended),
             default=NEVER,
         )
         found: list[Event] = []
         for events in waiting.values():
-            end = bisect_left(events, boundary, key=MOMENT)
+            end = bisect_left(events, boundary, key=BY_TIME)
             found += events[:end]
             del events[:end]
-        found.sort(key=MOMENT)
+        found.sort(key=BY_TIME)
         yield found
         if len(ended) == len(readers):
             return

@@ -20,7 +20,7 @@ def snapshot_of(folder: str) -> Snapshot:
         if words == [SNAPSHOT_END]:
             snapshot.has_end = True
         elif words[0] == "at" and len(words) == 2 and NUMBER.fullmatch(words[1]):
-            snapshot.moment = int(words[1])
+            snapshot.time_ns = int(words[1])
         elif words[0] == "group" and len(words) == 3 and words[2] in PREFERENCES:
             snapshot.groups[path_of(words[1])] = words[2]
         elif words[0] == "type" and len(words) == 3:

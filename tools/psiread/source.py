@@ -30,11 +30,11 @@ class ListedTask(NamedTuple):
 
 @dataclass
 class Snapshot:
-    """A snapshot taken during the recording at `moment` (ns): groups with their preferences,
+    """A snapshot taken during the recording at `time_ns` (ns): groups with their preferences,
     their types if the recorder wrote these, groups whose pressure isn't accounted, and threads.
     """
 
-    moment: int = 0
+    time_ns: int = 0
     groups: dict[str, str] = field(default_factory=dict)
     unaccounted: list[str] = field(default_factory=list)
     tasks: dict[int, ListedTask] = field(default_factory=dict)
@@ -64,7 +64,7 @@ class Source:
     snapshot: Snapshot = field(default_factory=Snapshot)
     has_switch_probe: bool = False
     # Whether the events include each time at which the kernel sampled a group.
-    has_moments: bool = False
+    has_sample_times: bool = False
     # Whether the events include the time at which psi counts a wakeup.
     has_ready_probe: bool = False
     realtime: int | None = None

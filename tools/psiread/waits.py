@@ -31,18 +31,18 @@ def best_method(events: Sequence[Event], has_probe: bool) -> Method:
     return Method.STATISTICS if WaitEnds in kinds else Method.STATE
 
 
-def by_probe(events: Sequence[Event], told: dict[int, SwitchProbe] | None = None) -> set[int]:
+def by_probe(events: Sequence[Event], probes: dict[int, SwitchProbe] | None = None) -> set[int]:
     """Returns the indices of the switches that begin a wait for IO, by the probe right before
-    each on the same processor. If events are read in parts, pass the same `told` for each part:
+    each on the same processor. If events are read in parts, pass the same `probes` for each part:
     it has the probes whose switch is still to come, by processor.
     """
     waits: set[int] = set()
-    told = {} if told is None else told
+    probes = {} if probes is None else probes
     for place, event in enumerate(events):
         if isinstance(event, SwitchProbe):
-            told[event.processor] = event
+            probes[event.processor] = event
         elif isinstance(event, Switch):
-            probe = told.pop(event.processor, None)
+            probe = probes.pop(event.processor, None)
             if probe and probe.task == event.previous and probe.waits:
                 waits.add(place)
     return waits

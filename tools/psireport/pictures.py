@@ -125,7 +125,7 @@ def pressure_data(replay: Replay, path: str, resource: str) -> dict[str, Any]:
     shares = {look: values for look, values in shares.items() if values}
     moments: list[Optional[int]] = []
     lines: dict[str, list[Optional[int]]] = {look: [] for look in shares}
-    for place, moment in enumerate(series.moments):
+    for place, moment in enumerate(series.times_ns):
         if place and series.rounds[place] > series.rounds[place - 1] + 1:
             moments.append(None)
             for values in lines.values():
@@ -166,7 +166,7 @@ def picture(wanted: Wanted, has_labels: bool) -> Picture:
     data.update(
         top=figure.top, bottom=figure.top + figure.height, below=figure.bottom, most=figure.most(),
         step=panel.kind == USE,
-        marks=[mark.moments[0].moment // MS for mark in figure.marks],
+        marks=[mark.events[0].time_ns // MS for mark in figure.marks],
     )  # fmt: skip
     panel.name = f"{panel.name} of {path}"
     return Picture(path, panel.kind, panel.name, figure.drawn(), data)

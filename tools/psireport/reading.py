@@ -73,9 +73,9 @@ def kept_rows(series: Series, start: int, end: int) -> list[int]:
     and, for each average, the one with the highest value. So no peak is lost.
     """
     stretches: dict[int, list[int]] = collections.defaultdict(list)
-    for place, moment in enumerate(series.moments):
+    for place, moment in enumerate(series.times_ns):
         stretches[(moment - start) * STRETCHES // max(1, end - start)].append(place)
-    kept = {0, len(series.moments) - 1} if series.moments else set[int]()
+    kept = {0, len(series.times_ns) - 1} if series.times_ns else set[int]()
     for places in stretches.values():
         kept.add(places[0])
         for shares in filter(None, series.shares.values()):
@@ -92,7 +92,7 @@ def thinned(series: Series, start: int, end: int) -> Series:
         is_broken = series.rounds[place] - series.rounds[max(last, 0)] > place - max(last, 0)
         number += 3 if is_broken else 1
         last = place
-        found.moments.append(series.moments[place])
+        found.times_ns.append(series.times_ns[place])
         found.rounds.append(number)
         for level in LEVELS:
             for average in AVERAGES:

@@ -150,10 +150,10 @@ def stretch_of(series: Series, level: str) -> Stretch:
     """
     shares = series.shares[level, "avg10"]
     highest = max(shares, default=0)
-    at = series.moments[list(shares).index(highest)] if shares else 0
+    at = series.times_ns[list(shares).index(highest)] if shares else 0
     best = Stretch(at, at, highest, at)
     start: Optional[int] = None
-    for moment, value in zip(series.moments, shares):
+    for moment, value in zip(series.times_ns, shares):
         start = (moment if start is None else start) if 2 * value >= max(1, highest) else None
         if start is not None and moment - start > best.end - best.start:
             best = Stretch(start, moment, highest, at)
@@ -165,9 +165,9 @@ def value_at(series: Series, level: str, moment: int) -> tuple[int, int]:
     last report.
     """
     place = next(
-        (place for place, it in enumerate(series.moments) if it >= moment), len(series.moments) - 1
+        (place for place, it in enumerate(series.times_ns) if it >= moment), len(series.times_ns) - 1
     )
-    return series.moments[place], series.shares[level, "avg10"][place]
+    return series.times_ns[place], series.shares[level, "avg10"][place]
 
 
 def after(subject: Subject, kill: Kill, recorded: Replay, supposed: Replay) -> Optional[After]:
@@ -175,13 +175,13 @@ def after(subject: Subject, kill: Kill, recorded: Replay, supposed: Replay) -> O
     group. Returns None unless the subject has reports after the kill in both replays.
     """
     one, other = (it.series.get(subject) for it in (recorded, supposed))
-    if not one or not other or one.moments[-1] <= kill.moment or other.moments[-1] <= kill.moment:
+    if not one or not other or one.times_ns[-1] <= kill.moment or other.times_ns[-1] <= kill.moment:
         return None
     moment, was = value_at(one, subject.level, kill.moment + LATER)
     same, most = value_at(other, subject.level, moment)
     shares = [
         share_
-        for at, share_ in zip(one.moments, one.shares[subject.level, "avg10"])
+        for at, share_ in zip(one.times_ns, one.shares[subject.level, "avg10"])
         if kill.moment <= at <= moment
     ]
     was_over = all(later <= before for before, later in zip(shares, shares[1:]))

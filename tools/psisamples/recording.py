@@ -25,10 +25,10 @@ def times_of(source: Source, most: int) -> list[int]:
     without any marker readings are EVERY apart.
     """
     begins = {
-        number: marker.moment for marker, number, is_begin in reading_markers(source) if is_begin
+        number: marker.time_ns for marker, number, is_begin in reading_markers(source) if is_begin
     }
     ends = {
-        number: marker.moment
+        number: marker.time_ns
         for marker, number, is_begin in reading_markers(source)
         if not is_begin
     }
@@ -85,7 +85,7 @@ def put_memory(event: Marker, offset: int, put: Put) -> None:
     """Stores a marker's memory sample, if it has one."""
     words = event.text.decode("utf-8", "surrogateescape")[len(MARK) :].split()
     if words[:1] == ["host"] and len(words) == 4:
-        put(event.moment + offset, ROOT, HOST, tuple(map(int, words[1:])), 0)
+        put(event.time_ns + offset, ROOT, HOST, tuple(map(int, words[1:])), 0)
     elif words[:1] == ["mem"] and len(words) == 5:
         path = escaped_path(words[1].encode("utf-8", "surrogateescape"))
-        put(event.moment + offset, path, MEMORY, tuple(map(int, words[2:])), 0)
+        put(event.time_ns + offset, path, MEMORY, tuple(map(int, words[2:])), 0)

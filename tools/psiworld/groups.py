@@ -106,14 +106,14 @@ class Groups:
 
     def swept(self, path: str) -> list[str]:
         """Removes the group and its ancestors, as far as they are marked for removal and empty."""
-        gone = []
+        removed = []
         while path in self.leaving and not self.tasks[path] and not self.children[path]:
             self.leaving.remove(path)
             self.live.remove(path)
             self.children[parent_of(path)] -= 1
-            gone.append(path)
+            removed.append(path)
             path = parent_of(path)
-        return gone
+        return removed
 
     def is_leaving(self, path: str) -> bool:
         """Returns whether the kernel removed it, but the trace still has it."""

@@ -121,9 +121,9 @@ class World:
         """A task leaves the group."""
         self.end_groups(self.groups.leave(path))
 
-    def end_groups(self, gone: list[str]) -> None:
+    def end_groups(self, removed: list[str]) -> None:
         """Removes these groups. If one is created again, it is accounted."""
-        for one in gone:
+        for one in removed:
             self.put(f"rmgroup {one}")
             self.off.discard(one)
 
@@ -169,11 +169,11 @@ class World:
         """
         if not self.has_interrupts or not self.running(processor):
             return
-        told = min(length, self.now - self.interrupted.get(processor, 0), MOST_INTERRUPTS)
-        if told < length:
+        written = min(length, self.now - self.interrupted.get(processor, 0), MOST_INTERRUPTS)
+        if written < length:
             self.mended["interrupts longer than the time since the last ones, cut off"] += 1
-        if told:
-            self.put(f"irq {processor} {told}")
+        if written:
+            self.put(f"irq {processor} {written}")
             self.interrupted[processor] = self.now
 
     # ------------------------------------------------------------ tasks

@@ -53,7 +53,7 @@ def shares_of(shares: Sequence[Share]) -> dict[str, Any]:
 
 
 def group_of(groups: Groups, it: Figures, asked: Asked, is_named: bool) -> dict[str, Any]:
-    told: dict[str, Any] = {
+    fields: dict[str, Any] = {
         "group": groups.name(it.group),
         "path": it.group.path,
         "made_ns": it.group.made,
@@ -69,11 +69,11 @@ def group_of(groups: Groups, it: Figures, asked: Asked, is_named: bool) -> dict[
         "while_ran": parts_of(groups, it.while_ran, asked.top),
     }
     if is_named:
-        told["io_at_the_same_time"] = parts_of(groups, it.io_beside, asked.top)
-        told["memory_at_the_same_time"] = parts_of(groups, it.memory_beside, asked.top)
+        fields["io_at_the_same_time"] = parts_of(groups, it.io_beside, asked.top)
+        fields["memory_at_the_same_time"] = parts_of(groups, it.memory_beside, asked.top)
     if asked.victim is not None:
-        told["while_victim_ran_ns"], told["less_at_least_ns"] = it.while_victim, it.less
-    return told
+        fields["while_victim_ran_ns"], fields["less_at_least_ns"] = it.while_victim, it.less
+    return fields
 
 
 def as_json(

@@ -83,7 +83,7 @@ def take_all(line: Connection, due: Queue[Work | None]) -> None:
 
 
 @contextlib.contextmanager
-def answering() -> Iterator[None]:
+def reporting_ended() -> Iterator[None]:
     """Reports that a process has ended without an answer."""
     try:
         yield
@@ -91,11 +91,11 @@ def answering() -> Iterator[None]:
         raise Unreadable("a process that folds has ended: was it out of memory?") from None
 
 
-class Crew:
+class Workers:
     """All processors, divided into shares. At first they are folded in this process."""
 
-    def __init__(self, processors: int, workers: int | None = None) -> None:
-        most = max(len(os.sched_getaffinity(0)) - 1, 1) if workers is None else max(workers, 1)
+    def __init__(self, processors: int, most: int | None = None) -> None:
+        most = max(len(os.sched_getaffinity(0)) - 1 if most is None else most, 1)
         count = min(processors, MOST_WORKERS, most)
         self.shares = [Share(range(start, processors, count), processors) for start in range(count)]
         self.lines: list[Connection] = []
@@ -112,7 +112,7 @@ class Crew:
             self.start()
         if self.lines:
             for share, line in zip(self.shares, self.lines):
-                with answering():
+                with reporting_ended():
                     line.send(share.of(work))
             self.waiting.append(None)
         else:
@@ -131,7 +131,7 @@ class Crew:
         pieces = self.waiting.popleft()
         if pieces is not None:
             return pieces
-        with answering():
+        with reporting_ended():
             return {number: piece for line in self.lines for number, piece in line.recv().items()}
 
     def start(self) -> None:
