@@ -10,7 +10,7 @@ from collections.abc import Callable, Sequence
 from psinames.text import escaped
 
 from psiread.events import (
-    CLONE_INTO_CGROUP, CLONE_THREAD, GONE, Attach, AttachProbe, Event, Exec, FirstWakeup, GroupMade,
+    CLONE_INTO_CGROUP, CLONE_THREAD, EXITED, Attach, AttachProbe, Event, Exec, FirstWakeup, GroupMade,
     GroupRemoved, Interrupts,
     Marker, Migration, Named, NewTask, StallBegins, StallEnds, Switch, Victim, Wakeup,
 )  # fmt: skip
@@ -163,7 +163,7 @@ class Player:
         """
         if state == STAYS:
             return How.PREEMPT
-        if state in GONE:
+        if state in EXITED:
             return How.EXIT
         return How.WAIT if place in self.waits else How.SLEEP
 

@@ -269,7 +269,7 @@ CLONE_THREAD = 0x10000
 CLONE_INTO_CGROUP = 0x2_0000_0000
 
 # The state letters of tasks that exit: dead, and zombie.
-GONE = ("X", "Z")
+EXITED = ("X", "Z")
 
 
 NEVER = 2**64

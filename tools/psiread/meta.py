@@ -64,7 +64,7 @@ class Meta(Lines):
         """
         found = re.fullmatch(
             r"realtime ([0-9]{1,12}\.[0-9]{1,9}) monotonic ([0-9]{1,12}\.[0-9]{1,9})",
-            self.one(Key.BY_TIME) or "",
+            self.one(Key.MOMENT) or "",
         )
         return ns_of(found[1]) - ns_of(found[2]) if found else None
 
