@@ -1,8 +1,8 @@
-"""The events of a recording, the same for pages of ring buffers and for text.
+"""Defines the events of a recording. Ring-buffer pages and ftrace text give the same events.
 
-`time_ns` is in ns of the recording's clock, `processor` is the one on which the event was
-written, and `current` the task that ran there (0 is the idle task). Tasks are threads, numbered
-as in the first PID namespace. The names of the kernel's events are those of
+`time_ns` is the time (ns of the recording's clock), `processor` the processor on which the event
+was written, and `current` the task that ran there (0: the idle task). Tasks are threads, with
+their numbers in the initial PID namespace. The names of the kernel's events are those of
 `include/trace/events/{sched,task,cgroup,oom}.h`.
 """
 from __future__ import annotations
@@ -12,7 +12,7 @@ from typing import NamedTuple, Union
 
 class Switch(NamedTuple):
     """`sched_switch`: `previous` leaves the processor and `next` gets it. `state` is the letter
-    of the kernel's print format for `previous` (`R`: it remains ready).
+    of the kernel's print format for `previous` (`R`: the task remains ready).
     """
 
     time_ns: int
@@ -57,7 +57,7 @@ class Migration(NamedTuple):
 
 
 class NewTask(NamedTuple):
-    """`task_newtask`: a task was created. `current` is its parent, and `flags` are those of
+    """`task_newtask`: a task was created. `current` is its parent, and `flags` are the flags of
     clone(2).
     """
 
@@ -81,8 +81,8 @@ class Exec(NamedTuple):
 
 
 class WaitEnds(NamedTuple):
-    """`sched_stat_iowait`: the sleep of `task` that ends was a wait for IO. It precedes the
-    wakeup.
+    """`sched_stat_iowait`: the sleep of `task` that now ends was a wait for IO. This event precedes
+    the wakeup.
     """
 
     time_ns: int
@@ -117,7 +117,7 @@ class ShowProbe(NamedTuple):
 
 class AverageProbe(NamedTuple):
     """A probe on `psi_avgs_work`: the kernel's periodic work samples a group. `work` is the
-    address of the work, which is a part of the group's psi data.
+    address of the work structure, which is part of the group's psi data.
     """
 
     time_ns: int
@@ -127,8 +127,8 @@ class AverageProbe(NamedTuple):
 
 
 class ReadyProbe(NamedTuple):
-    """A probe on `psi_task_change`: psi counts the task as ready. At a wakeup this precedes the
-    event of the wakeup.
+    """A probe on `psi_task_change`: psi counts the task as ready. At a wakeup this event precedes
+    the event of the wakeup.
     """
 
     time_ns: int
@@ -169,8 +169,8 @@ class Attach(NamedTuple):
 
 class AttachProbe(NamedTuple):
     """A probe on the function `cgroup_attach_task`, which `current` runs right before the event
-    of that name: `whole` is 0 if only the task moves, by `cgroup.threads`, and not its process
-    with all threads.
+    of that name. `whole` is 0 if a write to `cgroup.threads` moves only this task, and 1 if its
+    whole process moves.
     """
 
     time_ns: int
@@ -210,8 +210,8 @@ class Victim(NamedTuple):
 
 
 class Interrupts(NamedTuple):
-    """A probe on `psi_account_irqtime`: `delta` ns went to interrupts. A trace of version 1 can't
-    express it.
+    """A probe on `psi_account_irqtime`: interrupts took `delta` ns. A trace of version 1 can't
+    express this event.
     """
 
     time_ns: int
@@ -230,8 +230,8 @@ class Marker(NamedTuple):
 
 
 class Named(NamedTuple):
-    """The name of a task, if it differs from the name in earlier events of the processor. It
-    precedes the switch or the `sched_process_exec` in which it was read.
+    """The name of a task, if it differs from the name in earlier events of the processor. This
+    event precedes the switch or the `sched_process_exec` that contains the name.
     """
 
     time_ns: int
@@ -248,7 +248,8 @@ Event = Union[
     Named,
 ]  # fmt: skip
 
-# The name of each kind of event in counts and messages: the kernel's name, or the probe's.
+# The name of each kind of event in counts and messages: the name of the kernel's event, or of the
+# function that is probed.
 NAMES: dict[type, str] = {
     Switch: "sched_switch", Wakeup: "sched_wakeup", FirstWakeup: "sched_wakeup_new",
     Migration: "sched_migrate_task",
@@ -263,22 +264,21 @@ NAMES: dict[type, str] = {
     Marker: "trace_marker",
 }  # fmt: skip
 
-# Flags of clone(2): the new task is a thread of its parent's process; it begins in a group that the
-# caller named.
+# Flags of clone(2). CLONE_THREAD: the new task is a thread of its parent's process.
+# CLONE_INTO_CGROUP: the caller chose the group of the new task.
 CLONE_THREAD = 0x10000
 CLONE_INTO_CGROUP = 0x2_0000_0000
 
 # The state letters of tasks that exit: dead, and zombie.
 EXITED = ("X", "Z")
-
-
+# The end (ns) of a gap that lasts to the end of the recording.
 NEVER = 2**64
 
 
 class Gap(NamedTuple):
-    """Lost events of a processor: `lost` is their number (0 if unknown). They were lost between
-    `start` and `end` (ns); a `start` of 0 is the beginning, and an `end` of NEVER the end of the
-    recording.
+    """A time span in which events of a processor were lost, from `start` to `end` (ns). `lost` is
+    their number (0 if unknown). A `start` of 0 is the beginning of the recording, and an `end` of
+    NEVER is its end.
     """
 
     processor: int

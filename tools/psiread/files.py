@@ -14,8 +14,8 @@ from psirec.layout import PACKED, part_name, raw_name
 
 from .source import Unreadable
 
-# The most bytes in a part if `meta` has no count, because the recorder was killed: eight times what
-# the recorder writes into a part.
+# The most bytes that are read from a part if `meta` has no count of bytes, because the recorder was
+# killed: eight times the size of the parts that the recorder writes.
 MOST_PART_BYTES = 64 << 20
 PIECE = 8 << 20
 
@@ -39,14 +39,14 @@ def bytes_of(folder: str, name: str) -> bytes:
 
 
 def text_of(folder: str, name: str) -> str:
-    """Returns a file's text. Bytes that aren't UTF-8 become surrogates, so that no byte is lost."""
+    """Returns a file's text. Bytes that aren't UTF-8 become surrogates, so no byte is lost."""
     return bytes_of(folder, name).decode("utf-8", "surrogateescape")
 
 
 class Raw:
-    """The pages of a processor, from one file or from several parts that are read as one.
-    Reading more than `most` bytes of compressed parts is an error; `count` is the number of
-    bytes read.
+    """Reads the pages of a processor from one file, or from several parts in their order. Reading
+    more than `most` bytes of compressed parts raises Unreadable. `count` is the number of bytes
+    that were read.
     """
 
     def __init__(self, folder: str, processor: int, most: int | None) -> None:
@@ -101,7 +101,7 @@ def parts_of(folder: str, processor: int) -> list[str]:
 
 
 def open_part(name: str) -> IO[bytes]:
-    """Opens a part, which may be compressed."""
+    """Opens a part for reading. A compressed part is decompressed while it is read."""
     file = open_regular(name)
     if name.endswith(PACKED):
         return gzip.GzipFile(fileobj=file)  # type: ignore[return-value]

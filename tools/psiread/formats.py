@@ -1,5 +1,5 @@
-"""Parses the formats of a recording's events, which have the offset of each field in a record, from
-the kernel's own `format` files.
+"""Parses the kernel's `format` files, which have the offset of each field in the records of an
+event.
 
 A field's line is `field:TYPE NAME; offset:N; size:N; signed:N;`, offsets and sizes in bytes
 (`Documentation/trace/events.rst` of Linux, section 2.2). Numbers are little-endian.
@@ -20,17 +20,17 @@ INTEGERS = {(1, True): "b", (1, False): "B", (2, True): "h", (2, False): "H",
             (4, True): "i", (4, False): "I", (8, True): "q", (8, False): "Q"}  # fmt: skip
 # The largest accepted page (bytes). The largest pages of ring buffers have 1 MB.
 MOST_PAGE = 1 << 21
-# Reads integer fields of the record that begins at an offset.
+# A function that returns integer fields of the record at an offset in the pages.
 IntegerReader = Callable[[bytes, int], tuple[int, ...]]
 
 
 class FormatFault(Exception):
-    """Formats whose pages or records can't be read."""
+    """The error that pages or records with these formats can't be read."""
 
 
 class Field(NamedTuple):
-    """A field of a record. `offset` and `size` are in bytes, and `size` is 0 for a text that
-    ends the record.
+    """A field of a record. `offset` and `size` are in bytes. `size` is 0 for a text that extends
+    to the end of the record.
     """
 
     type: str
@@ -49,8 +49,8 @@ class Format(NamedTuple):
 
 
 def field_of(line: str) -> tuple[str, Field] | None:
-    """Parses a line of a format. Returns the field's name and the field, or None if the line has
-    none.
+    """Parses a line of a format. Returns the field's name and the field, or None if the line
+    describes no field.
     """
     found = FIELD.match(line)
     if not found:
@@ -61,8 +61,8 @@ def field_of(line: str) -> tuple[str, Field] | None:
 
 
 def sections_of(text: str) -> dict[str, list[str]]:
-    """Splits the recording's file of formats into its sections `== NAME`, and returns each one's
-    lines.
+    """Splits the recording's file of formats into sections, which begin with `== NAME`. Returns the
+    lines of each section, by name.
     """
     sections: dict[str, list[str]] = {}
     lines: list[str] = []
@@ -80,7 +80,7 @@ def fields_of(lines: Sequence[str]) -> dict[str, Field]:
 
 
 def formats_of(sections: dict[str, list[str]]) -> dict[str, Format]:
-    """Returns the formats of all events, by the event's name without the name of its subsystem."""
+    """Returns the formats of all events, by the event's name without its subsystem."""
     formats = {}
     for path, lines in sections.items():
         number = next(
@@ -94,8 +94,8 @@ def formats_of(sections: dict[str, list[str]]) -> dict[str, Format]:
 
 
 class PageFormat(NamedTuple):
-    """The layout of a ring buffer's page, according to `events/header_page`: its size, the size
-    of the field for the used bytes, and the offset of its records, all in bytes.
+    """The layout of a ring buffer's page, according to `events/header_page`: the page size, the
+    size of the field `commit`, and the offset of the records, all in bytes.
     """
 
     size: int
@@ -118,9 +118,9 @@ def page_format_of(sections: dict[str, list[str]]) -> PageFormat:
 
 
 def state_letters(print_format: str) -> tuple[dict[int, str], int]:
-    """Returns the letter of each bit of `prev_state` in the print format of `sched_switch`, and
-    the bit of `R+`, which is the next higher one: the task was preempted while it was about to
-    sleep, and remains ready.
+    """Returns the letter of each bit of `prev_state`, by the print format of `sched_switch`, and
+    the bit that is printed as `R+`: the task was preempted while it was about to sleep, and
+    remains ready. That bit is the next one above the bits with letters.
     """
     letters = {
         int(bit, 16): letter
@@ -132,7 +132,7 @@ def state_letters(print_format: str) -> tuple[dict[int, str], int]:
 
 
 def integers_of(form: Format, names: Sequence[str]) -> IntegerReader:
-    """Returns a reader for the fields `names`, which must be integers."""
+    """Returns a function that reads the fields `names`, which must be integers, from a record."""
     try:
         fields = [form.fields[name] for name in names]
         order = sorted(range(len(fields)), key=lambda place: fields[place].offset)
@@ -147,7 +147,7 @@ def integers_of(form: Format, names: Sequence[str]) -> IntegerReader:
 
 
 def in_order(reader: struct.Struct, places: list[int]) -> IntegerReader:
-    """Returns a reader that unpacks a structure and returns its numbers in the order of
+    """Returns a function that unpacks a structure and returns its numbers in the order of
     `places`.
     """
     unpack = reader.unpack_from

@@ -1,4 +1,4 @@
-"""Recognises a file of the wrong kind by its first bytes, and gives advice."""
+"""Recognises the kind of a file by its first bytes, to give advice about a wrong file."""
 from __future__ import annotations
 
 import glob
@@ -10,7 +10,7 @@ from psirec.meta import is_recording
 # The number of bytes at the start of a file by which its kind is recognised.
 HEAD = 64
 TRACE_HEADER = re.compile(rb"psitrace [0-9]+ cpus=")
-# The first bytes of a file, and what it is, with advice.
+# The first bytes of each kind of file, and a message about the kind, with advice.
 KINDS = (
     (b"\x1f\x8b", "it is compressed by gzip: unpack it with gunzip -c"),
     (b"\xfd7zXZ\0", "it is compressed by xz: unpack it, an archive with tar xf"),
@@ -27,7 +27,9 @@ RULES = "it seems to be a rules file"
 
 
 def kind_of(head: bytes) -> str | None:
-    """Says what a file with these first bytes is, with advice. None if its kind is unknown."""
+    """Returns a message about a file with these first bytes, with advice. None if it may be a
+    trace, or if its kind is unknown.
+    """
     if not head:
         return "it is empty"
     if TRACE_HEADER.match(head):
@@ -43,8 +45,8 @@ def kind_of(head: bytes) -> str | None:
 
 
 def kind_of_file(name: str) -> str | None:
-    """Says what a file or a folder is, with advice. None if its kind is unknown, it can't be
-    read, or `name` is the standard input.
+    """Returns a message about the kind of a file or a folder, with advice. None if the kind is
+    unknown, the file can't be read, or `name` is the standard input.
     """
     if os.path.isdir(name):
         return (
@@ -62,7 +64,7 @@ def kind_of_file(name: str) -> str | None:
 
 
 def is_trace(name: str) -> bool:
-    """Whether a file begins like a trace."""
+    """Whether a file begins with the header of a trace."""
     try:
         if not os.path.isfile(name):
             return False

@@ -1,4 +1,6 @@
-"""Reads a recording's `meta`: how it was recorded, how it ended, and what was lost."""
+"""Reads the file `meta` of a recording: how the recorder was run, why it ended, and how many events
+were lost.
+"""
 from __future__ import annotations
 
 import os
@@ -19,14 +21,14 @@ class Meta(Lines):
     """The values of a recording's `meta`."""
 
     def processors(self) -> int:
-        """The number of the machine's processors."""
+        """Returns the number of the machine's processors."""
         count = self.one(Key.PROCESSORS)
         if count is None or not re.fullmatch("[1-9][0-9]{0,4}", count):
             raise Unreadable(f"{META}: there is no number of processors")
         return int(count)
 
     def version_fault(self) -> str | None:
-        """Says why the folder's layout isn't supported, None if it is."""
+        """Returns why the folder's layout isn't supported, or None if it is supported."""
         version, words = self.one(Key.RECORDING), (self.one(Key.UNAME) or "").split()
         if version is not None and version not in VERSIONS:
             return f"{META}: this is a recording of version {version}, and {VERSION} is known"
@@ -35,21 +37,21 @@ class Meta(Lines):
         return None
 
     def end(self) -> str | None:
-        """Says why the recording ended, None if the recorder wrote no end."""
+        """Returns why the recording ended, or None if the recorder wrote no end."""
         if self.one(Key.RECORDING) is None:
             return Reason.SECONDS if self.last_key == SKETCH_END else None
         return self.one(Key.END)
 
     def ring_start(self) -> int:
-        """Returns the time (ns) from which all processors have events in a flight recorder's
-        ring, or 0.
+        """Returns the time (ns) from which a flight recorder's ring has events of all processors. 0
+        for other recordings.
         """
         start = self.one(Key.RING_START) or ""
         return ns_of(start) if re.fullmatch(r"[0-9]{1,10}(\.[0-9]{1,9})?", start) else 0
 
     def bytes(self) -> int | None:
-        """Returns the total bytes of all pages, as the recorder counted them. None if it was
-        killed.
+        """Returns the total bytes of all pages, as the recorder counted them. None if the recorder
+        was killed.
         """
         count = self.one(Key.BYTES) or ""
         return int(count) if re.fullmatch("[0-9]{1,15}", count) else None
@@ -59,7 +61,7 @@ class Meta(Lines):
         return self.one(Key.RECORDING) not in (None, WITHOUT_END)
 
     def realtime(self) -> int | None:
-        """Returns by how many ns CLOCK_REALTIME was ahead of CLOCK_MONOTONIC, None if not
+        """Returns by how many ns CLOCK_REALTIME was ahead of CLOCK_MONOTONIC, or None if that isn't
         recorded.
         """
         found = re.fullmatch(
@@ -69,7 +71,7 @@ class Meta(Lines):
         return ns_of(found[1]) - ns_of(found[2]) if found else None
 
     def ahead(self) -> int:
-        """Returns by how many ns local time was ahead of UTC, 0 if that wasn't recorded."""
+        """Returns by how many ns local time was ahead of UTC, or 0 if that isn't recorded."""
         found = re.fullmatch("([+-])([0-9]{2}):([0-9]{2})", self.one(Key.ZONE) or "")
         minutes = 60 * int(found[2]) + int(found[3]) if found else 0
         return minutes * 60 * 10**9 * (-1 if found and found[1] == "-" else 1)
@@ -79,8 +81,8 @@ class Meta(Lines):
         return any(event.rpartition("/")[2] == name for event in self.all(Key.EVENT))
 
     def has_all_bytes(self) -> bool:
-        """Whether all pages that `meta` counts must be there. If the disk was full, some
-        couldn't be written.
+        """Whether the folder must have all bytes that `meta` counts. After an early end, for
+        example because the disk was full, some bytes may be missing.
         """
         return self.end() is not None and not self.ended_early()
 

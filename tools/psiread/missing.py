@@ -1,5 +1,5 @@
-"""Finds what a recording lacks: pages that `meta` counts, a part of the snapshot, files that
-aren't read, and plausible times.
+"""Finds defects of a recording: missing pages, an incomplete snapshot, files of processors that
+`meta` doesn't count, and implausible times.
 """
 from __future__ import annotations
 
@@ -24,9 +24,10 @@ GROUP_SAMPLE = f"{MARK}mem ".encode()
 
 
 class Expected(NamedTuple):
-    """The contents of a complete recording: the bytes of pages that `meta` counts (None if it
-    has no count, or if not all could be written), whether the recorder's last marker must be
-    among the events, and whether its snapshots have an end mark.
+    """What the recording should contain. `byte_count` is the number of bytes of pages that `meta`
+    counts, or None if it has no count or if not all could be written. `has_stop` says whether the
+    events include the recorder's last marker, and `has_end` whether the recorder ends its
+    snapshots with an end mark.
     """
 
     byte_count: int | None
@@ -35,7 +36,7 @@ class Expected(NamedTuple):
 
 
 def tell_missing(source: Source, folder: str, expected: Expected) -> None:
-    """Adds what the recording lacks to the source's losses and notes."""
+    """Finds what is missing from the recording, and adds it to the source's losses and notes."""
     if expected.byte_count is not None and source.bytes != expected.byte_count:
         tell_bytes(source, expected.byte_count, expected.has_stop)
     for processor in unread_processors(folder, source.processors):
@@ -59,8 +60,8 @@ def tell_missing(source: Source, folder: str, expected: Expected) -> None:
 
 def tell_bytes(source: Source, count: int, has_stop: bool) -> None:
     """Compares the bytes of pages with the number in `meta`, and adds the difference to the
-    losses. If all processors' events end at one time, before the recorder's last marker, nothing
-    is missing before that time: then the difference is only a note.
+    losses. If the events of all processors end at about one time, before the recorder's last
+    marker, then nothing is missing before that time, and the difference becomes a note.
     """
     if source.bytes > count:
         source.losses.append(
@@ -111,8 +112,8 @@ def ends_of(source: Source) -> tuple[dict[int, int], dict[int, int]]:
 
 
 def unread_processors(folder: str, processors: int) -> list[int]:
-    """Returns the processors that have files in the folder, but whose numbers exceed those in
-    `meta`.
+    """Returns the numbers of processors that have files in the folder, although `meta` counts only
+    `processors` processors.
     """
     found = (RAW.fullmatch(name) for name in os.listdir(folder))
     return sorted({int(it[1]) for it in found if it and int(it[1]) >= processors})
@@ -122,9 +123,9 @@ def unread_processors(folder: str, processors: int) -> list[int]:
 
 
 def missing_in_snapshot(source: Source) -> str | None:
-    """Says what a snapshot without an end mark lacks. It must list the recorder itself, and all
-    groups of the first memory sample that weren't created or removed during the recording. None
-    if it lists them all.
+    """Returns what is missing from a snapshot without an end mark, or None if nothing is. The
+    snapshot must list the recorder, and each group of the first memory sample that wasn't created
+    or removed during the recording.
     """
     snapshot = source.snapshot
     if snapshot.is_cut:
@@ -163,7 +164,9 @@ def first_sampled(events: list[Event]) -> set[str]:
 
 
 def bound_times(source: Source) -> None:
-    """Limits the source to the times that a trace can have, and adds a loss if there are others."""
+    """Ends the source at the latest time that a trace can have. Adds a loss if it has later times,
+    or if it ends before it begins.
+    """
     if source.stop < source.start:
         source.losses.append("the recording ends before it begins: times of its pages are damaged")
         source.stop = source.start

@@ -1,5 +1,5 @@
-"""Reads names of tasks from a processor's records: each switch has the name of the task that
-leaves, and each exec the name of the file.
+"""Reads the names of tasks from a processor's records. A switch has the name of the task that
+leaves the processor, and an exec has the name of the executed file.
 """
 from __future__ import annotations
 
@@ -8,13 +8,14 @@ from typing import Any, NamedTuple, Optional
 from .events import Event, Exec, Named
 from .formats import Field, Format, text_at
 
-# The bytes of a task's name, without its terminating zero (TASK_COMM_LEN of Linux).
+# The greatest length of a task's name (bytes), without the terminating zero (TASK_COMM_LEN of
+# Linux).
 MOST_NAME = 15
 
 
 class NameFields(NamedTuple):
-    """The places of names in records: the number of `sched_switch` with the start and end of its
-    field (bytes), and the number of `sched_process_exec` with its field.
+    """Where records have names: the number of `sched_switch`, with the start and end of the name
+    (offsets in bytes), and the number of `sched_process_exec`, with the field of the file's name.
     """
 
     switch: int
@@ -25,8 +26,8 @@ class NameFields(NamedTuple):
 
 
 def name_fields(forms: dict[str, Format]) -> NameFields:
-    """Returns the fields with names according to the recording's formats. An event's number is
-    -1 if the recording doesn't have it.
+    """Returns where records have names, by the recording's formats. The number of an event is -1 if
+    the recording doesn't have the event.
     """
     switch, exec_ = forms.get("sched_switch"), forms.get("sched_process_exec")
     name = switch.fields.get("prev_comm") if switch else None
@@ -37,7 +38,7 @@ def name_fields(forms: dict[str, Format]) -> NameFields:
 
 
 class Names:
-    """The names that the records of one processor have shown up to now."""
+    """The names of tasks in the records of one processor that were read so far."""
 
     def __init__(self, fields: NameFields) -> None:
         self.fields = fields
@@ -46,8 +47,8 @@ class Names:
         self.known: dict[int, bytes] = {}
 
     def of_switch(self, event: Any, data: bytes, at: int) -> Optional[Named]:
-        """Returns the name of the task that leaves by this switch, None if it is known already.
-        `at` is the offset of the record in `data`.
+        """Returns the name of the task that leaves the processor by this switch, or None if the
+        name is already known. `at` is the offset of the record in `data`.
         """
         name = data[at + self.start : at + self.end]
         task = event[3]
@@ -60,8 +61,8 @@ class Names:
         return Named(event.time_ns, event.processor, event.current, task, text)
 
     def of_exec(self, event: Event, data: bytes, at: int, end: int) -> Optional[Named]:
-        """Returns the name that a task gets by exec, which is that of its file. A script may be
-        called differently, which its next switch shows.
+        """Returns the name that a task gets by exec: the name of the executed file. The name of a
+        script may differ; its next switch has the right name.
         """
         assert isinstance(event, Exec) and self.fields.file
         name = text_at(data, at, end, self.fields.file).rpartition(b"/")[2][:MOST_NAME]
@@ -70,7 +71,7 @@ class Names:
         return Named(event.time_ns, event.processor, event.current, event.task, name)
 
     def of(self, number: int, event: Event, data: bytes, at: int, end: int) -> Optional[Named]:
-        """Returns the new name in the record of an event with this number, None if it has none."""
+        """Returns the new name in the record of an event with this number, or None."""
         if number == self.switch:
             return self.of_switch(event, data, at)
         return self.of_exec(event, data, at, end) if number == self.exec else None

@@ -1,10 +1,11 @@
 """Reads the pages of a kernel's ring buffers, as `per_cpu/cpuN/trace_pipe_raw` returns them.
 
-A page begins with the time of its first record (ns) and the word `commit`: the number of bytes of
-records that follow, and in two of its bits whether events were lost before the page, and whether
-their number is stored after the records. A record's first word has 5 bits of kind and 27 bits of
-time since the previous record. See `include/linux/ring_buffer.h` and `kernel/trace/ring_buffer.c`
-of Linux (`RB_MISSED_EVENTS`, `rb_event_length`, `ring_buffer_read_page`).
+A page begins with the time of its first record (ns) and the word `commit`, which has the number of
+bytes of the records that follow. Two of its bits say whether events were lost before the page, and
+whether their number is stored after the records. The first word of a record has 5 bits for its kind
+and 27 bits for the time since the previous record. See `include/linux/ring_buffer.h` and
+`kernel/trace/ring_buffer.c` of Linux (`RB_MISSED_EVENTS`, `rb_event_length`,
+`ring_buffer_read_page`).
 """
 from __future__ import annotations
 
@@ -25,8 +26,8 @@ USED = (1 << 30) - 1
 # Kinds of records: 0 has its length in an extra word; 1 to 28 are lengths in words of four bytes.
 PADDING, TIME_EXTENDS = 29, 30
 TIME_BITS = 27
-# The number of time bits in an absolute timestamp record. The bits above are taken from the
-# previous time.
+# The number of bits of the time in a record with an absolute timestamp. The higher bits of the time
+# are those of the previous time.
 ABSOLUTE_BITS = 59
 
 WORD = struct.Struct("<I").unpack_from

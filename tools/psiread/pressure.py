@@ -1,5 +1,5 @@
-"""Reads the pressure files of a recording, and the reports of a replay: stall totals (us) over
-time.
+"""Reads the pressure files of a recording and the reports of a replay, and compares the growth of
+their stall totals (us).
 """
 from __future__ import annotations
 
@@ -40,15 +40,15 @@ class Totals(NamedTuple):
     full: int
 
 
-# The totals that a replay reported for each file, in order of time, and the readings of the
-# machine's own files, by the reading's number.
+# Series: the totals that a replay reported for each file, in order of time. Readings: the totals in
+# the machine's own files, by the number of the reading.
 Series = dict[File, list[Totals]]
 Readings = dict[int, dict[File, Totals]]
 
 
 def reading_markers(source: Source) -> Iterator[tuple[Marker, int, bool]]:
-    """Yields the markers at the start and end of each reading of the pressure files, each with
-    the reading's number, and whether it is the start.
+    """Yields the markers at the start and end of each reading of the pressure files, with the
+    number of the reading, and whether the marker is at its start.
     """
     for event in source.events:
         if isinstance(event, Marker) and event.text.startswith(MARK.encode()):
@@ -58,7 +58,7 @@ def reading_markers(source: Source) -> Iterator[tuple[Marker, int, bool]]:
 
 
 def recorder_of(source: Source) -> int | None:
-    """Returns the task that read the pressure files, None if the recording has no reading."""
+    """Returns the task that read the pressure files, or None if the recording has no reading."""
     return next((marker.current for marker, _, _ in reading_markers(source)), None)
 
 
@@ -77,8 +77,9 @@ def spans_of(source: Source) -> dict[int, tuple[int, int]]:
 
 
 def machine_readings(folder: str, source: Source) -> Readings:
-    """Reads the contents of the machine's own pressure files. The files of a reading were read
-    one after the other, so each gets its own time between the start and the end of the reading.
+    """Returns the totals in the machine's own pressure files. The files of a reading were read one
+    after the other, so the times of the files are spaced evenly from the start to the end of the
+    reading.
     """
     spans = spans_of(source)
     found: dict[int, list[tuple[File, int, int]]] = {}
@@ -159,9 +160,9 @@ def made_in(source: Source) -> dict[str, int]:
 def first_totals(
     file: File, readings: list[dict[File, Totals]], made: dict[str, int]
 ) -> Totals | None:
-    """Returns the totals from which a file's growth is counted: those of the first reading, or
-    if its group had no files then because it wasn't accounted, those of the first reading that
-    has them. None if the group was created later, so that its totals began at 0.
+    """Returns the totals from which a file's growth is counted: the totals of the first reading
+    that has the file. (A group that isn't accounted has no files.) Returns None if the group was
+    created after the first reading, so that its totals began at 0.
     """
     is_new = file not in readings[0] and made.get(file.path, 0) > max(
         it.time_ns for it in readings[0].values()
@@ -183,9 +184,9 @@ def readings_within(readings: Readings, start: int, end: int) -> list[int]:
 def compared(
     readings: Readings, series: Series, made: dict[str, int], start: int, end: int
 ) -> Compared | None:
-    """Compares all files that machine and replay have at the last reading of a trace from
-    `start` to `end` (ns of the recording's clock). `made` has the times at which groups were
-    created. None if the trace has fewer than two readings.
+    """Compares the growth of all files that both the machine and the replay have at the last
+    reading of a trace from `start` to `end` (ns of the recording's clock). `made` has the times
+    (ns) at which groups were created. Returns None if the trace has fewer than two readings.
     """
     inside = readings_within(readings, start, end)
     if len(inside) < 2:

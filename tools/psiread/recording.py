@@ -1,4 +1,6 @@
-"""Reads the folder of a recording. The names of its files are in `psirec.layout`."""
+"""Reads the folder of a recording at once. The names of its files are in `psirec.layout`; `slices`
+reads long recordings in parts.
+"""
 from __future__ import annotations
 
 import os
@@ -30,7 +32,7 @@ READING = "pressure"
 
 
 class Kernel(NamedTuple):
-    """The layout of the kernel's pages and records, and of the names in records."""
+    """The kernel's formats: of pages, of records, and of the names of tasks in records."""
 
     page: PageFormat
     decoders: dict[int, Decoder]
@@ -49,9 +51,9 @@ def kernel_of(folder: str) -> Kernel:
 
 
 def gaps_at_end(processor: int, lost: int, gaps: list[Gap], last: Event | None) -> list[Gap]:
-    """Returns the events that a processor lost after the last page that was read, as a gap. Only
-    the statistics show them, which count all lost events. `gaps` are the known gaps, and `last`
-    is the last event.
+    """Returns a gap for the events that a processor lost after its last page, if there are any.
+    Their number is `lost`, which the kernel's statistics count, less the events of the known
+    `gaps`. `last` is the processor's last event.
     """
     rest = lost - sum(gap.lost for gap in gaps)
     return (
@@ -90,7 +92,7 @@ def read_processors(folder: str, meta: Meta, source: Source) -> None:
     source.events.sort(key=itemgetter(0))
 
 
-# ---------------------------------------------------------------- the whole
+# ---------------------------------------------------------------- the whole recording
 
 
 def is_marker(event: Event, word: str) -> bool:
@@ -107,16 +109,14 @@ def first_times(events: list[Event]) -> dict[int, int]:
 
 
 def first_marker_time(events: list[Event], word: str) -> int | None:
-    """Returns the time (ns) of the recorder's first marker that begins with `word`, None if
-    there is none.
-    """
+    """Returns the time (ns) of the recorder's first marker that begins with `word`, or None."""
     return next((event.time_ns for event in events if is_marker(event, word)), None)
 
 
 def begin_ring(source: Source, start: int) -> None:
-    """Skips the part of a flight recorder's ring that was partly overwritten. The trace begins
-    after `start`, when all processors have events, at the next reading of the pressure files, so
-    that the totals to compare with are known.
+    """Drops the events of a flight recorder's ring from before the time at which all processors
+    have events, which is at least `start` (ns). The source then begins at the next reading of the
+    pressure files, so that totals can be compared from there on.
     """
     whole_from = max([start, *first_times(source.events).values()])
     source.events = [event for event in source.events if event.time_ns >= whole_from]
@@ -128,8 +128,8 @@ def begin_ring(source: Source, start: int) -> None:
 
 
 def tell_losses(source: Source, meta: Meta) -> None:
-    """Adds the other losses: events that were lost at unknown times, and what followed an early
-    end.
+    """Adds the losses that the pages don't show: events that were lost at unknown times, and all
+    events after an early end.
     """
     for line in LOST_STATS[1:]:
         for processor, count in sorted(meta.lost(line).items()):
@@ -146,8 +146,8 @@ def tell_losses(source: Source, meta: Meta) -> None:
 def read_recording(
     folder: str, is_forced: bool, read: Callable[[str, Meta, Source], None] = read_processors
 ) -> Source:
-    """Reads a folder by the function `read`. Unless `is_forced`, it rejects a recording without
-    an end, whose recorder was killed.
+    """Reads the folder of a recording. `read` reads its pages. A recording without an end, whose
+    recorder was killed, is rejected unless `is_forced`.
     """
     meta = meta_of(folder)
     fault = meta.version_fault()
@@ -184,7 +184,7 @@ def read_recording(
 
 
 def containers_of(folder: str) -> dict[str, str]:
-    """Reads the names of containers and pods, by their ids. A damaged file counts as empty."""
+    """Returns the names of containers and pods, by their ids. A damaged file counts as empty."""
     if not os.path.isfile(os.path.join(folder, containers.FILE)):
         return {}
     try:

@@ -1,9 +1,9 @@
 """Reads a recording of any length in little memory: its pages in parts, and the events of all
 processors in slices of time.
 
-A *survey* first reads what must be known of the whole recording before the first slice: the rare
-events, the first and the last event of each processor and the first of each kind, the losses,
-and the tasks that never leave a processor.
+Before the first slice, a *survey* reads what must be known of the whole recording: the rare events,
+the first and the last event of each processor, the first event of each kind, the losses, and the
+tasks that never leave a processor.
 """
 from __future__ import annotations
 
@@ -30,19 +30,19 @@ from .meta import Meta
 from .recording import gaps_at_end, kernel_of
 from .source import Source, Unreadable
 
-# The frequent events, which a machine writes thousands of times a second. Markers of memory samples
-# are frequent too.
+# The frequent events, which a machine writes thousands of times a second. The markers that begin
+# with one of SAMPLES are frequent too.
 OFTEN = (
     "sched_switch", "sched_wakeup", "sched_migrate_task", "sched_stat_iowait", Probe.SWITCH,
     Probe.STALL_BEGINS, Probe.STALL_ENDS,
     Probe.INTERRUPT, Probe.READY, Probe.SHOW, Probe.AVERAGE,
 )  # fmt: skip
 SAMPLES = (MARK + "mem ").encode(), (MARK + "host ").encode()
-# The number of each processor's first memory samples that a survey stores, to check the snapshot. A
-# sample has at most this many groups.
+# The number of memory samples per processor that a survey stores, to check the snapshot: the most
+# groups that the first sample can have.
 FIRST_SAMPLES = 2048
-# The shortest slice (ns). The parts that are read at once may be far shorter if some processors
-# have few events.
+# The shortest slice (ns). It contains several parts if parts are short, because one processor has
+# many more events than others.
 LEAST_SLICE = 2 * 10**9
 # The number of bytes that are read at once, for all processors together.
 READ_BYTES = 8 << 20
@@ -50,8 +50,8 @@ BY_TIME = itemgetter(0)
 
 
 class WaitingSwitch(Switch):
-    """A switch that begins a wait for IO, as the probe right before it reported. The probe
-    itself is dropped.
+    """A switch that begins a wait for IO, according to the probe right before it. The event of that
+    probe is dropped.
     """
 
     __slots__ = ()
@@ -63,8 +63,8 @@ class Records:
     def __init__(self, folder: str) -> None:
         self.kernel = kernel_of(folder)
         forms = self.kernel.forms
-        # For a switch the task that leaves and the next task; for its probe the task, and whether
-        # that waits.
+        # `ends_of` reads the task that leaves and the next task from a switch. `read_probe` reads
+        # the task from the probe of a switch, and whether that task waits for IO.
         self.switch, self.ends_of = reader_of(forms, "sched_switch", ("prev_pid", "next_pid"))
         self.probe, self.read_probe = reader_of(forms, Probe.SWITCH, (Probe.PID, Probe.IO))
         # The numbers of the events that a survey skips.
@@ -74,8 +74,8 @@ class Records:
 def reader_of(
     forms: dict[str, Format], name: str, fields: tuple[str, ...]
 ) -> tuple[int, IntegerReader]:
-    """Returns an event's number, and a reader for these fields of its records. If the recording
-    doesn't have the event, the number is -1 and the reader reads nothing.
+    """Returns an event's number, and a function that reads these fields of its records. If the
+    recording doesn't have the event, the number is -1 and the function reads nothing.
     """
     form = forms.get(name)
     return (
@@ -86,7 +86,7 @@ def reader_of(
 
 
 class Reader:
-    """Reads the pages of one processor's file part by part. `gaps` are the gaps in the pages
+    """Reads one processor's pages in parts of about `size` bytes. `gaps` are the gaps in the pages
     that were read, and `rest` is the number of bytes after the last whole page.
     """
 
@@ -108,7 +108,8 @@ class Reader:
         self.form = records.kernel.page
         self.size = max(size // self.form.size, 1) * self.form.size
         self.rest, self.before, self.gaps = 0, 0, list[Gap]()
-        # The last probe whose switch hasn't been read yet: the task, and whether it waits.
+        # The values of the last probe if its switch hasn't been read yet: the task, and whether it
+        # waits for IO.
         self.pending: tuple[int, ...] | None = None
         self.file = Raw(folder, processor, most)
         self.names = Names(records.kernel.names)
@@ -121,7 +122,7 @@ class Reader:
         return data[: len(data) - rest]
 
     def pages(self, data: bytes) -> Iterator[Page]:
-        """Yields the headers of pages, and adds losses to the gaps."""
+        """Yields the headers of these pages. Adds a gap if events were lost before a page."""
         for at in range(0, len(data), self.form.size):
             page = page_at(data, at, self.form)
             if page.lost and not self.is_ring:
@@ -138,7 +139,9 @@ class Reader:
             raise Unreadable(f"{self.name}: {fault}") from None
 
     def decoded(self, data: bytes) -> list[Event]:
-        """Returns the events in these pages without the probes of switches."""
+        """Returns the events in these pages, without the probes of switches: a switch that begins a
+        wait for IO is a WaitingSwitch instead.
+        """
         events: list[Event] = []
         add, processor, records, pending, time_ns = (
             events.append,
@@ -181,8 +184,8 @@ class Reader:
 
 
 class Surveyed:
-    """The result of surveying a processor: its rare events, the tasks that were switched to and
-    from, and its last event.
+    """The survey of a processor: its rare events, its last event, and the tasks that came to the
+    processor (`coming`) and left it (`leaving`) by switches.
     """
 
     def __init__(self, reader: Reader) -> None:
@@ -201,8 +204,8 @@ class Surveyed:
         self.gaps, self.rest, self.bytes = reader.gaps, reader.rest, reader.file.count
 
     def take(self, reader: Reader, data: bytes) -> None:
-        """Surveys the next pages. The first event of each frequent kind is stored like a rare
-        one.
+        """Surveys the next pages. Stores each rare event, and the first event of each frequent
+        kind.
         """
         records, processor, known, leave, come = (
             reader.records,
@@ -236,7 +239,7 @@ class Surveyed:
             self.last = decoders[number](last[0], processor, data, *last[1:])
 
     def take_rare(self, event: Event, number: int) -> None:
-        """Stores an event if it is rare. Memory samples aren't, except for the first ones."""
+        """Stores an event of kind `number`, unless it is one more memory sample than are needed."""
         is_sample = type(event) is Marker and event.text.startswith(SAMPLES)
         self.samples += is_sample
         if not is_sample or self.samples <= FIRST_SAMPLES:
@@ -245,8 +248,9 @@ class Surveyed:
 
 
 def survey_share(readers: list[Reader], own: Connection, others: list[Connection]) -> None:
-    """Surveys some of the processors in a process of its own, and sends the result, or why
-    something can't be read. The process ends when the other end of the connection is closed.
+    """Surveys some of the processors, as the main function of a process. Sends the result, or the
+    error if something can't be read. The process ends when the parent closes its end of `own`.
+    `others` are the other connections that the process inherits and must close.
     """
     signal.signal(signal.SIGINT, signal.SIG_IGN)
     for line in others:
@@ -260,8 +264,8 @@ def survey_share(readers: list[Reader], own: Connection, others: list[Connection
 
 
 def end_with(line: Connection) -> None:
-    """Ends this process when the other end of the connection is closed. That end never sends
-    anything.
+    """Ends this process when the other end of the connection is closed. Nothing is sent from
+    there.
     """
     with contextlib.suppress(EOFError, OSError):
         line.recv()
@@ -269,7 +273,7 @@ def end_with(line: Connection) -> None:
 
 
 def surveyed_at_once(readers: list[Reader]) -> list[Surveyed]:
-    """Surveys all processors, in as many processes as this machine has processors."""
+    """Surveys all processors, in one process for each processor of this machine."""
     context, count = multiprocessing.get_context("fork"), min(
         len(readers), len(os.sched_getaffinity(0))
     )
@@ -300,8 +304,8 @@ def share_from(line: Connection) -> list[Surveyed]:
 
 class Survey:
     """Reads the folder of a recording twice: first the rare events, in several processes if the
-    recording is large, and then all events in slices. `silent` are the tasks that were switched
-    to and never leave.
+    recording is large, and then all events in slices. `silent` are the tasks that came to a
+    processor by a switch but never left one.
     """
 
     def __init__(self, folder: str, is_large: bool) -> None:
@@ -341,8 +345,8 @@ class Survey:
         self.silent = coming - leaving
 
     def slices(self, whole_from: int) -> Iterator[list[Event]]:
-        """Yields the events in slices, from the time `whole_from` (ns) at which they are
-        complete.
+        """Yields the events in slices, without those from before `whole_from` (ns), where events of
+        some processors are missing.
         """
         for events in slices_of(self.readers()):
             yield (
@@ -369,8 +373,8 @@ def slices_of(readers: list[Reader]) -> Iterator[list[Event]]:
 
 
 def parts_of(readers: list[Reader]) -> Iterator[list[Event]]:
-    """Yields the events in parts, which may be short: a part ends where the first processor has
-    no more events in memory.
+    """Yields the events of all processors in order of time, in parts. A part ends at the earliest
+    of the processors' last events in memory, so it may be short.
     """
     waiting: dict[int, list[Event]] = {place: [] for place in range(len(readers))}
     ended: set[int] = set()

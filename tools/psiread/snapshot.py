@@ -1,4 +1,4 @@
-"""Reads a recording's snapshot: the groups and threads at one time in the recording."""
+"""Reads a recording's snapshot: a list of the groups and threads at one time in the recording."""
 from __future__ import annotations
 
 import re

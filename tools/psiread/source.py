@@ -1,5 +1,5 @@
-"""The input of a conversion, in the same form for pages and for text: events in one order,
-losses, and what else is known of the recording.
+"""Defines the input of a conversion: the events in order of time, the losses, and other facts about
+the recording. Ring-buffer pages and ftrace text give an input of the same form.
 """
 from __future__ import annotations
 
@@ -13,7 +13,7 @@ from .events import Event, Gap
 
 
 class Unreadable(Fault):
-    """An input that can't be used; the message says why."""
+    """The error that an input can't be used. The message says why."""
 
 
 class ListedTask(NamedTuple):
@@ -30,8 +30,9 @@ class ListedTask(NamedTuple):
 
 @dataclass
 class Snapshot:
-    """A snapshot taken during the recording at `time_ns` (ns): groups with their preferences,
-    their types if the recorder wrote these, groups whose pressure isn't accounted, and threads.
+    """A snapshot that was taken during the recording, at `time_ns`: the groups with their
+    preferences, the groups whose pressure isn't accounted, the threads by number, and the types of
+    groups if the recorder wrote them.
     """
 
     time_ns: int = 0
@@ -55,8 +56,8 @@ class Source:
     start: int
     stop: int
     gaps: list[Gap] = field(default_factory=list)
-    # Losses that concern the whole recording, or whose time is unknown, so that no stretch is free
-    # of them.
+    # Losses that concern the whole recording or have an unknown time, so that no part of the
+    # recording is certainly complete.
     losses: list[str] = field(default_factory=list)
     # The number of repairs of each kind, and other remarks.
     mended: Counter[str] = field(default_factory=Counter)

@@ -16,14 +16,14 @@ from .formats import (
 from .records import CURRENT, NUMBERS, SWITCH
 from .source import Unreadable
 
-# The fields of the events that have more than integers, in the order of the table.
+# The fields of the events with fields that aren't integers, in the order of the table.
 TEXTS: dict[str, tuple[str, ...]] = {
     "cgroup_mkdir": ("root", "path"),
     "cgroup_rmdir": ("root", "path"),
     "cgroup_attach_task": ("dst_root", "dst_path", "pid"),
     "print": ("buf",),
 }
-# The largest number of an event, and the largest offset and size of a field.
+# The greatest number of an event, and the greatest offset and size (bytes) of a field.
 MOST = 65535
 
 

@@ -1,6 +1,6 @@
-"""Finds the sleeps that were waits for IO. The kernel counts those during which the task's
-`in_iowait` is set, and not every sleep in state D: on a journaling file system a third to a half
-of the latter don't count.
+"""Finds the sleeps that were waits for IO. The kernel counts a sleep as such only if the task's
+`in_iowait` is set. A sleep in state D isn't enough: on a journaling file system a third to a half
+of those sleeps don't count.
 """
 from __future__ import annotations
 
@@ -22,8 +22,8 @@ class Method(Enum):
 
 
 def best_method(events: Sequence[Event], has_probe: bool) -> Method:
-    """Returns the most exact method that the recording supports. A probe that was on but never
-    wrote means that nothing waited.
+    """Returns the most exact method that the recording supports. If the probe was switched on
+    (`has_probe`), its method applies even without any event of the probe: then nothing waited.
     """
     kinds = {type(event) for event in events}
     if has_probe or SwitchProbe in kinds:
@@ -32,9 +32,9 @@ def best_method(events: Sequence[Event], has_probe: bool) -> Method:
 
 
 def by_probe(events: Sequence[Event], probes: dict[int, SwitchProbe] | None = None) -> set[int]:
-    """Returns the indices of the switches that begin a wait for IO, by the probe right before
-    each on the same processor. If events are read in parts, pass the same `probes` for each part:
-    it has the probes whose switch is still to come, by processor.
+    """Returns the indices of the switches that begin a wait for IO, by the probe that precedes each
+    on the same processor. If events are read in parts, pass the same `probes` for each part: it
+    has the last probe of each processor whose switch hasn't been read yet.
     """
     waits: set[int] = set()
     probes = {} if probes is None else probes
@@ -74,7 +74,7 @@ def by_state(events: Sequence[Event]) -> set[int]:
 
 
 def waits_for_io(events: Sequence[Event], method: Method) -> set[int]:
-    """Returns the indices of the switches that begin a wait for IO, by this method."""
+    """Returns the indices of the switches that begin a wait for IO, according to a method."""
     ways: dict[Method, Callable[[Sequence[Event]], set[int]]] = {
         Method.PROBE: by_probe, Method.STATISTICS: by_statistics, Method.STATE: by_state,
     }  # fmt: skip

@@ -1,5 +1,5 @@
-"""Selects the part of a recording that is converted: a window of time, and in it a stretch
-without losses.
+"""Selects the part of a recording that is converted: a time window, or the longest part of the
+window without losses.
 """
 from __future__ import annotations
 
@@ -23,15 +23,15 @@ class Window(NamedTuple):
 
 
 def overlapping(gaps: Iterable[Gap], window: Window) -> list[Gap]:
-    """Returns the gaps that touch the window. A gap begins at the last event before the loss,
-    and ends at the first event after it.
+    """Returns the gaps that overlap the window. A gap begins at the last event before the loss, and
+    ends at the first event after it.
     """
     return [gap for gap in gaps if gap.end > window.start and gap.start < window.end]
 
 
 def longest_stretch(gaps: Iterable[Gap], window: Window) -> Window:
-    """Returns the longest part of the window without loss on any processor, the first if several
-    are equally long.
+    """Returns the longest part of the window in which no processor lost events. If several parts
+    are equally long, returns the first.
     """
     best, start = Window(window.start, window.start), window.start
     for gap in sorted(gaps, key=lambda it: it.start):
@@ -44,7 +44,9 @@ def longest_stretch(gaps: Iterable[Gap], window: Window) -> Window:
 
 
 def loss_text(gaps: Iterable[Gap], whole: Window) -> str:
-    """Says how many events each processor lost, and between which times of the recording."""
+    """Returns a text: how many events each processor lost, and between which times (s since the
+    start of `whole`).
+    """
     gaps = list(gaps)
     lost = Counter({gap.processor: 0 for gap in gaps})
     for gap in gaps:
