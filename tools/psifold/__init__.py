@@ -1,3 +1,3 @@
-"""Folds a trace into windows with the same pressure, for `tools/fold` and `tools/psitrace
---fold`.
+"""Folds traces for `tools/fold` and `tools/psitrace --fold`: in each time window of a trace, fewer
+lines replace the original ones and give the same pressure.
 """

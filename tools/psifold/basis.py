@@ -1,20 +1,21 @@
-"""Reduces joint states to few that have the same sums (Caratheodory's theorem for cones): any
-combination of joint states with their times can be replaced by at most as many of them as there are
-independent sums, with other times.
+"""Replaces many joint states with their times by few joint states with the same sums of time. By
+Caratheodory's theorem for cones, at most as many joint states are needed as there are independent
+sums.
 
-The joint states that remain are the *basis*. The column of a joint state has a 1 for each sum that
-it takes part in, and the columns of the basis are linearly independent. A further joint state is
-either independent too and is added to the basis, or its column is a combination of columns in the
-basis. In that case its time is distributed among them until the time of one is 0. That one is
-removed, and the new one gets the rest of its time (a step of the simplex method, called a *pivot*).
-Usually the basis can absorb all of the time, even of many joint states at once: so their sums are
-tried together first, and if that fails, fewer of them, down to one.
+The joint states that remain are the *basis*. The column of a joint state has a 1 for each sum to
+which the joint state contributes, and the columns of the basis are linearly independent. A further
+joint state is added to the basis if its column is independent of the others. Otherwise its column
+is a combination of the columns in the basis, and its time is distributed among their joint states
+until the time of one of them is 0. That joint state leaves the basis, and the new one enters it
+with the rest of its time (a step of the simplex method, called a *pivot*). Usually the basis can
+absorb all of the time, even of many joint states at once. So the sums of many joint states are
+tried together first, and then of fewer, down to one.
 
-All arithmetic is exact, in integers: the inverse of the basis is stored times its determinant,
-the *divisor* (Edmonds' pivots), and so are the times. The numbers of a column of the inverse are
-packed into one large integer, each in a *field* of its own, so that one operation adds two
-columns, or compares all times with 0. A number is always below half of what its field can hold:
-an upper bound on the inverse says when the numbers must be checked, and fields are widened if
+All arithmetic is exact, in integers. The inverse of the basis is stored multiplied by its
+determinant, the *divisor* (Edmonds' pivots), and so are the times. The numbers of a column of the
+inverse are packed into one large integer, each in a *field* of its own, so that one operation adds
+two columns, or compares all times with 0. A number is always below half of what its field can hold.
+An upper bound on the inverse says when the numbers must be checked, and fields are widened if
 necessary.
 """
 from __future__ import annotations
@@ -26,20 +27,20 @@ from typing import NamedTuple
 from .world import bits_of
 
 FIELD_BITS = 64
-# The number of joint states that are tried together.
+# The number of joint states whose sums are tried together.
 TOGETHER = 64
 
 
 class Share(NamedTuple):
-    """A joint state of the basis by its number, and its time (ns) times the divisor."""
+    """A joint state of the basis: its number, and its time (ns) multiplied by the divisor."""
 
     number: int
     time: int
 
 
 class Fields:
-    """Columns of `rows` numbers, each column packed into one integer. `signs` has the sign bit of
-    each field set; adding it to a column makes each number positive.
+    """The layout of columns of `rows` numbers, each column packed into one integer. `signs` has the
+    highest bit of each field set, so adding `signs` to a column makes each number positive.
     """
 
     def __init__(self, rows: int, bits: int) -> None:
@@ -73,8 +74,8 @@ class Fields:
 
 
 class Units:
-    """Packs columns that are given with a bit for each sum, byte by byte. `used` has the bits
-    that occur; each of them is a row, in this order.
+    """Packs columns that have a bit for each sum, byte by byte. `used` has the bits that occur in
+    some column; each of them is a row, in this order.
     """
 
     def __init__(self, used: int, fields: Fields) -> None:
@@ -84,15 +85,15 @@ class Units:
         ]
 
     def packed(self, column: int) -> int:
-        """Packs a column: it gets a 1 in each row whose bit is set."""
+        """Packs a column: its number is 1 in each row whose bit is set."""
         return int.from_bytes(
             b"".join(map(getitem, self.bytes, column.to_bytes(self.size, "little"))), "little"
         )
 
 
 class ByteFields(dict[int, bytes]):
-    """The packed fields of a byte's used bits, by the byte's value. Each field has `size` bytes,
-    and is 1 if the bit is set.
+    """A table of the packed fields of one byte of a column, by the byte's value. Each used bit of
+    the byte has a field of `size` bytes, which is 1 if the bit is set.
     """
 
     def __init__(self, used: int, size: int) -> None:
@@ -106,13 +107,13 @@ class ByteFields(dict[int, bytes]):
 
 
 class Basis:
-    """The joint states that remain, with columns of `rows` numbers. `longest` (ns) bounds the
-    sum of their times.
+    """The joint states that remain, with columns of `rows` numbers. The sum of their times is at
+    most `longest` (ns).
     """
 
     def __init__(self, rows: int, longest: int) -> None:
         self.longest, self.fields = longest, Fields(rows, FIELD_BITS)
-        # The joint state of each row of the inverse, or None.
+        # The number of the joint state of each row of the inverse, or None for a free row.
         self.numbers: list[int | None] = [None] * rows
         self.columns = [1 << row * FIELD_BITS for row in range(rows)]
         self.divisor, self.times = 1, 0
@@ -121,8 +122,8 @@ class Basis:
         self.most = 1
 
     def take_all(self, columns: Sequence[int], times: Sequence[int]) -> int:
-        """Takes joint states, which are numbered by their index, as columns packed into fields
-        of FIELD_BITS, and times (ns). Returns the packed sums of all of them.
+        """Adds joint states, which are numbered by their index, to the basis. Each has a column,
+        packed into fields of FIELD_BITS, and a time (ns). Returns the packed sums of all of them.
         """
         total = 0
         for start in range(0, len(columns), TOGETHER):
@@ -138,9 +139,10 @@ class Basis:
     def take_some(
         self, start: int, columns: Sequence[int], times: Sequence[int], sums: Sequence[int]
     ) -> None:
-        """Takes the joint states from `start`, whose cumulative sums are `sums`. It tries all at
-        once, and then half as many until there is room. If there was no room for all, there is
-        none for the rest after some were taken, until a pivot changes that.
+        """Adds the joint states from index `start` on, whose cumulative sums are `sums`. Tries all
+        of them at once, and then half as many, until the basis can absorb their sums. If it can't
+        absorb all, it can't absorb all that remain after some were added either, until a pivot
+        changes the basis.
         """
         end = wanted = len(sums) - 1
         taken, is_full = 0, False
@@ -158,8 +160,8 @@ class Basis:
                 taken, wanted = taken + 1, min(taken + 3, end)
 
     def made_of(self, packed: int) -> int:
-        """Returns the packed coefficients of the basis that give a column of sums, times the
-        divisor.
+        """Returns the coefficients with which the columns of the basis add up to a column of sums,
+        packed and multiplied by the divisor.
         """
         size = FIELD_BITS // 8
         data = packed.to_bytes(size * self.fields.rows, "little")
@@ -167,8 +169,8 @@ class Basis:
         return sum(number * column for number, column in zip(numbers, self.columns) if number)
 
     def give(self, sums: int) -> bool:
-        """Adds sums to the times of the basis, if there is room for them. Returns whether there
-        is.
+        """Distributes sums among the times of the basis, if no time becomes negative and no free
+        row is needed. Returns whether that was possible.
         """
         parts = self.made_of(sums)
         times = self.times + parts
@@ -179,7 +181,7 @@ class Basis:
         return True
 
     def take(self, number: int, column: int, time: int) -> bool:
-        """Takes a joint state by its number, its column and its time (ns). Returns whether that
+        """Adds a joint state with its number, its column and its time (ns). Returns whether that
         needed a pivot.
         """
         parts = self.made_of(column)
@@ -201,8 +203,8 @@ class Basis:
         return True
 
     def pivot(self, row: int, number: int, parts: int, time: int) -> None:
-        """Replaces the joint state of `row` by a new one, whose column is the combination
-        `parts` and whose time is `time` (ns).
+        """Replaces the joint state of `row` by the joint state `number`, whose column is the
+        combination `parts` of the basis, and whose time is `time` (ns).
         """
         fields, divisor = self.fields, self.divisor
         found, times = fields.numbers(parts), fields.numbers(self.times)
@@ -239,10 +241,10 @@ class Basis:
             self.make_room()
 
     def fits(self) -> bool:
-        """Whether all numbers that the next step computes in fields are below half of a field.
-        If M is the greatest number of the inverse, the parts of a column are at most P = rows *
-        M, the parts of sums at most P times the longest time, and a pivot needs at most P * M
-        and the divisor times M.
+        """Whether all numbers that the next step computes in fields are below half of a field. If M
+        is the greatest number of the inverse, the coefficients of a column are at most P = rows *
+        M, and those of sums at most P times the longest time. A pivot needs at most P * M, and the
+        divisor times M.
         """
         parts = max(self.fields.rows * self.most, self.divisor)
         return 3 * parts * max(self.longest, self.most) < self.fields.half
@@ -268,13 +270,12 @@ class Basis:
 
 
 def first_at_zero(times: list[int], parts: list[int]) -> int:
-    """Returns the row whose time reaches 0 first if time is distributed among the rows according
-    to `parts`.
+    """Returns the row whose time reaches 0 first if time is distributed among the rows in the
+    proportions `parts`.
     """
     row, time, least = -1, 1, 0
     for place, part in enumerate(parts):
-        # Compares times[place] / -part with time / -least; the first is accepted if there is none
-        # yet.
+        # Compares times[place] / -part with time / -least, the least ratio so far.
         if part < 0 and (row < 0 or times[place] * -least < time * -part):
             row, time, least = place, times[place], part
     return row

@@ -1,7 +1,7 @@
 """Checks the lines of a folded window before they are written: replays them with the kernel's
 accounting, which counts tasks, and compares the resulting sums with those of the original window.
 
-This shares no code with the code that writes the lines: it has its own tasks and counts, and
+The check shares no code with the code that writes the lines. It has its own tasks and counts, and
 derives the states of docs/TRACES.md from the counts.
 """
 from __future__ import annotations
@@ -14,11 +14,12 @@ from collections.abc import Callable
 from dataclasses import dataclass, field
 from typing import NamedTuple
 
-# The indices of a group's counts on a processor: tasks that wait for IO, that are stalled, that are
-# ready or run, and that are ready or run while stalled.
+# The indices of a group's counts on a processor: the numbers of tasks that wait for IO, that are in
+# a memory stall, that are ready or run, and that are ready or run while in a stall.
 WAITING, STALLED, ACTIVE, ACTIVE_STALLED = range(4)
 STATES = 7
-# The most ns by which a sum may be off at any time, by the rounding of all windows up to then.
+# The most ns by which a sum may be wrong at any time, because of the rounding in all windows so
+# far.
 MOST_OFF = 9
 # The longest time (ns) that one line of interrupts may have.
 MOST_INTERRUPTS = 10**9
@@ -27,14 +28,12 @@ AFTER = {"preempt": READY, "sleep": ASLEEP, "iowait": WAITS}
 
 
 class Different(Exception):
-    """The error that a folded window differs from the original one; the message says where and
-    how.
-    """
+    """The error that a folded window differs from the original one. The message says how."""
 
 
 class Key(NamedTuple):
-    """A sum of time: its processor, its group, its state (0 to 6), and the groups that it
-    excludes.
+    """Identifies a sum of time: the time for which a group was in a state (0 to 6) on a processor,
+    without the tasks of the groups `without`.
     """
 
     processor: int
@@ -45,10 +44,10 @@ class Key(NamedTuple):
 
 @dataclass
 class Window:
-    """An original window from `start` to `end` (ns): its sums (ns) for the groups that are
-    accounted; the time of interrupts (ns) by processor and group of the running task; the groups
-    that had tasks at its end, None if that doesn't matter; and the lines that are copied
-    unchanged, with their times (ns).
+    """An original window from `start` to `end` (ns). `sums` has the sums (ns) of the groups
+    `accounted`, and `interrupts` the time of interrupts (ns) by processor and group of the running
+    task. `populated` has the groups that had tasks at its end, or is None if that doesn't matter.
+    `lines` are the lines that are copied unchanged, with their times (ns).
     """
 
     start: int
@@ -78,8 +77,8 @@ def chain_of(path: str) -> tuple[str, ...]:
 
 
 class Clock:
-    """The counts of a group on a processor, and the time (ns) for which it was in each state in
-    this window.
+    """The counts of a group on a processor, and the time (ns) for which the group was in each
+    state in this window.
     """
 
     def __init__(self, start: int) -> None:
@@ -89,7 +88,7 @@ class Clock:
         self.times = [0] * STATES
 
     def go_to(self, time_ns: int) -> None:
-        """Adds the time up to `time_ns` (ns) to each state that holds."""
+        """Adds the time up to `time_ns` to each state in which the group is."""
         length = time_ns - self.since
         if length:
             for state, holds in enumerate(self.states()):
@@ -98,8 +97,8 @@ class Clock:
             self.since = time_ns
 
     def states(self) -> tuple[bool, ...]:
-        """Returns which states hold, according to the counts, and to whether the running task is
-        of the group and in a stall.
+        """Returns for each state whether the group is in it. That depends on the counts, on whether
+        the running task is of the group, and on whether that task is in a stall.
         """
         waiting, stalled, active, active_stalled = self.counts
         return (
@@ -134,7 +133,7 @@ class Clocks:
         self.clocks: dict[tuple[int, str], Clock] = {}
 
     def change(self, time_ns: int, task: Task, sign: int) -> None:
-        """Adds a task in its present state (sign 1), or removes it (sign -1), at `time_ns` (ns)."""
+        """Adds a task in its present state (sign 1), or removes it (sign -1), at `time_ns`."""
         chain = chain_of(task.path)
         if any(path in self.without for path in chain):
             return
@@ -182,10 +181,10 @@ class Check:
         self.interrupts: Counter[tuple[int, str]] = Counter()
         self.interrupted: dict[int, int] = {}
         self.copies: list[str] = []
-        # The number of ns that each sum lacks, over all windows up to now.
+        # The number of ns by which each sum is too small, over all windows so far.
         self.shortfalls: Counter[Key] = Counter()
-        # The time (ns) of the last edge, and the groups that must have tasks after all lines of
-        # that time.
+        # The end (ns) of the last window that ended at a tick, and the groups that must have tasks
+        # after all lines of that time.
         self.edge: tuple[int, set[str]] | None = None
         self.most_tasks = 0
         self.verbs: dict[str, Callable[..., None]] = {
@@ -208,7 +207,7 @@ class Check:
             play(line, *fields)
 
     def must(self, is_right: object, line: str) -> None:
-        """Rejects a line that isn't allowed at this place."""
+        """Raises Different for the line unless `is_right`: the line isn't allowed there."""
         if not is_right:
             raise Different(f"the line '{line}' can't stand there")
 
@@ -257,14 +256,14 @@ class Check:
             self.runs[processor] = following
 
     def stall(self, line: str, number: str) -> None:
-        """Lets the running task enter or leave a stall."""
+        """Begins or ends a stall of the running task."""
         task, is_stalled = self.tasks.get(number), line.split(" ")[1] == "stall"
         self.must(task and task.does == RUNNING and task.is_stalled != is_stalled, line)
         assert task
         self.change(task, is_stalled=is_stalled)
 
     def irq(self, line: str, place: str, length: str) -> None:
-        """Takes the time of interrupts from the running task."""
+        """Counts the time of interrupts, which the running task lost."""
         processor, time = int(place), int(length)
         self.must(
             time <= min(MOST_INTERRUPTS, self.now - self.interrupted.get(processor, 0))
@@ -277,7 +276,7 @@ class Check:
     # ------------------------------------------------------------ windows
 
     def between(self, line: str) -> None:
-        """Takes a line between two windows."""
+        """Replays a line between two windows."""
         time_ns, verb, *fields = line.split(" ")
         self.pass_edge(int(time_ns) + (verb == "end"))
         if verb == "rmgroup":
@@ -290,7 +289,7 @@ class Check:
                 del self.shortfalls[key]
 
     def keep_without(self, removals: list[tuple[str, ...]]) -> None:
-        """From the next window on, also compares sums without each of these sets of groups."""
+        """Also compares sums without each of these sets of groups, from the next window on."""
         known = {clocks.without: clocks for clocks in self.clocks}
         self.clocks = [known.get(it) or self.new_clocks(it) for it in [(), *removals]]
 
@@ -318,8 +317,8 @@ class Check:
         self.copies, self.interrupts = [], Counter()
 
     def pass_edge(self, time_ns: int) -> None:
-        """Checks the groups that have tasks at an edge, before the first line after it: a tick
-        there sees the effect of all lines of its time.
+        """Compares the groups that have tasks at the last edge, before the first line after the
+        edge is replayed: a tick there sees the effect of all lines of its time.
         """
         if self.edge and time_ns > self.edge[0]:
             self.compare_tasks(f"at a tick at {self.edge[0]}", self.edge[1])
@@ -337,7 +336,7 @@ class Check:
             raise Different(f"{what} {where} differs: {found}, not {wanted}")
 
     def compare_sums(self, window: Window, where: str) -> None:
-        """Rejects sums that are off by more than rounding explains."""
+        """Rejects the window if a sum differs by more than rounding explains."""
         found: dict[Key, int] = {}
         for clocks in self.clocks:
             found.update(clocks.sums(window.end, window.accounted))

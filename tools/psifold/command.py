@@ -1,5 +1,5 @@
-"""Folds a trace: makes a trace with the same pressure, which has far fewer lines where the machine
-was busy.
+"""Folds a trace: makes a trace with the same pressure, but with far fewer lines for the times at
+which the machine was busy.
 
   tools/fold TRACE --window 1 > FOLDED
 
@@ -47,8 +47,8 @@ from .world import NotATrace, shortened
 
 HEADER = re.compile("psitrace ([12]) cpus=([1-9][0-9]?)")
 MAKE_FEWER = ", and so does a longer window"
-# The number of lines that are read at once, and the number of first lines that show whether the
-# trace was made from samples.
+# The number of lines that are read at once, and the number of lines at the beginning of a trace
+# that show whether the trace was made from samples.
 LINES = 10_000
 MARK_LINES = 3
 
@@ -111,7 +111,7 @@ def lines_of(file: Iterable[str]) -> Iterator[str]:
 
 
 class Output:
-    """The standard output, which rejects more lines than a trace may have."""
+    """The standard output. More events than a trace may have raise TooMany."""
 
     def __init__(self) -> None:
         self.events = 0
@@ -129,8 +129,8 @@ class Output:
 
 
 def refuse_victims(options: Options, beginning: list[str]) -> None:
-    """Rejects victims for a trace that was made from samples: such a trace doesn't show what the
-    victim's end changes for others.
+    """Rejects victims for a trace that was made from samples. Such a trace doesn't show what the
+    pressure of other groups would have been without a victim.
     """
     found = sampled_in("".join(beginning).encode("ascii", "replace"))
     if found and options.folding.victims:

@@ -1,12 +1,12 @@
-"""Folds a trace: replaces the events of a window by few lines that give the same times.
+"""Folds a trace: replaces the events of each window by few lines that give the same times.
 
-A replay needs only one thing from the interval of a tick: the time for which each group was in
-each state on each processor. So within a window, whose length divides a tick's, other events may
-replace the original ones if they give the same times; about as many events as there are groups
-on the processors are always enough. All other lines are unchanged: memory samples, preferences
-and triggers keep their times, and so do the lines that create and remove groups or switch
-accounting, each of which ends a window. The same groups have tasks at the end of a window as in
-the original.
+A replay uses only one thing of the interval between two ticks: the time for which each group was in
+each state on each processor. So within a window, whose length divides the length of a tick, other
+events may replace the original ones if they give the same times. About as many events are enough as
+there are groups on the processors. All other lines are copied with their times: memory samples,
+preferences, triggers, and the lines that create or remove groups or switch accounting. Each line of
+the last two kinds ends a window. At the end of a window the same groups have tasks as in the
+original.
 """
 from __future__ import annotations
 
@@ -26,21 +26,21 @@ from .victims import Victim, Victims
 from .workers import Work, Workers
 from .world import Catalog, Changes, FoldWorld, NotATrace, path_of_copy, shortened
 
-# The verbs of lines that don't concern tasks, accounting or the set of groups.
+# The verbs of the lines that are copied without ending a window: they don't concern tasks,
+# accounting or the set of groups.
 COPIED_VERBS = ("mem", "host", "prefer", "trigger")
-# The most windows that are submitted before the results of the first are needed.
+# The most windows that may be submitted before the result of the first is awaited.
 MOST_WAITING = 3
 
 
 class TooMany(Exception):
-    """The error that the folded trace would exceed a limit of traces; the message says which."""
+    """The error that the folded trace would exceed a limit of traces. The message says which."""
 
 
 @dataclass
 class Counts:
-    """The number of lines of a trace (its events and the end) before and after folding, the
-    number of joint states of all windows and processors before and after, and the number of
-    windows.
+    """The numbers of lines of a trace (events and end line) before and after folding (`lines`,
+    `written`), of joint states in all windows and processors before and after, and of windows.
     """
 
     lines: int = 0
@@ -52,10 +52,10 @@ class Counts:
 
 @dataclass
 class Outcome:
-    """The result of folding: the counts; the time (ns) up to which the trace is written; the
-    number of kills up to which it is exact (None for any number); how many tasks came to the
-    victims' groups or moved from one of them, and when the last did (ns); and the victims'
-    patterns that match no group.
+    """The result of folding. `written` is the time (ns) up to which the trace is written. `whole`
+    is the number of kills up to which the trace is exact, or None for any number. `changes` counts
+    the tasks that came to or left the victims' groups, and `unmatched` has the patterns of victims
+    that match no group.
     """
 
     counts: Counts
@@ -66,8 +66,8 @@ class Outcome:
 
 
 class Fold:
-    """Folds the lines of a trace of `processors` processors into windows of `length` ns, and
-    passes the resulting lines to `put`. The result also has the same times without the groups of
+    """Folds the lines of a trace of `processors` processors into windows of `length` ns, and passes
+    the resulting lines to `put`. The times are also preserved for the trace without the tasks of
     `victims`.
     """
 
@@ -84,11 +84,11 @@ class Fold:
         self.victims = Victims(victims)
         self.plan: Plan | None = plan_of(self.world, ())
         self.size = Catalog().size()
-        # The time (ns) up to which windows are submitted, the next edge, and the earliest time of
-        # the next line.
+        # The time (ns) up to which windows are submitted, the next edge (the next multiple of the
+        # window's length), and the earliest time of the next line.
         self.start, self.edge, self.first = 0, length, 0
-        # The joint state of each processor at `start`, and the groups that have tasks then, None if
-        # `start` isn't an edge.
+        # The joint state of each processor at `start`, and the groups that have tasks then, or None
+        # if `start` isn't an edge.
         self.states = list(self.world.states)
         self.present: set[str] | None = None
         self.interrupted = [0] * processors
@@ -97,15 +97,15 @@ class Fold:
         self.counts = Counts()
         self.is_ended = False
         self.check = Check(processors)
-        # What remains to be written, in order: windows whose lines the crew computes, and lines
-        # between windows, each with the sets of groups without which sums are preserved from there
-        # on.
+        # The output that remains to be written, in order: windows, whose lines the workers compute,
+        # and lines between windows, each with the sets of groups without which sums are preserved
+        # from there on.
         self.due: deque[Window | tuple[str, list[tuple[str, ...]]]] = deque()
         # The time (ns) up to which everything is written.
         self.written = 0
 
     def outcome(self) -> Outcome:
-        """Returns the outcome of the lines up to now."""
+        """Returns the outcome for the lines that were folded so far."""
         return Outcome(
             self.counts, self.written, self.victims.whole, self.world.changes,
             self.victims.unmatched(),
@@ -114,7 +114,7 @@ class Fold:
     # ------------------------------------------------------------ lines
 
     def take(self, lines: Iterable[str]) -> None:
-        """Takes the next lines, without their newlines."""
+        """Folds the next lines, which have no newlines."""
         verbs, line, number = self.world.verbs, "", self.counts.lines
         try:
             for number, line in enumerate(lines, number + 1):
@@ -135,7 +135,7 @@ class Fold:
         self.counts.lines = number
 
     def take_other(self, time_ns: int, words: list[str], line: str) -> None:
-        """Takes a line whose verb doesn't concern tasks."""
+        """Handles a line whose verb doesn't concern tasks."""
         verb, world = words[1], self.world
         if self.is_ended:
             raise NotATrace("it stands after the end")
@@ -160,7 +160,9 @@ class Fold:
     def between(
         self, time_ns: int, line: str, change: Callable[[], object], removed: Iterable[str] = ()
     ) -> None:
-        """Takes a line that ends a window because it changes the groups or their accounting."""
+        """Ends the window before a line that changes the groups or their accounting. `change` makes
+        that change, and `removed` has the groups that the line removes.
+        """
         self.flush(time_ns, False, removed)
         change()
         removals, paths = self.victims.removals(self.world), self.world.paths
@@ -170,8 +172,8 @@ class Fold:
     # ------------------------------------------------------------ windows
 
     def go_to(self, time_ns: int) -> None:
-        """Ends the windows that end before `time_ns` (ns). Consecutive windows without events are
-        merged.
+        """Ends the windows that end before `time_ns`. Consecutive windows without events become one
+        window.
         """
         if time_ns > MOST_TIME:
             raise NotATrace(f"its time is beyond {MOST_TIME} ns")
@@ -183,8 +185,8 @@ class Fold:
 
     def flush(self, end: int, is_edge: bool, removed: Iterable[str] = ()) -> None:
         """Submits the window that ends at `end` (ns), either at an edge, which may be a tick, or
-        because groups or their accounting change. No task remains in removed groups, and at an
-        edge none in a group that is empty then.
+        because the groups or their accounting change. After its lines no task is in the groups
+        `removed`, and at an edge no task is in a group that is empty there in the original.
         """
         world, paths = self.world, self.world.paths
         populated = {paths[slot]: slot for slot, count in world.members.items() if count}
@@ -214,9 +216,9 @@ class Fold:
         self.write(MOST_WAITING)
 
     def tasks_needed(self, slot: int, processor: int) -> int:
-        """Returns how many representatives a group with tasks needs on this processor: one on
-        one of the processors. A group that might be killed needs all that may ever be used,
-        since a task that is created after the kill would survive it.
+        """Returns the number of representatives that a group with tasks needs on this processor. A
+        group needs one, on one of the processors. A group that might be killed needs as many as
+        may ever be used, since a task that is created after the kill would survive it.
         """
         return (
             MOST_AT_ONCE
@@ -224,11 +226,11 @@ class Fold:
             else int(slot % self.world.processors == processor)
         )
 
-    # ------------------------------------------------------------ what is written
+    # ------------------------------------------------------------ output
 
     def write(self, waiting: int) -> None:
-        """Writes what is due, except the last `waiting` windows, which may still be computed,
-        and the lines after them.
+        """Writes the output that is due, except the last `waiting` windows, whose lines may still
+        be computed, and the lines after them.
         """
         while self.due and (
             len(self.workers.waiting) > waiting or not isinstance(self.due[0], Window)
@@ -249,7 +251,9 @@ class Fold:
                 self.written = due.end
 
     def lines_of(self, window: Window, pieces: dict[int, Piece]) -> list[str]:
-        """Returns the lines of a window. Its sums are stored in `window` for the check."""
+        """Returns the lines of a window in order of time. Stores the window's sums in `window`, for
+        the check.
+        """
         paths, each = self.world.paths, [window.lines]
         for processor, piece in sorted(pieces.items()):
             each.append(piece.lines)

@@ -1,8 +1,9 @@
-"""Joint states: the combined state of a processor's tasks, as far as pressure depends on it.
+"""Defines joint states. The joint state of a processor is the part of its tasks' states on which
+pressure depends.
 
-The number of ready tasks in a group doesn't matter, only whether there is one. So for each group
-only the set of its tasks' kinds matters, and the joint state of a processor is the set of all
-pairs of a group and a kind.
+Pressure doesn't depend on the number of ready tasks in a group, but only on whether the group has a
+ready task. So the joint state is a set of pairs of a group and a kind: the group has at least one
+task of that kind on the processor.
 """
 from __future__ import annotations
 
@@ -13,8 +14,8 @@ from psiworld.world import How
 
 
 class Kind(IntEnum):
-    """The state of a task, and whether it is in a memory stall (the bit STALLED). ASLEEP tasks
-    aren't counted.
+    """The state of a task, and whether the task is in a memory stall (the bit STALLED). A joint
+    state doesn't contain tasks of the kind ASLEEP.
     """
 
     ASLEEP = 0
@@ -27,7 +28,7 @@ class Kind(IntEnum):
     RUNNING_STALLED = 7
 
 
-# The bits of a kind: whether the task is stalled, and its state.
+# The bits of a kind: STALLED says whether the task is in a memory stall, and WAY has its state.
 STALLED, WAY = 4, 3
 KINDS = len(Kind)
 # The state of a task after it left its processor, by the word of its switch line.
@@ -36,17 +37,17 @@ LEFT_BY = {
     How.SLEEP.word: int(Kind.ASLEEP),
     How.WAIT.word: int(Kind.WAITING),
 }
-# The word of the switch line, by the state of the task after it.
+# The word of the switch line, by the state of the task after the switch.
 LEAVES_TO = {kind: word for word, kind in LEFT_BY.items()}
 
 
 class Element(NamedTuple):
-    """A group's path, and the kind of one of the group's own tasks on the processor."""
+    """A group's path, and a kind of which the group has a task of its own on the processor."""
 
     path: str
     kind: Kind
 
 
-# A joint state. It has no element of the kind ASLEEP, and at most one that runs.
+# A joint state. No element has the kind ASLEEP, and at most one has a kind that runs.
 JointState = frozenset[Element]
 IDLE: JointState = frozenset()

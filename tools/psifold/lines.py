@@ -1,9 +1,10 @@
 """Writes trace lines that put a processor into given joint states for given times.
 
-Each task of a joint state is played by a *representative*, a task created for this purpose: it
-belongs to the same group, stays on its processor, and sleeps while it isn't needed. The change
-from one joint state to the next takes as few lines as possible: a task whose state changes runs
-for zero time, leaves the processor in its new state, and the previous task runs again.
+Each element of a joint state is represented by a task that is created for this purpose, a
+*representative*. A representative belongs to the element's group, stays on its processor, and
+sleeps while it isn't needed. The change from one joint state to the next takes few lines: a
+representative whose state changes runs for zero time and leaves the processor in its new state, and
+the previous task runs again.
 """
 from __future__ import annotations
 
@@ -14,11 +15,10 @@ from psiworld.world import How
 
 from .joint import IDLE, LEAVES_TO, STALLED, WAY, Element, JointState, Kind
 
-# A line of a trace: its time (ns) and the rest of the line.
+# A line of a trace: its time (ns), and its words after the time.
 Line = tuple[int, str]
 BLOCKED = (Kind.ASLEEP, Kind.WAITING)
-# The number of representatives that a group may need at once: one of each kind, but at most one
-# that runs.
+# The most representatives that a group may need at once: one of each kind, but only one that runs.
 MOST_AT_ONCE = 6
 
 
@@ -31,8 +31,8 @@ class Interrupt(NamedTuple):
 
 
 class Move(NamedTuple):
-    """A change of a representative's kind. `before` is None if it is created, and `after` is
-    None if it exits.
+    """A change of a representative's kind. `before` is None if the representative is created, and
+    `after` is None if it exits.
     """
 
     path: str
@@ -41,12 +41,13 @@ class Move(NamedTuple):
     after: Kind | None
 
     def wakes(self) -> bool:
-        """Whether the representative slept or waited, so that it must be woken first."""
+        """Whether the representative sleeps or waits for IO before, so that it must be woken first.
+        """
         return self.before is not None and self.before & WAY in BLOCKED
 
     def turns(self) -> bool:
-        """Whether the representative must run for zero time, in order to sleep, wait, exit, or
-        begin or end a stall.
+        """Whether the representative must run for zero time, in order to sleep, wait for IO, exit,
+        or begin or end a stall.
         """
         is_runner = runs(self.before) or runs(self.after)
         return not is_runner and (
@@ -62,7 +63,7 @@ class Move(NamedTuple):
         return f"{'stall' if (self.after or 0) & STALLED else 'unstall'} {self.task}"
 
     def how(self) -> str:
-        """Returns the word of the switch by which the representative leaves the processor."""
+        """Returns the word of the switch line by which the representative leaves the processor."""
         return How.EXIT.word if self.after is None else LEAVES_TO[Kind(self.after & WAY)]
 
 
@@ -77,7 +78,7 @@ def runs(kind: Kind | None) -> bool:
 
 
 def cost(before: Kind, after: Kind) -> int:
-    """Returns about how many lines a task needs to change from one kind to the other."""
+    """Returns the approximate number of lines in which a task changes from one kind to another."""
     move = Move("", 0, before, after)
     return move.wakes() + move.turns() + move.changes_stall()
 
@@ -86,7 +87,7 @@ COSTS = {(before, after): cost(before, after) for before in Kind for after in Ki
 
 
 class Writer:
-    """Writes the lines of one processor. The numbers of its tasks differ from those of all other
+    """Writes the lines of one processor. The numbers of its tasks differ from those of other
     processors.
     """
 
@@ -94,8 +95,8 @@ class Writer:
         self.processor, self.processors = processor, processors
         self.made = 0
         self.state: JointState = IDLE
-        # The representatives of each group by kind, and the sleeping ones, of which there may be
-        # several.
+        # The representatives of each group: the number of the task of each kind but ASLEEP, and the
+        # numbers of all tasks that sleep.
         self.busy: dict[str, dict[Kind, int]] = {}
         self.asleep: dict[str, list[int]] = {}
         # The running task, 0 for none.
@@ -109,12 +110,12 @@ class Writer:
         present: set[str] | None = None,
     ) -> list[Line]:
         """Returns the lines that put the processor into each joint state for its duration (ns),
-        beginning at `start` (ns), and the lines of interrupts among them, in order of time. If
-        `present` is given, the first joint state only has tasks in these groups.
+        from `start` (ns) on, with the lines of interrupts among them. If `present` isn't None, the
+        first joint state has tasks only in these groups, if possible.
         """
         lines: list[Line] = []
         time_ns, due = start, list(interrupts)
-        # The order must not depend on the order of sets, so that each run gives the same lines.
+        # Sets have no fixed order, so the states are sorted: then each run gives the same lines.
         left = {state: durations[state] for state in sorted(durations, key=sorted)}
         while left:
             fitting = (
@@ -132,8 +133,8 @@ class Writer:
         return len(self.state ^ state)
 
     def interrupt(self, wanted: Interrupt) -> list[Line]:
-        """Returns the lines of an interrupt. If no task of its group runs, one runs for zero
-        time.
+        """Returns the lines of an interrupt. If no task of its group runs, a representative of the
+        group runs for zero time.
         """
         runs_there = any(it.path == wanted.path and runs(it.kind) for it in self.state)
         line = f"irq {self.processor} {wanted.length}"
@@ -172,8 +173,9 @@ class Writer:
         return [(time_ns, words) for words in self.perform(moves)]
 
     def moves(self, path: str, leaving: list[Kind], coming: list[Kind]) -> Iterator[Move]:
-        """Yields the moves of a group's representatives. To need few lines, it prefers
-        representatives that are free now, then sleeping ones, and creates new ones last.
+        """Yields the moves of a group's representatives from the kinds `leaving` to the kinds
+        `coming`. Pairs of kinds whose change takes few lines come first. For the remaining kinds it
+        wakes sleeping representatives, and creates new ones only if none sleeps.
         """
         busy = self.busy.get(path, {})
         pairs = sorted(
@@ -210,8 +212,8 @@ class Writer:
         return [(time_ns, words) for words in self.perform(moves)]
 
     def keep(self, time_ns: int, counts: dict[str, int]) -> list[Line]:
-        """Returns the lines that give each group at least this number of representatives. New
-        ones sleep.
+        """Returns the lines that create representatives until each group has at least this number
+        of them. New representatives sleep.
         """
         moves = []
         for path, count in sorted(counts.items()):
@@ -220,9 +222,9 @@ class Writer:
         return [(time_ns, words) for words in self.perform(moves)]
 
     def perform(self, moves: list[Move]) -> list[str]:
-        """Returns the lines for these moves, without times. All turns of zero length form one
-        chain, in which each task hands the processor to the next: a running task that leaves
-        begins it, and the task that runs next ends it.
+        """Returns the lines for these moves, without times. All turns of zero length form one chain
+        of switches: the running task leaves, each task of the chain switches to the next, and the
+        last one switches to the task that runs from then on.
         """
         words = [f"fork {it.task} {it.path} {self.processor}" for it in moves if it.before is None]
         words += [f"wake {it.task} {self.processor}" for it in moves if it.wakes()]
@@ -246,8 +248,8 @@ class Writer:
         return words
 
     def chain(self, turns: list[Move], following: int, how: str) -> Iterator[str]:
-        """Yields the switches of a chain. In the first one the running task leaves by the word
-        `how`, and the last one switches to `following`.
+        """Yields the switches of a chain. In the first switch the running task leaves by the word
+        `how`; the last switch is to the task `following`.
         """
         for turn in turns:
             yield f"switch {self.processor} {turn.task} {how}"
@@ -257,7 +259,7 @@ class Writer:
         yield f"switch {self.processor} {following} {how}"
 
     def take(self, moves: list[Move], runner: int) -> None:
-        """Updates the representatives after the moves."""
+        """Stores the representatives' kinds after these moves, and the running task `runner`."""
         for path, task, before, _ in moves:
             if before is Kind.ASLEEP:
                 self.asleep[path].remove(task)

@@ -1,5 +1,5 @@
-"""Folds in another process while this one plays a recording's events. Lines are sent in parts,
-and the outcome is returned at the end.
+"""Folds in another process while this process plays a recording's events. Lines are sent to that
+process in parts, and it returns the outcome at the end.
 """
 from __future__ import annotations
 
@@ -26,13 +26,13 @@ class Here:
         self.fold.take(lines)
 
     def end(self) -> None:
-        """Ends the folding after all lines were taken. There is nothing to do here."""
+        """Ends the folding after the last line. Nothing needs to be done in this process."""
 
     def stop(self) -> None:
-        """Stops without an outcome. There is nothing to do here."""
+        """Stops without an outcome. Nothing needs to be done in this process."""
 
     def outcome(self) -> Outcome:
-        """Returns the outcome of the lines up to now."""
+        """Returns the outcome for the lines that were folded so far."""
         return self.fold.outcome()
 
 
@@ -52,8 +52,8 @@ class Elsewhere:
         results_end.close()
 
     def take(self, lines: list[str]) -> None:
-        """Sends these lines. If one can't be folded, the other process ends there, and the fault
-        is raised here.
+        """Sends these lines. If the other process has ended because a line can't be folded, raises
+        the error of that process.
         """
         try:
             if not lines:
@@ -63,7 +63,7 @@ class Elsewhere:
             self.end()
 
     def end(self) -> None:
-        """Waits for the other process, and raises the fault that it met, if any."""
+        """Waits until the other process ends, and raises its error if it had one."""
         with contextlib.suppress(BrokenPipeError):
             self.lines.send_bytes(END)
         self.lines.close()
@@ -89,7 +89,9 @@ class Elsewhere:
 def serve(
     fold: Fold, lines: Connection, results: Connection, others: tuple[Connection, Connection]
 ) -> None:
-    """Folds the lines that arrive, and sends the outcome."""
+    """Folds the lines that arrive on `lines`, as the main function of a process, and sends the
+    outcome to `results`. `others` are the connections that the process inherits and must close.
+    """
     signal.signal(signal.SIGINT, signal.SIG_IGN)
     for line in others:
         line.close()
@@ -99,7 +101,7 @@ def serve(
             fold.take(part.decode("ascii").split("\n"))
     except EOFError:
         return
-    except Exception as found:  # it is raised again where the lines come from
+    except Exception as found:  # the process that sends the lines raises it again
         fault = found
     lines.close()
     results.send((fold.outcome(), fault))

@@ -1,5 +1,5 @@
-"""Folds the windows of one processor: reduces its joint states to few with the same sums, and
-writes lines for them.
+"""Folds the windows of one processor: replaces its joint states by few joint states with the same
+sums of time, and writes lines for these.
 """
 from __future__ import annotations
 
@@ -18,8 +18,8 @@ from .world import Catalog, Interrupts, bits_of
 
 
 class Few(NamedTuple):
-    """The joint states that replace those of a window, with their times (ns); the window's sums
-    (ns); and the number of its joint states before.
+    """The joint states that replace the joint states of a window, with their times (ns); the
+    window's sums (ns); and the number of the window's original joint states.
     """
 
     times: dict[int, int]
@@ -28,8 +28,9 @@ class Few(NamedTuple):
 
 
 def few_of(spent: dict[int, int], sums: Sums, left: Left) -> Few:
-    """Returns few joint states with the same sums as those in `spent`. It takes the longest
-    first, since most of the others then fit into their times.
+    """Returns few joint states with the same sums as the joint states of `spent`, whose times (ns)
+    it has. The joint states with the longest times are added to the basis first, since the basis
+    then absorbs most of the others. `left` has the rounding errors so far.
     """
     columns: dict[int, int] = {}
     states: dict[int, int] = {}
@@ -61,9 +62,9 @@ def few_of(spent: dict[int, int], sums: Sums, left: Left) -> Few:
 def interrupt_lines(
     interrupts: Interrupts, paths: Sequence[str], last: int, first: int
 ) -> list[Interrupt]:
-    """Returns the interrupts of a window with their times (ns). Each line is as early as
-    possible: its whole length fits between the previous line (for the first one: `last`) and its
-    own time, which is at least `first`. So the last line isn't later than in the original.
+    """Returns the interrupt lines of a window with their times (ns). Each line is as early as
+    possible, so the last line isn't later than in the original: its time is at least `first`, and
+    its whole length fits between the previous line (`last` for the first line) and its own time.
     """
     placed: list[Interrupt] = []
     time_ns = last
@@ -79,11 +80,11 @@ def interrupt_lines(
 
 class Turn(NamedTuple):
     """The data for folding a processor's window: its start and end (ns), the time (ns) of each
-    joint state, and the time of interrupts. At its end no task may be in `removed`, nor, if
-    `populated` is given, in any group outside of that, and each group in `needs` has at least
-    this number of tasks. `first` is the joint state at its start. If it starts at an edge, which
-    may be a tick, `present` has the groups with tasks at that time: no other group may get one
-    before 1 ns has passed.
+    joint state, and the interrupt lines. At its end no task may be in the groups `removed`, nor, if
+    `populated` isn't None, in a group that isn't in `populated`; and each group in `needs` must
+    have at least this number of tasks. `first` is the joint state at the window's start. If the
+    window starts at an edge, which may be a tick, `present` has the groups with tasks at that time:
+    no other group may have a task in the first ns.
     """
 
     start: int
@@ -98,8 +99,8 @@ class Turn(NamedTuple):
 
 
 class Piece(NamedTuple):
-    """The result for a processor's window: its lines with their times, its original sums (ns),
-    and the number of joint states before and after.
+    """The result for a processor's window: its lines with their times (ns), its original sums (ns),
+    and the number of joint states before and after folding.
     """
 
     lines: list[Line]
@@ -114,7 +115,7 @@ def states_of(few: Few, catalog: Catalog) -> dict[JointState, int]:
 
 
 def with_first(turn: Turn, sums: Sums, left: Left) -> Few:
-    """Returns few joint states for a window, including the one at its start for the first ns."""
+    """Returns few joint states for a window, with the original joint state in the first ns."""
     spent = dict(turn.spent)
     spent[turn.first] -= 1
     few = few_of({state: time for state, time in spent.items() if time}, sums, left)

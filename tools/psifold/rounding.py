@@ -1,5 +1,6 @@
 """Rounds fractional times to whole ns. The rounding error of each sum is carried into the next
-window, which rounds in the other direction, so that no sum drifts over any number of windows.
+window, whose times are rounded so that the error shrinks. So no sum drifts, over any number of
+windows.
 """
 from __future__ import annotations
 
@@ -10,17 +11,18 @@ from .basis import Share
 from .sums import Sum
 from .world import bits_of
 
-# The number of ns that each sum lacks.
+# The number of ns by which each sum is too small.
 Left = Counter[Sum]
-# If a sum lacks more ns than MOST_LEFT, 1 ns moves from one joint state to another, even if their
-# times are whole, at most MOST_STEPS times.
+# If the error of a sum is more than MOST_LEFT ns, 1 ns at a time is moved from one joint state to
+# another, also if their times are whole, at most MOST_STEPS times.
 MOST_LEFT = 2
 MOST_STEPS = 20
 
 
 class Rounding:
-    """The times of joint states by number. `columns` are the sums of each. A time in `shares` is
-    a multiple of 1/`divisor` ns.
+    """Rounds the times of joint states. The times in `shares` are in units of 1/`divisor` ns, and
+    `columns` has the sums to which each joint state contributes, as bits. `shortfalls` has the ns
+    by which each sum is too small so far, by the sum's bit.
     """
 
     def __init__(
@@ -41,8 +43,8 @@ class Rounding:
         }
 
     def round(self) -> None:
-        """Distributes the remainder, a whole number of ns, to joint states whose times aren't
-        whole, so that the sum of squared errors is small.
+        """Rounds all times. The remainders add up to a whole number of ns, and these ns are given
+        to joint states whose times aren't whole, so that the sum of squared errors is small.
         """
         short = set(self.remainders)
         for _ in range(sum(self.remainders.values()) // self.divisor):
@@ -55,17 +57,17 @@ class Rounding:
             self.improve({number for number, time in self.times.items() if time}, set(self.times))
 
     def is_far(self) -> bool:
-        """Whether the error of some sum is larger than may be left to the next window."""
+        """Whether the error of some sum is too large to be carried into the next window."""
         return any(abs(left) > MOST_LEFT * self.divisor for left in self.shortfalls.values())
 
     def growth(self, number: int) -> int:
-        """Returns by how much the sum of squared errors grows, in units of 1/`divisor`, if this
-        joint state gets another ns.
+        """Returns by how much the sum of squared errors grows, in units of 1/`divisor`, if the time
+        of this joint state grows by 1 ns.
         """
         return self.divisor * self.columns[number].bit_count() - 2 * self.lags[number]
 
     def give(self, number: int, length: int) -> None:
-        """Adds `length` ns to a joint state."""
+        """Adds `length` ns to the time of a joint state."""
         self.times[number] += length
         gain, sums = length * self.divisor, self.columns[number]
         for bit in bits_of(sums):
@@ -74,9 +76,9 @@ class Rounding:
             self.lags[other] -= gain * (sums & self.columns[other]).bit_count()
 
     def improve(self, givers: Iterable[int], takers: Iterable[int]) -> None:
-        """Moves single ns from givers to takers as long as the sum of squared errors falls. A
-        move adds to it for each sum that only one of the two takes part in, and for the
-        difference between the giver's and the taker's shortfall.
+        """Moves single ns from the joint states `givers` to `takers` as long as the sum of squared
+        errors falls. A move changes that sum by the number of sums to which only one of the two
+        joint states contributes, and by the difference of their shortfalls.
         """
         lags, sums, takers = self.lags, self.columns, sorted(takers)
         pairs = [
@@ -98,8 +100,8 @@ class Rounding:
 def whole_times(
     shares: list[Share], divisor: int, columns: list[int], sum_of: Callable[[int], Sum], left: Left
 ) -> dict[int, int]:
-    """Returns the times in whole ns, by the number of the joint state. Updates `left`, which is
-    carried from window to window.
+    """Returns the times of the joint states in whole ns, by number. Updates `left`, the rounding
+    errors that are carried from window to window.
     """
     if divisor == 1 and not any(left.values()):
         return {number: time for number, time in shares}

@@ -1,9 +1,9 @@
-"""The sums of time that a joint state takes part in: for each group the time in each of its seven
-states, also without groups that might be killed.
+"""Computes the sums of time to which a joint state contributes. There is a sum for each group and
+each of its seven states, and further sums that exclude groups that might be killed.
 
-The states are those of docs/TRACES.md. A set of groups is an integer with a bit for each, and so
-are the sums of a joint state, so that each of thousands of joint states takes only a few
-operations.
+The states are those of docs/TRACES.md. A set of groups is an integer with a bit for each group, and
+a set of sums is an integer with a bit for each sum. So the sums of a joint state, of which there
+are thousands, take only a few operations.
 """
 from __future__ import annotations
 
@@ -14,8 +14,8 @@ from .joint import KINDS, STALLED, WAY, Kind
 from .world import Catalog, FoldWorld, bits_of
 
 STATES = 7
-# The sets of groups of a joint state: groups with a task that waits for IO, is stalled, is ready,
-# is ready or runs and isn't stalled, runs, and runs while stalled.
+# The sets of groups of a joint state: the groups with a task that waits for IO; is in a stall; is
+# ready; is ready or runs, and isn't in a stall; runs; and runs while in a stall.
 WAITS, STALLS, IS_READY, UNSTALLED, RUNS, RUNS_STALLED = range(6)
 BY_WAY = {
     int(Kind.WAITING): (WAITS,),
@@ -42,16 +42,16 @@ class Sum(NamedTuple):
 
 
 class View:
-    """The sums of some groups, without other groups and their descendants. Bit STATE *
-    len(groups) + PLACE of a joint state's sums is for this state and the group with this index.
+    """The sums of `groups` that exclude the groups `without` and their descendants. The sum of
+    state S and of the group with the index I has the bit S * len(groups) + I.
     """
 
     def __init__(self, catalog: Catalog, groups: Sequence[int], without: tuple[int, ...]) -> None:
         self.catalog, self.groups, self.without = catalog, groups, without
         self.size = STATES * len(groups)
         self.place = {slot: place for place, slot in enumerate(groups)}
-        # The sets of groups that each byte of a joint state's number adds, by the byte's index and
-        # value.
+        # A table for each byte of a joint state: the sets of groups to which the byte's elements
+        # contribute, by the byte's value.
         self.bytes: list[dict[int, int]] = []
 
     def sum_of(self, bit: int) -> Sum:
@@ -60,8 +60,8 @@ class View:
         return Sum(self.groups[place], state, self.without)
 
     def chain(self, slot: int) -> int:
-        """Returns the set of a group and its ancestors whose sums are computed; empty for an
-        excluded group.
+        """Returns the set of those of a group and its ancestors whose sums are computed. The set of
+        an excluded group is empty.
         """
         chain = 0
         at: int | None = slot
@@ -74,7 +74,9 @@ class View:
         return chain
 
     def sets_of_byte(self, place: int, value: int) -> int:
-        """Returns the sets of groups of a byte's elements, packed side by side."""
+        """Returns the sets of groups to which the elements of a byte contribute, packed into one
+        integer.
+        """
         sets, keys = 0, self.catalog.keys
         for bit in range(8):
             if value >> bit & 1:
@@ -86,7 +88,7 @@ class View:
         return sets
 
     def sums(self, state: int) -> int:
-        """Returns the sums in which a joint state takes part."""
+        """Returns the set of sums to which a joint state contributes."""
         sets, tables = 0, self.bytes
         data = state.to_bytes((state.bit_length() + 7) // 8, "little")
         while len(tables) < len(data):
@@ -124,8 +126,8 @@ Plan = list[tuple[list[int], tuple[int, ...]]]
 
 
 def plan_of(world: FoldWorld, removals: Sequence[tuple[int, ...]]) -> Plan:
-    """Returns the sums to preserve: those of all accounted groups, and for each removal (a set
-    of groups to exclude together) those of their common ancestors.
+    """Returns the sums to preserve: the sums of all accounted groups, and for each removal (a set
+    of groups to exclude together) the sums of their common ancestors without these groups.
     """
     accounted = [slot for slot in sorted(world.live.values()) if slot not in world.off]
     plan: Plan = [(accounted, ())]
@@ -136,8 +138,8 @@ def plan_of(world: FoldWorld, removals: Sequence[tuple[int, ...]]) -> Plan:
 
 
 class Sums:
-    """All sums that are preserved; each has a bit. `total` is the bit of an extra sum that each
-    joint state takes part in.
+    """All sums that are preserved, each with a bit. `total` is the bit of an extra sum, to which
+    each joint state contributes.
     """
 
     def __init__(self, catalog: Catalog, plan: Plan) -> None:
@@ -146,7 +148,7 @@ class Sums:
         self.total = 1 << self.size
 
     def of(self, state: int) -> int:
-        """Returns the sums in which a joint state takes part."""
+        """Returns the set of sums to which a joint state contributes."""
         found, at = 0, 0
         for view in self.views:
             found |= view.sums(state) << at
@@ -162,7 +164,9 @@ class Sums:
         raise IndexError(bit)
 
     def least(self, state: int, column: int) -> int:
-        """Returns the joint state without the elements that affect none of its sums."""
+        """Returns the joint state without the elements that don't affect its sums, which are
+        `column`.
+        """
         for bit in bits_of(state):
             fewer = state ^ 1 << bit
             if self.of(fewer) == column:

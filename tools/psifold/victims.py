@@ -14,13 +14,14 @@ from psirules.patterns import is_pattern, matches
 
 from .world import FoldWorld
 
-# The most sets of groups that are excluded; each costs about as much time as all sums.
+# The most sets of groups that are excluded. Each takes about as much time as all sums without any.
 MOST_REMOVALS = 64
 TRUE = ("true", "True", "1", "TRUE")
 
 
 class Victim(NamedTuple):
-    """A pattern of paths of groups that might be killed, and whether their descendants may be too.
+    """A pattern for the paths of groups that might be killed, and whether descendants of these
+    groups might be killed too.
     """
 
     pattern: str
@@ -69,8 +70,8 @@ def victims_in(rules: dict[str, Any]) -> Iterator[Victim]:
 
 
 class Victims:
-    """The groups that might be killed, as groups are created and removed. `whole` is the number
-    of kills up to which the times of the remaining groups are exact, None if there is no such
+    """The groups that might be killed. They match one of the patterns `wanted`. `whole` is the
+    number of kills up to which the times of the remaining groups are exact, or None if there is no
     limit.
     """
 
@@ -85,14 +86,14 @@ class Victims:
         return self.known[path]
 
     def unmatched(self) -> list[str]:
-        """Returns the patterns that matched no group up to now."""
+        """Returns the patterns that have matched no group so far."""
         paths = {"/", *self.known}
         return [it.pattern for it in self.wanted if not any(map(it.matches, paths))]
 
     def removals(self, world: FoldWorld) -> list[tuple[int, ...]]:
-        """Returns the sets of groups to exclude: each group alone, then sets of two, of three
-        and so on, as long as all sets of one size fit. No set contains both a group and its
-        ancestor, since the ancestor suffices.
+        """Returns the sets of groups to exclude: each group alone, then all sets of two groups, of
+        three and so on, up to the size whose sets would exceed MOST_REMOVALS. No set contains
+        both a group and its ancestor, since excluding the ancestor excludes the group.
         """
         slots = (
             sorted(slot for path, slot in world.live.items() if self.matches(path))

@@ -1,4 +1,4 @@
-"""The options of tools that fold, and the report about the folded trace."""
+"""Defines the options of the tools that fold, and writes the report about the folded trace."""
 from __future__ import annotations
 
 import argparse
@@ -22,9 +22,7 @@ MILLISECOND, LONGEST_TICK = 10**6, 60 * SECOND
 
 
 def window_of(text: str) -> int:
-    """Parses the length of a window, and returns ns: a whole number of ms, at most the longest
-    tick.
-    """
+    """Parses the length of a window, a whole number of ms up to the longest tick. Returns ns."""
     length = nanoseconds(text)
     if not 0 < length <= LONGEST_TICK or length % MILLISECOND:
         raise Malformed(f"{text} is no window: it has 0.001 to 60 s, of whole ms, as ticks have")
@@ -53,8 +51,8 @@ class Folding(NamedTuple):
 
 
 def folding_of(found: dict[str, Any]) -> Folding | None:
-    """Removes the options of folding from the parsed ones and returns them, None if nothing is
-    to be folded.
+    """Removes the options of folding from the parsed options, and returns them. None if the trace
+    isn't to be folded.
     """
     length, patterns, rules = found.pop("fold"), found.pop("victims"), found.pop("rules")
     if length is None and (patterns or rules):
@@ -68,7 +66,9 @@ def folding_of(found: dict[str, Any]) -> Folding | None:
 
 
 def folding_lines(folding: Folding, outcome: Outcome) -> list[str]:
-    """Returns the report: sizes before and after, and how far the folded trace is exact."""
+    """Returns the lines of the report: sizes before and after folding, and how exact the folded
+    trace is.
+    """
     counts, length = outcome.counts, folding.length
     tick = f"{length // MILLISECOND} ms" if length % SECOND else f"{length // SECOND} s"
     return [
@@ -88,7 +88,7 @@ def folding_lines(folding: Folding, outcome: Outcome) -> list[str]:
 
 
 def is_longer(counts: Counts) -> bool:
-    """Whether folding made a trace longer."""
+    """Whether the folded trace has more lines than the original."""
     return counts.written > counts.lines
 
 
@@ -103,7 +103,7 @@ def longer_lines(counts: Counts) -> list[str]:
 
 
 def whatif_line(folding: Folding, outcome: Outcome) -> str:
-    """Says how far `whatif` is exact."""
+    """Returns the line that says up to which kills, and until when, `whatif` is exact."""
     if len(outcome.unmatched) == len(folding.victims):
         return (
             "after the first kill `whatif` is near, and not exact: --victims or --rules say who"
@@ -127,15 +127,17 @@ def whatif_line(folding: Folding, outcome: Outcome) -> str:
 
 
 class Progress:
-    """Shows progress on standard error if that is a terminal: the seconds done, and the total
-    (ns) if it is known.
+    """Shows the progress on standard error, if that is a terminal: the number of seconds of the
+    trace that are done, and of `total` (ns) if that is known.
     """
 
     def __init__(self, name: str, total: int | None = None) -> None:
         self.name, self.total, self.is_shown, self.due = name, total, sys.stderr.isatty(), 0.0
 
     def show(self, time_ns: int) -> None:
-        """Shows that everything up to `time_ns` (ns) is done, at most twice a second."""
+        """Shows that the trace is done up to `time_ns`. Updates the terminal at most twice a
+        second.
+        """
         if self.is_shown and time.monotonic() >= self.due:
             self.due = time.monotonic() + 0.5
             of = f" of {self.total // SECOND}" if self.total is not None else ""

@@ -1,6 +1,6 @@
-"""Folds the windows of all processors in this process, or once there is much to do, in several
-processes with a share of the processors each. Windows are submitted, and their results are
-returned later in the same order.
+"""Folds the windows of all processors. Small windows are folded in this process. From the first
+large window on, several processes fold, each for a share of the processors. Windows are submitted,
+and their results are returned later in the same order.
 """
 from __future__ import annotations
 
@@ -22,14 +22,14 @@ from .processor import FoldedProcessor, Piece, Turn
 from .sums import Plan, Sums
 from .world import Catalog
 
-# The number of joint states in a window from which several processes are used, and the most
-# processes.
+# The least number of joint states in a window for which several processes are started, and the
+# greatest number of processes.
 MUCH, MOST_WORKERS = 4_000, 8
 
 
 class Work(NamedTuple):
-    """The data of a window to fold: additions to the catalog, the sums to preserve if they have
-    changed, and the turns by processor.
+    """A window to fold: the additions to the catalog, the sums to preserve if they have changed,
+    and the data of each processor.
     """
 
     news: tuple[list[str], list[int | None], list[int]]
@@ -38,7 +38,7 @@ class Work(NamedTuple):
 
 
 class Share:
-    """Some of the processors, with their own copy of the catalog."""
+    """Some of the processors, with their own copy of the catalog. One process folds them."""
 
     def __init__(self, processors: Sequence[int], count: int) -> None:
         self.catalog = Catalog()
@@ -46,11 +46,11 @@ class Share:
         self.sums = Sums(self.catalog, [])
 
     def of(self, work: Work) -> Work:
-        """Returns the part of a window that concerns these processors."""
+        """Returns the data of a window that this share needs: those of its own processors."""
         return work._replace(turns={processor: work.turns[processor] for processor in self.folded})
 
     def fold(self, work: Work) -> dict[int, Piece]:
-        """Folds a window, and returns the pieces by processor."""
+        """Folds a window, and returns the results by processor."""
         self.catalog.add(*work.news)
         if work.plan is not None:
             self.sums = Sums(self.catalog, work.plan)
@@ -60,9 +60,10 @@ class Share:
         }
 
     def serve(self, own: Connection, others: Sequence[Connection]) -> None:
-        """Folds what arrives on a connection, in a process of its own, until the other end is
-        closed. A thread receives everything at once, so that the sender never waits for the
-        reader of results.
+        """Folds the windows that arrive on a connection, as the main function of a process, until
+        the other end is closed. A thread receives windows as soon as they arrive, so the sender
+        never waits while this process folds. `others` are the connections that the process inherits
+        and must close.
         """
         signal.signal(signal.SIGINT, signal.SIG_IGN)
         for line in others:
@@ -75,7 +76,7 @@ class Share:
 
 
 def take_all(line: Connection, due: Queue[Work | None]) -> None:
-    """Queues what arrives on a connection. None marks the end."""
+    """Queues all windows that arrive on a connection, and None at the end."""
     with contextlib.suppress(EOFError, OSError):
         while True:
             due.put(line.recv())
@@ -84,7 +85,7 @@ def take_all(line: Connection, due: Queue[Work | None]) -> None:
 
 @contextlib.contextmanager
 def reporting_ended() -> Iterator[None]:
-    """Reports that a process has ended without an answer."""
+    """Raises Unreadable if a process has ended without a result."""
     try:
         yield
     except (EOFError, BrokenPipeError, ConnectionResetError):
@@ -92,7 +93,9 @@ def reporting_ended() -> Iterator[None]:
 
 
 class Workers:
-    """All processors, divided into shares. At first they are folded in this process."""
+    """All processors, divided into shares, and the processes that fold these. `most` limits the
+    number of shares; None stands for one less than this machine's processors.
+    """
 
     def __init__(self, processors: int, most: int | None = None) -> None:
         most = max(len(os.sched_getaffinity(0)) - 1 if most is None else most, 1)
@@ -125,8 +128,8 @@ class Workers:
             )
 
     def take_out(self) -> dict[int, Piece]:
-        """Returns the pieces, by processor, of the first window whose result wasn't returned
-        yet.
+        """Returns the results, by processor, of the first submitted window whose results weren't
+        returned yet.
         """
         pieces = self.waiting.popleft()
         if pieces is not None:

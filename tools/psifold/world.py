@@ -1,8 +1,9 @@
-"""Replays a trace's lines, and adds up the time that each processor was in each joint state. Unlike
-psireplay/world.py it rejects lines that it can't follow, since nothing has checked them before.
+"""Replays a trace's lines, and adds up the time for which each processor was in each joint state.
+Unlike psireplay/world.py it rejects invalid lines, since no other program has checked the trace.
 
-Here a joint state is an integer with a bit for each element that occurs in some window. So a
-change of a task is an exclusive or, and the time of a joint state is looked up by the integer.
+In this module a joint state is an integer with a bit for each element that occurs in some window.
+So a task changes a joint state by an exclusive or, and the integer is the key of the joint state's
+time.
 """
 from __future__ import annotations
 
@@ -15,15 +16,15 @@ from psiworld.limits import LEAST_WINDOW, MOST_INTERRUPTS, MOST_LABEL, MOST_MEMO
 
 from .joint import KINDS, LEFT_BY, STALLED, WAY, Element, JointState, Kind
 
-# The kinds as plain integers, which are faster: they are used at each line.
+# The kinds that are needed at each line, as integers: these are faster than members of an enum.
 READY, RUNNING = int(Kind.READY), int(Kind.RUNNING)
 
-# The number of characters of a line that a message shows.
+# The most characters of a line that a message shows.
 SHOWN = 100
 NUMBER = r"(?:0|[1-9][0-9]{0,18})"
 PATH = r"(?:/|(?:/(?!\.{1,2}(?:/|$))[A-Za-z0-9_.@:\\-]+){1,32}(?= |$))"
-# The forms of lines that are copied unchanged, without their times. Numbers are checked in
-# `path_of_copy`.
+# Patterns for a group's path, and for the words after the time in the lines that are copied
+# unchanged. `path_of_copy` checks the numbers in these.
 GROUP = re.compile(PATH)
 SAMPLE = re.compile(rf"mem ({PATH}) {NUMBER} {NUMBER} {NUMBER}|host {NUMBER} {NUMBER} {NUMBER}")
 PREFERENCE = re.compile(rf"prefer ({PATH}) (?:prefer|avoid|none)")
@@ -33,7 +34,7 @@ TRIGGER = re.compile(
 
 
 class NotATrace(Exception):
-    """The error that a line is malformed, or not allowed at this place of a trace."""
+    """The error that a line is malformed, or isn't allowed at this place of a trace."""
 
 
 def shortened(line: str) -> str:
@@ -42,8 +43,8 @@ def shortened(line: str) -> str:
 
 
 def path_of_copy(line: str) -> str:
-    """Returns the group of a line that is copied unchanged, `/` if it names none. `line` has no
-    time. Raises NotATrace if it is malformed.
+    """Returns the group that a line names, or `/` if it names none. The line is one of those that
+    are copied unchanged, without its time. Raises NotATrace if the line is malformed.
     """
     found = SAMPLE.fullmatch(line) or PREFERENCE.fullmatch(line)
     if found and all(int(word) <= MOST_MEMORY for word in line.split(" ") if word.isdigit()):
@@ -55,7 +56,9 @@ def path_of_copy(line: str) -> str:
 
 
 class Task:
-    """A task. `place` is KINDS times the number of its group."""
+    """A task. `place` is KINDS times the number of its group, so that `place + kind` is the key of
+    the task's element.
+    """
 
     __slots__ = ("place", "processor", "kind")
 
@@ -64,9 +67,9 @@ class Task:
 
 
 class Interrupts:
-    """The time (ns) that interrupts took from the groups whose tasks ran. The first line of a
-    window is separate, with its group's number, since it may include time before the window. The
-    others are added up by group.
+    """The time (ns) that interrupts took from the groups of running tasks, on one processor in one
+    window. `first` is the window's first interrupt line, with its group's number: it may include
+    time from before the window. `others` has the sum of the other lines by group.
     """
 
     def __init__(self) -> None:
@@ -82,25 +85,25 @@ class Interrupts:
 
 
 class Changes:
-    """The number of tasks that came into groups that might be killed, the number that moved out
-    of them or between them, and the time (ns) of the last such event.
+    """The number of tasks that came into groups that might be killed, the number of tasks that
+    moved out of such groups or between them, and the time (ns) of the last such event.
     """
 
     def __init__(self) -> None:
         self.came, self.moved, self.last = 0, 0, 0
 
     def note(self, time_ns: int, came: bool, moved: bool) -> None:
-        """Counts a task that came, moved or did both. Lines at time 0 are skipped, because they
-        are the trace's initial state.
+        """Counts a task that came, moved, or did both. Lines at time 0 don't count, because they
+        write the trace's initial state.
         """
         if time_ns and (came or moved):
             self.came, self.moved, self.last = self.came + came, self.moved + moved, time_ns
 
 
 class Catalog:
-    """The groups and the bits of joint states, by number: for each group its path and its
-    parent, and for each bit the element's key, which consists of the group's number and the
-    kind. Nothing is ever removed.
+    """All groups and all elements of joint states that occurred so far. A group's number is the
+    index of its path and of its parent's number. The number of a bit is the index of its element's
+    key, which is KINDS times the group's number plus the kind. Nothing is ever removed.
     """
 
     def __init__(self) -> None:
@@ -126,18 +129,18 @@ class Catalog:
         return len(self.paths), len(self.keys)
 
     def since(self, size: tuple[int, int]) -> tuple[list[str], list[int | None], list[int]]:
-        """Returns the additions since the catalog had this size."""
+        """Returns the paths, parents and keys that were added since the catalog had this size."""
         return self.paths[size[0] :], self.parents[size[0] :], self.keys[size[1] :]
 
     def add(self, paths: list[str], parents: list[int | None], keys: list[int]) -> None:
-        """Appends these additions."""
+        """Appends paths, parents and keys, as `since` returns them."""
         self.paths += paths
         self.parents += parents
         self.keys += keys
 
 
 class FoldWorld:
-    """The machine at the present line of a trace. Groups are numbered in the order of their
+    """The machine's state after the trace's lines so far. Groups are numbered in the order of their
     creation; the root is 0.
     """
 
@@ -153,9 +156,9 @@ class FoldWorld:
         self.live = {"/": 0}
         self.off: set[int] = set()
         self.members: Counter[int] = Counter()
-        # For each processor: the number of tasks of each element, by its key (the group's number
-        # and the kind); the joint state and the time (ns) since which it holds; the ns of each
-        # joint state; and the time of interrupts.
+        # For each processor: the number of tasks of each element, by the element's key; the present
+        # joint state, and the time (ns) at which it began; the time (ns) of each joint state in
+        # this window; and the interrupts in this window.
         self.counts: list[dict[int, int]] = [defaultdict(int) for _ in range(processors)]
         self.states = [0] * processors
         self.since = [0] * processors
@@ -163,8 +166,8 @@ class FoldWorld:
         self.interrupts = [Interrupts() for _ in range(processors)]
         # The bit of each element, by its key.
         self.bits: dict[int, int] = {}
-        # The watched groups among each group and its ancestors, and the changes in them that a
-        # folded trace can't preserve.
+        # For each group, the groups among itself and its ancestors that might be killed. `changes`
+        # counts the tasks that come to these or leave them, which a folded trace can't preserve.
         self.watched: dict[int, set[int]] = {}
         self.changes = Changes()
         self.verbs: dict[str, Callable[[int, list[str]], None]] = {
@@ -176,8 +179,8 @@ class FoldWorld:
     # ------------------------------------------------------------ tasks
 
     def change(self, processor: int, time_ns: int, before: int, after: int) -> None:
-        """Moves a task of this processor from one element to another, by their keys. ASLEEP
-        isn't counted.
+        """Moves a task of this processor from the element with the key `before` to the element with
+        the key `after`. Elements of the kind ASLEEP aren't counted.
         """
         counts, bits = self.counts[processor], 0
         if before & 7:
@@ -198,7 +201,7 @@ class FoldWorld:
             self.states[processor] = state ^ bits
 
     def new_bit(self, key: int) -> int:
-        """Assigns a bit to an element."""
+        """Assigns a bit to the element with this key."""
         bit = self.bits[key] = 1 << len(self.catalog.keys)
         self.catalog.keys.append(key)
         return bit
@@ -259,7 +262,7 @@ class FoldWorld:
             self.change(processor, time_ns, before, task.place + task.kind)
 
     def stall(self, time_ns: int, words: list[str]) -> None:
-        """Lets the running task enter or leave a stall."""
+        """Begins or ends a stall of the running task."""
         _, verb, number = words
         task = self.tasks[int(number)]
         if task.kind != (RUNNING if verb == "stall" else RUNNING | STALLED):
@@ -281,7 +284,9 @@ class FoldWorld:
         self.change(task.processor, time_ns, before, task.place + task.kind)
 
     def interrupt(self, time_ns: int, words: list[str]) -> None:
-        """Takes the time of interrupts from the running task, if there is one."""
+        """Adds the time of interrupts to the group of the running task. It is dropped if no task
+        runs.
+        """
         processor, length = self.places[words[2]], int(words[3])
         if not 0 <= length <= MOST_INTERRUPTS or len(words) != 4:
             raise NotATrace("a line of interrupts has at most a second")
@@ -316,13 +321,15 @@ class FoldWorld:
         self.members.pop(slot, None)
 
     def pressure(self, path: str, switched: str) -> None:
-        """Switches the accounting of a group."""
+        """Switches the accounting of a group on or off."""
         if path == "/" or switched not in ("on", "off"):
             raise NotATrace("it is malformed")
         (self.off.discard if switched == "on" else self.off.add)(self.live[path])
 
     def watch(self, slots: Sequence[int]) -> None:
-        """Watches for tasks that come to these groups or to their descendants."""
+        """Sets the groups that might be killed: tasks that come to them or to their descendants are
+        counted from now on.
+        """
         each = (
             (
                 (slot, {slot, *self.catalog.above(slot)}.intersection(slots))
@@ -334,15 +341,16 @@ class FoldWorld:
         self.watched = {slot: found for slot, found in each if found}
 
     def note_move(self, time_ns: int, source: int, target: int) -> None:
-        """Counts a task that moves from one group to another."""
+        """Counts a task that moves from group `source` to group `target`, if one might be killed.
+        """
         before, after = self.watched.get(source, set()), self.watched.get(target, set())
         self.changes.note(time_ns, not after <= before, bool(before) and source != target)
 
     # ------------------------------------------------------------ windows
 
     def close(self, time_ns: int) -> list[dict[int, int]]:
-        """Ends a window, and returns the ns of each joint state since the previous end, by
-        processor.
+        """Ends a window at `time_ns`. Returns for each processor the time (ns) of each joint state
+        in the window.
         """
         closed = self.spent
         for processor, spent in enumerate(closed):
@@ -354,13 +362,13 @@ class FoldWorld:
         return closed
 
     def close_interrupts(self) -> list[Interrupts]:
-        """Returns the time of interrupts since the last window ended, by processor."""
+        """Returns the interrupts of each processor in the window that ends, and begins new sums."""
         closed, self.interrupts = self.interrupts, [Interrupts() for _ in range(self.processors)]
         return closed
 
 
 def bits_of(number: int) -> Iterator[int]:
-    """Yields the numbers of the bits that are set, in ascending order."""
+    """Yields the positions of the set bits of `number`, in ascending order."""
     while number:
         lowest = number & -number
         yield lowest.bit_length() - 1
