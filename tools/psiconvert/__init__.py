@@ -1,1 +1,1 @@
-"""Converts a recording or a text of ftrace to a trace, for `tools/psitrace`."""
+"""Converts a recording or ftrace text to a trace, for `tools/psitrace`."""

@@ -1,4 +1,6 @@
-"""Replaces the groups and tasks of a trace by numbers, for traces that are given to others."""
+"""Replaces the paths of groups and the numbers of tasks in a trace by counted numbers, so that the
+trace can be passed on without them.
+"""
 from __future__ import annotations
 
 import re
@@ -13,15 +15,14 @@ from psiworld.groups import ROOT, parent_of
 OF_TASKS = b"fork", b"wake", b"stall", b"unstall", b"migrate", b"move"
 TASK_AT = {**dict.fromkeys(OF_TASKS, 2), b"switch": 3}
 WITHOUT = (b"irq", b"host", b"end")
-# Patterns for a group's path, and for a task's number, in the summary.
+# Patterns for a group's path and for a task's number in a line of the summary.
 PATH = re.compile(r"(?<![^ ,:])/[A-Za-z0-9_.@:\\/-]+(?<![,:.])")
 NUMBER = re.compile(r"(?<=chose task )[0-9]+")
 
 
 class Anonymous:
-    """The numbers that groups and tasks got. They are counted in the order in which the summary
-    and the trace name them, so that another conversion of the same recording gives the same
-    numbers.
+    """The numbers that replace groups and tasks. Groups and tasks are counted in the order in which
+    the summary and the trace name them, so each conversion of a recording gives equal numbers.
     """
 
     def __init__(self) -> None:
@@ -53,9 +54,7 @@ class Anonymous:
         return b" ".join(fields)
 
     def parts(self, parts: Iterable[bytes]) -> Iterator[bytes]:
-        """Yields an anonymous trace in parts. The boundaries of the given parts may be within
-        lines.
-        """
+        """Yields an anonymous trace in parts. A part of the original may end within a line."""
         rest = b""
         for part in parts:
             *lines, rest = (rest + part).split(b"\n")
@@ -70,19 +69,21 @@ class Anonymous:
         return NUMBER.sub(lambda found: str(self.number(int(found[0]))), shown)
 
     def companion(self, known: Companion) -> None:
-        """Makes a companion anonymous in place, after the trace. It loses all names."""
+        """Makes a companion anonymous in place: removes all names, and replaces paths and numbers.
+        Must be called after the trace was made anonymous, so that both have equal numbers.
+        """
         known.containers.clear()
         known.tasks = [self.life(it) for it in known.tasks]
         known.busy = [self.busy(it) for it in known.busy]
 
     def life(self, life: Life) -> Life:
-        """Returns an anonymous life of a task, without names."""
+        """Returns an anonymous copy of a task's life, without names."""
         label, task, process = (self.number(it) for it in (life.label, life.task, life.process))
         found = Life(label, life.first, task, process)
         found.last = life.last
         return found
 
     def busy(self, busy: Busy) -> Busy:
-        """Returns an anonymous entry for what ran most in a group."""
+        """Returns an anonymous copy of an entry with the busiest processes of a group."""
         processes = tuple(Process(self.number(it.number), "", it.ran) for it in busy.processes)
         return busy._replace(path=self.path(busy.path), processes=processes)

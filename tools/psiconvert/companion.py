@@ -1,5 +1,5 @@
-"""Makes the companion of a converted trace: names of its tasks and containers, and its time of
-day.
+"""Makes the companion file of a converted trace, which has the names of its tasks and containers,
+and its time of day.
 """
 from __future__ import annotations
 
@@ -40,8 +40,8 @@ def companion(
 
 
 def busiest_lives(known: Companion) -> list[Life]:
-    """Returns the processes that ran most in some window, with the label 0. A folded trace has
-    no other tasks.
+    """Returns the lives of the processes that ran most in some window, with the label 0: a folded
+    trace doesn't contain the recorded tasks.
     """
     lives: dict[int, Life] = {}
     for busy in known.busy:

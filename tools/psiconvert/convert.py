@@ -1,4 +1,4 @@
-"""Converts a recording to a trace, which begins with the initial state and goes on with the
+"""Converts a recording to a trace. The trace begins with the initial state, and continues with the
 events.
 """
 from __future__ import annotations
@@ -31,7 +31,9 @@ WINDOW = 10**9
 
 
 class Known(NamedTuple):
-    """A task as it is known before the trace begins. Its name is escaped."""
+    """What is known of a task before the trace begins: its group, its process, its state, whether
+    it is in a memory stall, and its escaped name.
+    """
 
     path: str
     process: int
@@ -42,9 +44,9 @@ class Known(NamedTuple):
 
 @dataclass
 class Prior:
-    """The state before the trace begins: groups, the groups that aren't accounted, tasks, and
-    memory samples. `is_sound` says whether nothing was lost up to then. A task that no event
-    names up to `settled` (ns) was in the state that is known here.
+    """The state before the trace begins: the groups, the groups that aren't accounted, the tasks,
+    and the memory samples. If no event names a task up to `settled` (ns), the task's state here is
+    right. `is_sound` says whether no event was lost before the trace begins.
     """
 
     groups: list[str]
@@ -57,8 +59,11 @@ class Prior:
 
 
 class Converted(NamedTuple):
-    """A trace's lines, and the figures for the report. The lines of a folded trace are in
-    `folded`.
+    """A converted trace and the figures for the report: counts of events by name, the number of
+    waits for IO and of sleeps in state D, victims of the kernel's OOM killer (time in ns and task),
+    and the limit of traces at which it ends. `begins` is the time (ns of the trace) at which the
+    recording begins, and `without_past` the number of groups without a lead-in. A folded trace has
+    its lines in `folded` instead of `lines`.
     """
 
     lines: list[str]
@@ -74,7 +79,7 @@ class Converted(NamedTuple):
 
 
 class Facts(NamedTuple):
-    """Facts that are derived from all events together: the indices of the switches that begin a
+    """Facts that follow only from all events together: the indices of the switches that begin a
     wait for IO, and the changes of accounting.
     """
 
@@ -82,14 +87,14 @@ class Facts(NamedTuple):
     accounts: Accounts
 
 
-# ---------------------------------------------------------------- what was known before
+# ---------------------------------------------------------------- the state before the trace
 
 
 def snapshot_prior(
     snapshot: Snapshot, events: Sequence[Event], beginning: Beginning, off: set[str]
 ) -> Prior:
-    """Returns the state at the recording's start by a snapshot. Since the snapshot was taken
-    later, whatever was created in between is removed.
+    """Returns the state at the recording's start, according to a snapshot. The snapshot was taken
+    later, so groups and tasks that were created in between are left out.
     """
     first_events: dict[str, type] = {}
     for event in events:
@@ -123,7 +128,7 @@ def snapshot_prior(
 
 
 def world_prior(world: World, samples: Samples, is_sound: bool) -> Prior:
-    """Returns the present state of a world as the state before a trace."""
+    """Returns the present state of `world` as the state before a trace."""
     tasks = {
         number: Known(
             task.group, task.process, First(task.state, task.processor), task.is_stalled,
@@ -139,7 +144,9 @@ def world_prior(world: World, samples: Samples, is_sound: bool) -> Prior:
 
 
 def first_of(number: int, prior: Prior, beginning: Beginning) -> First:
-    """Returns what a task did at the start. Events have priority over what was known before."""
+    """Returns the state of a task at the start. Events of the trace have priority over the state
+    that was known before.
+    """
     known, said = prior.tasks.get(number), beginning.tasks.get(number)
     if said is None:
         state, processor, _ = known.first if known else First(State.ASLEEP, 0)
@@ -158,9 +165,9 @@ def first_of(number: int, prior: Prior, beginning: Beginning) -> First:
 
 
 def late_state(known: Known | None) -> State:
-    """Returns the state at the start of a task that runs later without a wakeup. If it wasn't
-    known to run or to be ready, a task for which the kernel writes no events woke or created it.
-    If it were taken for ready, it would wait from the start.
+    """Returns the state at the start of a task that later runs without a wakeup. If the task wasn't
+    known to run or to be ready, it was probably woken or created by a task for which the kernel
+    writes no events. Then it isn't taken for ready, since it would wait from the start.
     """
     if known is None:
         return State.ASLEEP
@@ -168,8 +175,8 @@ def late_state(known: Known | None) -> State:
 
 
 def begin_task(world: World, number: int, known: Known, first: First, is_stalled: bool) -> None:
-    """Writes a task that exists at the start. Turns of zero length put it to sleep, into a wait
-    or into a stall.
+    """Writes the lines of a task that exists at the start. A task that sleeps, waits for IO or is
+    in a stall runs for zero time before that.
     """
     processor = first.processor if 0 <= first.processor < world.processors else 0
     task = world.fork(number, known.path, processor, known.process)
@@ -187,7 +194,7 @@ def begin_task(world: World, number: int, known: Known, first: First, is_stalled
 
 
 def begin_groups(world: World, prior: Prior) -> None:
-    """Writes the groups that exist at the start."""
+    """Writes the lines of the groups that exist at the start."""
     for words in world.upon.pop(ROOT, ()):
         world.put(words)
     for path in prior.groups:
@@ -196,7 +203,7 @@ def begin_groups(world: World, prior: Prior) -> None:
 
 
 def begin(world: World, prior: Prior, beginning: Beginning) -> None:
-    """Writes the samples and then the tasks of the initial state, the running tasks last."""
+    """Writes the initial state: the memory samples, and then the tasks, the running tasks last."""
     if prior.samples.host:
         world.put(f"host {prior.samples.host}")
     for path, sample in sorted(prior.samples.groups.items()):
@@ -218,8 +225,8 @@ def begin(world: World, prior: Prior, beginning: Beginning) -> None:
 
 
 def chosen(firsts: dict[int, First], prior: Prior, beginning: Beginning) -> list[int]:
-    """Returns the tasks of the initial state. If there are too many, these are only the tasks
-    that an event names, and one more of each group of the others, so that the group isn't empty.
+    """Returns the tasks of the initial state. If there are too many for a trace, returns only the
+    tasks that an event names, and one of the other tasks of each group, so that no group is empty.
     """
     if len(firsts) <= MOST_TASKS // 2:
         return list(firsts)
@@ -230,16 +237,16 @@ def chosen(firsts: dict[int, First], prior: Prior, beginning: Beginning) -> list
     return [*named, *of_groups.values()]
 
 
-# ---------------------------------------------------------------- the whole
+# ---------------------------------------------------------------- the whole trace
 
 
 def place_of(events: Sequence[Event], time_ns: int) -> int:
-    """Returns the index of the first event at or after `time_ns` (ns)."""
+    """Returns the index of the first event at or after `time_ns`."""
     return bisect_left([event.time_ns for event in events], time_ns)
 
 
 def player_of(world: World, source: Source, facts: Facts) -> Player:
-    """Returns a player of the recording's events in this world."""
+    """Returns a player that plays the recording's events in `world`."""
     return Player(world, source.events, facts.waits, facts.accounts.found, source.snapshot.types)
 
 
@@ -264,7 +271,7 @@ def prior_of(
 
 
 def limit_of(world: World) -> str | None:
-    """Returns the limit of traces that the world exceeds, None if there is none."""
+    """Returns the limit of traces that the lines of `world` exceed, or None."""
     if len(world.lines) >= MOST_EVENTS:
         return f"{MOST_EVENTS} events"
     if len(world.tasks) > MOST_TASKS:
@@ -275,8 +282,8 @@ def limit_of(world: World) -> str | None:
 
 
 def play(player: Player, source: Source, places: range, window: Window) -> str | None:
-    """Plays the events at the indices `places`, up to the window's end or up to a limit of
-    traces, which it returns.
+    """Plays the events at the indices `places`. Stops at the first event that exceeds a limit of
+    traces, and returns the limit; otherwise ends the trace at the window's end and returns None.
     """
     world = player.world
     for place in places:
@@ -294,22 +301,22 @@ def play(player: Player, source: Source, places: range, window: Window) -> str |
 
 
 class Past(NamedTuple):
-    """The warm-up before a recording: its length in ticks, and the machine's averages at its
-    end.
+    """The lead-in before a recording: its length in ticks, and the machine's averages by group at
+    its end.
     """
 
     ticks: int
     averages: dict[str, Averages]
 
     def length(self) -> int:
-        """Returns the length of the warm-up (ns)."""
+        """Returns the length of the lead-in (ns)."""
         return self.ticks * TICK
 
 
 class Wanted(NamedTuple):
-    """The options of a conversion: the window, the method by which waits for IO are recognised,
-    the number of levels of groups, the lines to write when a group is created, whether
-    interrupts are included, and the warm-up.
+    """The options of a conversion: the window, the method by which waits for IO are recognised, the
+    greatest depth of groups, the lines to write when a group is created (by path), whether
+    interrupts are included, and the lead-in.
     """
 
     window: Window
@@ -321,7 +328,7 @@ class Wanted(NamedTuple):
 
 
 def convert(source: Source, wanted: Wanted) -> Converted:
-    """Converts a recording at once, without folding."""
+    """Converts a whole recording at once, without folding."""
     window, deepest = wanted.window, wanted.deepest
     facts = Facts(
         waits_for_io(source.events, wanted.method), accounts_of(source.events, source.snapshot)

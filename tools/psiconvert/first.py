@@ -1,6 +1,6 @@
-"""Derives what each task did when the trace begins. No event reports that; it follows from the
-first event that names a task: the task that a switch leaves was running, the task that it
-switches to was ready, and a task that is woken was asleep.
+"""Derives the state of each task at the beginning of a trace. No event reports that state, but the
+first event that names a task shows it: the previous task of a switch ran, the next task was ready,
+and a task that is woken was asleep.
 """
 from __future__ import annotations
 
@@ -26,8 +26,8 @@ LONGEST_READY = 10**9
 
 
 class First(NamedTuple):
-    """What a task did at the start, its processor, and the time (ns) of the event that shows
-    this, 0 if none does.
+    """The state of a task at the start, its processor, and the time (ns) of the event that shows
+    the state, or 0 if no event does.
     """
 
     state: State
@@ -36,9 +36,8 @@ class First(NamedTuple):
 
 
 class Beginning:
-    """The initial state as the events show it. If no event reports new tasks, a task that first
-    runs after `latest_ready` (ns) is taken for new, since hardly any task is ready for that
-    long.
+    """The initial state, according to the events. If no event reports new tasks, a task that first
+    runs after `latest_ready` (ns) is taken for new, since hardly any task is ready for that long.
     """
 
     def __init__(self, latest_ready: int) -> None:
@@ -60,16 +59,15 @@ class Beginning:
         return task != 0 and task not in self.tasks and task not in self.born
 
     def name(self, task: int, state: State, processor: int, time_ns: int) -> None:
-        """Records what a task did at the start, if this is the first event that names it. If the
-        task moved to another processor before, its state refers to the processor it came from.
+        """Stores the state of a task at the start, if this is the first event that names the task.
+        If a migration of the task was seen before, its processor at the start is the origin of that
+        migration.
         """
         if self.is_new(task):
             self.tasks[task] = First(state, self.origins.get(task, processor), time_ns)
 
     def take(self, event: Event) -> None:
-        """Takes the next event. It also names the task that runs on the processor on which it
-        was written.
-        """
+        """Processes the next event. Each event also shows which task runs on its processor."""
         self.runs.setdefault(event.processor, event.current)
         self.name(event.current, State.RUNNING, event.processor, event.time_ns)
         if isinstance(event, Switch):
@@ -93,9 +91,9 @@ class Beginning:
             self.take_stall(event)
 
     def take_stall(self, event: StallBegins | StallEnds) -> None:
-        """Takes the begin or end of a memory stall. A task that leaves a stall without having
-        entered it was in the stall at the start. So was a task that entered a nested stall,
-        which the flags at the end of that stall show.
+        """Processes the begin or end of a memory stall. A task that leaves a stall without having
+        entered it was in the stall at the start. A task that entered a nested stall was in a stall
+        too; the flags at the end of the nested stall show that.
         """
         task = event.current
         if task in self.stalled or task in self.born:

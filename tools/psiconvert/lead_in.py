@@ -1,12 +1,11 @@
-"""A lead-in: a warm-up before a recording's first event, so that the averages of its groups begin
-with the machine's values.
+"""Writes a lead-in: artificial events before the first event of a recording, after which the
+averages of its groups have the values of the machine's pressure files.
 
-A trace's averages begin at 0. Three stretches of constant pressure bring each average of a
-pressure file to the value in the machine's file: the last 20 s, the 100 s before, and the time
-before these, one for each of the three averages. Each group has processors of its own for this,
-in addition to the machine's. A few artificial tasks wait, stall and run there for the times that
-result in its shares, less the shares that it has from its descendants. At the end all artificial
-tasks exit.
+Without a lead-in, a trace's averages begin at 0. The lead-in consists of three stretches of
+constant pressure, since there are three averages: the last 20 s, the 100 s before these, and the
+time before. Each group gets artificial processors for the lead-in, in addition to the machine's. A
+few artificial tasks wait, stall and run there for such times that the group has the wanted shares
+of pressure. The pressure of its descendants counts too. At the end all artificial tasks exit.
 """
 from __future__ import annotations
 
@@ -20,14 +19,15 @@ from psiworld.groups import ROOT, prefixes_of
 from psiworld.world import How, State, World
 
 TICK = 2 * SECOND
-# The factor by which an average decays in a tick, by its period (s): from kernel/sched/psi.c.
+# The factor by which an average decays in a tick, by its period (s), from kernel/sched/psi.c.
 FACTORS = {10: 1677 / 2048, 60: 1981 / 2048, 300: 2034 / 2048}
 # The lengths of the last two stretches, in ticks.
 LAST, MIDDLE = 10, 50
 # The first number of artificial tasks, larger than any pid of a kernel.
 FIRST_NUMBER = 4_000_000_000
-# A group has the fewest processors of its own that bring its shares within NEAR percent of the
-# wanted ones, but at most MOST_OWN. A group whose averages are below LEAST percent has no lead-in.
+# A group gets the fewest artificial processors for which its shares differ by at most NEAR percent
+# from the wanted shares, but at most MOST_OWN. A group whose averages are all below LEAST percent
+# has no lead-in.
 NEAR, MOST_OWN, LEAST = 0.5, 48, 0.5
 STRETCHES = 3
 WHOLE = 100.0
@@ -38,13 +38,13 @@ SAMPLE = re.compile(
 )
 LINE = re.compile(r"(some|full) avg10=([\d.]+) avg60=([\d.]+) avg300=([\d.]+)")
 
-# The averages of a group's files by resource and level: percent over 10, 60 and 300 s.
+# The averages of a group's pressure files by resource and level: percent over 10, 60 and 300 s.
 Averages = dict[tuple[str, str], tuple[float, float, float]]
 
 
 class Shares(NamedTuple):
-    """The percentages of a tick for which some and all tasks of a group on a processor wait for
-    IO, are in a memory stall, and wait for the processor.
+    """The shares of pressure of a group on one processor, in percent of a tick: for each resource
+    the time for which some task is delayed, and for which all are.
     """
 
     io_some: float
@@ -68,8 +68,8 @@ def averages_in(text: str, number: int) -> dict[str, Averages]:
 
 
 def stretches_of(averages: Sequence[float], ticks: int) -> list[float]:
-    """Returns the pressures (0 to 100 percent) of the three stretches, the earliest first, that
-    bring averages from 0 as near as possible to the given ones.
+    """Returns the pressures (0 to 100 percent) of the three stretches, the earliest first, after
+    which averages that begin at 0 are as near as possible to `averages`.
     """
     lengths = (ticks - MIDDLE - LAST, MIDDLE, LAST)
     rows = []
@@ -90,8 +90,8 @@ def stretches_of(averages: Sequence[float], ticks: int) -> list[float]:
 
 
 def possible(shares: Iterable[float]) -> Shares:
-    """Returns the nearest shares that one processor can have: full is at most some, and while
-    all tasks wait for IO none is ready.
+    """Returns the possible shares of one processor that are nearest to `shares`: full is at most
+    some, and no task is ready while all tasks wait for IO.
     """
     io_some, io_full, memory_some, memory_full, cpu_some, cpu_full = (
         min(WHOLE, max(0.0, it)) for it in shares
@@ -103,9 +103,9 @@ def possible(shares: Iterable[float]) -> Shares:
 
 
 class Status(NamedTuple):
-    """The state of a group's processor from some percentage of a tick on: whether a task waits
-    for IO, is stalled, and all are stalled; whether a task is ready, another task waits, and a
-    task from outside the group runs.
+    """The state of a group's processor in a part of a tick: whether a task waits for IO, whether a
+    task is in a memory stall, and whether all are; whether a task is ready or runs, whether another
+    task waits for the processor, and whether a task from outside the group runs.
     """
 
     waits: bool
@@ -117,9 +117,10 @@ class Status(NamedTuple):
 
 
 def timeline(shares: Shares) -> list[tuple[float, Status]]:
-    """Returns the statuses of a tick in order. First no task is ready, so that only waits for IO
-    count; then the group's own task runs; then another task waits for the processor; and then
-    both wait for a task from outside.
+    """Returns the statuses of a tick in order, each with the percentage of the tick at which it
+    begins. First no task is ready, so all tasks wait for IO. Then one task of the group runs. Then
+    another task of the group waits for the processor. At last both wait, because a task from
+    outside runs.
     """
     begins = shares.io_full
     some = max(begins, shares.memory_full)
@@ -135,9 +136,9 @@ def timeline(shares: Shares) -> list[tuple[float, Status]]:
 
 
 class Stage:
-    """A processor of a group, with its five artificial tasks: one waits for IO, one sleeps in a
-    stall, one runs, one waits for the processor, and one of the root takes the processor from
-    both.
+    """An artificial processor of a group, with five artificial tasks: one waits for IO, one sleeps
+    in a memory stall, one runs, one waits for the processor, and one task of the root group takes
+    the processor from the last two.
     """
 
     def __init__(self, world: World, path: str, processor: int, number: int) -> None:
@@ -150,7 +151,7 @@ class Stage:
             world.detour(task, How.SLEEP)
 
     def put(self, task: int, state: State, is_stalled: bool) -> None:
-        """Puts a task into this state, by a turn of zero length."""
+        """Puts a task into this state. For that the task runs, at least for zero time."""
         world, it = self.world, self.world.tasks[task]
         if it.state is state and it.is_stalled == is_stalled:
             return
@@ -166,7 +167,7 @@ class Stage:
             world.leave(self.processor, how)
 
     def show(self, status: Status) -> None:
-        """Puts the tasks into the states of this status."""
+        """Puts the tasks into the states that give this status."""
         ready, asleep = State.READY, State.ASLEEP
         stalls_ready = status.all_stall and status.is_ready
         self.put(self.waiter, State.WAITING if status.waits else asleep, False)
@@ -195,16 +196,16 @@ class Stage:
 
 
 class Diffusion:
-    """Converts shares to whole percentages of ticks with the same mean, since the averages are
-    computed from whole percentages.
+    """Converts constant shares to whole percentages that vary from tick to tick and have the same
+    mean: the kernel computes averages from whole percentages.
     """
 
     def __init__(self) -> None:
         self.rest: dict[tuple[str, tuple[str, str]], float] = {}
 
     def percent(self, path: str, pressure: tuple[str, str], share: float) -> float:
-        """Returns this tick's share: half a percent above the whole percentage to which the
-        kernel rounds it down, or 0.
+        """Returns the share (percent) in the next tick. It is 0, or half a percent above the whole
+        percentage to which the kernel rounds it down.
         """
         owed = self.rest.get((path, pressure), 0.0) + share
         whole = int(owed)
@@ -213,7 +214,10 @@ class Diffusion:
 
 
 class LeadIn:
-    """The lead-in of a world whose groups exist: its stages, and the pressures of each stretch."""
+    """Writes the lead-in into `world`, whose groups must exist. `averages` has the wanted averages
+    by group, and `most` is the greatest number of processors. `left_out` counts the groups for
+    which no processor is left.
+    """
 
     def __init__(self, world: World, averages: dict[str, Averages], ticks: int, most: int) -> None:
         self.world, self.ticks = world, ticks
@@ -234,8 +238,8 @@ class LeadIn:
         self.make_stages(world.processors, most)
 
     def make_stages(self, first: int, most: int) -> None:
-        """Assigns processors to each group, numbered from `first` and below `most`: as few as
-        come near enough to its shares.
+        """Assigns to each group the fewest processors that give nearly its wanted shares. Their
+        numbers are at least `first` and below `most`.
         """
         own: list[dict[str, Shares]] = [{} for _ in range(STRETCHES)]
         for path in list(self.paths):
@@ -267,8 +271,8 @@ class LeadIn:
         ]
 
     def off(self, path: str, count: int, own: list[dict[str, Shares]]) -> float:
-        """Returns the largest error of a group's shares (percent) if it has `count` processors
-        of its own, considering the shares of its descendants.
+        """Returns the largest error of a group's shares (percent) if the group gets `count`
+        processors. `own` has the shares of the descendants' processors, by stretch.
         """
         worst = 0.0
         for stretch, shares in enumerate(own):
@@ -313,8 +317,8 @@ class LeadIn:
     def rest_of(
         self, path: str, count: int, wanted: Sequence[float], own: dict[str, Shares]
     ) -> list[float]:
-        """Returns the shares that each of a group's `count` processors needs so that the group,
-        including its descendants, has the wanted shares.
+        """Returns the shares that each of a group's `count` processors needs so that the group has
+        the wanted shares together with its descendants, whose shares are in `own`.
         """
         below = [
             (len(self.stages[it]), shares_in(own[it], path)) for it in own if is_below(it, path)
@@ -333,8 +337,8 @@ def is_below(path: str, above: str) -> bool:
 
 
 def shares_in(shares: Shares, path: str) -> Shares:
-    """Returns the shares that the ancestor `path` has from a descendant's processor. For the
-    root, the task from outside is one of its own that isn't stalled.
+    """Returns the shares that the ancestor `path` has on a descendant's processor. The task from
+    outside is a task of the root, so for the root this task isn't outside, and isn't stalled.
     """
     if path != ROOT:
         return shares

@@ -1,6 +1,6 @@
-"""Plays a recording's events in the world of a trace. An event that contradicts the known state
-is accepted and counted. In a sound recording that is rare, and after losses the counts measure
-the damage.
+"""Plays a recording's events, which writes the lines of the trace. An event that contradicts the
+known state is accepted, and counted in `mended`. Such events are rare in a sound recording; after
+losses the counts measure the damage.
 """
 from __future__ import annotations
 
@@ -10,8 +10,8 @@ from collections.abc import Callable, Sequence
 from psinames.text import escaped
 
 from psiread.events import (
-    CLONE_INTO_CGROUP, CLONE_THREAD, EXITED, Attach, AttachProbe, Event, Exec, FirstWakeup, GroupMade,
-    GroupRemoved, Interrupts,
+    CLONE_INTO_CGROUP, CLONE_THREAD, EXITED, Attach, AttachProbe, Event, Exec, FirstWakeup,
+    GroupMade, GroupRemoved, Interrupts,
     Marker, Migration, Named, NewTask, StallBegins, StallEnds, Switch, Victim, Wakeup,
 )  # fmt: skip
 from psirec.layout import MARK, PLAIN_TYPE, escaped_path
@@ -21,12 +21,12 @@ from psiworld.world import How, State, Task, World
 
 from .accounts import Account
 
-# The letter of a task that leaves the processor and remains ready.
+# The state letter of a task that leaves the processor and remains ready.
 STAYS = "R"
 
 
 class Samples:
-    """The last memory samples of the machine and of groups, as they are written in a trace."""
+    """The last memory samples of the machine and of each group, in the form of a trace's lines."""
 
     def __init__(self) -> None:
         self.host = ""
@@ -35,7 +35,8 @@ class Samples:
 
 class Player:
     """Plays events one by one. `waits` has the indices of the switches that begin a wait for IO,
-    `accounts` the changes of accounting by index, and `types` the known types of groups.
+    `accounts` the changes of accounting by the event's index, and `types` the known types of groups
+    by path.
     """
 
     def __init__(
@@ -49,14 +50,14 @@ class Player:
         self.world, self.waits, self.accounts, self.types = world, waits, accounts, dict(types)
         self.samples = Samples()
         self.victims: list[tuple[int, int]] = []
-        # The attach probe of each cgroup move in progress, by the pid of the task that does the
-        # move.
+        # The attach probe of each move between groups that is in progress, by the number of the
+        # task that writes to `cgroup.procs` or `cgroup.threads`.
         self.moves: dict[int, AttachProbe] = {}
         # The group that each process created last, by the process's number.
         self.groups_made: dict[int, str] = {}
         self.mended: Counter[str] = world.mended
-        # The renumberings by exec that are still to come, by the new number: the index of each exec
-        # event, and the old number. A thread takes over the number some time before that event.
+        # The next renumberings by exec, by the new number: the index of each exec event, and the
+        # old number. A thread takes over the number some time before that event.
         self.changes: dict[int, list[tuple[int, int]]] = defaultdict(list)
         for place, event in enumerate(events):
             if isinstance(event, Exec) and event.task != event.old and event.task:
@@ -95,25 +96,25 @@ class Player:
         for account in self.accounts.get(place, ()):
             self.world.switch_accounting(*account)
 
-    # ------------------------------------------------------------ who is who
+    # ------------------------------------------------------------ numbers of tasks
 
     def is_task(self, number: int) -> bool:
-        """Whether `number` can be a task's. No event of a sound recording wakes, creates or
-        renames task 0, the idle task.
+        """Whether `number` isn't 0, the idle task. In a sound recording no event wakes, creates or
+        renames the idle task, so such an event is counted and left out.
         """
         if not number:
             self.mended["event of the idle task that it can't have, left out"] += 1
         return number != 0
 
     def group_of(self, number: int) -> str:
-        """Returns the group of a task, the root if the task isn't known."""
+        """Returns the group of a task, or the root if the task isn't known."""
         task = self.world.tasks.get(number)
         return task.group if task else ROOT
 
     def task_of(self, number: int, place: int, fits: Callable[[Task], bool]) -> Task | None:
-        """Returns the task with this number, None if there is none. If an exec is about to
-        change the number, it is changed at the first event that fits only the thread that takes
-        it over.
+        """Returns the task with this number, or None. If an exec event will give the number to
+        another thread, the thread gets it at the first event that fits only that thread, according
+        to `fits`.
         """
         changes, tasks = self.changes.get(number), self.world.tasks
         while changes and changes[0][0] < place:
@@ -132,17 +133,15 @@ class Player:
         self.mended["number changed by exec"] += 1
 
     def is_swapped(self, number: int, processor: int) -> bool:
-        """Whether the running task has the number of a process's first thread, which the thread
-        `number` is about to take over.
-        """
+        """Whether an exec event will give the number of the running task to the thread `number`."""
         changes = self.changes.get(self.world.running(processor))
         return bool(changes and changes[0][1] == number)
 
     # ------------------------------------------------------------ switches
 
     def switch(self, place: int, event: Switch) -> None:
-        """Switches to the next task. Usually the leaving task is known to run, and the next one
-        to be ready.
+        """Switches to the next task. If the previous task isn't known to run, or the next task
+        isn't known to be ready, that is repaired first.
         """
         world, (_, processor, _, previous, state, number) = self.world, event
         runs, comes = world.runs.get(processor, 0), world.tasks.get(number)
@@ -158,8 +157,8 @@ class Player:
             world.leave(processor, self.how(place, state), number)
 
     def how(self, place: int, state: str) -> How:
-        """Returns how the task leaves. A task that remains ready doesn't wait, even if psi's
-        mark says so.
+        """Returns how the previous task leaves the processor. A task that remains ready doesn't
+        wait for IO, even if psi's mark says so.
         """
         if state == STAYS:
             return How.PREEMPT
@@ -168,8 +167,8 @@ class Player:
         return How.WAIT if place in self.waits else How.SLEEP
 
     def leaver(self, place: int, event: Switch) -> None:
-        """Makes the leaving task run if it isn't known to. The task that was known to run there
-        must have gone to sleep.
+        """Makes the previous task of a switch run if it isn't known to run. The task that was known
+        to run there is taken to have gone to sleep.
         """
         world, number, processor = self.world, event.previous, event.processor
         running = world.running(processor)
@@ -190,7 +189,7 @@ class Player:
         world.run(number, processor, How.SLEEP)
 
     def follower(self, place: int, event: Switch) -> None:
-        """Makes the next task ready if it isn't known to be."""
+        """Makes the next task of a switch ready if it isn't known to be ready."""
         world, number, processor = self.world, event.next, event.processor
         if not number or world.running(processor) == number:
             return
@@ -202,7 +201,7 @@ class Player:
             self.mended["task ran that wasn't known to be ready there"] += 1
             world.ready(number, processor)
 
-    # ------------------------------------------------------------ tasks come, wake and move about
+    # ------------------------------------------------------------ new tasks, wakeups, migrations
 
     def wake(self, place: int, event: Wakeup) -> None:
         """Makes a sleeping task ready. A wakeup of a task that isn't asleep changes nothing."""
@@ -216,8 +215,8 @@ class Player:
 
     def migrate(self, event: Migration) -> None:
         """Moves a ready task to another processor. If the task waits for IO, the kernel ends the
-        wait there and not at the wakeup that follows; after that the trace can only let it
-        sleep.
+        wait at the migration and not at the wakeup that follows. In the trace the task then only
+        sleeps.
         """
         task = self.world.tasks.get(event.task)
         if task and task.state is State.READY:
@@ -227,8 +226,8 @@ class Player:
             self.mended["wait for IO ended at a migration"] += 1
 
     def new_task(self, event: NewTask) -> None:
-        """Creates a task in the group of its parent, the running task. It sleeps until its first
-        wakeup.
+        """Creates a task in the group of its parent, which is the running task. The new task sleeps
+        until its first wakeup.
         """
         if not self.is_task(event.task):
             return
@@ -243,7 +242,7 @@ class Player:
         self.world.detour(event.task, How.SLEEP)
 
     def name(self, event: Named) -> None:
-        """Gives a task its name from now on."""
+        """Stores a task's name, which is valid from now on."""
         task, name = self.world.tasks.get(event.task), escaped(event.name)
         if task:
             task.life.rename(self.world.now, name)
@@ -256,9 +255,9 @@ class Player:
         return task.process if task else number
 
     def named_group(self, parent: int) -> str | None:
-        """Returns the likely group of a new task whose group its parent named to clone(2), which
-        no event reports: the group that the parent's process created last, if that is empty.
-        Otherwise None.
+        """Returns the likely group of a new task whose parent chose the group in clone(2). No event
+        reports that group. It is likely the group that the parent's process created last, if that
+        group is empty; otherwise returns None.
         """
         path = self.groups_made.get(self.process_of(parent))
         is_likely = path in self.world.groups.live and not self.world.groups.tasks[path or ROOT]
@@ -287,7 +286,7 @@ class Player:
             self.change_number(event.task, event.old)
 
     def stall(self, event: StallBegins | StallEnds) -> None:
-        """Lets the running task enter its first memory stall, or leave its last."""
+        """Begins or ends a memory stall of the running task. Nested stalls are ignored."""
         task = self.world.tasks.get(event.current)
         is_end = isinstance(event, StallEnds)
         if not task or task.is_stalled != is_end or (isinstance(event, StallEnds) and event.flags):
@@ -303,9 +302,9 @@ class Player:
     # ------------------------------------------------------------ groups and memory
 
     def attach(self, event: Attach) -> None:
-        """Moves a process with all its threads to another group, or a single thread. For a
-        process's first thread the event alone doesn't say which; without a probe all threads are
-        moved.
+        """Moves a single thread, or a process with all its threads, to another group. If the event
+        is about a process's first thread, only the probe says which of the two; without a probe all
+        threads are moved.
         """
         probe = self.moves.pop(event.current, None)
         if event.hierarchy:
@@ -345,7 +344,7 @@ class Player:
             self.world.make_group(path)
 
     def mark(self, event: Marker) -> None:
-        """Writes the recorder's markers with memory samples as lines."""
+        """Writes a line for a marker of the recorder that has a memory sample."""
         if not event.text.startswith(MARK.encode()):
             return
         words = event.text.decode("utf-8", "surrogateescape")[len(MARK) :].split()
@@ -364,8 +363,8 @@ class Player:
 
 
 def sample_of(words: Sequence[str]) -> str | None:
-    """Returns the three numbers of a sample as in a trace, None if the words aren't such
-    numbers.
+    """Returns the three numbers of a memory sample in the form of a trace's line, or None if the
+    words aren't three valid numbers.
     """
     if len(words) != 3 or not all(
         word.isascii() and word.isdecimal() and int(word) <= MOST_MEMORY for word in words

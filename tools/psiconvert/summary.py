@@ -1,5 +1,5 @@
-"""The report of a conversion: what was read, how waits for IO are recognised, and what was
-repaired or lost.
+"""Writes the report of a conversion: the size of the trace, how waits for IO were recognised, and
+what was repaired or lost.
 """
 from __future__ import annotations
 
@@ -19,7 +19,7 @@ SETTLED_10, SETTLED_60 = 30, 180
 
 
 def utc_text(realtime: int) -> str:
-    """Formats a time (ns since 1970) in UTC."""
+    """Formats a time (ns since 1970) as date and time of day in UTC."""
     try:
         whole = datetime.fromtimestamp(realtime // SECOND, timezone.utc)
     except (OverflowError, ValueError, OSError):
@@ -28,7 +28,7 @@ def utc_text(realtime: int) -> str:
 
 
 def waits_text(method: Method, converted: Converted) -> str:
-    """Says how waits for IO are recognised, and how reliable that is."""
+    """Returns the line that says how waits for IO are recognised, and how reliable that is."""
     if method is Method.STATE:
         return (
             f"waits for IO by state D alone: all {converted.uninterruptible} such sleeps count, on"
@@ -46,7 +46,7 @@ def exact_seconds(time_ns: int) -> str:
 
 
 def counted(found: dict[str, int]) -> str:
-    """Lists kinds with their numbers, the largest first."""
+    """Returns a text with each kind and its count, the largest count first."""
     return ", ".join(
         f"{kind} {count}"
         for kind, count in sorted(found.items(), key=lambda it: (-it[1], it[0]))
@@ -114,7 +114,9 @@ def note_lines(source: Source, converted: Converted) -> list[str]:
 def summary_of(
     source: Source, converted: Converted, method: Method, window: Window, whole: Window
 ) -> list[str]:
-    """Returns the whole report except losses. Without lines about repairs there were none."""
+    """Returns all lines of the report except those about losses and limits. A report without lines
+    about repairs means that nothing was repaired.
+    """
     mended = {**source.mended, **converted.world.mended}
     return [
         *whole_lines(source, converted, window, whole),
@@ -127,9 +129,7 @@ def summary_of(
 
 
 def other_way(converted: Converted) -> str:
-    """Suggests a further remedy if a trace has too many events, which is the most frequent
-    limit.
-    """
+    """Returns a further advice if the trace has too many events; otherwise an empty text."""
     if not converted.limit or not converted.limit.endswith(" events"):
         return ""
     if converted.folded is not None:
@@ -141,7 +141,7 @@ def other_way(converted: Converted) -> str:
 
 
 def past_lines(converted: Converted) -> list[str]:
-    """Returns the lines about the values with which averages begin."""
+    """Returns the lines about the averages at the beginning of the recording."""
     if not converted.begins:
         settled = f"avg10 means something from {SETTLED_10} s on, avg60 from {SETTLED_60} s on"
         return [f"averages begin at 0, as the machine's didn't: {settled}"]

@@ -1,11 +1,12 @@
-"""Finds switches that a kernel didn't write. Some kernels write no event for certain tasks: in a
-virtual machine of Linux 6.18 for none of the threads of process 1, and for none of the idle tasks
-except the first processor's. No event shows that such a task leaves, so its successor would seem to
-wait until it does something itself.
+"""Finds switches for which the kernel wrote no event. Some kernels write no switches of certain
+tasks. In a virtual machine with Linux 6.18 these were the threads of process 1, and all idle tasks
+except the first processor's. No event shows that such a task leaves the processor, so the next task
+would seem to wait until an event shows that it runs.
 
-The next event of the processor shows which task runs there. If that task was ready, the switch
-to it is put at the time at which the leaving task was last seen. That task may have run a while
-longer, but far less than its successor, which often runs for many ms before anything is written.
+The next event of the processor shows which task runs there. If that task was ready, a switch to it
+is inserted at the time of the last event of the task that left. That task may have run a little
+longer, but far less long than the next task, which often runs for many ms before it causes an
+event.
 """
 from __future__ import annotations
 
@@ -15,15 +16,15 @@ from operator import itemgetter
 from psiread.events import Event, Exec, FirstWakeup, Gap, Migration, Switch, Wakeup
 from psiread.window import Window, overlapping
 
-# The name of such a switch in the report of repairs.
+# The name of an inserted switch in the report of repairs.
 UNWRITTEN = "switch that wasn't written, put where the task that left was seen last"
-# The letter of a task that leaves and remains ready, and that of a task that sleeps.
+# The state letters of a task that leaves the processor: it remains ready, or it sleeps.
 STAYS, SLEEPS = "R", "S"
 
 
 def renamed(events: Sequence[Event]) -> set[tuple[int, int]]:
-    """Returns the pairs of numbers that an exec exchanges: the processor goes from one number to
-    the other without a switch.
+    """Returns the pairs of numbers that an exec exchanges, in both orders: the running task changes
+    from one number to the other without a switch.
     """
     changes = [
         (event.old, event.task)
@@ -34,14 +35,17 @@ def renamed(events: Sequence[Event]) -> set[tuple[int, int]]:
 
 
 def silent_tasks(events: Sequence[Event]) -> set[int]:
-    """Returns the tasks that ran and, according to the written events, never left."""
+    """Returns the tasks that came to a processor by a switch but, according to the events, never
+    left one.
+    """
     switches = [event for event in events if isinstance(event, Switch)]
     return {event.next for event in switches} - {event.previous for event in switches}
 
 
 class Chains:
-    """The running task of each processor, and the tasks that are ready there, according to
-    switches and to the tasks in which events were written.
+    """The running task and the ready tasks of each processor. They follow from the switches, and
+    from the task in which each event was written. `silent` has the tasks without events of their
+    switches.
     """
 
     def __init__(self, events: Sequence[Event], gaps: Sequence[Gap]) -> None:
@@ -53,8 +57,8 @@ class Chains:
         self.ready: dict[int, tuple[int, int]] = {}
 
     def mended(self, events: Iterable[Event]) -> tuple[list[Event], list[int]]:
-        """Returns the next events together with the unwritten switches, each before the event
-        that shows it, and the times (ns) of these switches.
+        """Returns the next events with the unwritten switches inserted, each before the event that
+        shows that it is missing, and the times (ns) of these switches.
         """
         whole: list[Event] = []
         times_ns: list[int] = []
@@ -71,8 +75,8 @@ class Chains:
         return whole, times_ns
 
     def missing(self, event: Event, known: int, runs: int) -> list[Switch]:
-        """Returns the unwritten switches on the event's processor before it, from the task that
-        was known to run there to the one that runs now.
+        """Returns the unwritten switches on the event's processor before the event. They lead from
+        the task `known`, which was known to run, to the task `runs`, which runs at the event.
         """
         if (known, runs) in self.renamed or self.is_gap(event):
             return []
@@ -84,8 +88,8 @@ class Chains:
         )
 
     def waiting(self, processor: int, others: set[int]) -> list[int]:
-        """Returns the tasks that write no switch and were ready there, the earliest first: they
-        ran before the task that follows.
+        """Returns the ready tasks on the processor for which no switches are written, the earliest
+        first. They ran before the task that runs now. `others` are left out.
         """
         waiting = [
             it for it in self.silent - others if it in self.ready and self.ready[it][0] == processor
@@ -98,8 +102,7 @@ class Chains:
         return any(gap.processor == event.processor for gap in overlapping(self.gaps, since))
 
     def switches(self, processor: int, route: Sequence[int]) -> Iterator[Switch]:
-        """Yields switches from each task of the route to the next, each at its earliest possible
-        time.
+        """Yields a switch from each task of `route` to the next one, at the earliest possible time.
         """
         time_ns = self.times_ns[processor]
         for previous, following in zip(route, route[1:]):
@@ -110,7 +113,7 @@ class Chains:
             )
 
     def take(self, event: Event) -> None:
-        """Updates the state by a written event."""
+        """Updates the running and ready tasks by a written event."""
         time_ns, processor = event[:2]
         self.times_ns[processor] = time_ns
         if isinstance(event, Switch):
@@ -127,8 +130,9 @@ class Chains:
 
 
 def with_unwritten(events: Sequence[Event], gaps: Sequence[Gap]) -> tuple[list[Event], list[int]]:
-    """Returns the events with the unwritten switches, and the times (ns) of the latter. There
-    are none after lost events, since it isn't known which tasks ran during the gap.
+    """Returns the events with the unwritten switches inserted, and the times (ns) of these
+    switches. No switch is inserted right after a gap, since it isn't known which tasks ran during
+    the gap.
     """
     whole, times_ns = Chains(events, gaps).mended(events)
     whole.sort(key=itemgetter(0))

@@ -1,7 +1,7 @@
-"""Moves wakeups to the time at which the kernel counts a task as ready. It does that in
-`psi_task_change`, some time before it writes the event of the wakeup. If a recording has the
-probe on this function, a wakeup can be put at either time or in the middle. In fact the task
-became ready somewhere in between, so the two bound its waits for a processor.
+"""Moves wakeups to the time at which psi counts the task as ready. The kernel does that in
+`psi_task_change`, some time before it writes the event of the wakeup. If a recording has the probe
+on this function, a wakeup can be written at either time or in the middle. The task really became
+ready between the two times, so these are bounds of its wait for a processor.
 """
 from __future__ import annotations
 
@@ -14,7 +14,7 @@ from operator import itemgetter
 from psiread.events import Event, FirstWakeup, ReadyProbe, Switch, Wakeup
 from psiworld.world import LABEL_STEP
 
-# A probe that precedes a wakeup by more than this (ns) belongs to another change.
+# A probe that precedes a wakeup by this time (ns) or more doesn't belong to the wakeup.
 LONGEST_LAG = 50_000_000
 BY_TIME = itemgetter(0)
 
@@ -28,9 +28,10 @@ class Counting(Enum):
 
 
 def counted_at(events: Sequence[Event], probes: dict[int, int] | None = None) -> dict[int, int]:
-    """Returns the time (ns) at which psi counted each wakeup, by the index of the event. A task
-    that moves to another processor or group is counted again, so a probe without a wakeup after
-    it is ignored. If events are read in parts, pass the same `probes` for each part.
+    """Returns the time (ns) at which psi counted each wakeup, by the index of the event. A probe
+    that no wakeup follows is ignored, since psi also counts a task that moves to another processor
+    or group. If events are read in parts, pass the same `probes` for each part: it has the time
+    (ns) of each task's last probe.
     """
     probes = {} if probes is None else probes
     found: dict[int, int] = {}
@@ -61,8 +62,9 @@ def put_at(events: Sequence[Event], counted: dict[int, int], counting: Counting)
 
 
 class Wakeups:
-    """Moves the wakeups of a recording to the requested time. `lags` counts by how many ns psi
-    counted them before their events, and `without_probe` is the number of wakeups without a probe.
+    """Moves the wakeups of a recording to the requested time. `lags` has the number of wakeups by
+    the ns from their probe to their event, and `without_probe` is the number of wakeups without a
+    probe.
     """
 
     def __init__(self, counting: Counting) -> None:
@@ -80,8 +82,8 @@ class Wakeups:
         return put_at(events, counted, self.counting)
 
     def slices(self, slices: Iterable[list[Event]]) -> Iterator[list[Event]]:
-        """Yields slices of events with their wakeups moved. A wakeup that moves to before its
-        slice goes into the previous one.
+        """Yields slices of events with their wakeups moved. A wakeup that moves to before the first
+        event of its slice goes into the previous slice.
         """
         before: list[Event] | None = None
         for events in slices:
@@ -95,8 +97,8 @@ class Wakeups:
             yield before
 
     def lag_at(self, place: int) -> float:
-        """Returns the distance (us) between the two times of a wakeup. `place` is its index in
-        ascending order of distances.
+        """Returns the time (us) from the probe to the event of the wakeup with the index `place`,
+        in ascending order of these times.
         """
         for lag, count in sorted(self.lags.items()):
             if place < count:
@@ -105,7 +107,9 @@ class Wakeups:
         raise IndexError(place)
 
     def text(self) -> str:
-        """Says at which time wakeups are written, and how far apart the two times are."""
+        """Returns the line that says at which time wakeups are written, and how far the time of the
+        probe and the time of the event are apart.
+        """
         count = sum(self.lags.values())
         if not count:
             return (
@@ -128,17 +132,21 @@ class Wakeups:
 
 # ---------------------------------------------------------------- the wakeups of a trace
 
-# A function from the task's label and the time of its line to the earliest and latest time (ns of
-# the trace) at which a wakeup may have been counted.
+# A function that returns the earliest and the latest time at which psi may have counted a wakeup.
+# Its arguments are the task's label and the time of the wakeup's line. All times are in ns of the
+# trace.
 Bounds = Callable[[str, int], tuple[int, int]]
 
 
 def bounds_of(events: Sequence[Event], start: int) -> Bounds:
-    """Returns bounds by the probes of a recording, whose trace begins at `start` (ns)."""
+    """Returns bounds by the probes of a recording. The trace begins at `start` (ns of the
+    recording's clock).
+    """
     pairs: dict[int, list[tuple[int, int]]] = defaultdict(list)
     for place, time_ns in counted_at(events).items():
         event = events[place]
-        pairs[event.task].append((time_ns - start, event.time_ns - start))  # type: ignore[union-attr]
+        bounds_ns = time_ns - start, event.time_ns - start
+        pairs[event.task].append(bounds_ns)  # type: ignore[union-attr]
 
     def bounds(label: str, time_ns: int) -> tuple[int, int]:
         own = pairs.get(int(label) % LABEL_STEP, [])
@@ -150,13 +158,13 @@ def bounds_of(events: Sequence[Event], start: int) -> Bounds:
 
 
 def lag_bounds(lag: int) -> Bounds:
-    """Returns bounds without probes: up to `lag` ns before the line."""
+    """Returns bounds without probes: psi counted a wakeup at most `lag` ns before its line."""
     return lambda _, time_ns: (time_ns - lag, time_ns)
 
 
 def with_wakeups(lines: Iterable[str], bounds: Bounds, is_first: bool) -> list[str]:
-    """Returns a trace's lines with each wakeup as early or as late as possible, but not before
-    the task's previous line.
+    """Returns a trace's lines with each wakeup at its earliest possible time if `is_first`,
+    otherwise at its latest, but not before the task's previous line.
     """
     runs: dict[str, str] = {}
     lasts: dict[str, int] = {}

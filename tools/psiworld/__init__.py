@@ -1,3 +1,3 @@
-"""The state of the machine in a trace: its control groups, its limits, and the lines that may be
-written.
+"""Keeps the state of the machine while a trace is written: its control groups and tasks. Only lines
+that are valid in that state are written, within the limits of traces.
 """

@@ -1,12 +1,12 @@
-"""The control groups of a trace: which exist, how many tasks and groups are in each, and the limits
-of a trace.
+"""Keeps the control groups of a trace: which groups exist, how many tasks and child groups each has,
+and which groups are folded into an ancestor because of a limit.
 """
 from __future__ import annotations
 
 from collections import Counter
 
-# The limits of a trace: groups ever created besides the root, components of a path, and bytes of a
-# path.
+# The limits of a trace: the number of groups that are ever created (without the root), the components
+# of a path, and the bytes of a path.
 MOST_GROUPS = 1023
 MOST_LEVELS = 32
 MOST_BYTES = 255
@@ -14,19 +14,19 @@ ROOT = "/"
 
 
 def parent_of(path: str) -> str:
-    """Returns the parent; for the root the root."""
+    """Returns the path of the group's parent. The parent of the root is the root."""
     return path.rpartition("/")[0] or ROOT
 
 
 def prefixes_of(path: str) -> list[str]:
-    """Returns the groups from the one below the root down to this one."""
+    """Returns the paths of the group's ancestors below the root, from the top down, and its own."""
     ends = [place for place, letter in enumerate(path) if letter == "/" and place] + [len(path)]
     return [path[:end] for end in ends] if path != ROOT else []
 
 
 class Groups:
-    """The groups by path. A group that was removed while a task was in it stays until that task
-    leaves.
+    """The groups by path. A group that was removed while it had tasks stays in the trace until the
+    last of these leaves. Groups deeper than `deepest` components are folded into an ancestor.
     """
 
     def __init__(self, deepest: int | None = None) -> None:
@@ -36,13 +36,13 @@ class Groups:
         self.live = {ROOT}
         self.leaving: set[str] = set()
         self.made = 0
-        # For a path that the trace can't have, the group that replaces it.
+        # The group that replaces each path that the trace can't have.
         self.folded: dict[str, str] = {}
-        # Why groups were folded into their parents, and the first ones for each reason.
+        # The groups that were folded into an ancestor because of a limit, by the limit's text.
         self.limits: dict[str, list[str]] = {}
 
     def limit_of(self, path: str) -> str | None:
-        """Returns the limit that this new path would exceed, if any."""
+        """Returns the limit that a new group with this path would exceed, or None."""
         if path.count("/") > MOST_LEVELS:
             return f"more than {MOST_LEVELS} levels"
         if len(path) > MOST_BYTES:
@@ -50,8 +50,8 @@ class Groups:
         return f"more than {MOST_GROUPS} groups" if self.made >= MOST_GROUPS else None
 
     def make(self, path: str) -> tuple[str, list[str]]:
-        """Returns the path that replaces this one in the trace (usually itself), and the groups to
-        create for it, parents first.
+        """Adds a group. Returns the path that stands for it in the trace, which is usually its own, and
+        the groups to create for that, parents first.
         """
         if path in self.live:
             return path, []
@@ -78,11 +78,13 @@ class Groups:
         return place, made
 
     def is_folded(self, path: str) -> bool:
-        """Returns whether this group was folded into another one."""
+        """Whether this group was folded into an existing ancestor."""
         return self.folded.get(path) in self.live
 
     def place_of(self, path: str) -> str | None:
-        """Returns the path that replaces this one in the trace, if it exists."""
+        """Returns the path that stands for this group in the trace, or None if the group doesn't
+        exist.
+        """
         return path if path in self.live else self.folded[path] if self.is_folded(path) else None
 
     def enter(self, path: str) -> None:
@@ -90,12 +92,12 @@ class Groups:
         self.tasks[path] += 1
 
     def leave(self, path: str) -> list[str]:
-        """Removes a task from a group. Returns the paths of the groups that this removes."""
+        """Removes a task from a group. Returns the groups that are then removed from the trace."""
         self.tasks[path] -= 1
         return self.swept(path)
 
     def remove(self, path: str) -> list[str]:
-        """Notes that the kernel removed the group. Returns the paths of the groups that are
+        """Marks a group for removal, because the kernel removed it. Returns the groups that are then
         removed from the trace.
         """
         self.folded.pop(path, None)
@@ -105,7 +107,9 @@ class Groups:
         return self.swept(path)
 
     def swept(self, path: str) -> list[str]:
-        """Removes the group and its ancestors, as far as they are marked for removal and empty."""
+        """Removes the group and its ancestors as far as they are marked for removal and empty. Returns
+        the removed groups.
+        """
         removed = []
         while path in self.leaving and not self.tasks[path] and not self.children[path]:
             self.leaving.remove(path)
@@ -116,14 +120,16 @@ class Groups:
         return removed
 
     def is_leaving(self, path: str) -> bool:
-        """Returns whether the kernel removed it, but the trace still has it."""
+        """Whether the kernel removed the group, but the trace still has it."""
         return path in self.leaving
 
     def leaving_below(self, path: str) -> list[str]:
-        """This group and its descendants that are marked for removal, the deepest first."""
+        """Returns this group and its descendants, the deepest first, as far as they are marked for
+        removal.
+        """
         found = (it for it in self.leaving if it == path or it.startswith(path + "/"))
         return sorted(found, key=lambda it: (-it.count("/"), it))
 
     def keep(self, path: str) -> None:
-        """Keeps the group, though the kernel removed it."""
+        """Withdraws the mark for removal, so that the group stays in the trace."""
         self.leaving.discard(path)

@@ -1,8 +1,8 @@
-"""The state of the machine in a trace, and the lines of the trace: each method writes lines that a
-reader of traces accepts.
+"""Writes the lines of a trace, and keeps the state of the machine that they describe.
 
-Any sequence of calls gives a valid trace: a running task is preempted before another runs there, a
-task that exits leaves its stall first, and groups are created and removed in order.
+Any sequence of calls gives a valid trace: a running task is preempted before another task runs on its
+processor, a task leaves its memory stall before it exits, a group is created after its parent, and is
+removed once it is empty.
 """
 from __future__ import annotations
 
@@ -15,12 +15,13 @@ from psinames.lives import Life
 from .groups import ROOT, Groups, parent_of
 from .limits import MOST_INTERRUPTS, MOST_LABEL
 
-# A label is the kernel's number of the task; if that is in use, this is added to it.
+# A task's label, its number in the trace, is the kernel's number of the task. If another task has that
+# label, LABEL_STEP is added.
 LABEL_STEP = 100_000_000
 
 
 class State(Enum):
-    """What a task does."""
+    """The state of a task."""
 
     ASLEEP = auto()
     WAITING = auto()  # for IO
@@ -29,8 +30,8 @@ class State(Enum):
 
 
 class How(Enum):
-    """How a running task leaves the processor: the word for it, and what the task does then. None
-    after an exit.
+    """How a running task leaves its processor: the word of the switch line, and the task's state after
+    the switch (None after an exit).
     """
 
     PREEMPT = "preempt", State.READY
@@ -43,8 +44,8 @@ class How(Enum):
 
 
 class Task:
-    """A task of the trace: its label there, its group's path, its processor, what it does, whether
-    it is in a memory stall, the number of its process, and its life.
+    """A task of the trace: its label, the path of its group, its processor, its state, whether it is in
+    a memory stall, the number of its process, and its life, which has its names over time.
     """
 
     __slots__ = ("label", "group", "processor", "state", "is_stalled", "process", "life")
@@ -55,21 +56,21 @@ class Task:
         self.state, self.is_stalled = State.READY, False
 
     def is_on(self, processor: int, state: State) -> bool:
-        """Returns whether it is in this state on the processor."""
+        """Whether the task is in this state on this processor."""
         return self.state is state and self.processor == processor
 
     def is_blocked(self) -> bool:
-        """Returns whether it sleeps or waits for IO."""
+        """Whether the task sleeps or waits for IO."""
         return self.state in (State.ASLEEP, State.WAITING)
 
 
 class World:
-    """The tasks by their numbers in the kernel, and the running task of each processor. `now` is ns
-    since the trace's start.
+    """The machine's state and the lines of the trace so far. `tasks` has the tasks by the kernel's
+    numbers, `runs` the running task of each processor, and `now` is the time (ns) of the next line.
 
-    If the trace has interrupts, `interrupted` is the time (ns) of their last line by processor.
-    `off` has the groups that aren't accounted, and `switched` the paths whose accounting was
-    switched, by `switches` lines in all.
+    If the trace has interrupts, `interrupted` has the time (ns) of each processor's last interrupt
+    line. `off` has the groups that aren't accounted, `switched` the groups whose accounting was ever
+    switched, and `switches` the number of lines that switched it. `mended` counts repairs by kind.
     """
 
     def __init__(self, processors: int, groups: Groups, has_interrupts: bool = False) -> None:
@@ -83,28 +84,28 @@ class World:
         self.tasks: dict[int, Task] = {}
         self.runs: dict[int, int] = {}
         self.labels: set[int] = set()
-        # The lives of all tasks so far; the names of tasks that aren't met yet; and, if they are
-        # wanted, the clocks of who ran.
+        # The lives of all tasks so far; the names of tasks that no line names yet; and, if they are
+        # needed, the clocks that measure for how long each process ran in each group.
         self.lives: list[Life] = []
         self.names: dict[int, str] = {}
         self.clocks: Clocks | None = None
-        # The lines to write once a group is created.
+        # The lines to write when a group is created, by the group's path.
         self.upon: dict[str, list[str]] = {}
         self.mended: Counter[str] = Counter()
 
     def put(self, words: str) -> None:
-        """Writes a line."""
+        """Writes a line with the time `now`."""
         self.lines.append(f"{self.now} {words}")
 
     def version(self) -> int:
-        """Returns the version of the trace: the first that allows all of its lines."""
+        """Returns the lowest version of the trace format that has all lines of this trace."""
         return 2 if self.has_interrupts or self.switches else 1
 
     # ------------------------------------------------------------ groups
 
     def make_group(self, path: str) -> str:
-        """Creates the group and its ancestors, unless they exist, and returns the path that
-        replaces it: a group that the trace can't have is folded into its parent.
+        """Creates the group and its ancestors, unless they exist. Returns the path that stands for the
+        group in the trace: a group that the trace can't have is folded into an ancestor.
         """
         place, made = self.groups.make(path)
         for one in made:
@@ -114,22 +115,22 @@ class World:
         return place
 
     def remove_group(self, path: str) -> None:
-        """Removes the group, now or when its last task has left."""
+        """Removes the group now, or once its last task has left it."""
         self.end_groups(self.groups.remove(path))
 
     def leave_group(self, path: str) -> None:
-        """A task leaves the group."""
+        """Removes a task from the group. Removes the group too if it is marked for that and empty."""
         self.end_groups(self.groups.leave(path))
 
     def end_groups(self, removed: list[str]) -> None:
-        """Removes these groups. If one is created again, it is accounted."""
+        """Writes the removal of these groups. A group that is created again will be accounted."""
         for one in removed:
             self.put(f"rmgroup {one}")
             self.off.discard(one)
 
     def make_again(self, path: str) -> None:
-        """Creates a group whose path the kernel had removed before: the tasks left in the old one
-        move to its parent.
+        """Creates a group although the trace still has a removed group with its path. The tasks that are
+        left in the removed group move to its parent, and that group is used again.
         """
         for below in self.groups.leaving_below(path):
             for task in [it for it in self.tasks.values() if it.group == below]:
@@ -151,8 +152,8 @@ class World:
         self.leave_group(before)
 
     def switch_accounting(self, path: str, is_on: bool) -> None:
-        """Switches the group's accounting on or off, if that is a change. A trace always accounts
-        the root, and ignores groups that are folded into others.
+        """Switches the group's accounting on or off, unless it is so already. Does nothing for the root,
+        which a trace always accounts, and for groups that are folded into others.
         """
         if path == ROOT or path not in self.groups.live or is_on != (path in self.off):
             return
@@ -164,8 +165,8 @@ class World:
     # ------------------------------------------------------------ interrupts
 
     def interrupt(self, processor: int, length: int) -> None:
-        """Interrupts took `length` ns from the task that runs there. A line has at most one second,
-        and never includes time before the previous line.
+        """Writes that interrupts took `length` ns from the running task of a processor. A line has at
+        most one second, and includes no time from before the processor's previous interrupt line.
         """
         if not self.has_interrupts or not self.running(processor):
             return
@@ -179,7 +180,7 @@ class World:
     # ------------------------------------------------------------ tasks
 
     def fork(self, number: int, path: str, processor: int, process: int) -> Task:
-        """Creates a task, ready on the processor. An earlier task with its number ends."""
+        """Creates a task, which is ready on the processor. An earlier task with this number exits."""
         if number in self.tasks:
             self.vanish(number)
         place = self.make_group(path)
@@ -192,7 +193,7 @@ class World:
         return task
 
     def begun_life(self, label: int, number: int, process: int) -> Life:
-        """Returns the life of a new task."""
+        """Creates the life of a new task, with the task's name if that is known."""
         first = self.tasks.get(process) if process != number else None
         life = Life(label, self.now, number, process, first.life.leader if first else None)
         name = self.names.pop(number, None)
@@ -202,7 +203,7 @@ class World:
         return life
 
     def free_label(self, number: int) -> int:
-        """Returns a label for a task in the trace: the kernel's number, unless another task has it
+        """Returns an unused label for a task: the kernel's number, unless another task has that label
         or a trace can't have it.
         """
         if not 0 < number <= MOST_LABEL:
@@ -213,18 +214,18 @@ class World:
         return label
 
     def place_of(self, processor: int) -> int:
-        """Returns the processor, or the first one if the machine doesn't have this one."""
+        """Returns this processor, or processor 0 if the machine doesn't have it."""
         if 0 <= processor < self.processors:
             return processor
         self.mended["processor that the machine doesn't have, taken to be the first"] += 1
         return 0
 
     def running(self, processor: int) -> int:
-        """Returns the task that runs there, 0 for none."""
+        """Returns the number of the running task of a processor, or 0 if none runs."""
         return self.runs.get(processor, 0)
 
     def ready(self, number: int, processor: int) -> None:
-        """Makes the task ready on the processor."""
+        """Makes the task ready on the processor. It is preempted, woken or migrated for that."""
         task, processor = self.tasks[number], self.place_of(processor)
         if task.state is State.RUNNING:
             self.leave(task.processor, How.PREEMPT)
@@ -242,14 +243,14 @@ class World:
         task.state, task.processor = State.READY, processor
 
     def run(self, number: int, processor: int, how: How = How.PREEMPT) -> None:
-        """Makes the task run on the processor; the running task leaves by `how`."""
+        """Makes the task run on the processor. The task that runs there leaves by `how`."""
         if self.running(processor) != number:
             self.ready(number, processor)
             self.leave(processor, how, number)
 
     def leave(self, processor: int, how: How, following: int = 0) -> None:
-        """The running task leaves the processor, if there is one, and `following`, which is ready
-        there, runs; none runs if it is 0.
+        """Switches a processor from its running task, if any, which leaves by `how`, to the task
+        `following`, which must be ready there. No task runs then if `following` is 0.
         """
         number, label = self.runs.get(processor, 0), 0
         leaves = self.tasks[number] if number else None
@@ -270,7 +271,8 @@ class World:
             self.forget(number)
 
     def detour(self, number: int, how: How, stalls: bool = False) -> None:
-        """Lets a ready task run for no time and leave by `how`; then the previous task runs again.
+        """Makes a ready task run for zero time and leave by `how`, in a memory stall if `stalls`. Then
+        the previous task runs again.
         """
         processor = self.tasks[number].processor
         before = self.running(processor)
@@ -287,7 +289,7 @@ class World:
         self.leave_group(task.group)
 
     def vanish(self, number: int) -> None:
-        """A task ended, though no event shows how."""
+        """Makes a task exit although no event shows that it did."""
         task = self.tasks[number]
         if task.state is State.RUNNING:
             self.leave(task.processor, How.EXIT)
@@ -297,17 +299,17 @@ class World:
         self.mended["task gone without a word"] += 1
 
     def end_wait(self, number: int) -> None:
-        """A task that waits for IO only sleeps from now."""
+        """Makes a task that waits for IO only sleep from now on."""
         self.ready(number, self.tasks[number].processor)
         self.detour(number, How.SLEEP)
 
     def stall(self, task: Task) -> None:
-        """The running task enters a memory stall."""
+        """Begins a memory stall of the running task."""
         task.is_stalled = True
         self.put(f"stall {task.label}")
 
     def unstall(self, task: Task) -> None:
-        """The running task leaves its memory stall."""
+        """Ends the memory stall of the running task."""
         task.is_stalled = False
         self.put(f"unstall {task.label}")
 
