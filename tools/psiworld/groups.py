@@ -1,12 +1,12 @@
-"""Keeps the control groups of a trace: which groups exist, how many tasks and child groups each has,
-and which groups are folded into an ancestor because of a limit.
+"""Keeps the control groups of a trace: which groups exist, how many tasks and child groups each
+has, and which groups are folded into an ancestor because of a limit.
 """
 from __future__ import annotations
 
 from collections import Counter
 
-# The limits of a trace: the number of groups that are ever created (without the root), the components
-# of a path, and the bytes of a path.
+# The limits of a trace: the number of groups that are ever created (without the root), the
+# components of a path, and the bytes of a path.
 MOST_GROUPS = 1023
 MOST_LEVELS = 32
 MOST_BYTES = 255
@@ -50,8 +50,8 @@ class Groups:
         return f"more than {MOST_GROUPS} groups" if self.made >= MOST_GROUPS else None
 
     def make(self, path: str) -> tuple[str, list[str]]:
-        """Adds a group. Returns the path that stands for it in the trace, which is usually its own, and
-        the groups to create for that, parents first.
+        """Adds a group. Returns the path that stands for it in the trace, which is usually its own,
+        and the groups to create for that, parents first.
         """
         if path in self.live:
             return path, []
@@ -97,8 +97,8 @@ class Groups:
         return self.swept(path)
 
     def remove(self, path: str) -> list[str]:
-        """Marks a group for removal, because the kernel removed it. Returns the groups that are then
-        removed from the trace.
+        """Marks a group for removal, because the kernel removed it. Returns the groups that are
+        then removed from the trace.
         """
         self.folded.pop(path, None)
         if path not in self.live or path == ROOT:
@@ -107,8 +107,8 @@ class Groups:
         return self.swept(path)
 
     def swept(self, path: str) -> list[str]:
-        """Removes the group and its ancestors as far as they are marked for removal and empty. Returns
-        the removed groups.
+        """Removes the group and its ancestors as far as they are marked for removal and empty.
+        Returns the removed groups.
         """
         removed = []
         while path in self.leaving and not self.tasks[path] and not self.children[path]:

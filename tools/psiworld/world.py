@@ -1,8 +1,8 @@
 """Writes the lines of a trace, and keeps the state of the machine that they describe.
 
-Any sequence of calls gives a valid trace: a running task is preempted before another task runs on its
-processor, a task leaves its memory stall before it exits, a group is created after its parent, and is
-removed once it is empty.
+Any sequence of calls gives a valid trace: a running task is preempted before another task runs on
+its processor, a task leaves its memory stall before it exits, a group is created after its parent,
+and is removed once it is empty.
 """
 from __future__ import annotations
 
@@ -15,8 +15,8 @@ from psinames.lives import Life
 from .groups import ROOT, Groups, parent_of
 from .limits import MOST_INTERRUPTS, MOST_LABEL
 
-# A task's label, its number in the trace, is the kernel's number of the task. If another task has that
-# label, LABEL_STEP is added.
+# A task's label, its number in the trace, is the kernel's number of the task. If another task has
+# that label, LABEL_STEP is added.
 LABEL_STEP = 100_000_000
 
 
@@ -30,8 +30,8 @@ class State(Enum):
 
 
 class How(Enum):
-    """How a running task leaves its processor: the word of the switch line, and the task's state after
-    the switch (None after an exit).
+    """How a running task leaves its processor: the word of the switch line, and the task's state
+    after the switch (None after an exit).
     """
 
     PREEMPT = "preempt", State.READY
@@ -44,8 +44,8 @@ class How(Enum):
 
 
 class Task:
-    """A task of the trace: its label, the path of its group, its processor, its state, whether it is in
-    a memory stall, the number of its process, and its life, which has its names over time.
+    """A task of the trace: its label, the path of its group, its processor, its state, whether it
+    is in a memory stall, the number of its process, and its life, which has its names over time.
     """
 
     __slots__ = ("label", "group", "processor", "state", "is_stalled", "process", "life")
@@ -69,8 +69,9 @@ class World:
     numbers, `runs` the running task of each processor, and `now` is the time (ns) of the next line.
 
     If the trace has interrupts, `interrupted` has the time (ns) of each processor's last interrupt
-    line. `off` has the groups that aren't accounted, `switched` the groups whose accounting was ever
-    switched, and `switches` the number of lines that switched it. `mended` counts repairs by kind.
+    line. `off` has the groups that aren't accounted, `switched` the groups whose accounting was
+    ever switched, and `switches` the number of lines that switched it. `mended` counts repairs by
+    kind.
     """
 
     def __init__(self, processors: int, groups: Groups, has_interrupts: bool = False) -> None:
@@ -104,8 +105,8 @@ class World:
     # ------------------------------------------------------------ groups
 
     def make_group(self, path: str) -> str:
-        """Creates the group and its ancestors, unless they exist. Returns the path that stands for the
-        group in the trace: a group that the trace can't have is folded into an ancestor.
+        """Creates the group and its ancestors, unless they exist. Returns the path that stands for
+        the group in the trace: a group that the trace can't have is folded into an ancestor.
         """
         place, made = self.groups.make(path)
         for one in made:
@@ -119,7 +120,8 @@ class World:
         self.end_groups(self.groups.remove(path))
 
     def leave_group(self, path: str) -> None:
-        """Removes a task from the group. Removes the group too if it is marked for that and empty."""
+        """Removes a task from the group. Removes the group too if it is marked for that and empty.
+        """
         self.end_groups(self.groups.leave(path))
 
     def end_groups(self, removed: list[str]) -> None:
@@ -129,8 +131,8 @@ class World:
             self.off.discard(one)
 
     def make_again(self, path: str) -> None:
-        """Creates a group although the trace still has a removed group with its path. The tasks that are
-        left in the removed group move to its parent, and that group is used again.
+        """Creates a group although the trace still has a removed group with its path. The tasks
+        that are left in the removed group move to its parent, and that group is used again.
         """
         for below in self.groups.leaving_below(path):
             for task in [it for it in self.tasks.values() if it.group == below]:
@@ -152,8 +154,8 @@ class World:
         self.leave_group(before)
 
     def switch_accounting(self, path: str, is_on: bool) -> None:
-        """Switches the group's accounting on or off, unless it is so already. Does nothing for the root,
-        which a trace always accounts, and for groups that are folded into others.
+        """Switches the group's accounting on or off, unless it is so already. Does nothing for the
+        root, which a trace always accounts, and for groups that are folded into others.
         """
         if path == ROOT or path not in self.groups.live or is_on != (path in self.off):
             return
@@ -165,8 +167,9 @@ class World:
     # ------------------------------------------------------------ interrupts
 
     def interrupt(self, processor: int, length: int) -> None:
-        """Writes that interrupts took `length` ns from the running task of a processor. A line has at
-        most one second, and includes no time from before the processor's previous interrupt line.
+        """Writes that interrupts took `length` ns from the running task of a processor. A line has
+        at most one second, and includes no time from before the processor's previous interrupt
+        line.
         """
         if not self.has_interrupts or not self.running(processor):
             return
@@ -180,7 +183,8 @@ class World:
     # ------------------------------------------------------------ tasks
 
     def fork(self, number: int, path: str, processor: int, process: int) -> Task:
-        """Creates a task, which is ready on the processor. An earlier task with this number exits."""
+        """Creates a task, which is ready on the processor. An earlier task with this number exits.
+        """
         if number in self.tasks:
             self.vanish(number)
         place = self.make_group(path)
@@ -203,8 +207,8 @@ class World:
         return life
 
     def free_label(self, number: int) -> int:
-        """Returns an unused label for a task: the kernel's number, unless another task has that label
-        or a trace can't have it.
+        """Returns an unused label for a task: the kernel's number, unless another task has that
+        label or a trace can't have it.
         """
         if not 0 < number <= MOST_LABEL:
             self.mended["number of a task that a trace can't have, replaced"] += 1
@@ -271,8 +275,8 @@ class World:
             self.forget(number)
 
     def detour(self, number: int, how: How, stalls: bool = False) -> None:
-        """Makes a ready task run for zero time and leave by `how`, in a memory stall if `stalls`. Then
-        the previous task runs again.
+        """Makes a ready task run for zero time and leave by `how`, in a memory stall if `stalls`.
+        Then the previous task runs again.
         """
         processor = self.tasks[number].processor
         before = self.running(processor)
