@@ -1,3 +1,3 @@
-"""Who ran on the processors where a group waited, and who else waited for IO or stalled for memory
-at the same time.
+"""Computes for `tools/blame` which groups ran on the processors for which a group waited, and which
+groups waited for IO or were in a memory stall at the same time as the group.
 """

@@ -15,7 +15,8 @@ ADVICE = "one of the two is wrong: nothing is printed; please report it, with th
 
 
 def states_of(parts: list[Sums], processor: int, group: Group) -> States:
-    """Returns a group's times (ns) in each state on a processor, summed over all stretches."""
+    """Returns a group's time (ns) in each state on a processor, summed over all parts of the trace.
+    """
     place = processor, group.number
     return States(*(sum(sums.get(place, 0) for sums in kind) for kind in (
         [it.io for it in parts], [it.memory for it in parts], [it.waited for it in parts],
@@ -23,8 +24,8 @@ def states_of(parts: list[Sums], processor: int, group: Group) -> States:
 
 
 def must_add_up(parts: list[Sums], live: Iterable[Group], cpus: int, expected: Stalls) -> None:
-    """Checks that, for each processor and each group that is live at the end, the sums of the
-    stretches equal psi_oomd's times. Raises a Fault if they differ, or if the groups differ.
+    """Raises a Fault unless the sums of all parts of the trace equal psi_oomd's times `expected`,
+    for each processor and each group of `live`, which are the groups that exist at the end.
     """
     groups = {(processor, group.path): group for processor in range(cpus) for group in live}
     if groups.keys() != expected.keys():

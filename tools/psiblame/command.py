@@ -1,4 +1,4 @@
-"""The command line of tools/blame, and the work that it requests."""
+"""Parses the command line of tools/blame, and prints the figures that it requests."""
 from __future__ import annotations
 
 from typing import Any, NamedTuple, Optional
@@ -49,8 +49,8 @@ HELP = {
         " without it at least"
     ),
 }
-# The number of entries at which the rows of all processors are added up, so that memory use stays
-# small. This happens rarely.
+# The number of entries in the rows of all processors at which these are added up, which keeps the
+# use of memory small.
 MOST_ENTRIES = 200_000
 
 
@@ -68,7 +68,7 @@ class Options(NamedTuple):
 
 
 def parser() -> Parser:
-    """The parser of the command line."""
+    """Returns the parser of the command line."""
     words = Parser(ABOUT, AFTER)
     option = words.add_argument
     option("trace", metavar="TRACE", help="a trace, or - for standard input")
@@ -84,6 +84,7 @@ def parser() -> Parser:
 
 
 def options_of() -> Options:
+    """Parses the command line."""
     it = parser().parse_args()
     return Options(
         it.trace,
@@ -98,7 +99,9 @@ def options_of() -> Options:
 
 
 def with_paths(options: Options, known: Known, file: str) -> Options:
-    """Returns the options with the paths of groups in place of other names, as of containers."""
+    """Returns the options with each name of a group, for example of a container, replaced by the
+    group's path.
+    """
     paths = sorted(groups_of(file))
 
     def path_of(word: str) -> str:
@@ -117,7 +120,9 @@ def asked_time(options: Options, lines: Lines, known: Known) -> Asked:
 
 
 def walked(options: Options, lines: Lines, asked: Asked, expected: Stalls, known: Known) -> Walk:
-    """Plays the whole trace, and checks the sums against psi_oomd's."""
+    """Plays the whole trace, and compares the sums with the times `expected`, which psi_oomd
+    printed.
+    """
     victims = Named([options.victim] if options.victim is not None else [], True)
     runners = Runners(Tasks(known.companion, options.has_threads))
     walk = Walk(

@@ -1,4 +1,6 @@
-"""The figures shown for a group, as text or JSON: its times, and who ran or stalled meanwhile."""
+"""Computes the figures that are printed for a group: its times, and which groups ran, waited or
+stalled meanwhile.
+"""
 from __future__ import annotations
 
 import collections
@@ -18,8 +20,8 @@ DEEPEST = 32
 
 
 class Part(NamedTuple):
-    """A time (ns) attributed to `group`, or to no group if that is None, and its division among the
-    group's processes if they have names.
+    """A part of a time: `time` (ns) is attributed to `group`, or to no group if that is None.
+    `shares` divides the part among the group's processes, if processes have names.
     """
 
     group: Optional[Group]
@@ -28,11 +30,12 @@ class Part(NamedTuple):
 
 
 class Figures(NamedTuple):
-    """The figures of a group in the requested time, in ns: how long its tasks ran, summed over
-    processors; how long the group waited for each processor and for IO, and was in a memory stall;
-    and which groups ran, waited or stalled meanwhile. `while_victim` is how long the victim ran
-    while the group waited. `less` is the part of that in which the group wouldn't have waited
-    without the victim. Both are None for the victim itself and the groups below it.
+    """The figures of a group in the requested time span. All times are in ns: `ran` is the time for
+    which its tasks ran, summed over processors; `waits` the time for which it waited for each
+    processor; `io` and `memory` the times for which it waited for IO and was in a memory stall. The
+    lists of parts say which groups ran, waited or stalled meanwhile. `while_victim` is the time for
+    which the victim ran while the group waited, and `less` the part of that in which the group
+    wouldn't have waited without the victim. Both are None for the victim and its descendants.
     """
 
     group: Group
@@ -50,6 +53,7 @@ class Figures(NamedTuple):
 
     @property
     def waited(self) -> int:
+        """The time (ns) for which the group waited for processors, summed over processors."""
         return sum(self.waits)
 
     @property
@@ -59,6 +63,7 @@ class Figures(NamedTuple):
 
     @property
     def has_some(self) -> bool:
+        """Whether some figure of the group isn't 0."""
         return bool(self.ran or self.worst or self.growth)
 
 
@@ -73,14 +78,15 @@ def at_depth(group: Group, most: int) -> Group:
 
 
 def longest_first(times: Mapping[Optional[Group], int]) -> list[Part]:
+    """Returns the times (ns) that aren't 0 as parts, the longest first."""
     found = [Part(group, time) for group, time in times.items() if time]
     return sorted(found, key=lambda it: (-it.time, it.group.number if it.group else NOBODY))
 
 
 class Asker:
-    """Computes figures from the sums of a stretch. A group deeper than `depth` counts as its
-    ancestor at that depth. Processes have the names that they had at the end of the stretch, `to`
-    (ns).
+    """Computes figures from the sums of the requested time span. A group deeper than `depth` counts
+    as its ancestor at that depth. Processes have the names that they had at the end of the time
+    span, `to` (ns).
     """
 
     def __init__(self, walk: Walk, cpus: int, depth: int, to: int) -> None:
@@ -98,6 +104,7 @@ class Asker:
             self.pairs[number][runner] = time
 
     def figures(self, group: Group) -> Figures:
+        """Returns the figures of a group."""
         number, sums = group.number, self.sums
         places = [(processor, number) for processor in range(self.cpus)]
         runners = self.pairs.get(number, {})
@@ -122,7 +129,9 @@ class Asker:
         )
 
     def of_victims(self, runners: dict[int, int]) -> int:
-        """Returns the time (ns) in which a task of the victim ran."""
+        """Returns the part (ns) of a group's wait in which a task of the victim ran. `runners` has
+        the parts of the wait (ns) by runner.
+        """
         of = self.runners.all
         return sum(
             time
@@ -131,11 +140,15 @@ class Asker:
         )
 
     def shares(self, times: Mapping[Optional[Life], int]) -> tuple[Share, ...]:
-        """Divides `times` (ns) among processes; empty if processes have no names."""
+        """Returns the times (ns) of processes with their names, or nothing if processes have no
+        names.
+        """
         return tuple(self.runners.tasks.shares(times, self.to)) if self.runners.tasks.lives else ()
 
     def while_ran(self, runners: dict[int, int]) -> list[Part]:
-        """Returns the parts of a wait for processors, by the group that ran meanwhile."""
+        """Returns the parts of a group's wait for processors, by the group that ran meanwhile.
+        `runners` has the parts (ns) by runner.
+        """
         times = collections.defaultdict[Optional[Group], collections.Counter[Optional[Life]]](
             collections.Counter
         )
@@ -150,8 +163,8 @@ class Asker:
         ]
 
     def beside(self, group: Group, pairs: Pairs) -> list[Part]:
-        """Returns the groups that were in the same state at the same time, except the group's
-        ancestors, which always are.
+        """Returns the groups that were in the same state as `group` at the same time, and for how
+        long. Ancestors of the group are left out, since they always are.
         """
         others = {
             self.groups[other]: time

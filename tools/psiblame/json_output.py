@@ -1,4 +1,4 @@
-"""The output in JSON, for programs: times in ns, memory in bytes, and numbers of pages."""
+"""Writes the output as JSON: times in ns, memory in bytes, and numbers of pages."""
 from __future__ import annotations
 
 import json
@@ -14,8 +14,9 @@ from .figures import Figures, Part
 
 
 class Asked(NamedTuple):
-    """The request: the trace's name and length, the time span (all in ns), the victim's path, and
-    the number of rows of each kind.
+    """The request: the name of the trace, the trace's end and the requested time span from `start`
+    to `to` (all in ns), the number of processors, the victim's path, and the greatest number of
+    rows.
     """
 
     trace: str
@@ -28,11 +29,14 @@ class Asked(NamedTuple):
 
     @property
     def length(self) -> int:
+        """The length of the requested time span (ns)."""
         return self.to - self.start
 
 
 def parts_of(groups: Groups, parts: list[Part], top: Optional[int]) -> list[dict[str, Any]]:
-    """Returns the parts, the longest first. The group is null for times in which no task ran."""
+    """Returns the first `top` parts as objects. The group is null for the time in which no task
+    ran.
+    """
     return [
         {
             "group": groups.name(it.group) if it.group else None,
@@ -53,6 +57,7 @@ def shares_of(shares: Sequence[Share]) -> dict[str, Any]:
 
 
 def group_of(groups: Groups, it: Figures, asked: Asked, is_named: bool) -> dict[str, Any]:
+    """Returns the object of a group. A group that is named in the request has more fields."""
     fields: dict[str, Any] = {
         "group": groups.name(it.group),
         "path": it.group.path,
@@ -79,8 +84,8 @@ def group_of(groups: Groups, it: Figures, asked: Asked, is_named: bool) -> dict[
 def as_json(
     groups: Groups, found: list[Figures], everyone: list[Figures], asked: Asked, known: Known
 ) -> str:
-    """Returns one JSON object: the request, and the requested groups, or all groups if none was
-    requested.
+    """Returns one JSON object with the request and an array of the requested groups `found`, or of
+    all groups if none was requested.
     """
     whole = {
         "trace": asked.trace,

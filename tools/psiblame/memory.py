@@ -1,4 +1,6 @@
-"""How much the memory of groups grew between samples, and how many pages were scanned for them."""
+"""Computes from memory samples by how much the memory of groups grew, and how many pages were
+scanned for them.
+"""
 from __future__ import annotations
 
 from typing import NamedTuple
@@ -6,8 +8,8 @@ from typing import NamedTuple
 
 class Growth(NamedTuple):
     """The growth (bytes) of a group's memory in a time span, and the increase of its count of
-    scanned pages. The growth is from the last sample before the span, or the first one in it if
-    there is none before, to the highest sample in it.
+    scanned pages. The growth is the difference between the highest sample in the time span and the
+    last sample before it, or the first sample in it if there is none before.
     """
 
     grown: int
@@ -15,8 +17,8 @@ class Growth(NamedTuple):
 
 
 class Samples:
-    """The samples of each group, by its number, in the current stretch. The last sample before the
-    stretch counts as its first, since the group had that memory when the stretch began.
+    """The memory samples in the current time span, by the group's number. The last sample before
+    the time span counts as the first in it, since the group had that memory when the span began.
     """
 
     def __init__(self) -> None:
@@ -36,7 +38,7 @@ class Samples:
         self.last[group] = current, pages
 
     def taken(self) -> dict[int, Growth]:
-        """Returns the growth of each group, and begins a new stretch."""
+        """Returns the growth of each group in the current time span, and begins a new time span."""
         found = {
             group: Growth(self.highest[group] - self.first[group], self.scanned[group])
             for group in self.last

@@ -1,19 +1,19 @@
-"""The time in which other groups waited for IO or were in a memory stall while a requested group
-did.
+"""Measures for how long other groups waited for IO, or were in a memory stall, at the same time as
+a requested group.
 """
 from __future__ import annotations
 
 import collections
 
-# Times (ns) by the requested group and the other group.
+# Times (ns) by the numbers of the requested group and of the other group.
 Pairs = dict[tuple[int, int], int]
 
 
 class Beside:
-    """A requested group's clock: `total` is the time (ns) that the group was in the state, summed
-    over processors, and `processors` the number of processors on which it is now. For each other
-    group in the state, `since` is this clock's time when its stretch began; the difference at its
-    end is the overlap.
+    """The clock of a requested group, which runs while the group is in the state. `total` is the
+    time (ns) that it shows, summed over processors, and `processors` is the number of processors on
+    which the group is in the state now. For each other group in the state, `since` has the clock's
+    time at which the group entered the state. The clock's time since then is their overlap.
     """
 
     __slots__ = ("group", "total", "processors", "last", "since", "sums")
@@ -25,6 +25,7 @@ class Beside:
         self.sums = collections.defaultdict[int, int](int)
 
     def at(self, now: int) -> int:
+        """Returns the clock's time (ns) at the time `now` (ns)."""
         return self.total + self.processors * (now - self.last)
 
     def change(self, by: int, now: int) -> None:
@@ -33,8 +34,8 @@ class Beside:
         self.processors += by
 
     def count(self, other: int, now: int) -> None:
-        """Adds the overlap with the stretch of `other` that ends now. A group that didn't exist
-        when that stretch began counts from 0.
+        """Adds the overlap with the group `other` since it entered the state. If the requested
+        group didn't exist at that time, its clock counts from 0.
         """
         total = self.at(now)
         self.sums[other] += total - self.since.get(other, 0)
@@ -42,22 +43,21 @@ class Beside:
 
 
 class Overlap:
-    """For each requested group and each other group, the part of the requested group's time in
-    which the other one was in the same state, on any processor.
+    """Measures, for each requested group and each other group, the part of the requested group's
+    time in a state in which the other group was in the same state, on any processor.
     """
 
     def __init__(self) -> None:
         self.asked: list[Beside] = []
-        # The number of processors on which each group is in the state, without groups that are on
-        # none.
+        # The number of processors on which each group is in the state, if it isn't 0.
         self.processors: dict[int, int] = {}
 
     def ask(self, group: int) -> None:
-        """Makes a group that was just created a requested one."""
+        """Adds a requested group, which was just created."""
         self.asked.append(Beside(group))
 
     def begin(self, group: int, now: int) -> None:
-        """Notes that the group is in the state on one more processor."""
+        """Counts that the group entered the state on one more processor."""
         is_first = group not in self.processors
         self.processors[group] = 1 if is_first else self.processors[group] + 1
         for asked in self.asked:
@@ -67,7 +67,7 @@ class Overlap:
                 asked.since[group] = asked.at(now)
 
     def end(self, group: int, now: int) -> None:
-        """Notes that the group is in the state on one processor fewer."""
+        """Counts that the group left the state on one processor."""
         is_last = self.processors[group] == 1
         if is_last:
             del self.processors[group]
@@ -80,7 +80,7 @@ class Overlap:
                 asked.count(group, now)
 
     def taken(self, now: int) -> Pairs:
-        """Returns the sums up to `now` (ns), and begins new ones."""
+        """Returns the overlaps up to `now` (ns), and sets them to 0."""
         found: Pairs = {}
         for asked in self.asked:
             for group in self.processors:

@@ -1,5 +1,5 @@
-"""A processor: the group whose task runs, the groups that wait for it, and the times (ns) of their
-waits.
+"""Measures, for one processor, how long each group waited while a certain group ran, and how long
+groups waited for IO or were in a memory stall.
 """
 from __future__ import annotations
 
@@ -15,17 +15,17 @@ from .overlap import Overlap
 
 # The number of the runner if no task runs.
 NOBODY = -1
-# The key in a row for the length (ns) of the time that the row covers.
+# The key in a row for the time (ns) for which the row's runner ran.
 LENGTH = -1
-# An offset of the runner's number. It marks the times in which, without the victim, none of the
-# waiting tasks would have waited.
+# This is added to a runner's number for the times in which no task would have waited if the victim
+# hadn't run.
 ALONE = 1 << 40
 Row = collections.defaultdict[int, int]
 
 
 class Task(world.Task):
-    """A task, with the process or thread to which its time is attributed, if known, and the number
-    of this runner within its group.
+    """A task, with the process or thread to which its time is attributed, if that is known, and the
+    number of the runner: of this process or thread in the task's group.
     """
 
     __slots__ = ("life", "runner")
@@ -38,11 +38,8 @@ class Task(world.Task):
 
 
 class GroupTimes:
-    """The groups with tasks on a processor that wait for IO, or are in a memory stall, and the time
-    (ns) for which each group had such tasks.
-
-    An interval is counted when it ends or when the sums are taken. `overlap` is notified at both
-    ends.
+    """Measures for how long (ns) each group had a task in a certain state on a processor: waiting
+    for IO, or in a memory stall. `overlap` is notified when a group enters or leaves the state.
     """
 
     __slots__ = ("counts", "since", "sums", "overlap")
@@ -54,6 +51,7 @@ class GroupTimes:
         self.overlap = overlap
 
     def enter(self, chain: Iterable[int], now: int) -> None:
+        """Counts a task that enters the state, for the groups of `chain`: its own and ancestors."""
         counts = self.counts
         for group in chain:
             if group in counts:
@@ -65,6 +63,7 @@ class GroupTimes:
                     self.overlap.begin(group, now)
 
     def leave(self, chain: Iterable[int], now: int) -> None:
+        """Counts a task that leaves the state, for the groups of `chain`: its own and ancestors."""
         counts = self.counts
         for group in chain:
             if counts[group] > 1:
@@ -76,7 +75,7 @@ class GroupTimes:
                     self.overlap.end(group, now)
 
     def taken(self, now: int) -> Row:
-        """Returns the sums up to `now` (ns), and begins new ones."""
+        """Returns the times (ns) of groups up to `now` (ns), and sets them to 0."""
         sums = self.sums
         for group, since in self.since.items():
             sums[group] += now - since
@@ -86,8 +85,8 @@ class GroupTimes:
 
 
 class Rows(dict[int, Row]):
-    """A row for each runner's number: the time (ns) that each group waited while that runner ran,
-    and under LENGTH the time of the row.
+    """A row for each runner, by its number: the time (ns) for which each group waited while the
+    runner ran and, with the key LENGTH, the time (ns) for which the runner ran.
     """
 
     def __missing__(self, runner: int) -> Row:
@@ -96,8 +95,8 @@ class Rows(dict[int, Row]):
 
 
 class Processor:
-    """A processor's state between two events, when nothing changes: the running task, and the
-    number of ready tasks in each group that has any.
+    """A processor's state between two events: the running task, and the number of ready tasks in
+    each group that has any. `rows` has the times so far.
     """
 
     __slots__ = ("number", "task", "ready", "rows", "row", "last", "io", "memory")
@@ -112,7 +111,7 @@ class Processor:
         self.io, self.memory = GroupTimes(io), GroupTimes(memory)
 
     def pass_time(self, now: int) -> None:
-        """Counts the stretch up to `now` (ns), before the state changes."""
+        """Adds the time up to `now` (ns) to the current row, before the state changes."""
         length = now - self.last
         if length:
             self.last = now
@@ -122,13 +121,13 @@ class Processor:
                 row[group] += length
 
     def add(self, task: Task) -> None:
-        """Adds a task that is ready here from now on."""
+        """Counts a task that becomes ready on this processor."""
         ready = self.ready
         for group in task.group.counted:
             ready[group] = ready.get(group, 0) + 1
 
     def remove(self, task: Task) -> None:
-        """Removes a task that is no longer ready here."""
+        """Stops counting a task that was ready on this processor."""
         ready = self.ready
         for group in task.group.counted:
             if ready[group] > 1:
@@ -137,12 +136,12 @@ class Processor:
                 del ready[group]
 
     def run(self, task: Optional[Task]) -> None:
-        """Sets the running task; None if no task runs."""
+        """Sets the running task, or None if no task runs."""
         self.task = task
         self.row = self.rows[task.runner if task else NOBODY]
 
     def taken(self, now: int) -> Rows:
-        """Returns the rows up to `now` (ns), and begins new ones."""
+        """Returns the rows up to `now` (ns), and begins new rows."""
         self.pass_time(now)
         rows, self.rows = self.rows, Rows()
         self.run(self.task)
@@ -150,9 +149,9 @@ class Processor:
 
 
 class WatchedProcessor(Processor):
-    """A processor that also tracks what would happen without the tasks of a victim: `others` is the
-    number of ready tasks that aren't the victim's. While the victim runs and `others` is at most 1,
-    nobody would wait here without it.
+    """A processor that also measures how much shorter waits would have been without a victim.
+    `others` is the number of ready tasks that aren't the victim's. While the victim runs and
+    `others` is at most 1, no task would wait if the victim didn't run.
     """
 
     __slots__ = ("victims", "others")

@@ -1,5 +1,5 @@
-"""The runners of a trace: groups, or processes within groups if the trace's companion file names
-its tasks.
+"""Numbers the runners of a trace: its groups, or the processes within its groups if the trace's
+companion file names its tasks.
 """
 from __future__ import annotations
 
@@ -11,14 +11,14 @@ from psireplay.groups import Group
 
 
 class Runner(NamedTuple):
-    """A group, and a process or a thread of it; None if tasks have no names."""
+    """A group and a process or thread in it. `life` is None if tasks have no names."""
 
     group: Group
     life: Optional[Life]
 
 
 class Runners:
-    """All runners that have occurred. Each has a number, which is the key of its rows."""
+    """All runners that have occurred so far. A runner's number is its index in `all`."""
 
     def __init__(self, tasks: Tasks) -> None:
         self.tasks = tasks
@@ -26,13 +26,13 @@ class Runners:
         self.numbers: dict[Runner, int] = {}
 
     def life(self, pid: str, now: int) -> Optional[Life]:
-        """Returns the process or thread to which the time of a task created at `now` (ns) is
-        attributed; None if unknown.
+        """Returns the process or thread to which the time of a task is attributed that is created
+        at `now` (ns), or None if it is unknown.
         """
         return self.tasks.runner(int(pid), now)
 
     def number(self, group: Group, life: Optional[Life]) -> int:
-        """Returns the number of a runner, which is assigned at its first use."""
+        """Returns the number of a runner. A new runner gets the next number."""
         runner = Runner(group, life)
         if runner not in self.numbers:
             self.numbers[runner] = len(self.all)

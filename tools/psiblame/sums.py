@@ -1,4 +1,4 @@
-"""The sums of a stretch of the trace, by groups and processors, all in ns."""
+"""Adds up the times of a time span of the trace, by groups and processors, all in ns."""
 from __future__ import annotations
 
 import collections
@@ -12,12 +12,12 @@ Places = collections.defaultdict[tuple[int, int], int]
 
 
 class Sums:
-    """The sums (ns) of a stretch. A running task counts for its own group only; a waiting task
-    counts for its group and all ancestors.
+    """The sums (ns) of a time span. The time of a running task counts for its own group only; the
+    time of a waiting task counts for its group and all ancestors.
 
-    `waited`, `io` and `memory` are keyed by processor and group. `pairs` is keyed by the group that
-    waited for a processor and the runner there, which may be NOBODY. `alone` is the part of `pairs`
-    in which nobody would have waited without the victim that ran.
+    `waited`, `io` and `memory` have a sum for each processor and group. `pairs` has a sum for each
+    group that waited for a processor and each runner that ran there meanwhile, or NOBODY. `alone`
+    is the part of `pairs` in which no task would have waited without the victim that ran.
     """
 
     def __init__(self) -> None:
@@ -50,7 +50,7 @@ class Sums:
 
 
 class Stretches:
-    """The sums before, in and after the requested time."""
+    """The sums of three time spans: before, in and after the requested time span."""
 
     def __init__(self, start: int, end: int) -> None:
         self.cuts = [start, end]
@@ -59,16 +59,18 @@ class Stretches:
         self.done: list[Sums] = []
 
     def next_cut(self) -> float:
-        """Returns the time (ns) at which the current stretch ends; infinity for the last one."""
+        """Returns the time (ns) at which the current time span ends, or infinity for the last one.
+        """
         return self.cuts[0] if self.cuts else float("inf")
 
     def fold(self, processors: Iterable[Processor], now: int) -> None:
-        """Adds up the rows of all processors, so that these stay small."""
+        """Adds the rows of all processors up to `now` (ns) to the current sums, and empties them.
+        """
         for processor in processors:
             self.now.take_rows(processor, now)
 
     def end(self, processors: list[Processor], now: int) -> Sums:
-        """Ends the current stretch at `now` (ns), and returns its sums."""
+        """Ends the current time span at `now` (ns), and returns its sums."""
         self.fold(processors, now)
         for processor in processors:
             self.now.take_group_times(processor, now)
@@ -80,5 +82,5 @@ class Stretches:
 
     @property
     def asked(self) -> Sums:
-        """Returns the sums of the requested time."""
+        """The sums of the requested time span."""
         return self.done[1]

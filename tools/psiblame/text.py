@@ -1,4 +1,4 @@
-"""The output for people: a few lines about each requested group, or a table and a matrix of all
+"""Writes the output as text: a few lines about each requested group, or a table and a matrix of all
 groups.
 """
 from __future__ import annotations
@@ -15,8 +15,8 @@ from .figures import Figures, Part
 from .json_output import Asked
 
 MS = 10**6
-# The default number of rows of a kind, and the largest number of characters of a group's name in a
-# column heading.
+# The default number of rows of each table, and the most characters of a group's name in a column
+# heading.
 TOP = 10
 HEAD = 22
 NONE = "no task"
@@ -30,11 +30,12 @@ def three(ns: int) -> str:
 
 
 def percent(part: int, whole: int) -> str:
+    """Formats the share of `part` in `whole` in percent, with one decimal."""
     return f"{100 * part / whole:.1f}" if whole else "0.0"
 
 
 def size(number: int) -> str:
-    """Formats a number of bytes in the unit that suits its size."""
+    """Formats a growth (bytes), in the largest unit in which it is at least 1."""
     value, units = float(number), ["bytes", "KiB", "MiB", "GiB", "TiB"]
     while value >= 1024 and len(units) > 1:
         value, units = value / 1024, units[1:]
@@ -60,8 +61,8 @@ def columns(rows: list[list[str]], indent: str = "") -> list[str]:
 
 
 def without_same(found: Sequence[Row], shown: Callable[[Row], object]) -> list[Row]:
-    """Returns the rows without those of a group whose values all come from one child with the same
-    values.
+    """Returns the rows without those of groups that have a child with equal values. `shown` returns
+    a row's values.
     """
     by_group = {it.group: it for it in found}
     hidden = {
@@ -74,7 +75,9 @@ def without_same(found: Sequence[Row], shown: Callable[[Row], object]) -> list[R
 
 
 def with_names(lines: list[str], shares: Sequence[Sequence[Share]], head: str = "") -> list[str]:
-    """Returns the lines of a table, with the processes of each row after it if they have names."""
+    """Returns the lines of a table, with the processes of each row at the end of its line, if
+    processes have names.
+    """
     if not any(shares):
         return lines
     width = max(map(len, lines))
@@ -91,13 +94,14 @@ class Formatter:
         self.when = f"between {seconds(asked.start)} s and {seconds(asked.to)} s"
 
     def shown(self, group: Group) -> str:
-        """Returns a group's name, in which containers have their names."""
+        """Returns the name of a group, with the names of containers instead of their ids."""
         return self.known.groups.shown(group.path) + self.groups.name(group).removeprefix(
             group.path
         )
 
     def name(self, of: Group, group: Optional[Group]) -> str:
-        """Returns the name of the group to which a part of `of`'s time is attributed."""
+        """Returns the name of `group`, to which a part of the time of the group `of` is attributed.
+        """
         if group is None:
             return NONE
         return self.shown(group) + (
@@ -105,8 +109,8 @@ class Formatter:
         )
 
     def parts(self, of: Group, parts: list[Part], whole: int, head: str) -> list[str]:
-        """Formats the longest parts, each with its share of `whole`, and the number of parts that
-        aren't shown.
+        """Returns a table of the longest parts, each with its share of `whole` (ns), and a line
+        with the number of parts that aren't shown.
         """
         rows = [[head, "s", "of it"]]
         rows += [
@@ -120,8 +124,8 @@ class Formatter:
     # ------------------------------------------------------------ one group
 
     def group(self, it: Figures, growing: list[Figures]) -> list[str]:
-        """Returns the lines about one group. The last block has the groups whose memory grew in
-        that time.
+        """Returns the lines about one group. The last ones are about the groups `growing`, whose
+        memory grew in the requested time span.
         """
         lines = [self.waited(it)]
         lines += (
@@ -137,6 +141,7 @@ class Formatter:
         return lines + (self.growth(it, growing) if it.memory else [])
 
     def waited(self, it: Figures) -> str:
+        """Returns the line about the group's wait for processors."""
         name = self.shown(it.group)
         made, removed = it.group.made, it.group.removed
         if made > self.asked.to or (removed is not None and removed < self.asked.start):
@@ -154,15 +159,15 @@ class Formatter:
         return f"{name} waited {three(it.waited)} s for a processor {self.when} ({share})"
 
     def without(self, it: Figures) -> list[str]:
-        """Returns the lines about the victim's effect on the wait for processors."""
+        """Returns the line about the victim's effect on the group's wait for processors."""
         ran, less = three(it.while_victim or 0), three(it.less or 0)
         return [
             f"  {self.asked.victim} ran there for {ran} s of it: without it at least {less} s less"
         ]
 
     def beside(self, it: Figures, where: str, did: str, whole: int, parts: list[Part]) -> list[str]:
-        """Returns the lines about the groups that were in the same state at the same time. This
-        isn't a cause: a trace doesn't contain causes.
+        """Returns the lines about the groups that were in the same state at the same time. They
+        need not be the cause of the group's state: a trace doesn't contain causes.
         """
         if not whole:
             return []
@@ -176,8 +181,8 @@ class Formatter:
         return [first, *self.parts(it.group, without_same(parts, lambda it: it.time), whole, "")]
 
     def growth(self, it: Figures, growing: list[Figures]) -> list[str]:
-        """Returns the lines about the groups whose memory grew in that time, or for which pages
-        were scanned.
+        """Returns the lines about the groups whose memory grew, or for which pages were scanned, in
+        the requested time span.
         """
         if not growing:
             return []
@@ -226,6 +231,7 @@ class Formatter:
         return lines
 
     def row(self, it: Figures) -> list[str]:
+        """Returns the cells of a group's row in the table."""
         grown, scanned = (
             (size(it.growth.grown), str(it.growth.scanned)) if it.growth else ("-", "-")
         )
@@ -276,8 +282,8 @@ class Formatter:
 def as_text(
     groups: Groups, found: list[Figures], everyone: list[Figures], asked: Asked, known: Known
 ) -> str:
-    """Returns the lines about the requested groups, or a table and a matrix of all groups if none
-    was requested.
+    """Returns the whole text: the lines about the requested groups `found`, or a table and a matrix
+    of all groups if none was requested.
     """
     formatter = Formatter(groups, asked, known)
     if not found:

@@ -1,4 +1,4 @@
-"""Reads a trace that psi_oomd accepts, and gets from psi_oomd how long each group was in each
+"""Reads a trace that psi_oomd accepts, and runs psi_oomd for the time that each group was in each
 state.
 """
 from __future__ import annotations
@@ -34,8 +34,8 @@ MESSAGES: dict[int, str] = {
 
 
 class States(NamedTuple):
-    """The times (ns) that a group, on one processor, waited for IO, was in a memory stall, and
-    waited for the processor.
+    """The times (ns) for which a group waited for IO, was in a memory stall, and waited for the
+    processor, on one processor.
     """
 
     io: int
@@ -43,7 +43,7 @@ class States(NamedTuple):
     waited: int
 
 
-# The times by processor and path, for the groups that are live at the end.
+# The times by processor and path, for the groups that exist at the end of the trace.
 Stalls = dict[tuple[int, str], States]
 
 
@@ -62,6 +62,7 @@ def as_file(name: str) -> Iterator[str]:
 
 
 def program() -> str:
+    """Returns the path of psi_oomd. Raises a Fault if it isn't built."""
     path = program_path()
     try:
         return built_program(path) if path == LAUNCHER else path
@@ -70,8 +71,8 @@ def program() -> str:
 
 
 def stalls(file: str, name: str) -> Stalls:
-    """Returns the times that `psi_oomd stall` prints for the trace. A rejected trace is a Fault
-    with psi_oomd's message and status.
+    """Returns the times that `psi_oomd stall` prints for the trace in `file`, which the user knows
+    as `name`. If psi_oomd rejects the trace, raises a Fault with its message and status.
     """
     path = program()
     try:
@@ -96,8 +97,8 @@ def stalls(file: str, name: str) -> Stalls:
 
 
 class Lines:
-    """The lines of an accepted trace: `cpus` is the header's number of processors, `end` the time
-    (ns) of the last line.
+    """The lines of a trace that psi_oomd accepts. `cpus` is the number of processors in its header,
+    and `end` the time (ns) of its last line.
     """
 
     def __init__(self, file: str) -> None:
@@ -107,8 +108,8 @@ class Lines:
         self.cpus = cpus_in(self.file) or 0
 
     def pieces(self) -> Iterator[list[str]]:
-        """Yields the event lines in large pieces. On a terminal a progress line shows how many were
-        read.
+        """Yields the event lines in large pieces. If standard error is a terminal, shows the
+        progress there.
         """
         shown = time.monotonic()
         is_shown = sys.stderr.isatty()

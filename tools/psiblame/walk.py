@@ -14,8 +14,8 @@ from .sums import Stretches
 
 
 class Named:
-    """Arguments that name groups, by path or as PATH#N, and the numbers of the groups with these
-    names that were created up to now.
+    """Arguments that name groups, by path or as PATH#N, and the numbers of the groups so far that
+    they name. If `with_below`, they also name the descendants of these groups.
     """
 
     def __init__(self, words: list[str], with_below: bool) -> None:
@@ -23,7 +23,7 @@ class Named:
         self.numbers: set[int] = set()
 
     def takes(self, group: Group) -> bool:
-        """Checks whether the arguments name a group that was just created, and stores its number if
+        """Returns whether the arguments name a group, which was just created. Stores its number if
         they do.
         """
         is_named = group.path in self.words or f"{group.path}#{group.life}" in self.words
@@ -36,7 +36,9 @@ class Named:
 
 
 class Walk(World[Task]):
-    """The world of a trace, with the sums of its processors."""
+    """Plays a trace. Adds up the times of its groups in `stretches`, for three time spans. `asked`
+    are the requested groups, and `victims` the victim.
+    """
 
     def __init__(
         self, cpus: int, stretches: Stretches, asked: Named, victims: Named, runners: Runners
@@ -62,6 +64,7 @@ class Walk(World[Task]):
         return Task(pid, group, cpu, life, self.runners.number(group, life))
 
     def made(self, group: Group) -> None:
+        """Checks whether a new group is requested or a victim."""
         self.victims.takes(group)
         if self.asked.takes(group):
             self.io.ask(group.number)
@@ -70,18 +73,19 @@ class Walk(World[Task]):
     # ------------------------------------------------------------ time
 
     def pass_to(self, time_ns: int) -> None:
+        """Ends the time spans of the sums that end before `time_ns`."""
         while time_ns > self.next_cut:
             self.cut(int(self.next_cut))
 
     def cut(self, now: int) -> None:
-        """Ends a stretch of the sums at `now` (ns). Events at that time belong to it."""
+        """Ends a time span of the sums at `now` (ns). It includes the events at that time."""
         ended = self.stretches.end(self.processors, now)
         ended.io_beside, ended.memory_beside = self.io.taken(now), self.memory.taken(now)
         ended.growth = self.growth.taken()
         self.next_cut = self.stretches.next_cut()
 
     def play_end(self) -> None:
-        """Ends all stretches at the end of the trace."""
+        """Ends all time spans of the sums at the end of the trace."""
         for cut in self.stretches.cuts:
             self.cut(cut)
         self.cut(self.now)
@@ -91,12 +95,13 @@ class Walk(World[Task]):
         return sum(len(row) for processor in self.processors for row in processor.rows.values())
 
     def fold(self) -> None:
-        """Adds up the rows."""
+        """Adds the rows of all processors to the sums, which keeps them small."""
         self.stretches.fold(self.processors, max(it.last for it in self.processors))
 
     # ------------------------------------------------------------ events
 
     def leave(self, task: Task) -> None:
+        """Removes a task from its processor before its state, group or processor changes."""
         processor, now, state = self.processors[task.cpu], self.now, task.state
         if now != processor.last:
             processor.pass_time(now)
@@ -110,6 +115,7 @@ class Walk(World[Task]):
             processor.memory.leave(task.group.counted, now)
 
     def enter(self, task: Task) -> None:
+        """Adds a task to its processor after its state, group or processor changed."""
         processor, now, state = self.processors[task.cpu], self.now, task.state
         if now != processor.last:
             processor.pass_time(now)
