@@ -1,1 +1,1 @@
-"""Texts of ftrace: reading and repairing them, and the checks of `tools/ftrace-check`."""
+"""Reads and repairs ftrace text, for `tools/psitrace`, and checks it, for `tools/ftrace-check`."""

@@ -1,9 +1,9 @@
-"""Checks text of ftrace for defects that make its trace wrong without an error.
+"""Checks ftrace text for defects that make a trace of it wrong without an error.
 
-An importer takes lines as they come: it can't know that lines are missing, that a task's number
-changed, or that a sleep in state D was no wait for IO. Each finding here has a threshold, below
-which it changes totals by less than the usual difference between the pressure files of a machine
-and of a replay.
+A simple importer converts line by line. It can't know that lines are missing, that a task's number
+changed, or that a sleep in state D was no wait for IO. Each finding has a threshold. Below that,
+the defect changes totals by less than the usual difference between the pressure files of a machine
+and the reports of a replay.
 """
 from __future__ import annotations
 
@@ -15,24 +15,27 @@ from psiread.waits import UNINTERRUPTIBLE
 from .lines import FORMS, Line, event_of, forms_of, head_of
 from .text import ENTRIES, LOST
 
-# If times go back by less, two processors wrote their lines at about the same time, ns.
+# The least time (ns) by which times must go back to be reported. Smaller steps are normal, since
+# processors write their lines at about the same time.
 LEAST_BACK = 10**6
-# With fewer switches than this, the absence of an event means nothing.
+# With fewer switches than this, the absence of a kind of event isn't reported.
 LEAST_SWITCHES = 200
-# The largest share of the time of all sleeps in state D that may be no wait for IO.
+# The largest share of the time of all sleeps in state D that sleeps without a wait for IO may have.
 MOST_OTHER_SLEEP = 0.05
-# The largest share of the text's time, on all processors together, that sleeps in state D may take
-# if nothing shows which of them were waits for IO.
+# The largest share of the text's time on all processors together that sleeps in state D may have if
+# no event shows which of them were waits for IO.
 MOST_UNKNOWN_SLEEP = 0.01
-# If nothing was overwritten, the first events of the processors are less than this apart, ns.
+# The least time (ns) between the first events of two processors that is reported. Usually the time
+# is shorter, unless the buffer was overwritten.
 LEAST_APART = 10**8
 
 KINDS = ("sched_switch", "sched_wakeup", "sched_wakeup_new", "sched_migrate_task")
 
 
 class Sleeps:
-    """The sleeps in state D: those in progress, and the total times (ns) of those reported by
-    sched_stat_iowait and of the others.
+    """The sleeps in state D: the start (ns) of each task's present sleep, and the number and total
+    time (ns) of past sleeps that were waits for IO (True), as sched_stat_iowait reports, or not
+    (False).
     """
 
     def __init__(self) -> None:
@@ -41,7 +44,7 @@ class Sleeps:
         self.times: Counter[bool] = Counter()
 
     def end(self, task: int, time_ns: int, is_wait: bool) -> None:
-        """Ends a task's sleep, if one is in progress."""
+        """Ends a task's sleep at `time_ns`, if the task sleeps."""
         begun = self.begun.pop(task, None)
         if begun is not None:
             self.waits[is_wait] += 1
@@ -49,7 +52,7 @@ class Sleeps:
 
 
 class Check:
-    """The state of checking a text."""
+    """Checks the lines of a text one by one, and counts what it finds."""
 
     def __init__(self) -> None:
         self.kinds: Counter[str] = Counter()
@@ -66,7 +69,7 @@ class Check:
         self.latest = 0
 
     def take(self, number: int, line: bytes) -> None:
-        """Takes a line and its number, from 1."""
+        """Checks the next line. Lines are numbered from 1."""
         head = head_of(line[:-1] if line.endswith(b"\r") else line)
         if head is None:
             self.take_other(number, line)
@@ -82,7 +85,7 @@ class Check:
             self.take_event(number, event)
 
     def take_other(self, number: int, line: bytes) -> None:
-        """Takes a line that isn't an event."""
+        """Checks a line that has no event: it may report lost or overwritten events."""
         entries, lost = ENTRIES.match(line), LOST.match(line)
         if entries and entries[1] != entries[2]:
             self.overwritten.append((number, int(entries[1]), int(entries[2])))
@@ -124,10 +127,12 @@ class Check:
         elif isinstance(event, Migration):
             self.firsts.setdefault(event.origin, event.time_ns)
 
-    # ------------------------------------------------------------ what follows
+    # ------------------------------------------------------------ findings
 
     def findings(self) -> list[str]:
-        """Returns the defects that make a trace of the text wrong; empty if it can be trusted."""
+        """Returns the defects that make a trace of the text wrong. The list is empty if there are
+        none.
+        """
         return [
             *self.form_findings(),
             *self.missing_findings(),
@@ -136,7 +141,9 @@ class Check:
         ]
 
     def form_findings(self) -> list[str]:
-        """Forms that an importer rejects or doesn't see; psitrace accepts all of them."""
+        """Returns the forms of lines that a simple importer rejects or ignores. psitrace accepts
+        all of them, except a text without switches.
+        """
         found = []
         if not self.kinds["sched_switch"]:
             found.append("there is no sched_switch line that can be read")
@@ -160,7 +167,7 @@ class Check:
         return found
 
     def missing_findings(self) -> list[str]:
-        """Returns what is missing."""
+        """Returns the findings about missing events."""
         found = []
         if self.lost:
             found.append(f"{sum(self.lost)} events were lost, at {len(self.lost)} places")
@@ -187,7 +194,7 @@ class Check:
         return found
 
     def order_findings(self) -> list[str]:
-        """Returns what is at the wrong place or has a different number."""
+        """Returns the findings about the order of times, and about numbers that an exec changed."""
         found = []
         if self.backs:
             number, back = self.backs[0]
@@ -204,7 +211,7 @@ class Check:
         return found
 
     def sleep_findings(self) -> list[str]:
-        """To what extent state D isn't a wait for IO."""
+        """Returns the findings about sleeps in state D that weren't waits for IO."""
         other, waits = self.sleeps.times[False], self.sleeps.times[True]
         count = self.sleeps.waits[False]
         if self.kinds["sched_stat_iowait"]:
@@ -222,7 +229,9 @@ class Check:
         return []
 
     def remarks(self) -> list[str]:
-        """Returns what deserves attention but makes nothing wrong by itself."""
+        """Returns remarks that aren't defects: the number of processors, the number of lines of
+        each kind of event, and events that are missing.
+        """
         said = [f"--cpus {max(self.firsts) + 1}"] if self.firsts else []
         said += [f"{kind} {count}" for kind, count in sorted(self.kinds.items())]
         absent = [kind for kind in KINDS if not self.kinds[kind]]

@@ -1,9 +1,9 @@
-"""Parses single lines of text with a kernel's events: from `trace` and `trace_pipe`, from
-`trace-cmd report` with and without -N, and from `perf script`.
+"""Parses single lines of ftrace text: of `trace` and `trace_pipe`, of `trace-cmd report` with and
+without -N, and of `perf script`.
 
-The names of tasks may contain anything, so a line's fields are found by the text around the names:
-what looks like fields within a name would be longer than a name, which has at most 15 bytes
-(`TASK_COMM_LEN` of Linux, less its terminating zero).
+The names of tasks may contain any bytes, so fields are found by the text around the names. A name
+can't contain a text that looks like further fields, since it has at most 15 bytes (`TASK_COMM_LEN`
+of Linux, without its terminating zero).
 """
 from __future__ import annotations
 
@@ -33,8 +33,9 @@ HEADS = (
 
 
 class Line(NamedTuple):
-    """The head of a line and its rest: when and on which processor the event was written, in which
-    task, its kind, and whether perf wrote the line.
+    """The parts of an event's line: the time (ns), the processor, the task in which the event was
+    written, the kind of the event, and the text of its fields. `is_perf` says whether perf wrote
+    the line.
     """
 
     time_ns: int
@@ -46,7 +47,7 @@ class Line(NamedTuple):
 
 
 def head_of(line: bytes) -> Line | None:
-    """Returns the line of an event, or None if it isn't one."""
+    """Splits the line of an event into its parts. Returns None for any other line."""
     for head in HEADS:
         found = head.match(line)
         if found:
@@ -67,15 +68,17 @@ def head_of(line: bytes) -> Line | None:
 
 
 class Form(NamedTuple):
-    """The syntax of the fields of a kind, and the function that creates the event from them."""
+    """The syntax of the fields of a kind of event, and the function that creates the event from
+    them.
+    """
 
     pattern: re.Pattern[bytes]
     make: Callable[[Line, tuple[bytes, ...]], Event]
 
 
 def form(pattern: bytes, make: Callable[[Line, tuple[bytes, ...]], Event]) -> Form:
-    """Returns a form whose pattern must match all of the fields; a name in it may contain
-    newlines.
+    """Returns a form whose pattern must match the whole text of the fields. A dot also matches a
+    newline, since names of tasks may contain newlines.
     """
     return Form(re.compile(pattern, re.DOTALL), make)
 
@@ -91,7 +94,7 @@ def numbers(kind: type) -> Callable[[Line, tuple[bytes, ...]], Event]:
 
 
 def switch(line: Line, fields: tuple[bytes, ...]) -> Event:
-    """Returns a switch; if a state has several letters, the first counts, and `R+` is ready."""
+    """Creates a switch. Of a state with several letters only the first counts, so `R+` is `R`."""
     previous, state, following = fields
     return Switch(
         line.time_ns,
@@ -104,12 +107,12 @@ def switch(line: Line, fields: tuple[bytes, ...]) -> Event:
 
 
 def new_task(line: Line, fields: tuple[bytes, ...]) -> Event:
-    """Returns a new task, whose flags are hexadecimal."""
+    """Creates the event of a new task. Its flags are hexadecimal."""
     return NewTask(line.time_ns, line.processor, line.current, int(fields[0]), int(fields[1], 16))
 
 
 def attach(line: Line, fields: tuple[bytes, ...]) -> Event:
-    """Returns the event of a task that moves to a group."""
+    """Creates the event of a task that moves to another group."""
     return Attach(
         line.time_ns, line.processor, line.current, int(fields[0]), fields[1], int(fields[2])
     )
@@ -118,23 +121,24 @@ def attach(line: Line, fields: tuple[bytes, ...]) -> Event:
 def group(
     kind: Callable[[int, int, int, int, bytes], Event]
 ) -> Callable[[Line, tuple[bytes, ...]], Event]:
-    """A group is created or removed."""
+    """Returns a function that creates the event of a new or removed group, by its constructor."""
     return lambda line, fields: kind(
         line.time_ns, line.processor, line.current, int(fields[0]), fields[1]
     )
 
 
 def stall_ends(line: Line, fields: tuple[bytes, ...]) -> Event:
-    """Returns the end of a memory stall, whose flags are hexadecimal."""
+    """Creates the event of the end of a memory stall. Its flags are hexadecimal."""
     return StallEnds(line.time_ns, line.processor, line.current, int(fields[0], 16))
 
 
 def marker(line: Line, fields: tuple[bytes, ...]) -> Event:
-    """Returns a line of `trace_marker`."""
+    """Creates a marker, a line that was written into `trace_marker`."""
     return Marker(line.time_ns, line.processor, line.current, fields[0])
 
 
-# The forms of the kernel's own print formats, followed by those of trace-cmd's plugins.
+# The forms of fields by kind of event: first the form of the kernel's own print format, and then
+# the forms of trace-cmd's plugins.
 PRIORITY = rb"(?: prio=-?\d+)?"
 PLAIN = rb"\[-?\d+\]"
 LEAVES = rb"prev_comm=.* prev_pid=(\d{1,10})(?: prev_prio=-?\d+)? prev_state=(\S+)"
@@ -171,7 +175,8 @@ FORMS: dict[str, tuple[Form, ...]] = {
     "print": (form(rb"tracing_mark_write: (.*)", marker),),
 }  # fmt: skip
 
-# Probes have arbitrary names, but their lines contain the function's name.
+# The forms of the lines of probes. The names of probes are arbitrary, but the fields of their lines
+# begin with the name of the function.
 PROBES = {
     b"(psi_memstall_enter": form(rb"\(\S+\)", numbers(StallBegins)),
     b"(psi_memstall_leave": form(rb"\(\S+\)(?: .*)? flags=0x([0-9a-f]+)(?: .*)?", stall_ends),
@@ -185,7 +190,7 @@ PROBES = {
 
 
 def forms_of(line: Line) -> tuple[Form, ...]:
-    """Returns the possible forms of this line's fields; empty if the event isn't needed."""
+    """Returns the possible forms of this line's fields, or nothing if the event isn't needed."""
     forms = FORMS.get(line.kind, ())
     if not forms and line.fields.startswith((b"(psi_", b"(cgroup_")):
         forms = tuple(
@@ -195,7 +200,7 @@ def forms_of(line: Line) -> tuple[Form, ...]:
 
 
 def event_of(line: Line, forms: tuple[Form, ...]) -> Event | None:
-    """Returns the event of the line, or None if its fields aren't complete."""
+    """Returns the event of a line, or None if its fields have none of these forms."""
     for one in forms:
         found = one.pattern.fullmatch(line.fields)
         if found:

@@ -1,5 +1,5 @@
-"""Reads text with a kernel's events, and repairs what can be repaired: lines out of order, names
-with newlines, a buffer whose beginning was overwritten, and line endings of Windows.
+"""Reads ftrace text, and repairs defects: lines out of order, names of tasks with newlines, a
+buffer whose beginning was overwritten, and carriage returns at line ends.
 """
 from __future__ import annotations
 
@@ -25,11 +25,12 @@ LOST = re.compile(rb"CPU:(\d{1,5}) \[(?:LOST )?(\d{0,18}) ?EVENTS(?: DROPPED)?\]
 ENTRIES = re.compile(rb"# entries-in-buffer/entries-written: (\d{1,18})/(\d{1,18})")
 PROCESSORS = re.compile(rb"#.*#P:(\d{1,6})|cpus=(\d{1,6})$")
 GZIP = b"\x1f\x8b"
-# The most bytes of a compressed text: 4,000,000 events have about 600 MB.
+# The most bytes of a compressed text after decompression. 4,000,000 events have about 600 MB. PIECE
+# bytes are decompressed at once.
 MOST_UNPACKED, PIECE = 2 << 30, 8 << 20
-# The most lines over which a name of 15 bytes with newlines continues.
+# The most further lines that are joined to a line whose name of a task contains newlines.
 MOST_JOINED = 3
-# If the times of one processor go back by more than this, another recording begins, ns.
+# If the times of one processor go back by more than this (ns), another recording begins there.
 MOST_BACK = 10**6
 
 
@@ -64,7 +65,7 @@ def unpacked(name: str, data: bytes) -> bytes:
 
 
 class Text:
-    """The events of a text, in its order, and remarks about it."""
+    """The events of a text in the order of its lines, its gaps, and the counts of repairs."""
 
     def __init__(self, data: bytes) -> None:
         self.lines = data.split(b"\n")
@@ -73,7 +74,8 @@ class Text:
         self.mended: Counter[str] = Counter()
         self.processors = 0
         self.overwritten = 0
-        # The number of events lost on a processor since its last event, and the time of that.
+        # By processor: the number of events that were lost since its last event, and the time (ns)
+        # of its last event.
         self.lost: dict[int, int] = {}
         self.lasts: dict[int, int] = {}
         if self.lines.pop():
@@ -95,7 +97,9 @@ class Text:
         return line
 
     def take(self, place: int) -> int:
-        """Takes the line at this place; returns how many lines were taken."""
+        """Parses the line with the index `place`, together with the next lines if a name contains
+        newlines. Returns the number of parsed lines.
+        """
         line = self.line_at(place)
         head = head_of(line)
         if head is None:
@@ -121,7 +125,8 @@ class Text:
         return 1
 
     def take_other(self, line: bytes) -> None:
-        """Takes a line that isn't an event."""
+        """Parses a line that has no event: lost or overwritten events, or the number of processors.
+        """
         lost, entries, processors = LOST.match(line), ENTRIES.match(line), PROCESSORS.match(line)
         if lost:
             self.lost[int(lost[1])] = self.lost.get(int(lost[1]), 0) + int(lost[2] or 0)
@@ -133,7 +138,7 @@ class Text:
             self.mended["line without an event, passed over"] += 1
 
     def add(self, event: Event) -> None:
-        """Appends an event."""
+        """Appends an event, and a gap if events were lost before it."""
         processor, last = event.processor, self.lasts.get(event.processor, 0)
         if processor in self.lost:
             self.gaps.append(Gap(processor, last, event.time_ns, self.lost.pop(processor)))
@@ -145,8 +150,8 @@ class Text:
 
 
 def parts_of(events: list[Event]) -> list[list[Event]]:
-    """Returns the events of each recording in the text: a new one begins when the time of a
-    processor goes back.
+    """Splits the events into recordings: a new one begins where the time of a processor goes back
+    by more than MOST_BACK.
     """
     parts: list[list[Event]] = [[]]
     lasts: dict[int, int] = {}
@@ -160,8 +165,8 @@ def parts_of(events: list[Event]) -> list[list[Event]]:
 
 
 def ordered(text: Text, source: Source) -> list[Event]:
-    """Returns the events in order of time. If there are several recordings, the longest is taken,
-    and the rest is a loss.
+    """Returns the events in order of time. If the text contains several recordings, returns only
+    the events of the longest one, and adds a loss.
     """
     parts = parts_of(text.events)
     longest = max(
@@ -182,8 +187,9 @@ def ordered(text: Text, source: Source) -> list[Event]:
 
 
 def begin(text: Text, source: Source) -> None:
-    """Sets where the trace begins: at the recorder's marker if there is one, else at the first
-    event; or, if the buffer was overwritten, at the time from which all processors have events.
+    """Sets the start of the source: the time of the recorder's marker if there is one, otherwise of
+    the first event. If the buffer was overwritten, first drops the events from before the time at
+    which all processors have events.
     """
     if text.overwritten > 0:
         whole_from = max(first_times(source.events).values())
@@ -196,11 +202,12 @@ def begin(text: Text, source: Source) -> None:
     source.start = source.events[0].time_ns if marked is None else marked
 
 
-# ---------------------------------------------------------------- the whole
+# ---------------------------------------------------------------- the whole text
 
 
 def tell_missing(source: Source) -> None:
-    """Adds what a complete recording of a machine can't contain."""
+    """Adds a loss for each kind of event that a recording of a whole machine must have but lacks.
+    """
     kinds = {type(event) for event in source.events}
     if not {Wakeup, FirstWakeup} & kinds:
         source.losses.append(
@@ -216,7 +223,9 @@ def tell_missing(source: Source) -> None:
 
 
 def processors_of(text: Text, wanted: int | None, greatest: int) -> int:
-    """Returns the number of processors: the given one, or what follows from the text."""
+    """Returns the number of processors: `wanted` if it isn't None, otherwise the number that the
+    text shows. `greatest` is the greatest number of a processor in the text.
+    """
     if wanted is not None and greatest >= wanted:
         raise Fault(
             f"--cpus {wanted}: there are events of processor {greatest}, and they count from 0"
@@ -225,7 +234,9 @@ def processors_of(text: Text, wanted: int | None, greatest: int) -> int:
 
 
 def read_text(name: str, processors: int | None) -> Source:
-    """Reads a text of the machine's events."""
+    """Reads ftrace text from a file, or from the standard input if `name` is `-`. `processors` is
+    the number of processors, or None if the text shows it.
+    """
     data = bytes_of(name)
     text = Text(data)
     if not any(isinstance(event, Switch) for event in text.events):

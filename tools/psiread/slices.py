@@ -248,9 +248,8 @@ class Surveyed:
 
 
 def survey_share(readers: list[Reader], own: Connection, others: list[Connection]) -> None:
-    """Surveys some of the processors, as the main function of a process. Sends the result, or the
-    error if something can't be read. The process ends when the parent closes its end of `own`.
-    `others` are the other connections that the process inherits and must close.
+    """Surveys some of the processors, as the main function of a process, and sends the result or
+    the error. The process ends when the parent closes its end of `own`. It must close `others`.
     """
     signal.signal(signal.SIGINT, signal.SIG_IGN)
     for line in others:
@@ -264,9 +263,7 @@ def survey_share(readers: list[Reader], own: Connection, others: list[Connection
 
 
 def end_with(line: Connection) -> None:
-    """Ends this process when the other end of the connection is closed. Nothing is sent from
-    there.
-    """
+    """Ends this process when the other end of the connection, which sends nothing, is closed."""
     with contextlib.suppress(EOFError, OSError):
         line.recv()
     os._exit(1)
