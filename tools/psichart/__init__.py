@@ -1,1 +1,1 @@
-"""Draws the output of `psi_oomd replay` as an SVG picture."""
+"""Draws the output of `psi_oomd replay` as an SVG picture, for `tools/chart`."""

@@ -1,4 +1,4 @@
-"""The numbers on the axes of a chart: round steps of percentages, bytes and time."""
+"""Computes the axes of a chart: round steps of percentages, bytes and time, and their labels."""
 from __future__ import annotations
 
 import itertools
@@ -27,7 +27,7 @@ CLOCK_STEPS = [
 ]  # fmt: skip
 UNITS = (("days", DAY), ("hours", HOUR), ("minutes", MINUTE), ("seconds", SECOND))
 SIZES = ("bytes", "KiB", "MiB", "GiB", "TiB", "PiB", "EiB")
-# The largest number of steps on a time axis, and the smallest gap (pixels) between two labels.
+# The most steps on a time axis, and the smallest gap (pixels) between two labels.
 MOST_STEPS = 10
 GAP = 12
 
@@ -74,7 +74,7 @@ def time_steps() -> Iterator[int]:
 
 
 class TimeAxis:
-    """The time span of a chart, from `start` to `end` in ns since the start of the trace."""
+    """The time axis of a chart, from `start` to `end` (ns since the start of the trace)."""
 
     def __init__(self, start: int, end: int) -> None:
         self.start, self.end = start, end
@@ -90,9 +90,11 @@ class TimeAxis:
         return round(LEFT + (time_ns - self.start) * (RIGHT - LEFT) / (self.end - self.start), 2)
 
     def holds(self, time_ns: int) -> bool:
+        """Whether a time is within the chart."""
         return self.start <= time_ns <= self.end
 
     def marks(self) -> Iterator[Mark]:
+        """Yields the labelled times of the axis."""
         for time_ns in range(-(-self.start // self.step) * self.step, self.end + 1, self.step):
             yield Mark(
                 time_ns,
@@ -100,15 +102,16 @@ class TimeAxis:
             )
 
     def caption(self) -> str:
+        """Returns the text below the axis."""
         return f"{self.unit} since the start of the trace"
 
     def time_text(self, time_ns: int) -> str:
-        """Returns a time in the format of this axis: `146 s`, `2 h 1 min`."""
+        """Formats a time (ns) like the axis, for example as `146 s` or `2 h 1 min`."""
         return f"{seconds(time_ns)} s" if self.unit == "seconds" else duration(time_ns)
 
 
 class WallAxis(TimeAxis):
-    """A time axis with the time of day, which was `wall` at the start of the trace."""
+    """A time axis with the time of day. `wall` is the time of day at the start of the trace."""
 
     def __init__(self, start: int, end: int, wall: WallTime) -> None:
         super().__init__(start, end)
@@ -117,12 +120,15 @@ class WallAxis(TimeAxis):
         self.step = next(step for step in time_steps() if self.has_room(step))
 
     def has_room(self, step: int) -> bool:
+        """Whether the labels fit on the axis if they are `step` ns apart."""
         steps = math.ceil((self.end - self.start) / step)
         width = LETTER * len(self.text(step, step)) + GAP
         return steps <= MOST_STEPS and steps * width <= RIGHT - LEFT
 
     def text(self, local: int, step: int) -> str:
-        """Returns the label of a time of day. The start of a day is labelled with its date."""
+        """Returns the label of the local time `local` (ns since 1970). The start of a day has its
+        date as label.
+        """
         at = clock_time(local)
         if step >= DAY or (local % DAY == 0 and self.has_days()):
             return f"{at.date.tm_mday} {MONTHS[at.date.tm_mon - 1][:3]}"
@@ -141,10 +147,11 @@ class WallAxis(TimeAxis):
             yield Mark(local - self.first, self.text(local, self.step))
 
     def days(self) -> tuple[ClockTime, ClockTime]:
+        """Returns the local times of the start and the end of the chart."""
         return clock_time(self.first + self.start), clock_time(self.first + self.end)
 
     def has_days(self) -> bool:
-        """Returns whether the chart spans more than one day."""
+        """Whether the start and the end of the chart have different dates."""
         first, last = self.days()
         return first.date[:3] != last.date[:3]
 
@@ -162,4 +169,6 @@ class WallAxis(TimeAxis):
 
 
 def time_axis(start: int, end: int, wall: Optional[WallTime]) -> TimeAxis:
+    """Returns an axis with the time of day if `wall` isn't None, otherwise with the trace's time.
+    """
     return WallAxis(start, end, wall) if wall else TimeAxis(start, end)

@@ -1,5 +1,5 @@
-"""The whole picture: a title, a legend, panels with one time axis, and vertical lines for kills and
-removed groups.
+"""Draws the whole picture: a title, a legend, panels with one common time axis, and vertical lines
+for kills and removals of groups.
 """
 from __future__ import annotations
 
@@ -36,24 +36,24 @@ NAMES = {
     "irq": "interrupt pressure", "use": "memory in use"
 }  # fmt: skip
 MARKS_TOP = 74
-# The room (pixels) for the first panel's name, below the labels of vertical lines.
+# The height (pixels) that the first panel's name needs below the labels of vertical lines.
 NAME_ROOM = 18
 LEGEND = 50
-# The gap between two panels, and the height of a panel without stalls (pixels).
+# The gap between two panels, and the height of a panel that shows no pressure (pixels).
 PANEL_GAP = 48
 FLAT_HEIGHT = 30
 # The height (pixels) of a second row of the legend, if two replays are drawn.
 LEGEND_ROW = 20
 AVERAGES = ("10 s", "60 s", "300 s")
-# The largest number of groups in a title, of characters in all their paths, and of characters in
-# the whole title.
+# The most groups in a title, the most characters in all their paths, and the most characters in the
+# whole title.
 TITLED = 3
 PATHS_ROOM = 60
 TITLE_ROOM = int((WIDTH - 32) / TITLE_LETTER)
 
 
 class Place(NamedTuple):
-    """The position of a panel: its top and its height."""
+    """The position of a panel: its top and its height (pixels)."""
 
     top: int
     height: int
@@ -67,8 +67,9 @@ NO_NAMES = GroupNames({})
 
 
 class Wanted(NamedTuple):
-    """What to draw. `recorded` is a replay of the original trace, which is drawn next to a replay
-    without the killed groups.
+    """The data to draw: a replay, the resources, the time axis, and optionally the rules and the
+    memory samples. If `replay` is without the killed groups, `recorded` is the replay of the
+    original trace, which is drawn in the same panels.
     """
 
     replay: Replay
@@ -104,15 +105,16 @@ class Chart:
             "svg", {"xmlns": "http://www.w3.org/2000/svg", "role": "img"}
         )
 
-    # ------------------------------------------------------------ what is drawn
+    # ------------------------------------------------------------ parts of the picture
 
     def panels_of(self, resource: str) -> list[Panel]:
-        """Returns a panel of the resource for each group. For `use` the result is a memory panel,
-        if there are samples.
+        """Returns a panel of the resource for each group. The resource `use` has memory panels, if
+        there are memory samples.
         """
         return [panel for path in self.replay.groups for panel in self.panel(resource, path)]
 
     def panel(self, resource: str, path: str) -> list[Panel]:
+        """Returns the panel of a resource and a group, or nothing without memory samples."""
         rules, samples = self.wanted.rules, self.wanted.samples
         name = NAMES[resource] + (
             f" of {self.shown(path)}" if len(self.replay.groups) > 1 else ""
@@ -127,8 +129,8 @@ class Chart:
         return [MemoryPanel(name, self.axis, thresholds, samples.lives[path])]
 
     def places_of(self) -> list[Place]:
-        """Returns the positions of the panels, one below the other. Panels without pressure are
-        low.
+        """Returns the positions of the panels, one below the other. Panels that show no pressure
+        are low.
         """
         full = [it for it in self.panels if not it.is_flat()]
         height = 300 if len(full) == 1 else 132 if len(full) <= 5 else 96
@@ -139,12 +141,13 @@ class Chart:
         return places
 
     def events(self) -> list[Event]:
-        """Returns the kills and the removals of groups, as vertical lines."""
+        """Returns the kills and the removals of groups, which are drawn as vertical lines."""
         return [self.kill(it) for it in self.replay.kills] + [
             self.end(it) for it in self.replay.removals()
         ]
 
     def kill(self, kill: Kill) -> Event:
+        """Returns the description and the labels of a kill."""
         at = self.axis.time_text(kill.moment)
         path = self.shown(kill.path)
         would, who = f"{path} would be killed", f"ruleset {kill.ruleset}, action {kill.action}"
@@ -156,19 +159,21 @@ class Chart:
                 f"{would} at {at} by ruleset {kill.ruleset} {who}, action"
                 f" {kill.action} {killer.plugin}"
             )
-        # The label needs the killer more than the time, which the axis shows, unless the title
-        # names the killer.
+        # If there is no room for the longest label, the label has the killer and not the time,
+        # which the axis shows. If the title names the killer, the label has the time.
         second = f"{would} at {at}" if f" by {who}" in self.heading else f"{would} by {who}"
         texts = (f"{would} at {at} by {who}", second, f"{would} at {at}", would, path)
         return Event(kill.moment, "kill", hint, texts)
 
     def end(self, removal: Removal) -> Event:
-        # Only the first report without the group is known, not the time of its removal.
+        """Returns the description and the labels of a removal."""
+        # Only the time of the first report without the group is known, not the time of its removal.
         was = f"{self.shown(removal.path)} was gone"
         by = f"{was} by {self.axis.time_text(removal.time_ns)}"
         return Event(removal.time_ns, "gone", by, (by, by, by, was, was))
 
     def title(self, most: int) -> str:
+        """Returns the title with paths of at most `most` characters."""
         groups = self.replay.groups
         paths = [short(self.shown(path), most) for path in groups]
         which = ", ".join(paths[:-1]) + " and " * (len(paths) > 1) + paths[-1]
@@ -188,8 +193,8 @@ class Chart:
         return next((it for it in titles if len(it) <= TITLE_ROOM), short(titles[-1], TITLE_ROOM))
 
     def killers(self) -> str:
-        """Returns the name of the killing ruleset, or the number of rulesets, or nothing if no
-        rules are given.
+        """Returns the part of the title about the rulesets that kill: the name of the ruleset, or
+        the number of rulesets. Returns an empty text without rules.
         """
         rules = self.wanted.rules
         names = {it.ruleset: rules.killer(it).ruleset for it in self.replay.kills} if rules else {}
@@ -198,12 +203,13 @@ class Chart:
         return "".join(f" by '{name}'" for name in names.values())
 
     def has_events(self) -> bool:
-        """Returns whether any panel has ticks for events, which the legend must then explain."""
+        """Whether any panel has ticks for events, which the legend must then explain."""
         return any(panel.has_events() for panel in self.panels)
 
     # ------------------------------------------------------------ the drawing
 
     def draw(self) -> Element:
+        """Draws the picture, and returns its root element."""
         height = self.bottom + 46
         self.svg.attrib.update(
             {"width": str(WIDTH), "height": str(height), "viewBox": f"0 0 {WIDTH} {height}"}
@@ -264,8 +270,8 @@ class Chart:
         add(legend, "text", "after the first kill: others as recorded", x=630, y=y + 4)
 
     def draw_supposed(self) -> None:
-        """Draws a shade over all panels after the first kill. In the shaded time the chart assumes
-        that the other tasks behave as recorded.
+        """Shades all panels after the first kill. In the shaded time the replay without the killed
+        groups assumes that all other tasks behave as recorded.
         """
         first = min((kill.moment for kill in self.replay.kills), default=self.axis.end)
         if first >= self.axis.end:
@@ -291,6 +297,7 @@ class Chart:
         text_anchor="middle")  # fmt: skip
 
     def draw_marks(self) -> None:
+        """Draws the vertical lines, and a note if some have no label for lack of room."""
         marks = add(self.svg, "g", class_="marks")
         for mark in self.marks:
             self.draw_mark(marks, mark)

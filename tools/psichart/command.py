@@ -1,4 +1,4 @@
-"""The command line of tools/chart, and the chart that it draws."""
+"""Parses the command line of tools/chart, reads the replay and prints the chart."""
 from __future__ import annotations
 
 import shutil
@@ -57,8 +57,9 @@ HELP = {
 
 
 class Options(NamedTuple):
-    """The parsed command line: the trace to replay or None, the trace of the replay on standard
-    input, and all options by name.
+    """The parsed command line. `replayed` is the trace to replay, or None if a replay is read from
+    standard input; `trace` is the trace of that replay, if it is known. `values` has all options by
+    name.
     """
 
     replayed: Optional[str]
@@ -92,6 +93,7 @@ def parser() -> Parser:
 
 
 def options_of() -> Options:
+    """Parses the command line, and rejects options that exclude each other."""
     values = parser().values()
     must_fit(values)
     if values["top"] and values["group"]:
@@ -121,8 +123,8 @@ def options_of() -> Options:
 
 
 def resources_of(replay: Replay, options: Options) -> list[str]:
-    """Returns the resources to draw. Interrupts are included only if a drawn group has reports on
-    them.
+    """Returns the resources to draw. They include interrupts only if a drawn group has reports on
+    interrupts.
     """
     if options.resource:
         return [options.resource]
@@ -133,8 +135,8 @@ def resources_of(replay: Replay, options: Options) -> list[str]:
 def must_have_reports(
     replay: Replay, resources: list[str], start: int, end: int, groups: list[str]
 ) -> None:
-    """Rejects a time span without reports on these groups and resources. The error suggests other
-    options.
+    """Raises a Fault, which suggests other options, if the replay has no report on these groups and
+    resources between `start` and `end` (ns).
     """
     series = [
         it
@@ -171,8 +173,8 @@ def read_recorded(name: str, groups: list[str], replay: Replay) -> Replay:
 
 
 def read_printed(printed: IO[bytes], options: Options, known: Known) -> tuple[list[str], Replay]:
-    """Returns the drawn groups, and their reports in the output of a replay. The output is read
-    twice unless the command line has the groups' paths.
+    """Returns the paths of the groups to draw, and the parts of the replay's output that are drawn.
+    The output is copied and read twice, unless the command line has the paths of all groups.
     """
     if not options.top and all(
         it.startswith("/") and known.groups.shown(it) == it for it in options.groups
@@ -199,8 +201,8 @@ def read_printed(printed: IO[bytes], options: Options, known: Known) -> tuple[li
 
 
 def span_of(options: Options, known: Known, replay: Replay) -> tuple[int, int]:
-    """Returns the start and the end of the drawn time (ns). By default the start is the start of
-    the recording.
+    """Returns the start and the end of the time span to draw (ns). Without an option it begins
+    where the recording begins in the trace.
     """
     span = span_in(options.values, known.wall, replay.end.moment, "replay")
     source = options.summary or known.companion
@@ -209,8 +211,8 @@ def span_of(options: Options, known: Known, replay: Replay) -> tuple[int, int]:
 
 
 def samples_of(options: Options, groups: list[str], end: int) -> Optional[Samples]:
-    """Returns the memory samples of the groups, or None if there is no trace or if the replayed
-    trace has no samples.
+    """Returns the memory samples of the groups up to `end` (ns), or None if the trace isn't known,
+    or if the replayed trace has no samples.
     """
     if options.trace is None:
         return None

@@ -1,4 +1,6 @@
-"""Vertical lines through all panels, with labels: kills, and removals of groups."""
+"""Places the labels of the vertical lines through all panels, which show kills and removals of
+groups.
+"""
 from __future__ import annotations
 
 import itertools
@@ -12,8 +14,8 @@ NAMED = 4
 
 
 class Event(NamedTuple):
-    """An event at a time (ns): its style, its full description, and labels from the longest to the
-    shortest.
+    """A kill or a removal: its time (ns), its style, its full description, and its possible labels
+    from the longest to the shortest.
     """
 
     time_ns: int
@@ -23,8 +25,9 @@ class Event(NamedTuple):
 
 
 class Mark:
-    """The events in one pixel column, and the position of their label: the number of a row, counted
-    from below, or None.
+    """The vertical line for the events in one pixel column, and the position of its label: the
+    number of its row, counted from below, or None if it has no label; and whether it is left of the
+    line.
     """
 
     def __init__(self, x: float, events: list[Event]) -> None:
@@ -35,27 +38,31 @@ class Mark:
         self.text = ""
 
     def say(self, length: int) -> None:
-        """Takes the first event's label with the index `length` (0 is the longest), and adds the
-        number of further events.
+        """Sets the label: the label with the index `length` of the first event (0 is the longest),
+        with the number of further events.
         """
         more = f" +{len(self.events) - 1}" if len(self.events) > 1 else ""
         self.text = short(self.events[0].texts[length], 96 if length == 0 else 64) + more
 
     def hint(self) -> str:
-        """Returns the descriptions of the events, or only the first four if there are more."""
+        """Returns the tooltip: the descriptions of the first NAMED events, and the number of
+        others.
+        """
         lines = [it.hint for it in self.events[:NAMED]]
         return "\n".join(
             lines + ([f"and {len(self.events) - NAMED} more"] if len(self.events) > NAMED else [])
         )
 
     def span(self, is_left: bool) -> tuple[float, float]:
-        """Returns the left and right end (pixels) of the label, which is beside the line."""
+        """Returns the left and the right end (pixels) of the label if it is left or right of the
+        line.
+        """
         width = MONOSPACE * len(self.text)
         return (self.x - 7 - width, self.x - 7) if is_left else (self.x + 7, self.x + 7 + width)
 
     def is_free(self, row: int, is_left: bool, placed: list[Mark]) -> bool:
-        """Returns whether the label in this row covers no other label and no line, and its own line
-        crosses no label.
+        """Whether the label would cover no other label and no line in this row, and its line would
+        cross no label.
         """
         left, right = self.span(is_left)
         for other in placed:
@@ -85,7 +92,7 @@ class Mark:
 
 
 def marks_of(events: Iterable[Event], x_of: Callable[[int], float]) -> list[Mark]:
-    """Returns a mark for each pixel column and kind of event."""
+    """Returns a mark for each pixel column and style of its events."""
 
     def column_of(it: Event) -> tuple[int, str]:
         return int(x_of(it.time_ns)), it.kind
@@ -99,7 +106,7 @@ def marks_of(events: Iterable[Event], x_of: Callable[[int], float]) -> list[Mark
 
 def place_all(marks: list[Mark], length: int, are_kills_first: bool) -> list[Mark]:
     """Places the label with the index `length` of each mark, from the last mark to the first.
-    Returns the marks without room.
+    Returns the marks for whose labels there is no room.
     """
     for mark in marks:
         mark.row = None
@@ -112,8 +119,9 @@ def place_all(marks: list[Mark], length: int, are_kills_first: bool) -> list[Mar
 
 
 def place(marks: list[Mark]) -> list[Mark]:
-    """Places the longest labels with which all marks have room. If there are none, places the
-    shortest labels, those of kills first. Removes empty rows, and returns the marks without room.
+    """Places the longest labels with which there is room for all marks. If there are none, places
+    the shortest labels, first those of kills. Removes empty rows. Returns the marks for whose
+    labels there is no room.
     """
     lengths = min((len(mark.events[0].texts) for mark in marks), default=1)
     if not any(not place_all(marks, length, False) for length in range(lengths)):

@@ -1,5 +1,5 @@
-"""The panels of a chart. Each shows the pressure of one group for one resource, or the memory of
-one group.
+"""Draws the panels of a chart. A panel shows the pressure of one group for one resource, or the
+memory of one group.
 """
 from __future__ import annotations
 
@@ -29,22 +29,25 @@ from .svg import (
 )
 from .thresholds import Threshold, draw_thresholds
 
-# A panel's scale reaches at least 1 % or 1 MiB, so that tiny values don't look large.
+# A panel's scale reaches at least 1 % (in hundredths of a percent) or 1 MiB (in bytes), so that
+# tiny values don't look large.
 LEAST_SHARE = 100
 LEAST_BYTES = 1024**2
-# An average that begins at 0 is meaningful after this number of its periods.
+# The number of its periods after which an average that began at 0 is meaningful.
 SETTLED = 3
-# The left end of a panel's name, and the gap (pixels) to the right of the name.
+# The left end of a panel's name, and the gap to its right (pixels).
 NAME_LEFT, NAME_GAP = 16, 12
-# The legend of a memory panel: the distance of its start from the right end, and the width of each
-# entry (pixels). The entries also have room for the large letters of a phone.
+# The legend of a memory panel: the distance of its start from the right end of the panel, and the
+# width of each entry (pixels). The larger letters of browsers on phones fit too.
 MEMORY_LEGEND, MEMORY_ENTRY = 246, 140
-# The number of characters that fit to the left of a panel.
+# The most characters of a text to the left of a panel.
 COUNT_ROOM = 17
 
 
 class Frame(NamedTuple):
-    """The position of a panel: its top, its height, and the value at its upper edge."""
+    """The position and the scale of a panel: its top and its height (pixels), and the value at its
+    upper edge.
+    """
 
     top: float
     height: float
@@ -56,19 +59,21 @@ class Frame(NamedTuple):
 
     @property
     def scale(self) -> float:
+        """The pixels for a unit of the panel's values."""
         return self.height / self.most
 
 
 class Panel:
-    """The common parts of panels: a name, an axis with its unit, and the thresholds of rules."""
+    """A panel with a name, an axis with its unit, and the thresholds of rules. Subclasses draw the
+    curves.
+    """
 
     kind = ""
     of_what = ""
 
     def __init__(self, name: str, axis: TimeAxis, thresholds: list[Threshold]) -> None:
         self.name, self.axis, self.thresholds = name, axis, thresholds
-        # The text after the name in small letters, and the largest number of characters of the
-        # name.
+        # A text in small letters after the name, and the most characters of the name.
         self.remark, self.longest = "", 1000
 
     def most(self) -> int:
@@ -76,11 +81,11 @@ class Panel:
         raise NotImplementedError
 
     def is_flat(self) -> bool:
-        """Returns whether the panel shows nothing that needs height."""
+        """Whether the panel shows nothing that needs its full height."""
         return False
 
     def has_events(self) -> bool:
-        """Returns whether the panel has ticks for events."""
+        """Whether the panel has ticks for events of triggers."""
         return False
 
     def name_end(self) -> float:
@@ -100,18 +105,21 @@ class Panel:
             add(text, "tspan", self.remark, class_="small", dx=NAME_GAP)
 
     def step(self, most: int) -> int:
+        """Returns the distance between horizontal lines on a scale that reaches `most`."""
         raise NotImplementedError
 
     def apart(self, most: int) -> int:
-        """Returns the distance between the panel's horizontal lines. A low panel has lines only at
-        its ends.
+        """Returns the distance between the panel's horizontal lines. A flat panel has lines only at
+        its edges.
         """
         return most if self.is_flat() else self.step(most)
 
     def number(self, value: int, step: int) -> str:
+        """Formats the value of a horizontal line. The lines are `step` apart."""
         raise NotImplementedError
 
     def draw_inside(self, panel: Element, frame: Frame) -> None:
+        """Draws the curves."""
         raise NotImplementedError
 
     def draw(self, svg: Element, top: float, height: float, most: int) -> None:
@@ -135,7 +143,7 @@ class Panel:
 
 
 class Curves:
-    """The averages in a group's reports on a resource, as curves in one style."""
+    """The curves of the averages in a group's reports on one resource, in one style."""
 
     def __init__(self, series: Series, axis: TimeAxis, style: str = "") -> None:
         self.series, self.axis, self.style = series, axis, style
@@ -152,6 +160,7 @@ class Curves:
         return max(shares, default=0)
 
     def draw(self, panel: Element, frame: Frame) -> None:
+        """Draws the curve of each average and level."""
         for average, level in itertools.product(reversed(AVERAGES), LEVELS):
             shares = self.series.shares[level, average]
             lines = add(panel, "g", class_=f"series {level} {average}{self.style}")
@@ -164,8 +173,8 @@ class Curves:
                 add_line(lines, thinned(points), **style)
 
     def does_climb(self, average: str) -> bool:
-        """Returns whether the chart only shows the average climbing from 0. A machine that ran
-        before the trace had another value, which isn't known.
+        """Whether the chart only shows how the average climbs from 0 at the start of the trace. The
+        machine's own average had another value there, which isn't known.
         """
         period = int(average[len("avg") :]) * SECOND
         if self.axis.start >= period or self.axis.end >= SETTLED * period:
@@ -180,8 +189,8 @@ class Curves:
         )
 
     def unbroken(self) -> Iterator[list[int]]:
-        """Yields the indexes of consecutive reports. They are split if the group didn't exist for
-        two pixels or more.
+        """Yields lists of the indexes of consecutive reports. A new list begins after a time of two
+        pixels or more in which the group didn't exist.
         """
         rounds, times_ns = self.series.rounds, self.series.times_ns
         run: list[int] = []
@@ -196,8 +205,9 @@ class Curves:
 
 
 class PressurePanel(Panel):
-    """A panel with the averages in a group's reports on a resource. Below the curves it has a tick
-    for each event of the group's triggers. It may also show the recorded trace.
+    """A panel with the averages in a group's reports on one resource. Below the curves it has a
+    tick for each event of the group's triggers. If there are two replays, it shows the averages of
+    both.
     """
 
     of_what = "share of time"
@@ -230,7 +240,7 @@ class PressurePanel(Panel):
         )
 
     def is_flat(self) -> bool:
-        """Returns whether the panel has no pressure, no event, and no threshold of a rule."""
+        """Whether the panel has no pressure, no event, and no threshold of a rule."""
         return (
             not any(it.most() for it in self.curves)
             and not self.has_events()
@@ -265,6 +275,7 @@ class PressurePanel(Panel):
         return RIGHT - SMALL_LETTER * len(self.caveat())
 
     def draw_events(self, panel: Element, top: float) -> None:
+        """Draws a tick for each pixel column with an event, in a row for each level."""
         for row, (level, times_ns) in enumerate(zip(LEVELS, self.events[0])):
             columns = itertools.groupby(map(self.axis.x, times_ns), key=int)
             ticks = "".join(
@@ -275,8 +286,8 @@ class PressurePanel(Panel):
         add(panel, "text", self.counts(), class_="small", x=LEFT - 7, y=top + 10, text_anchor="end")
 
     def counts(self) -> str:
-        """Returns the number of events in the chart, and the number in the recorded trace if it
-        differs.
+        """Returns a text with the number of events in the chart, and the number in the replay of
+        the recorded trace if that differs.
         """
         count, *was = (sum(map(len, events)) for events in self.events)
         text = counted(count, "event")
@@ -287,7 +298,7 @@ class PressurePanel(Panel):
 
 
 class MemoryPanel(Panel):
-    """A panel with a group's memory and swap. Each sample is valid until the next one, or until the
+    """A panel with a group's memory and swap. A sample is valid until the next sample, or until the
     group is removed.
     """
 
@@ -302,8 +313,8 @@ class MemoryPanel(Panel):
         self.has_swap = any(it.swap for samples in self.lives for it in samples)
 
     def shown(self, life: Life) -> list[Sample]:
-        """Returns the samples in the shown time. The last sample before this time is moved to its
-        start, and the last sample within it is repeated at its end.
+        """Returns the samples within the time span of the chart. The last sample before the time
+        span is moved to its start, and the last sample is repeated at its end.
         """
         end = self.axis.end if life.end is None else min(life.end, self.axis.end)
         inside = [it for it in life.samples if self.axis.start <= it.moment <= end]
@@ -341,7 +352,8 @@ class MemoryPanel(Panel):
             text_anchor="middle")  # fmt: skip
 
     def steps(self, samples: list[Sample], is_swap: bool, frame: Frame) -> Iterator[Point]:
-        """Yields the points of a curve with steps: each value is constant up to the next sample."""
+        """Yields the points of a stepped curve: the value is constant from each sample to the next.
+        """
         last: Optional[float] = None
         for sample in samples:
             x, y = (

@@ -1,5 +1,5 @@
-"""The parts of a replay that a chart draws: reports and events of some groups, all kills, and
-removals of groups.
+"""Reads the parts of a replay's output that a chart draws: the reports and events of some groups,
+all kills, and removals of groups.
 """
 from __future__ import annotations
 
@@ -12,8 +12,9 @@ Which = tuple[str, str]
 
 
 class Series:
-    """The averages of one resource of a group: times in ns, values in hundredths of a percent. A
-    round is a tick with reports. If a round has no report on the group, the group didn't exist.
+    """The averages of one resource of a group: the time (ns), the number of the round, and the
+    shares (hundredths of a percent) of each report. A round is a tick with reports. If a round has
+    no report on the group, the group didn't exist.
     """
 
     def __init__(self) -> None:
@@ -23,7 +24,7 @@ class Series:
         }
 
     def take(self, report: Report, number: int) -> None:
-        """Adds a report, which belongs to round number `number`."""
+        """Adds a report of the round `number`."""
         self.times_ns.append(report.moment)
         self.rounds.append(number)
         for level, pressure in (("some", report.some), ("full", report.full)):
@@ -31,20 +32,23 @@ class Series:
                 self.take_line(level, pressure)
 
     def take_line(self, level: str, pressure: Pressure) -> None:
+        """Adds the averages of one level of a report."""
         for average, share in zip(AVERAGES, pressure):
             self.shares[level, average].append(share)
 
 
 class Removal(NamedTuple):
-    """A group with a report in the previous round, but none in the round at this time (ns)."""
+    """The removal of a group: the group has a report in the previous round, but none in the round
+    at the time `time_ns`.
+    """
 
     time_ns: int
     path: str
 
 
 class Rounds:
-    """The groups with reports in each round, and the first round without reports of each removed
-    group.
+    """Finds removals of groups. `before` and `now` are the groups with reports in the previous and
+    in the current round, and `paths` the groups with any report.
     """
 
     def __init__(self) -> None:
@@ -56,6 +60,7 @@ class Rounds:
         self.paths: set[str] = set()
 
     def take(self, time_ns: int, path: str) -> None:
+        """Adds a report on the group at `path`. A later time begins a new round."""
         if time_ns != self.time_ns:
             self.close()
             self.time_ns, self.number = time_ns, self.number + 1
@@ -63,7 +68,7 @@ class Rounds:
         self.paths.add(path)
 
     def close(self) -> None:
-        """Ends the round, and records which groups have no report in it."""
+        """Ends the round. The groups with a report only in the previous round were removed."""
         if self.time_ns is not None:
             removed = sorted(self.before - self.now)
             self.removals += [Removal(self.time_ns, path) for path in removed]
@@ -71,7 +76,7 @@ class Rounds:
 
 
 class Replay:
-    """The output of a replay for these groups, with all kills and removals of groups."""
+    """The parts of a replay's output that a chart of these groups draws."""
 
     def __init__(self, groups: list[str]) -> None:
         self.groups = groups
@@ -82,12 +87,14 @@ class Replay:
         self.end = End(0, 0, 0, 0)
 
     def take_report(self, report: Report) -> None:
+        """Adds a report if it is on a drawn group, and counts it for its round."""
         self.rounds.take(report.moment, report.path)
         if report.path in self.groups:
             series = self.series.setdefault((report.path, report.resource), Series())
             series.take(report, self.rounds.number)
 
     def take_event(self, event: Event) -> None:
+        """Adds an event of a trigger if it is of a drawn group."""
         if event.path in self.groups:
             self.events.setdefault((event.path, event.resource, event.level), []).append(
                 event.moment
@@ -100,6 +107,7 @@ class Replay:
 
 
 def read_replay(printed: Iterable[bytes], groups: list[str]) -> Replay:
+    """Reads the lines of a replay's output. `groups` are the drawn groups."""
     replay = Replay(groups)
     for line in read(printed):
         if isinstance(line, Report):

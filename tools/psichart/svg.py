@@ -1,4 +1,4 @@
-"""The elements of a picture, their positions and their styles."""
+"""Creates the elements of an SVG picture, and defines their positions and styles."""
 from __future__ import annotations
 
 import itertools
@@ -12,8 +12,9 @@ Point = tuple[float, float]
 WIDTH = 960
 LEFT = 112
 RIGHT = 936
-# The largest average width (pixels) of a character: in monospace fonts of 11 pixels, in other fonts
-# of 11 and 12 pixels, and in bold fonts of 13 (names of panels) and 16 pixels (titles).
+# The greatest average width (pixels) of a character: in monospace fonts of 11 pixels, in other
+# fonts of 11 and 12 pixels, and in bold fonts of 13 pixels (names of panels) and 16 pixels
+# (titles).
 MONOSPACE = 6.7
 SMALL_LETTER = 6.6
 LETTER = 7.2
@@ -67,8 +68,8 @@ text { fill: #e6e6e6; }
 }
 """
 
-# If two replays are drawn, the recorded replay has thin lines, and the replay without the killed
-# groups has thick lines.
+# The further styles if two replays are drawn: the recorded one has thin lines, and the one without
+# the killed groups has thick lines.
 STYLE_BESIDE = """.series.some { stroke-width: 2.5; }
 .series.full { stroke-width: 4.5; }
 .series.some.was { stroke-width: 1; }
@@ -102,19 +103,20 @@ def add(
 
 
 def add_line(parent: Element, points: Iterable[Point], **style: str) -> None:
-    """Adds a line through these points, with this style. A single point is written twice, so that
-    it is drawn as a dot.
+    """Adds a line through these points, with the attributes `style`. A single point is written
+    twice, so that it is drawn as a dot.
     """
     places = [f"{decimal(x)},{decimal(y)}" for x, y in points]
     add(parent, "polyline", points=" ".join(places * 2 if len(places) == 1 else places), **style)
 
 
 def counted(number: int, what: str) -> str:
+    """Returns a number with the noun `what`, in the plural unless the number is 1."""
     return f"{number or 'no'} {what}{'' if number == 1 else 's'}"
 
 
 def short(text: str, most: int) -> str:
-    """Returns the text. If it is longer than `most` characters, returns its beginning and its end.
+    """Returns a text of at most `most` characters: the text itself, or its beginning and its end.
     """
     return (
         text
@@ -124,7 +126,7 @@ def short(text: str, most: int) -> str:
 
 
 def columns(points: Iterable[Point]) -> Iterator[list[Point]]:
-    """Yields lists of consecutive points, one for each pixel column."""
+    """Yields a list of the points in each pixel column. The points are in order of x."""
     for _, column in itertools.groupby(points, key=lambda point: int(point[0])):
         yield list(column)
 

@@ -1,4 +1,4 @@
-"""The thresholds of rules for a drawn group, which are lines across its panels."""
+"""Draws the thresholds of rules for a group as lines across its panels."""
 from __future__ import annotations
 
 from typing import Iterator, NamedTuple, Optional
@@ -7,20 +7,20 @@ from psireplay.rules import Plugin, Rules, Ruleset, size
 
 from .svg import LEFT, RIGHT, SMALL_LETTER, Element, Point, add, short
 
-# The average that each pressure detector compares, which gives the line its colour, and a
+# For each detector of pressure, the average that it compares, which is the style of its line, and a
 # description.
 WATCHED = {
     "pressure_above": ("avg10", "full over 10 s"),
     "pressure_rising_beyond": ("avg60", "full over 60 s and over 10 s"),
 }
-# The free space around a label, and the label's distance from its line (pixels).
+# The free space around a label, and the position of a label above or below its line (pixels).
 NEXT_TO = 2.0
 ABOVE, BELOW = -5.0, 14.0
 
 
 class Threshold(NamedTuple):
-    """A line across a panel: its value (hundredths of a percent, or bytes), its style, and its
-    label.
+    """A line across a panel: its value (hundredths of a percent, or bytes), its style, and the text
+    of its label.
     """
 
     level: int
@@ -29,10 +29,12 @@ class Threshold(NamedTuple):
 
 
 def lasting(args: dict[str, str]) -> str:
+    """Returns the part of a label with the duration of a detector."""
     return "" if args["duration"] == "0" else f" for {args['duration']} s"
 
 
 def of_pressure(ruleset: Ruleset, detector: Plugin) -> Threshold:
+    """Returns the threshold of a detector of pressure."""
     style, what = WATCHED[detector.name]
     args = detector.args
     return Threshold(
@@ -43,6 +45,9 @@ def of_pressure(ruleset: Ruleset, detector: Plugin) -> Threshold:
 
 
 def of_memory(ruleset: Ruleset, detector: Plugin, host: Optional[int]) -> Iterator[Threshold]:
+    """Yields the threshold of a detector of memory, if its size (bytes) is known. `host` is the
+    memory of the host (bytes).
+    """
     args = detector.args
     level = size(args["threshold"], host)
     if level is not None:
@@ -64,8 +69,8 @@ def pressure_thresholds(rules: Optional[Rules], path: str, resource: str) -> lis
 
 
 def memory_thresholds(rules: Optional[Rules], path: str, host: Optional[int]) -> list[Threshold]:
-    """Returns the thresholds of the detectors that check this group's memory, on a host with `host`
-    bytes of memory.
+    """Returns the thresholds of the detectors that check this group's memory. `host` is the memory
+    of the host (bytes), or None if it isn't known.
     """
     return [
         threshold
@@ -77,7 +82,7 @@ def memory_thresholds(rules: Optional[Rules], path: str, host: Optional[int]) ->
 
 
 def merged(thresholds: list[Threshold]) -> list[Threshold]:
-    """Merges thresholds with equal value and style into one line, which has all their labels."""
+    """Merges thresholds with equal value and style into one threshold with the texts of all."""
     found: dict[tuple[int, str], list[str]] = {}
     for it in thresholds:
         texts = found.setdefault((it.level, it.style), [])
@@ -94,6 +99,7 @@ class Box(NamedTuple):
     bottom: float
 
     def overlaps(self, other: Box) -> bool:
+        """Whether this rectangle and another one overlap."""
         return (
             self.left < other.right
             and other.left < self.right
@@ -102,12 +108,12 @@ class Box(NamedTuple):
         )
 
     def is_crossed(self, points: list[Point]) -> bool:
-        """Returns whether a line through these points crosses the rectangle."""
+        """Whether a line through these points crosses the rectangle."""
         return any(self.meets(one, other) for one, other in zip(points, points[1:] or points))
 
     def meets(self, one: Point, other: Point) -> bool:
-        """Returns whether the segment between two points crosses the rectangle. The part of the
-        segment between the left and the right side must not be entirely above or below.
+        """Whether the segment between two points crosses the rectangle: the part of the segment
+        between the left and the right side isn't entirely above or below the rectangle.
         """
         (x, y), (end, level) = sorted([one, other])
         if end < self.left or x > self.right:
@@ -130,6 +136,7 @@ class Label(NamedTuple):
     anchor: str
 
     def box(self) -> Box:
+        """Returns the rectangle of the label with the free space around it."""
         width = SMALL_LETTER * len(self.text)
         left = self.x - {"start": 0.0, "middle": width / 2, "end": width}[self.anchor]
         return Box(
@@ -138,9 +145,9 @@ class Label(NamedTuple):
 
 
 def labels_of(it: Threshold, y: float) -> Iterator[Label]:
-    """Yields the possible labels of a threshold at the height `y`, the best first. Positions are at
-    the right end, the left end, the middle and the quarters, above or below the line. A label is
-    the whole text, or the part before the ruleset's name.
+    """Yields the possible labels of a threshold whose line is at `y`, the best first. A label has
+    the whole text, or the part before the ruleset's name. It is at the right end, the left end, the
+    middle or a quarter of the line, above or below it.
     """
     for text in dict.fromkeys((short(it.text, 100), short(it.text.partition(":")[0], 60))):
         for part, anchor in (
@@ -157,8 +164,8 @@ def labels_of(it: Threshold, y: float) -> Iterator[Label]:
 def draw_thresholds(
     panel: Element, thresholds: list[Threshold], top: float, bottom: float, scale: float
 ) -> None:
-    """Draws the thresholds from the top down. A label must not cover a curve or another label, or
-    leave the panel. A line without room for its label has only a tooltip.
+    """Draws the thresholds from the top down. A label must not cover a curve or another label, and
+    must lie within the panel. If there is no room for its label, a line has only a tooltip.
     """
     groups = [it for it in panel if (it.get("class") or "").startswith("series")]
     curves = [points_of(line) for group in groups for line in group]
@@ -186,7 +193,7 @@ def draw_thresholds(
 
 
 def points_of(line: Element) -> list[Point]:
-    """Returns the points of a line that was drawn."""
+    """Returns the points of a line that is already drawn."""
     return [
         (float(x), float(y))
         for x, y in (it.split(",") for it in (line.get("points") or "").split())
