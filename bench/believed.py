@@ -1,14 +1,14 @@
-"""Finds the definitions that the contracts of the top calls rest on: a closure over names.
+"""Finds all definitions and types on which the contracts of the top calls rest.
 
-It starts from the clauses of both `run` and of `observe`, and of the traits `Shelf` and `Sink`, and
-follows each name that they cite to its definition, and so on, also into the kit's libraries, but
-not into its standard library. A definition is in a file of `specs/`, a type in one of `src/`; if a
+The search starts from the clauses of both functions `run` and of `observe`, and of the traits
+`Shelf` and `Sink`. It follows each name that they cite to its definition, then the names in that
+definition, and so on, also into the libraries of the kit (the language's toolchain), but not into
+its standard library. A definition is in a file of `specs/`, and a type in a file of `src/`. If a
 type has a `Model`, contracts see only that. The kit's own types aren't listed. If no kit is
-installed, its definitions aren't followed.
+installed, the definitions in its libraries aren't followed.
 
-Names are found by their spelling, without the prover. A name that a definition binds itself, as a
-parameter, may be mistaken for another definition's: the result may be too large, but it lacks
-nothing.
+Names are found by their spelling, without the prover. The name of a parameter may be mistaken for a
+definition with the same name. So the result may be too large, but nothing is missing.
 """
 
 from __future__ import annotations
@@ -23,18 +23,19 @@ from collections.abc import Iterator
 TOP = pathlib.Path(__file__).resolve().parent.parent
 CRATES = TOP / "crates"
 
-# The folder of the kit's libraries in paths: `kit/json/specs/Lex.antt` is a file of definitions of
-# `json`.
+# The folder that stands for the kit's libraries in paths: `kit/json/specs/Lex.antt` is a file of
+# definitions of the library `json`.
 KIT = pathlib.Path("kit")
 
-# Where the reader of a contract starts: a file, and the words with which its function or trait
-# begins.
+# A contract from which the search starts: a file, and the words with which the function or the
+# trait begins there.
 Root = tuple[str, str]
 TRAITS: tuple[Root, ...] = (
     ("outside/src/shelf.rt", "pub trait Shelf "),
     ("outside/src/sink.rt", "pub trait Sink "),
 )
-# What is read together: the contracts of psi_oomd and psi_observe, and that of psi_convert.
+# The contracts that a reader studies together: first those of psi_oomd and psi_observe, then that
+# of psi_convert.
 READINGS: tuple[tuple[Root, ...], ...] = (
     (("replay_core/src/entry.rt", "pub fn run<"), ("observe_core/src/entry.rt", "pub fn observe<"),
      *TRAITS),
@@ -42,7 +43,7 @@ READINGS: tuple[tuple[Root, ...], ...] = (
 )
 ROOTS = tuple(dict.fromkeys(root for reading in READINGS for root in reading))
 
-# The kit's language and standard library, which aren't listed.
+# The crates of the kit's language and standard library, whose definitions aren't listed.
 PLAIN = ("std", "core", "mathlib")
 
 NAME = re.compile(r"[^\W\d][\w'◌-]*")
@@ -50,7 +51,7 @@ DECLARED = re.compile(
     r"(?:unfoldable |abbrev |pub |record |data )*(?P<name>[\w'-]*◌[^\s:]*|[^\W\d][\w'-]*)(?= "
     r"[^=]*?:| *$)"
 )
-# Lines that begin a block of mutual definitions, which are indented by two.
+# The lines that begin a block of mutually recursive definitions, which are indented by two spaces.
 BLOCKS = ("mutual", "abbrev mutual", "unfoldable mutual")
 IMPORT = re.compile(r"^ *(?:pub |ghost )*use ([\w.]+?)(?:\.\{([^}]*)\}| as (\w+));? *$",
                     re.MULTILINE)
@@ -67,7 +68,9 @@ class Item:
 
 @dataclasses.dataclass
 class Module:
-    """A file: the bodies of its definitions, and what its imported names refer to."""
+    """A file: the bodies of its definitions by name, its imported names with the module and the
+    name of each there, and the modules of its aliases.
+    """
 
     path: pathlib.Path
     bodies: dict[str, str]
@@ -76,7 +79,7 @@ class Module:
 
 
 def without_comments(text: str, mark: str) -> str:
-    """Returns a text without its comments, which begin with `mark`."""
+    """Returns a text without its comments. A comment begins with `mark`, and ends with its line."""
     return "\n".join(re.sub(rf"(^| ){mark}.*", "", line) for line in text.splitlines())
 
 
@@ -118,8 +121,8 @@ def bodies_of(text: str) -> dict[str, str]:
 
 
 def types_of(text: str) -> dict[str, str]:
-    """Returns the body of each type of a file of code: its declaration, or its `Model` if it has
-    one.
+    """Returns the body of each type in the text of a code file: its `Model` if it has one,
+    otherwise its declaration.
     """
     found = {}
     for one in re.finditer(
@@ -132,8 +135,8 @@ def types_of(text: str) -> dict[str, str]:
 
 
 def code_imports(text: str) -> dict[str, tuple[str, str]]:
-    """Returns the types that a file of code imports, each with its crate: `crate` for the file's
-    own.
+    """Returns the types that a code file imports, each with its crate and its name there. The crate
+    of the file itself is called `crate`.
     """
     found = {}
     for crate, listed, one in re.findall(
@@ -146,7 +149,7 @@ def code_imports(text: str) -> dict[str, tuple[str, str]]:
 
 @functools.cache
 def module_at(path: pathlib.Path) -> Module:
-    """Parses a file of definitions or of code."""
+    """Parses a file of definitions or a code file."""
     text = path.read_text(encoding="utf-8")
     if path.suffix == ".antt":
         text = without_comments(text, "--")
@@ -173,7 +176,7 @@ def kit_libraries() -> pathlib.Path | None:
 
 
 def source_of(path: pathlib.Path) -> pathlib.Path | None:
-    """Returns the path on disk: a file of the kit is in its library, if the kit is installed."""
+    """Returns the path of a file on disk. None for a file of the kit if no kit is installed."""
     if not path.is_relative_to(KIT):
         return path
     _, crate, _, name = path.parts
@@ -191,8 +194,8 @@ def folder_of(crate: str) -> pathlib.Path | None:
 
 
 def item_at(module: str, name: str, own: pathlib.Path) -> Item | None:
-    """Returns the item that a name of a module refers to, seen from a file, or None if it isn't
-    listed.
+    """Returns the item to which the name `name` of `module` refers, or None if such items aren't
+    listed. `own` is the crate's folder of the file that uses the name.
     """
     if module.startswith("type "):
         crate = own if module == "type crate" else folder_of(module.removeprefix("type "))
@@ -213,8 +216,8 @@ def item_at(module: str, name: str, own: pathlib.Path) -> Item | None:
 
 
 def found_in(path: pathlib.Path, name: str) -> Item | None:
-    """Returns the definition with this name in a file, or the definition that the file imports by
-    it.
+    """Returns the definition with this name in a file. If the file imports the name, returns the
+    imported definition. If the name is that of a part of a definition, returns that definition.
     """
     module = module_at(path)
     if name in module.bodies:
@@ -227,7 +230,8 @@ def found_in(path: pathlib.Path, name: str) -> Item | None:
 
 
 def cited_in(body: str, module: Module) -> Iterator[tuple[str, str]]:
-    """Yields the names that a body cites, each with its module: '' for the file's own."""
+    """Yields the names that a body cites, each with its module, which is '' for names of the file.
+    """
     for alias, there in module.aliases.items():
         yield from (
             (there, name) for name in re.findall(rf"(?<![\w.]){re.escape(alias)}\.([\w']+)", body)
@@ -277,7 +281,7 @@ def roots(starts: tuple[Root, ...]) -> Iterator[Item]:
 
 @functools.cache
 def believed(starts: tuple[Root, ...] = ROOTS) -> frozenset[Item]:
-    """Returns all definitions and types that the contracts of the top calls rest on."""
+    """Returns all definitions and types on which the contracts of these top calls rest."""
     reached: set[Item] = set()
     ahead = list(roots(starts))
     while ahead:
@@ -289,13 +293,13 @@ def believed(starts: tuple[Root, ...] = ROOTS) -> frozenset[Item]:
 
 
 def unreached(path: pathlib.Path) -> list[str]:
-    """Returns the definitions of a file that no such contract rests on."""
+    """Returns the definitions of a file on which no contract of a top call rests."""
     names = {item.name for item in believed() if item.path == path}
     return [name for name in module_at(path).bodies if name not in names]
 
 
 def has_model(item: Item) -> bool:
-    """Returns whether contracts see only the `Model` of a type."""
+    """Whether an item is a type of which contracts see only its `Model`."""
     return (
         item.path.suffix == ".rt" and "Model for" in module_at(item.path).bodies.get(item.name, "")
     )

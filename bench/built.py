@@ -1,4 +1,4 @@
-"""The program that is measured: the same that tests run."""
+"""Finds the programs to measure, as the tests find the programs that they run."""
 from __future__ import annotations
 
 import os

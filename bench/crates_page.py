@@ -1,6 +1,6 @@
 #!/usr/bin/env python3
-"""Prints crates/README.md: the groups of crates.txt, with the first sentence of each crate's own
-header.
+"""Prints crates/README.md: a list of all crates in the groups of crates.txt, with the first
+sentence of each crate's header.
 
 usage: bench/crates_page.py [--write]
 

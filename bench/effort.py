@@ -1,6 +1,6 @@
 #!/usr/bin/env python3
 """Compares the cost of small runs of the programs with the figures stored in bench/effort.json, and
-prints what rose.
+prints the figures that rose.
 
 usage: bench/effort.py [--program PATH] [--store] [NAME ..]     (the built psi_oomd, and all runs of
     bench/effort_runs.py; of
@@ -19,12 +19,13 @@ Time depends on the machine, so these are counted instead:
     peak                  the peak resident memory with the larger input, in KB; the least of three
                           runs
 
-A figure in instructions or KB may rise by 3 percent, and a peak by 256 KB more. If a thread reads
-the clocks of threads that are running, each figure may rise further, by the percentage in its run.
-A number of calls must equal the stored one: one thread instead of four is no gain. A figure that
-fell by more than that is reported, but isn't a fault; `--store` stores the figures again, and the
-commit shows the difference. Figures are valid for the architecture and the C library that are
-stored with them: on another system, measure and store the state before a change first.
+A figure in instructions or KB may rise by 3 percent, and a peak by a further 256 KB. In runs with a
+thread that reads the clocks of running threads, figures vary, and may rise by a further percentage
+that is stored with the run. A number of calls must equal the stored number: one thread instead of
+four is no gain. A figure that fell by more than it may rise is reported, but isn't a fault.
+`--store` stores the figures again, and the commit shows the difference. Figures are valid for the
+architecture and the C library that are stored with them: on another system, measure and store the
+state before a change first.
 
 Requires the Debian packages valgrind, strace and time. Ends with status 1 if a figure is wrong, and
 2 if a package is missing or a run failed.
@@ -46,8 +47,8 @@ HERE = os.path.dirname(os.path.abspath(__file__))
 STORED = os.path.join(HERE, "effort.json")
 TOOLS = ("valgrind", "strace", "time")
 MAY_RISE_PERCENT = 3.0
-# How many runs the peak is taken from, and the rise (KB) that is always allowed: the system counts
-# pages in batches.
+# The number of runs of which the least peak counts, and the rise of a peak (KB) that is always
+# allowed, since the system counts pages in batches.
 PEAKS = 3
 PEAK = "peak in KB"
 MAY_RISE_KB = 256
@@ -59,19 +60,19 @@ CALLS = {
     "threads": ("clone", "clone3", "fork", "vfork"),
     "memory calls": ("mmap", "mremap", "munmap", "brk", "madvise"),
 }
-# The calls that loading a program makes too.
+# The kinds of calls that loading a program makes too, so that the calls for loading are subtracted.
 LOADING = ("reads", "opens", "memory calls")
 
-# The figures of a run by name; the name contains the unit.
+# The figures of a run by name. The name contains the unit.
 Figures = dict[str, float]
 
 
 class Failed(Exception):
-    """A run that can't be measured, with the reason."""
+    """The error that a run can't be measured. The message says why."""
 
 
 def run_to_end(words: list[str], status: int = 0) -> None:
-    """Runs a program, drops its output, and raises Failed unless it ends with this status."""
+    """Runs a program and drops its output. Raises Failed unless the program ends with `status`."""
     done = subprocess.run(words, stdin=subprocess.DEVNULL, stdout=subprocess.DEVNULL,
                           stderr=subprocess.PIPE)
     if done.returncode != status:
@@ -80,8 +81,8 @@ def run_to_end(words: list[str], status: int = 0) -> None:
 
 
 def instructions_of(words: list[str], room: str) -> int:
-    """Returns the number of instructions of all threads of a run, by callgrind. What runs before an
-    `exec` isn't counted.
+    """Returns the number of instructions that all threads of a run execute, by callgrind.
+    Instructions before an `exec` don't count.
     """
     counted = os.path.join(room, "callgrind")
     tool = ["valgrind", "--quiet", "--tool=callgrind", "--trace-children=yes", "--fair-sched=try"]
@@ -106,8 +107,8 @@ def calls_of(words: list[str], room: str, status: int = 0) -> dict[str, int]:
 
 
 def peak_of(words: list[str], room: str) -> int:
-    """Returns the peak resident memory (KB) of a run. It is run by `time`, since the system counts
-    the parent's memory as its own, and `time` has little.
+    """Returns the peak resident memory (KB) of a run. The program `time` starts the run, because
+    the system counts the memory of the parent process too, and `time` has little.
     """
     counted = os.path.join(room, "time")
     peaks = []
@@ -124,7 +125,8 @@ def costs_of(run: Run) -> list[str]:
 
 
 def figures_of(run: Run, program: str, loading: dict[str, int], room: str) -> Figures:
-    """Measures a run of a program. `loading` has the calls of a run without arguments."""
+    """Measures a run of a program. `loading` has the numbers of calls of a run without arguments.
+    """
     small, large = ([program, *run.words_for(size, room)] for size in run.sizes)
     at_first = instructions_of(small, room)
     more = instructions_of(large, room) - at_first
@@ -147,8 +149,8 @@ def may_differ(name: str, before: float, run: Run) -> float:
 
 
 def faults_of(run: Run, stored: Figures, found: Figures) -> tuple[list[str], list[str]]:
-    """Returns the faults of a run's figures, and the figures that are lower and may be stored
-    again.
+    """Returns a line for each figure of a run that is wrong, and a line for each figure that fell
+    so far that it may be stored again.
     """
     wrong: list[str] = []
     lower: list[str] = []
@@ -165,7 +167,7 @@ def faults_of(run: Run, stored: Figures, found: Figures) -> tuple[list[str], lis
 
 
 def system() -> str:
-    """Returns the machine's architecture and C library, which the figures depend on."""
+    """Returns the machine's architecture and C library, on which the figures depend."""
     return ", ".join([platform.machine(), " ".join(platform.libc_ver())])
 
 
@@ -187,8 +189,8 @@ def write_stored(figures: dict[str, Figures]) -> None:
 
 
 def compare(runs: list[Run], programs: dict[str, str], is_stored: bool) -> bool:
-    """Measures these runs, prints their figures, and returns whether none is wrong. Stores them if
-    `is_stored`.
+    """Measures these runs and prints their figures. Stores them if `is_stored`. Returns whether no
+    figure is wrong, or true if they are stored.
     """
     where, stored = read_stored()
     if where != system():
@@ -249,7 +251,9 @@ def words_of(arguments: list[str]) -> tuple[list[str], bool, list[Run]]:
 
 
 def programs_of(named: list[str], runs: list[Run]) -> dict[str, str]:
-    """Returns the programs of the runs by name, and psi_oomd, which generates what they read."""
+    """Returns the paths of the programs of these runs by name, and of psi_oomd, which generates
+    their inputs.
+    """
     others = {run.program for run in runs} - {"psi_oomd"}
     return {"psi_oomd": program_of(named)[0], **{name: program_of([], name)[0] for name in others}}
 

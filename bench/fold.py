@@ -37,8 +37,8 @@ Line = tuple[int, str]
 
 
 class Services:
-    """The machine, and how long its threads still have to compute (ns). `due` holds future events
-    by time (ns).
+    """The simulated machine. `left` has the time (ns) that each thread must still compute before it
+    passes its token on, and `due` has the future events by time (ns).
     """
 
     def __init__(self, cpus: int, services: int, least: int, most: int) -> None:
@@ -57,7 +57,7 @@ class Services:
         self.count = 0
 
     def begin(self) -> Iterator[str]:
-        """Creates groups and tasks, all asleep."""
+        """Yields the lines that create the groups and the tasks, which all sleep."""
         yield from (f"group {path}" for path in SLICES)
         for service in range(self.services):
             path = f"{SLICES[service % 3]}/svc{service}.service"
@@ -68,7 +68,7 @@ class Services:
                             f"switch {cpu} 0 sleep")
 
     def lines(self, end: int) -> Iterator[Line]:
-        """Yields the lines of the trace up to the end (ns)."""
+        """Yields the lines of the trace, which ends at `end` (ns)."""
         yield from ((0, words) for words in self.begin())
         for token in range(self.services * 3 // 4):
             yield from self.call(token % self.services, 0)
@@ -78,7 +78,7 @@ class Services:
         yield end, "end"
 
     def later(self, time_ns: int, what: str, about: int) -> None:
-        """Schedules an event for a later time (ns)."""
+        """Schedules a call of the method `what` with the argument `about` for a later time (ns)."""
         self.count += 1
         heapq.heappush(self.due, (time_ns, self.count, what, about))
 
@@ -90,7 +90,7 @@ class Services:
             self.queue[service] += 1
 
     def wake(self, number: int, time_ns: int) -> Iterator[Line]:
-        """Wakes a thread, on an idle processor if there is one."""
+        """Wakes a thread on its last processor, or on an idle or a random one if that is busy."""
         cpu = self.home[number]
         if self.running[cpu] or self.ready[cpu]:
             idle = [it for it in range(self.cpus) if not self.running[it] and not self.ready[it]]
@@ -111,7 +111,7 @@ class Services:
             self.start(number, cpu, time_ns)
 
     def start(self, number: int, cpu: int, time_ns: int) -> None:
-        """Begins a thread's turn."""
+        """Begins a turn of a thread, which lasts at most TURN."""
         self.running[cpu] = number
         left = self.left[number] = (
             self.left.get(number) or self.draw.randrange(self.least, self.most) * 1000
@@ -119,7 +119,9 @@ class Services:
         self.later(time_ns + min(left, TURN), "done", cpu)
 
     def leave(self, cpu: int, time_ns: int, how: str) -> Iterator[Line]:
-        """The running thread leaves the processor, and the next one runs."""
+        """Yields the switch by which the running thread leaves a processor, and the next thread
+        runs.
+        """
         following = self.ready[cpu].popleft() if self.ready[cpu] else 0
         yield time_ns, f"switch {cpu} {following} {how}"
         self.running[cpu] = 0
@@ -127,7 +129,7 @@ class Services:
             self.start(following, cpu, time_ns)
 
     def done(self, cpu: int, time_ns: int) -> Iterator[Line]:
-        """Ends a turn."""
+        """Ends the turn of a processor's running thread."""
         number = self.running[cpu]
         self.left[number] -= min(self.left[number], TURN)
         service = (number - 1) // THREADS
@@ -146,7 +148,9 @@ class Services:
             yield from self.hand_on(cpu, number, service, time_ns)
 
     def hand_on(self, cpu: int, number: int, service: int, time_ns: int) -> Iterator[Line]:
-        """A thread passes its token on, and takes another or sleeps."""
+        """Passes the token of a thread on. The thread takes the next token of its service, or
+        sleeps.
+        """
         self.waited.discard(number)
         if service == 5 and self.draw.random() < 0.02:
             yield from ((time_ns, f"stall {number}"), (time_ns, f"unstall {number}"))
@@ -166,13 +170,15 @@ def lines_of(seconds: float, cpus: int, services: int, least: int, most: int) ->
 
 
 def processor_seconds() -> float:
-    """Returns the processor time (s) of this process and of the children that it waited for."""
+    """Returns the processor time (s) of this process and of its children that have ended."""
     used = [resource.getrusage(who) for who in (resource.RUSAGE_SELF, resource.RUSAGE_CHILDREN)]
     return sum(it.ru_utime + it.ru_stime for it in used)
 
 
 def measure(lines: list[str], cpus: int, window: float, seconds: float) -> str:
-    """Returns a row of the table."""
+    """Folds these lines into windows of `window` s, and returns the row of the table with the
+    measurements. The trace has `seconds` s.
+    """
     start, begun = processor_seconds(), time.monotonic()
     fold = Fold(cpus, round(window * 10**9), lambda _: None)
     fold.take(lines)

@@ -32,13 +32,13 @@ from typing import NamedTuple
 ROOT = pathlib.Path(__file__).resolve().parent.parent
 TICKS = os.sysconf("SC_CLK_TCK")
 KINDS = ("proof", "tests", "edits")
-# The least size (bytes) of a function's stored borrow-checker walk that is worth a look.
+# The least size (bytes) of a function's stored borrow-checker walk that --dear lists.
 DEAR = 3_000_000
 
 
 class Work(NamedTuple):
-    """A crate's checks of one kind: processor time (s), and when the first and the last were seen
-    (s after the start).
+    """The checks of one kind of a crate: their processor time (s), and the times at which the first
+    and the last of them were sampled (s after the start).
     """
 
     seconds: float
@@ -50,7 +50,7 @@ Works = dict[tuple[str, str], Work]
 
 
 def words_of(process: pathlib.Path) -> list[str]:
-    """Returns the arguments that a process was started with; empty if it has ended."""
+    """Returns the arguments with which a process was started, or nothing if it has ended."""
     try:
         return process.joinpath("cmdline").read_text(errors="replace").split("\0")
     except OSError:
@@ -58,9 +58,11 @@ def words_of(process: pathlib.Path) -> list[str]:
 
 
 def check_of(process: pathlib.Path, gate: int) -> tuple[str, str] | None:
-    """Returns the crate that a process checks and the kind of check, if the gate started it.
+    """Returns the crate that a process checks and the kind of check, or None if the process isn't a
+    check that the gate started.
 
-    A check's own child processes don't count: once they have ended, their time is part of its own.
+    The child processes of a check don't count, since the system adds their time to that of the
+    check when they end.
     """
     words = words_of(process)
     if "--crate-name" not in words or not words[0].endswith("/rattle") or parent_of(
@@ -78,8 +80,8 @@ def check_of(process: pathlib.Path, gate: int) -> tuple[str, str] | None:
 
 
 def numbers_of(process: pathlib.Path) -> list[str]:
-    """Returns the fields of a process from its state on (proc(5), `stat`); empty if it has
-    ended.
+    """Returns the fields of a process's `stat` from its state on (proc(5)), or nothing if the
+    process has ended.
     """
     try:
         return process.joinpath("stat").read_text().rpartition(")")[2].split()
@@ -99,8 +101,8 @@ def processor_time(process: pathlib.Path) -> float:
 
 
 def watch(gate: subprocess.Popen[bytes], start: float) -> Works:
-    """Waits for the gate, which began at `start` (s, monotonic clock). Returns the work by crate
-    and kind.
+    """Samples the checks of the gate, which started at `start` (s, monotonic clock), until it ends.
+    Returns the work by crate and kind.
     """
     taken: dict[tuple[int, str, str], Work] = {}
     while gate.poll() is None:
@@ -122,8 +124,8 @@ def watch(gate: subprocess.Popen[bytes], start: float) -> Works:
 
 
 def row(name: str, works: dict[str, Work]) -> str:
-    """Returns a crate's row: minutes of processor time by kind, and when its first check began, its
-    proofs ended and all ended.
+    """Returns the row of a crate: minutes of processor time by kind of check, and the times
+    (minutes) at which its first check began, its proofs ended and its last check ended.
     """
     minutes = [works[kind].seconds / 60 if kind in works else 0.0 for kind in KINDS]
     begun = min(work.begun for work in works.values()) / 60
@@ -161,7 +163,8 @@ def dear_walks() -> list[tuple[int, str, str]]:
 
 
 def keeps_between_runs() -> bool:
-    """Returns whether this `rt` keeps proofs for the next gate, and so has `--anew`."""
+    """Whether this `rt` stores proofs for the next run of the gate, and so has the option `--anew`.
+    """
     said = subprocess.run(
         ["rt", "help"], stdout=subprocess.PIPE, stderr=subprocess.STDOUT, text=True, check=False
     ).stdout

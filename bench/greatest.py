@@ -1,4 +1,6 @@
-"""A trace of an hour of the largest machine that is allowed, and rules with as much to do."""
+"""Generates a trace of an hour of the largest machine that a trace may have, and rules that take
+the most work to evaluate.
+"""
 from __future__ import annotations
 
 import json
@@ -8,20 +10,20 @@ from collections.abc import Iterator
 from make_trace import Machine, group_paths
 
 HOUR = 3600 * 10**9
-# A plugin of a rules file.
+# A detector or an action of a rules file: its name and its arguments.
 Plugin = dict[str, "str | dict[str, str]"]
 
 
 def patterns() -> str:
-    """Returns the largest number of patterns that an argument may have: the groups of each depth
-    from 1 to 16.
+    """Returns an argument with the most patterns that it may have. They match the groups of each
+    depth from 1 to 16.
     """
     return ",".join("/".join(["*"] * depth) for depth in range(1, 17))
 
 
 def greatest_rules() -> str:
-    """64 rulesets of 16 detectors and 16 actions each; each evaluation runs them all. One has 16
-    patterns.
+    """Returns a rules file with 64 rulesets of 16 detectors and 16 actions each. Each evaluation
+    runs all of them. One action of each ruleset has 16 patterns.
     """
     detectors: list[Plugin] = [
         {
@@ -50,8 +52,8 @@ def greatest_rules() -> str:
 
 
 def greatest_lines(events: int) -> Iterator[str]:
-    """Yields an hour of 64 processors, 1,024 groups up to 32 deep, 65,536 tasks and 256
-    triggers.
+    """Yields the lines of a trace of an hour with 64 processors, 1,024 groups in up to 32 levels,
+    65,536 tasks and 256 triggers. `events` is the number of lines after the initial state.
     """
     draw = random.Random(1)
     paths, homes = group_paths(1023, 32)

@@ -1,11 +1,11 @@
 #!/usr/bin/env python3
-"""Times `import` over 100 MB of ftrace text beside `wc -lw` on the same file.
+"""Times `psi_oomd import` of 100 MB of ftrace text, and `wc -lw` on the same file for comparison.
 
 usage: bench/import_time.py [--program PATH]     (the built program)
 
-The text is a stored recording, repeated with later times. Both run five times, in turns. Prints the
-best time of each (wall-clock seconds), their ratio and, if GNU time is installed, the peak memory.
-A benchmark: nothing is asserted.
+The text is a stored recording, repeated with later times. Both programs run five times, in turns.
+Prints the best wall-clock time (s) of each, their ratio and, if GNU time is installed, the peak
+memory of `import`. This is a benchmark, which asserts nothing.
 """
 from __future__ import annotations
 
@@ -32,7 +32,7 @@ def later(data: bytes, seconds: int) -> bytes:
 
 
 def long_text(path: str) -> None:
-    """Writes about 100 MB: a recording repeated with later times."""
+    """Writes a text of about SIZE bytes: a stored recording, repeated with later times."""
     data = text(TIMED)
     times = [int(it[1]) for it in MOMENT.finditer(data)]
     length = times[-1] - times[0] + 1
@@ -42,7 +42,7 @@ def long_text(path: str) -> None:
 
 
 def measure(program: str, folder: str) -> None:
-    """Times both programs in turns."""
+    """Times both programs in turns, and prints the result."""
     path = os.path.join(folder, "text")
     long_text(path)
     runs = [

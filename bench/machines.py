@@ -1,12 +1,12 @@
 #!/usr/bin/env python3
-"""Simulated machines: services on a few processors that compute, wait for IO and thrash by
-episodes, as traces of scheduler events.
+"""Simulates a machine whose services compute, wait for IO and thrash in episodes, and prints the
+trace of its scheduler events.
 
 usage: bench/machines.py SEED SECONDS [--processors N] [--services N] [--depth] > TRACE
 
-A run queue for each processor, time slices of 10 ms, and tasks that choose the processor with the
-shorter of two queues when they wake. Each second every group's memory, swap and scanned pages are
-sampled.
+Each processor has a run queue, and time slices have 10 ms. A task that wakes chooses the processor
+with the shorter queue of two random processors. Each second the trace has a sample of every group's
+memory, swap and scanned pages.
 """
 from __future__ import annotations
 
@@ -25,7 +25,9 @@ HOST, SWAP = 16 * GB, 4 * GB
 
 
 class Service:
-    """A leaf group: its tasks' habits by time, and its memory."""
+    """A group without children: its memory, swap (bytes) and scanned pages, and the episodes of its
+    load, each with start and end (ns), kind and intensity.
+    """
 
     def __init__(self, path: str, rng: random.Random, seconds: int, is_busy: bool) -> None:
         self.path, self.rng, self.is_busy = path, rng, is_busy
@@ -48,7 +50,7 @@ class Service:
         )
 
     def sample(self, time: int) -> None:
-        """Takes memory on by a second."""
+        """Advances the memory, the swap and the scanned pages by a second."""
         kind, force = self.episode(time)
         if kind == "thrash":
             self.memory = min(6 * GB, int(self.memory * (1 + 0.04 * force)))
@@ -60,7 +62,9 @@ class Service:
 
 
 class Task:
-    """A task: what it still runs before it leaves, for what it leaves, and for how long."""
+    """A task. `burst` is the time (ns) that it still runs before it leaves its processor, `leaves`
+    how it leaves, and `sleep` the time (ns) for which it then sleeps.
+    """
 
     def __init__(self, number: int, service: Service) -> None:
         self.number, self.service = number, service
@@ -68,7 +72,7 @@ class Task:
         self.is_stalled = self.ends_stall = False
 
     def plan(self, time: int) -> None:
-        """The next burst."""
+        """Chooses the next burst, according to the service's load at `time` (ns)."""
         rng = self.service.rng
         kind, force = self.service.episode(time)
         self.ends_stall, self.leaves = self.is_stalled, "sleep"
@@ -87,7 +91,7 @@ class Task:
 
 
 class Machine:
-    """A machine that runs, and prints events."""
+    """The simulated machine. Its methods yield the lines of the trace."""
 
     def __init__(
         self, seed: int, seconds: int, processors: int, paths: list[str], busy: int
@@ -129,7 +133,7 @@ class Machine:
         yield f"{self.end} end"
 
     def happen(self, time: int, kind: str, what: int | Task) -> Iterator[str]:
-        """One event."""
+        """Handles a scheduled event: a task wakes, memory is sampled, or a time slice ends."""
         if isinstance(what, Task):
             first, second = self.rng.randrange(self.processors), self.rng.randrange(self.processors)
             what.cpu = min(first, second,
@@ -143,13 +147,15 @@ class Machine:
             yield from self.stop(time, what)
 
     def ready(self, time: int, task: Task) -> Iterator[str]:
-        """A task is ready: it runs if its processor is free."""
+        """Makes a task ready. It runs at once if its processor is idle."""
         self.queues[task.cpu].append(task)
         if self.runs[task.cpu] is None:
             yield from self.start(time, task.cpu, "idle")
 
     def start(self, time: int, cpu: int, how: str) -> Iterator[str]:
-        """The next task of a processor runs."""
+        """Switches a processor to the next task of its queue, or to none. The running task leaves
+        by `how`.
+        """
         if not self.queues[cpu]:
             self.runs[cpu] = None
             if how != "idle":
@@ -165,7 +171,7 @@ class Machine:
         self.push(self.slices[cpu], "slice", cpu)
 
     def stop(self, time: int, cpu: int) -> Iterator[str]:
-        """A time slice, or a burst, is over."""
+        """Ends a time slice of a processor's running task, which may also end the task's burst."""
         task = self.runs[cpu]
         assert task
         task.burst -= min(SLICE, task.burst)
@@ -201,13 +207,13 @@ class Machine:
 
 
 def small_tree(services: int) -> list[str]:
-    """Returns a few slices with services."""
+    """Returns the paths of three slices, and of `services` services in them."""
     slices = ("/system.slice", "/batch.slice", "/user.slice")
     return [*slices, *(f"{slices[number % 3]}/s{number}.service" for number in range(services))]
 
 
 def big_tree(slices: int, services: int) -> list[str]:
-    """Slices with as many services each."""
+    """Returns the paths of `slices` slices, each with `services` services."""
     return [
         path for one in range(slices) for path in (
             f"/s{one}.slice", *(f"/s{one}.slice/u{it}" for it in range(services))

@@ -1,6 +1,6 @@
 #!/usr/bin/env python3
-"""Makes a recording from a trace, as tools/record would have written it, to measure tools/psitrace
-on recordings of any length.
+"""Makes a recording from a trace, in the form in which tools/record writes recordings. It serves to
+measure tools/psitrace on recordings of any length.
 
 usage: bench/make_recording.py TRACE FOLDER [TIMES]     (1 if TIMES is left out)
 
@@ -29,7 +29,7 @@ HOWS = {"preempt": 0, "sleep": 1, "iowait": 2, "exit": 32, "idle": 0}
 
 
 class Record:
-    """Writes records of an event: numbers by field, all other bytes zero."""
+    """Builds records of an event, with integers in the fields `names`. All other bytes are 0."""
 
     def __init__(self, form: Format, names: tuple[str, ...]) -> None:
         fields = [form.fields[name] for name in ("common_type", *names)]
@@ -49,14 +49,14 @@ class Record:
 
 
 class Pages:
-    """The pages of a processor; each is written once it is full."""
+    """Writes the pages of a processor. A page is written to the file when it is full."""
 
     def __init__(self, name: str) -> None:
         self.file = open(name, "wb")
         self.page, self.first, self.last = bytearray(), 0, 0
 
     def add(self, time_ns: int, data: bytes) -> None:
-        """Adds a record."""
+        """Adds a record at `time_ns` to the current page."""
         if not self.page or len(self.page) + len(
             data
         ) + 4 > PAGE - HEAD or time_ns - self.last >= LONGEST:
@@ -66,7 +66,7 @@ class Pages:
         self.last = time_ns
 
     def end(self) -> None:
-        """Writes the page."""
+        """Writes the current page, and begins a new one."""
         if self.page:
             self.file.write(
                 struct.pack("<QQ", self.first, len(self.page)) + self.page.ljust(PAGE - HEAD, b"\0")
@@ -75,7 +75,7 @@ class Pages:
 
 
 class Recording:
-    """A recording that is being written."""
+    """Writes a recording into a new folder."""
 
     def __init__(self, folder: str, processors: int) -> None:
         os.mkdir(folder)
@@ -106,7 +106,7 @@ class Recording:
             file.write(text)
 
     def take(self, time_ns: int, words: list[str]) -> None:
-        """Records a line of the trace."""
+        """Writes the records of the events that a line of the trace describes."""
         verb = words[0]
         if verb == "group":
             self.snapshot.append(f"group {words[1]} none")
@@ -129,7 +129,7 @@ class Recording:
             self.pages[cpu].add(time_ns, self.stalls[verb].bytes(number))
 
     def end(self) -> None:
-        """Writes the pages that aren't full."""
+        """Writes the pages that aren't full, and the remaining files of the recording."""
         for pages in self.pages:
             pages.end()
             pages.file.close()
@@ -155,7 +155,8 @@ def main(arguments: list[str]) -> None:
         recording = Recording(folder, int(file.readline().partition("cpus=")[2]))
         for line in file:
             time_ns, *words = line.split()
-            # Tasks and groups that begin at 0 are in the snapshot, asleep.
+            # Tasks and groups of the initial state (time 0) are only in the snapshot. The tasks
+            # sleep.
             if words[0] in ("group", "fork") or int(time_ns):
                 recording.take(START + int(time_ns), words)
     recording.end()

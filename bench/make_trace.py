@@ -3,12 +3,12 @@
 
 usage: make_trace.py EVENTS TASKS [CPUS [GROUPS [DEPTH [SEED]]]]     (1, 0, 1 and 1 if left out)
 
-EVENTS is the number of lines after the header, the `end` line included. GROUPS groups are made, in
-chains of DEPTH below the root, and TASKS tasks are forked in the deepest ones (in the root if there
-are none). In the other lines a random task of a random processor runs, waits for IO, sleeps or
-wakes, sometimes on another processor; a running task is in a memory stall for a while; a ready task
-migrates; a task moves to another group; a group's memory is sampled. Lines are up to 2 us apart, as
-on a busy machine.
+EVENTS is the number of lines after the header, including the `end` line. GROUPS groups are created,
+in chains of DEPTH groups below the root. TASKS tasks are created in the deepest group of each
+chain, or in the root if there are no groups. In the other lines a random task of a random processor
+runs, waits for IO, sleeps, or wakes, sometimes on another processor; a running task enters or
+leaves a memory stall; a ready task migrates; a task moves to another group; or a group's memory is
+sampled. Lines are up to 2 us apart, as on a busy machine.
 """
 from __future__ import annotations
 
@@ -18,7 +18,9 @@ from collections.abc import Iterator
 
 
 def group_paths(groups: int, depth: int) -> tuple[list[str], list[str]]:
-    """Returns the paths, parents first, and the deepest path of each chain."""
+    """Returns the paths of all groups, parents first, and the path of the deepest group of each
+    chain.
+    """
     paths: list[str] = []
     lowest: list[str] = []
     while len(paths) < groups:
@@ -31,8 +33,8 @@ def group_paths(groups: int, depth: int) -> tuple[list[str], list[str]]:
 
 
 class Machine:
-    """Processors and tasks after the lines so far. Each method generates an event, and returns its
-    words.
+    """The state of processors and tasks after the lines so far. Most methods make a random change,
+    and return the words of its line.
     """
 
     def __init__(self, draw: random.Random, cpus: int, tasks: int, homes: list[str]) -> None:
@@ -88,7 +90,7 @@ class Machine:
         return f"switch {cpu} {following or 0} {how}"
 
     def rare(self, cpu: int, tasks: int) -> str | None:
-        """One of the rarer lines, or None if it isn't possible."""
+        """Returns the words of a rarer kind of line, or None if that kind isn't possible now."""
         kind = self.draw.randrange(8)
         running = self.running[cpu]
         if kind < 4 and running is not None:
@@ -105,7 +107,7 @@ class Machine:
         return None
 
     def line(self, tasks: int) -> str:
-        """Returns a random line, of any processor."""
+        """Returns the words of a random line, about a random processor."""
         cpu = self.draw.randrange(self.cpus)
         line = self.rare(cpu, tasks) if self.draw.randrange(8) == 0 else None
         if line is not None:

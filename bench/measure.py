@@ -1,6 +1,6 @@
 #!/usr/bin/env python3
-"""Times psi_oomd beside `wc -lw`, in turns, over a generated hour, counts its instructions a line,
-and times the largest machine.
+"""Times the commands of psi_oomd on a generated trace of an hour, relative to `wc -lw`, counts
+their instructions per line, and times a trace of the largest machine.
 
 usage: bench/measure.py [--program PATH] [--rounds N] [--events N]     (the built program, 10
     rounds, 3600000 events)
@@ -8,8 +8,8 @@ usage: bench/measure.py [--program PATH] [--rounds N] [--events N]     (the buil
 Prints for each command: instructions a line (by callgrind, if installed; they don't depend on the
 machine); the best and the median wall-clock time, and the median processor time, relative to `wc
 -lw` on the same file; and the peak resident memory (MB, by GNU time). Then it prints how many
-seconds an hour of the largest allowed machine takes, with 1,024 actions at each evaluation. A
-benchmark: nothing is asserted. README has the latest table.
+seconds an hour of the largest allowed machine takes, with 1,024 actions at each evaluation. This is
+a benchmark, which asserts nothing. README has the latest table.
 """
 from __future__ import annotations
 
@@ -27,8 +27,8 @@ from effort import instructions_of, peak_of
 from greatest import greatest_lines, greatest_rules
 
 SHAPE = ("--seed", "1", "--cpus", "8", "--groups", "40")
-# Instructions a line: those of the longer trace less those of the shorter, per line (sizes in
-# lines).
+# The sizes (lines) of two traces. The difference of the instructions for these, divided by the
+# difference of their sizes, is the number of instructions per line.
 SHORT, LONG = 20_000, 60_000
 COMMANDS: dict[str, tuple[str, ...]] = {
     "check": ("check", "TRACE"),
@@ -51,14 +51,14 @@ GREATEST_EVENTS = 1_000_000
 
 @dataclasses.dataclass(frozen=True)
 class Taken:
-    """What one run took: wall-clock seconds, and seconds of processor time."""
+    """The wall-clock time and the processor time of a run (s)."""
 
     clock: float
     processor: float
 
 
 def once(words: list[str]) -> Taken:
-    """Runs once; the run must succeed."""
+    """Runs a command once, and returns its times. A command that fails ends the benchmark."""
     before = time.perf_counter()
     child = subprocess.Popen(words, stdout=subprocess.DEVNULL)
     _, status, usage = os.wait4(child.pid, 0)
@@ -80,7 +80,8 @@ def with_trace(program: str, words: tuple[str, ...], trace: str) -> list[str]:
 
 
 def instructions(program: str, room: str) -> dict[str, float]:
-    """Instructions a line of each command; empty if callgrind isn't installed."""
+    """Returns the instructions per line of each command, or nothing if callgrind isn't installed.
+    """
     if shutil.which("valgrind") is None:
         return {}
     short, long = (
@@ -96,7 +97,7 @@ def instructions(program: str, room: str) -> dict[str, float]:
 
 
 def in_turns(runs: dict[str, list[str]], rounds: int) -> dict[str, list[Taken]]:
-    """Times each run once a round, in turns, so that a busy machine slows all of them."""
+    """Times each run once per round, so that a time at which the machine is busy slows all runs."""
     taken: dict[str, list[Taken]] = {name: [] for name in runs}
     for _ in range(rounds):
         for name, words in runs.items():
@@ -105,8 +106,8 @@ def in_turns(runs: dict[str, list[str]], rounds: int) -> dict[str, list[Taken]]:
 
 
 def row(name: str, counted: float | None, peak: int, taken: list[Taken], count: list[Taken]) -> str:
-    """Returns a row of the table: a command's figures, relative to `wc -lw`, and its peak memory
-    (KB).
+    """Returns a row of the table: the instructions per line of a command, its times relative to
+    `count` (the times of `wc -lw`), and its peak memory (KB, printed in MB).
     """
     best = min(it.clock for it in taken) / min(it.clock for it in count)
     clock = (
@@ -120,7 +121,7 @@ def row(name: str, counted: float | None, peak: int, taken: list[Taken], count: 
 
 
 def print_hour(program: str, events: int, rounds: int, room: str) -> None:
-    """Prints the table of the generated hour."""
+    """Prints the table for a generated trace of an hour with `events` events."""
     trace = write_trace(program, events, os.path.join(room, "hour.trace"))
     counted = instructions(program, room)
     runs = {"wc -lw": ["wc", "-lw", trace]} | {
@@ -139,7 +140,7 @@ def print_hour(program: str, events: int, rounds: int, room: str) -> None:
 
 
 def print_greatest(program: str, room: str) -> None:
-    """Prints the cost of an hour of the largest machine, with rules and without."""
+    """Prints the times for an hour of the largest machine, with rules and without."""
     trace, rules = os.path.join(room, "greatest.trace"), os.path.join(room, "greatest.json")
     with open(trace, "w", encoding="utf-8") as file:
         file.writelines(f"{line}\n" for line in greatest_lines(GREATEST_EVENTS))

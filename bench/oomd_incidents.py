@@ -1,5 +1,5 @@
-"""Generated incidents on machines with systemd, as traces, and usual rules for them.
-bench/oomd_differences.py uses them. The same seed always gives the same incident.
+"""Generates traces of incidents on machines with systemd, and usual rules for them, for
+bench/oomd_differences.py. A seed always gives the same incident.
 """
 from __future__ import annotations
 
@@ -35,7 +35,8 @@ def parents(service: str) -> list[str]:
 
 @dataclass
 class Incident:
-    """A machine on which something goes wrong after a while. Each task has a processor of its own.
+    """A machine on which some services misbehave after a while. Each task has a processor of its
+    own.
     """
 
     draw: random.Random
@@ -50,7 +51,9 @@ class Incident:
         self.lines.append((at, len(self.lines), text))
 
     def start(self) -> None:
-        """Creates groups and tasks, and writes the first sizes."""
+        """Chooses the machine's sizes and the services that misbehave, and writes the lines that
+        create groups and tasks.
+        """
         draw = self.draw
         self.memory = draw.choice((2, 4, 8)) * GIB
         self.swap = draw.choice((0, self.memory // 2, self.memory))
@@ -78,7 +81,9 @@ class Incident:
             self.put(0, f"switch {task - 1} 0 sleep")
 
     def grow(self, second: int) -> float:
-        """Advances memory by a second. Returns the shortage, from 0 to 1."""
+        """Advances the memory of all services by a second. Returns the shortage of memory, from 0
+        to 1.
+        """
         draw = self.draw
         for it in self.services:
             self.size[it] = max(4 * MIB, int(self.size[it] * draw.uniform(0.99, 1.01)))
@@ -125,7 +130,7 @@ class Incident:
         self.states[task] = state
 
     def advance(self, second: int, shortage: float) -> None:
-        """Advances the tasks by a second, in five steps."""
+        """Changes the states of tasks in a second, in five steps of 200 ms."""
         draw, is_storm = self.draw, self.kind == "io" and self.begin <= second < self.stop
         for step in range(5):
             at = second * SECOND + step * 200 * MS
@@ -155,7 +160,7 @@ class Incident:
 
 
 def incident(seed: int) -> str:
-    """Returns the trace of a seed."""
+    """Returns the trace of the incident with this seed."""
     draw = random.Random(f"incident {seed}")
     return Incident(draw, draw.choice((*KINDS, "leak")), draw.choice((90, 150))).text()
 
@@ -165,8 +170,7 @@ def plugin(name: str, **args: object) -> Rules:
 
 
 def debian(draw: random.Random) -> list[Rules]:
-    """Debian's own rules file without its first ruleset, for these groups, with random thresholds.
-    """
+    """Returns the rulesets of Debian's rules file, except the first, with random thresholds."""
     share = draw.choice((1, 0.5, 0.25))
     groups = [
         [name,
@@ -193,7 +197,7 @@ def debian(draw: random.Random) -> list[Rules]:
 
 
 def own(draw: random.Random) -> list[Rules]:
-    """Returns a rule like those that people write."""
+    """Returns a random ruleset that resembles rulesets in use."""
     resource, watched = draw.choice(("io", "memory", "memory", "memory")), draw.choice(WATCHED)
     pressure = {
         "cgroup": watched, "resource": resource, "threshold": draw.choice((5, 10, 20, 40, 60)),
@@ -226,8 +230,8 @@ def own(draw: random.Random) -> list[Rules]:
 
 
 def usual_rules(seed: int) -> str:
-    """Returns the rules of a seed, which mean the same to psi_oomd and to oomd as far as one file
-    can.
+    """Returns the rules file with this seed. It has the same meaning for psi_oomd and for oomd, as
+    far as one file can.
     """
     draw = random.Random(f"rules {seed}")
     return json.dumps({"rulesets": draw.choice((debian, own, own, own))(draw)})

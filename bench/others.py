@@ -1,5 +1,5 @@
 #!/usr/bin/env python3
-"""Times other readers of scheduler events next to our programs, on equally many events.
+"""Times other programs that read scheduler events, and our programs on equally many events.
 
 usage: bench/others.py [--events N] [--rounds N]     (1000000 events, 3 rounds)
 
@@ -8,7 +8,7 @@ is `perf bench sched pipe`: switches and wakeups of two processes that wake each
 it once. A second run fills ring buffers, whose pages both trace-cmd and psi_convert read. psi_oomd
 reads a generated trace with as many events as perf recorded. Prints for each command its events,
 and the microseconds of processor time and of wall-clock time for each event: the least of all
-rounds. A benchmark: nothing is asserted.
+rounds. This is a benchmark, which asserts nothing.
 """
 from __future__ import annotations
 
@@ -35,7 +35,7 @@ TRACING = "/sys/kernel/tracing"
 EVENTS = ("sched/sched_switch", "sched/sched_wakeup")
 # One pass of the load's token makes two switches and two wakeups.
 EVENTS_OF_A_PASS = 4
-# The memory of an event in a ring buffer (bytes), at most.
+# The most bytes that an event takes in a ring buffer.
 EVENT_BYTES = 100
 
 
@@ -48,26 +48,28 @@ class Reader(NamedTuple):
 
 
 def load(events: int) -> list[str]:
-    """Returns the command that makes about as many events."""
+    """Returns the command that causes about this number of events."""
     return ["perf", "bench", "sched", "pipe", "-l", str(events // EVENTS_OF_A_PASS)]
 
 
 def must_run(words: list[str]) -> None:
-    """Runs a command; its failure ends the measurement."""
+    """Runs a command. A command that fails ends the benchmark."""
     done = subprocess.run(words, capture_output=True, text=True)
     if done.returncode != 0:
         sys.exit(f"{' '.join(words)}: status {done.returncode}: {done.stderr.strip()[-300:]}")
 
 
 def lines_with(mark: bytes, words: list[str]) -> int:
-    """Counts the lines of a report that have a mark."""
+    """Returns the number of lines that a command prints and that contain `mark`."""
     with subprocess.Popen(words, stdout=subprocess.PIPE, stderr=subprocess.DEVNULL) as run:
         assert run.stdout is not None
         return sum(mark in line for line in run.stdout)
 
 
 def perf_readers(events: int, room: str) -> list[Reader]:
-    """Records with perf. timehist prints a line for each switch, and reads all events."""
+    """Records the load with perf, and returns its readers. timehist reads all events, but prints a
+    line only for each switch.
+    """
     data = os.path.join(room, "perf.data")
     chosen = [word for name in EVENTS for word in ("-e", name.replace("/", ":"))]
     must_run(["perf", "record", "-q", "-a", "-m", "4096", *chosen, "-o", data, "--", *load(events)])
@@ -89,8 +91,8 @@ def text_of(path: str) -> str:
 
 @contextlib.contextmanager
 def traced(events: int) -> Iterator[str]:
-    """An instance of tracing that has recorded the load, with room for all events on each
-    processor.
+    """Records the load in an instance of tracefs, whose buffers have room for all events on each
+    processor. Yields the folder of the instance, and removes it at the end.
     """
     folder = f"{TRACING}/instances/bench_others"
     os.mkdir(folder)
@@ -138,7 +140,7 @@ def write_table(room: str) -> str:
 
 
 def page_readers(convert: str, events: int, room: str) -> list[Reader]:
-    """Lets trace-cmd and psi_convert read the same pages."""
+    """Records the load, and returns trace-cmd and psi_convert as readers of its pages."""
     pages, data, head = pages_of(events, room), os.path.join(room, "trace.dat"), f"{room}/head.dat"
     must_run(["trace-cmd", "restore", "-c", "-o", head])
     must_run(["trace-cmd", "restore", "-i", head, "-o", data, *pages])
@@ -151,7 +153,9 @@ def page_readers(convert: str, events: int, room: str) -> list[Reader]:
 
 
 def own_readers(program: str, events: int, room: str) -> list[Reader]:
-    """Lets psi_oomd read a generated trace."""
+    """Generates a trace of this number of events, and returns the commands of psi_oomd that read
+    it.
+    """
     trace = write_trace(program, events, os.path.join(room, "psi.trace"))
     replay = [program, "replay", trace, "--workers"]
     return [

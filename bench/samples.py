@@ -1,18 +1,18 @@
 #!/usr/bin/env python3
-"""Measures what traces of samples are worth: averages on recordings of machines, and rules on
-simulated machines.
+"""Measures how exact traces are that are made from samples: averages on recordings of machines, and
+kills by rules on simulated machines.
 
 usage: bench/samples.py averages FOLDER.. [--every 2,5,15,30]
        bench/samples.py rules [--machines 30] [--seed 200] [--seconds 300] [--every 2,5,15,30]
        bench/samples.py peaks [--every 5,15,30]
        bench/samples.py speed [--seconds 300]
 
-averages: how far (percentage points) avg10 is from each of the machine's own readings, of files
-above 2 percent somewhere, for the trace of events and for traces of samples, at the nearest tick,
-all with a past of 12 minutes. rules: evaluations at which each of eleven rules fires on the trace
-of events at ticks of a second, and on its samples; and the first kills. peaks: the highest avg10 of
-one full stall. speed: a tree of 57 groups, 14 of them busy. The program is the one that PSI_OOMD
-names.
+averages: the differences (percentage points) between avg10 at the nearest tick and the machine's
+own readings, for the trace of events and for traces of samples, all with a lead-in of 12 minutes.
+Only pressure files count that are above 2 percent at some time. rules: the evaluations at which
+each of eleven rules fires on a trace of events at ticks of a second, and on traces of its samples;
+and the first kills. peaks: the highest avg10 of a single full stall. speed: the time for a machine
+of 57 groups, 14 of them busy. PSI_OOMD names the program.
 """
 from __future__ import annotations
 
@@ -41,12 +41,13 @@ LEAD, LEAD_TEXT, LEAST = 720 * SECOND, "12min", 2.0
 FILE = re.compile(
     r"sample (\d+) (\S+) (io|memory|cpu)\nsome avg10=([\d.]+) [^\n]*\nfull avg10=([\d.]+) "
 )
-# By time (ns), group and level: avg10 in percent.
+# avg10 (percent) by time (ns), group and level. The level is twice the index of the resource, plus
+# 1 for full.
 Averages = dict[tuple[int, str, int], float]
 
 
 def averages_of(trace: str) -> Averages:
-    """avg10 at each tick of a replay."""
+    """Returns avg10 at each tick of a replay of the trace."""
     printed = run(program_path(), "replay", "--report-s=2", "--", trace).decode()
     found = {}
     for it in REPORT.finditer(printed):
@@ -58,7 +59,9 @@ def averages_of(trace: str) -> Averages:
 
 
 class Recording:
-    """A recording: when its readings were (ns of its clock), and what avg10 they had."""
+    """The readings of a recording's pressure files: their times (ns of the recording's clock) by
+    number, and avg10 (percent) by the reading's number, group and level.
+    """
 
     def __init__(self, folder: str) -> None:
         self.folder, source = folder, read_recording(folder, True)
@@ -76,8 +79,8 @@ class Recording:
             )
 
     def errors(self, replayed: Averages, start: int) -> list[float]:
-        """Returns how far avg10 is from each reading, of a trace that begins at a time (ns of the
-        recording's clock).
+        """Returns the differences (percentage points) between the readings and the averages of a
+        replay. The replayed trace begins at `start` (ns of the recording's clock).
         """
         found: dict[tuple[str, int], list[tuple[float, float]]] = {}
         for (number, path, level), value in self.machine.items():
@@ -93,7 +96,9 @@ class Recording:
         return [abs(one - other) for one, other in pairs]
 
     def chosen(self, every: int) -> set[int]:
-        """Returns the readings that are the first at or after each multiple of an interval."""
+        """Returns the numbers of the readings that are the first at or after a multiple of `every`
+        s.
+        """
         found, due = set(), 0
         for number, at in sorted(self.times.items()):
             if at - self.first >= due - SECOND // 2:
@@ -105,7 +110,9 @@ class Recording:
 
 
 def sampled_recording(recording: Recording, every: int, room: str) -> str:
-    """Returns a trace of the readings of a recording that are chosen."""
+    """Writes a trace of the readings that are chosen for the interval `every` (s). Returns its
+    path.
+    """
     name, lines = os.path.join(room, "samples.csv"), []
     pattern = (
         r"sample (\d+) (\S+) (\w+)\nsome (\S+) (\S+) (\S+) total=(\d+)\n"
@@ -129,7 +136,7 @@ def sampled_recording(recording: Recording, every: int, room: str) -> str:
 
 
 def averages(options: argparse.Namespace) -> None:
-    """The table of averages."""
+    """Prints the table of averages."""
     intervals = [int(it) for it in options.every.split(",")]
     print(f"| recording | readings | event trace | {' | '.join(f'{it} s' for it in intervals)} |")
     whole: dict[str, list[float]] = {}
@@ -168,7 +175,9 @@ def averages(options: argparse.Namespace) -> None:
 
 
 def simulated(seed: int, seconds: int, room: str) -> str:
-    """Returns the trace of a simulated machine of four processors and ten groups."""
+    """Writes the trace of a simulated machine with four processors and ten groups. Returns its
+    path.
+    """
     trace = os.path.join(room, "machine.trace")
     with open(trace, "w", encoding="ascii") as file:
         file.writelines(f"{it}\n" for it in Machine(seed, seconds, 4, small_tree(7), 7).lines())
@@ -176,7 +185,7 @@ def simulated(seed: int, seconds: int, room: str) -> str:
 
 
 def sampled_trace(trace: str, every: int, room: str) -> str:
-    """Returns a trace of the samples of another one."""
+    """Writes a trace of the samples of another trace, taken each `every` s. Returns its path."""
     name, output = os.path.join(room, "samples.csv"), os.path.join(room, f"{every}.trace")
     with open(name, "w", encoding="ascii") as file:
         file.write(csv_of(program_path(), trace, every))
@@ -187,8 +196,8 @@ def sampled_trace(trace: str, every: int, room: str) -> str:
 def replayed(
     options: argparse.Namespace, intervals: list[int]
 ) -> Iterator[dict[str, dict[tuple[int, int], str]]]:
-    """Yields the kills of each machine: by events at ticks of a second (`truth`) and of two, and by
-    samples.
+    """Yields the kills on each simulated machine: by events at ticks of a second (`truth`) and of
+    two seconds, and by samples at each interval (s).
     """
     for seed in range(options.seed, options.seed + options.machines):
         with tempfile.TemporaryDirectory() as room:
@@ -206,7 +215,7 @@ def replayed(
 
 
 def rules_table(options: argparse.Namespace) -> None:
-    """The tables of rules."""
+    """Prints the tables of rules."""
     intervals = [int(it) for it in options.every.split(",")]
     columns = ["events, 2 s", *(f"{it} s" for it in intervals)]
     table = {(name, rule): Agreement() for name in columns for rule in range(len(rules()))}
@@ -244,8 +253,9 @@ def rules_table(options: argparse.Namespace) -> None:
 
 
 def peak(length: float, begin: float, every: int) -> float:
-    """Returns the highest avg10 (percent) of one full stall, by samples at an interval (s), or by
-    the machine if it is 0. The formula is docs/PRESSURE.md's.
+    """Returns the highest avg10 (percent) of one full stall of `length` s that begins at `begin`
+    (s), by samples at the interval `every` (s), or by the machine's own totals if that is 0. The
+    formula is that of docs/PRESSURE.md.
     """
 
     def total(at: float) -> float:
@@ -266,8 +276,8 @@ def peak(length: float, begin: float, every: int) -> float:
 
 
 def peaks(options: argparse.Namespace) -> None:
-    """The table of the highest averages of short stalls: the lowest and the highest by when a stall
-    begins.
+    """Prints the table of the highest avg10 of short stalls. It depends on when a stall begins, so
+    each cell has the lowest and the highest value.
     """
     intervals = [int(it) for it in options.every.split(",")]
     for length in (2, 5, 10, 20, 30, 60):
@@ -280,7 +290,9 @@ def peaks(options: argparse.Namespace) -> None:
 
 
 def speed(options: argparse.Namespace) -> None:
-    """How many times as fast as time a tree of 57 groups is, and the memory that it takes."""
+    """Prints how much faster than real time samples of a machine with 57 groups are converted, and
+    the memory for that.
+    """
     with tempfile.TemporaryDirectory() as room:
         trace = os.path.join(room, "machine.trace")
         with open(trace, "w", encoding="ascii") as file:

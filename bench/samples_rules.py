@@ -1,4 +1,5 @@
-"""The rules that bench/samples.py replays, and how often kills by them agree."""
+"""Defines the rules that bench/samples.py replays, and counts how often two replays agree on kills.
+"""
 from __future__ import annotations
 
 import json
@@ -11,7 +12,7 @@ from sampling import SECOND
 
 
 def run(*words: str) -> bytes:
-    """Returns what a command prints; a fault of it is one of the measurement."""
+    """Runs a command and returns its output. A command that fails ends the measurement."""
     return subprocess.run(words, check=True, capture_output=True).stdout
 
 
@@ -28,7 +29,7 @@ def plugin(name: str, **args: str) -> dict[str, object]:
 
 
 def rules() -> dict[str, tuple[list[dict[str, object]], dict[str, object]]]:
-    """Eleven rules by name: detectors, and an action."""
+    """Returns eleven rules by name: the detectors and the action of each."""
     size = plugin("kill_by_memory_size_or_growth", cgroup="*/*")
     memory, io = plugin("kill_by_pressure", cgroup="*/*", resource="memory"), plugin(
         "kill_by_pressure", cgroup="*/*", resource="io"
@@ -58,7 +59,7 @@ def rules() -> dict[str, tuple[list[dict[str, object]], dict[str, object]]]:
 
 
 def rules_file() -> str:
-    """Returns all of them in one file, without rests after kills."""
+    """Returns a rules file with all eleven rules, as rulesets without a delay after kills."""
     found = [
         {
             "name": name, "post_action_delay": "0", "detectors": [["it", *detectors]],
@@ -70,7 +71,9 @@ def rules_file() -> str:
 
 
 def kills_of(trace: str, file: str, *words: str) -> dict[tuple[int, int], str]:
-    """Returns the victims by ruleset and time (s)."""
+    """Returns the victims of a replay, by ruleset and number of the evaluation. Evaluations are 5 s
+    apart.
+    """
     printed = run(
         program_path(), "replay", f"--rules={file}", "--report-s=0", *words, "--", trace
     ).decode()
@@ -79,8 +82,9 @@ def kills_of(trace: str, file: str, *words: str) -> dict[tuple[int, int], str]:
 
 
 class Agreement(NamedTuple):
-    """Evaluations at which a rule fires: on both traces, on either, and with the same victim; first
-    kills within 6 s and 20 s.
+    """The agreement of two traces on a rule: the number of evaluations at which the rule fires on
+    both traces, on at least one, and on both with the same victim; the number of first kills on the
+    first trace, and how many of them are within 6 s and within 20 s of the first kill on the other.
     """
 
     both: int = 0
@@ -91,7 +95,9 @@ class Agreement(NamedTuple):
     far: int = 0
 
     def plus(self, one: dict[int, str], other: dict[int, str]) -> Agreement:
-        """With one more machine."""
+        """Returns the agreement with one more machine. `one` and `other` have its victims on the
+        two traces, by evaluation.
+        """
         both = one.keys() & other.keys()
         apart = 5 * abs(min(one) - min(other)) if one and other else None
         return Agreement(

@@ -1,5 +1,5 @@
-"""Samples a trace as a machine's files would be: totals as the program prints them at ticks of a
-second, and samples of memory.
+"""Samples a trace as a monitor would sample the files of the machine: the pressure files, as
+psi_oomd prints them at ticks of a second, and the memory of groups.
 """
 from __future__ import annotations
 
@@ -17,8 +17,8 @@ REPORT = re.compile(
 
 
 class Sample(NamedTuple):
-    """A pressure file at a time (ns): some and full total (us), and the averages of both as they
-    are written.
+    """A sample of a pressure file at a time (ns): the totals of some and full (us), and the
+    averages of both, all as psi_oomd prints them.
     """
 
     time: int
@@ -39,8 +39,8 @@ class Sample(NamedTuple):
 
 
 def samples_of(program: str, trace: str, every: int) -> Iterator[Sample]:
-    """Yields the files of a trace each `every` seconds, as the program prints them at ticks of a
-    second.
+    """Yields samples of all pressure files each `every` seconds, as a replay of the trace at ticks
+    of a second prints them.
     """
     words = [program, "replay", "--tick-ms=1000", f"--report-s={every}", "--", trace]
     printed = subprocess.run(words, check=True, capture_output=True, text=True).stdout
@@ -51,7 +51,8 @@ def samples_of(program: str, trace: str, every: int) -> Iterator[Sample]:
 
 
 def memory_of(trace: str, every: int, start: int) -> Iterator[str]:
-    """Yields the samples of memory of a trace at the same times, as lines of CSV."""
+    """Yields the memory samples in the trace at each multiple of `every` seconds, as lines of CSV.
+    """
     with open(trace, encoding="ascii") as file:
         for line in file:
             words = line.split()
@@ -65,7 +66,9 @@ def csv_of(
     program: str, trace: str, every: int, start: int = 1_700_000_000 * SECOND,
     has_averages: bool = False,
 ) -> str:
-    """Returns the whole file, in the order of time. The first sample is at 0: zeros."""
+    """Returns a CSV file with all samples of the trace in order of time. At time 0 each pressure
+    file has a sample of zeros. `start` (ns since 1970) is the time of day at the trace's start.
+    """
     samples = list(samples_of(program, trace, every))
     rows = [(it.time, it.line(start, has_averages)) for it in samples]
     first = sorted({(it.group, it.resource) for it in samples if it.time == every * SECOND})

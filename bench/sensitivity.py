@@ -1,6 +1,6 @@
 #!/usr/bin/env python3
-"""Shows what the tables of rules in bench/samples.md depend on: how high stalls are, and how fast
-memory grows. It runs no program.
+"""Shows how the tables of rules in bench/samples.md depend on the height of stalls and on the
+growth of memory. It runs no program.
 
 usage: bench/sensitivity.py
 
@@ -24,14 +24,14 @@ SEEDS = range(200, 230)
 # Thresholds (share of time) and durations (s).
 RULES = ((0.1, 10), (0.4, 10), (0.6, 10), (0.6, 30))
 HEIGHTS = ((0.2, 0.8), (0.4, 1.0), (0.9, 1.0))
-# Growth of memory in a second of thrashing.
+# The growth of memory (as a share) in a second of thrashing.
 GROWTHS = (0.04, 0.02, 0.01)
 PAST, LEAST_GROWTH = 4, 1.25
 
 
 def sampled(values: Sequence[float], every: int) -> Callable[[int], float]:
-    """Returns the values of each second as samples each `every` s show them: on the lines between
-    samples.
+    """Returns a function of the time (s) that interpolates linearly between samples of `values`,
+    which has a value for each second. Samples are `every` s apart.
     """
 
     def at(time: int) -> float:
@@ -43,7 +43,7 @@ def sampled(values: Sequence[float], every: int) -> Callable[[int], float]:
 
 
 def percent(parts: Iterable[tuple[int, int]]) -> str:
-    """Returns the share of the first numbers in the second ones."""
+    """Returns the sum of the first numbers in percent of the sum of the second numbers, as text."""
     both, either = (sum(it) for it in zip(*parts))
     return f"{100 * both / max(1, either):.1f} %"
 
@@ -65,7 +65,9 @@ def totals_of(rng: random.Random, low: float, high: float) -> list[float]:
 
 
 def averages(total: Callable[[int], float], tick: int) -> list[float]:
-    """avg10 at each tick, by totals at the ticks."""
+    """Returns avg10 (as a share) at each tick. `total` returns the stalled time (s) up to a time
+    (s), and `tick` is the length of a tick (s).
+    """
     factor, found = math.exp(-tick / 10), [0.0]
     for at in range(tick, LENGTH + 1, tick):
         found.append(found[-1] * factor + (total(at) - total(at - tick)) / tick * (1 - factor))
@@ -73,7 +75,9 @@ def averages(total: Callable[[int], float], tick: int) -> list[float]:
 
 
 def holds(found: Sequence[float], tick: int, threshold: float, duration: int) -> set[int]:
-    """Returns the evaluations (s) at which an average has been above a threshold for a duration."""
+    """Returns the times (s) of the evaluations at which an average has been above `threshold` for
+    `duration` s. `found` has the average at each tick.
+    """
     times, since = set(), None
     for at in range(EVALUATED, LENGTH + 1, EVALUATED):
         if found[at // tick] <= threshold:
@@ -86,7 +90,7 @@ def holds(found: Sequence[float], tick: int, threshold: float, duration: int) ->
 
 
 def heights() -> None:
-    """The table of heights."""
+    """Prints the table of heights."""
     columns = ("events at 2 s", *(f"{it} s" for it in INTERVALS))
     print(f"| stalls of | rule | {' | '.join(columns)} |")
     for low, high in HEIGHTS:
@@ -116,8 +120,8 @@ def heights() -> None:
 
 
 def memories(seed: int, growth: float) -> tuple[dict[str, list[float]], list[bool]]:
-    """Returns the memory (bytes) of each service of a machine at each second, and in which seconds
-    one thrashes.
+    """Returns the memory (bytes) of each service of a simulated machine at each second, and for
+    each second whether some service thrashes.
     """
     paths = [it for it in small_tree(7) if it.count("/") == 2]
     services = [Service(it, random.Random(f"{seed} {it}"), LENGTH, True) for it in paths]
@@ -134,8 +138,9 @@ def memories(seed: int, growth: float) -> tuple[dict[str, list[float]], list[boo
 
 
 def victim(sizes: dict[str, float], past: dict[str, list[float]]) -> str:
-    """Returns the largest group if it has half of all memory; else of the two largest the one that
-    grew most, if it grew enough.
+    """Returns the victim of kill_by_memory_size_or_growth: the largest group if it has half of all
+    memory; otherwise the group of the two largest that grew most, if it grew enough; otherwise the
+    largest group. `past` has the sizes of the previous evaluations.
     """
     order = sorted(sizes, key=lambda it: (-sizes[it], it))
     if 2 * sizes[order[0]] >= sum(sizes.values()):
@@ -148,7 +153,7 @@ def victim(sizes: dict[str, float], past: dict[str, list[float]]) -> str:
 
 
 def victims(found: dict[str, list[float]], every: int) -> list[str]:
-    """Returns the victim at each evaluation, by memory that is sampled each `every` s."""
+    """Returns the victim at each evaluation, if the memory of groups is sampled each `every` s."""
     past: dict[str, list[float]] = {it: [] for it in found}
     chosen = []
     for at in range(EVALUATED, LENGTH, EVALUATED):
@@ -159,7 +164,7 @@ def victims(found: dict[str, list[float]], every: int) -> list[str]:
 
 
 def growths() -> None:
-    """The table of growths."""
+    """Prints the table of growths."""
     print(f"| memory grows in a second by | {' | '.join(f'{it} s' for it in INTERVALS)} |")
     for growth in GROWTHS:
         parts: dict[int, list[tuple[int, int]]] = {every: [] for every in INTERVALS}

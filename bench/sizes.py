@@ -1,18 +1,17 @@
 #!/usr/bin/env python3
-"""Counts what has to be believed, the code, its contracts, the proofs and the tests, and prints
-them as a table.
+"""Counts the lines of the definitions that a reader must believe, of code, contracts, proofs and
+tests, and prints a table.
 
 usage: bench/sizes.py [--unreached]
 
-Counts lines that are neither blank nor comments; in definitions and proofs, `use` lines aren't
-counted either. The files that have to be believed are those that docs/ARCHITECTURE.md lists; laws,
-which are proved, are in other files. A contract is a clause of a function or a loop (`requires`,
-`ensures`, `invariant`), an `assert`, or a `ghost` item, up to the line with its last closing
-bracket.
+Counts lines that are neither blank nor comments. In definitions and proofs, `use` lines don't count
+either. docs/ARCHITECTURE.md lists the files that have to be believed. Laws, which are proved, are
+in other files. A contract is a clause of a function or a loop (`requires`, `ensures`, `invariant`),
+an `assert`, or a `ghost` item, up to the line with its last closing bracket.
 
-Ends with status 1 if that list differs from what bench/believed.py finds: if it lacks a file that
-the contracts of the top calls rest on, or has a file that none of them needs. `--unreached` prints
-the definitions in those files that no contract rests on.
+Ends with status 1 if that list differs from the result of bench/believed.py: if it lacks a file on
+which the contracts of the top calls rest, or has a file that none of them needs. `--unreached`
+prints the definitions in those files on which no contract rests.
 """
 import pathlib
 import re
@@ -27,7 +26,7 @@ BELIEVED_TITLE = "## The files that have to be believed"
 
 
 def counted(lines: Iterable[str], comment: str) -> Iterator[str]:
-    """Yields the lines that count, stripped: neither empty nor comments."""
+    """Yields the lines that are neither blank nor comments, without surrounding spaces."""
     for line in map(str.strip, lines):
         if line and not line.startswith(comment):
             yield line
@@ -58,8 +57,8 @@ def believed_section() -> str:
 
 
 def believed_files() -> tuple[list[pathlib.Path], list[pathlib.Path]]:
-    """The definitions and the files of types that docs/ARCHITECTURE.md lists as those that have to
-    be believed.
+    """Returns the files of definitions and the files of types that have to be believed, according
+    to docs/ARCHITECTURE.md.
 
     A cell of the table's first column names a library, and files of its `specs`; a cell without a
     library continues the row above.
@@ -78,15 +77,15 @@ def believed_files() -> tuple[list[pathlib.Path], list[pathlib.Path]]:
 
 
 def is_listed(item: believed.Item, types: list[pathlib.Path]) -> bool:
-    """Returns whether the list covers a type: by its file, by its name if contracts see only its
-    `Model`, or as a trait's.
+    """Whether the list has a type: by its file, by its name if contracts see only its `Model`, or
+    because it is declared in the file of a top call or trait.
     """
     by_name = believed.has_model(item) and f"`{item.name}`" in believed_section()
     return by_name or item.path in (*types, *(CRATES / name for name, _ in believed.ROOTS))
 
 
 def list_faults() -> Iterator[str]:
-    """Yields what the list lacks, and what it contains needlessly."""
+    """Yields a text for each file that the list lacks, and for each file that it has needlessly."""
     definitions, types = believed_files()
     reached: dict[pathlib.Path, list[str]] = {}
     for item in sorted(believed.believed()):
@@ -116,7 +115,7 @@ def sum_of(pairs: Iterable[tuple[int, int]]) -> tuple[int, int]:
 
 
 def sizes() -> Iterator[tuple[str, int]]:
-    """Yields each size by name."""
+    """Yields the name and the value of each size."""
     definitions, types = believed_files()
     specs, proofs = (sorted(CRATES.glob(f"*/{kind}/**/*.antt")) for kind in ("specs", "proofs"))
     rust = sorted(CRATES.glob("*/src/**/*.rt"))
@@ -139,7 +138,8 @@ def sizes() -> Iterator[tuple[str, int]]:
 
 
 def cases() -> Iterator[str]:
-    """Yields the cases of tests/run: a folder, or each of its rows."""
+    """Yields the cases of tests/run: the rows of a folder with rows, otherwise the folder's name.
+    """
     for folder in (TOP / "tests" / "run" / "cases").iterdir():
         rows = folder / "rows"
         yield from rows.read_text(
@@ -148,8 +148,8 @@ def cases() -> Iterator[str]:
 
 
 def main(words: list[str]) -> int:
-    """Prints the sizes, or the definitions that aren't needed. Fails if the document's list differs
-    from the one found.
+    """Prints the sizes, or the definitions on which no contract rests. Returns 1 if the list in
+    docs/ARCHITECTURE.md is wrong.
     """
     faults = [
         f"docs/ARCHITECTURE.md, of the files that have to be believed: {fault}"

@@ -1,5 +1,5 @@
-"""Folds a trace: makes a trace with the same pressure, but with far fewer lines for the times at
-which the machine was busy.
+"""Folds a trace: makes a trace with the same pressure, which has far fewer lines where the machine
+was busy.
 
   tools/fold TRACE --window 1 > FOLDED
 

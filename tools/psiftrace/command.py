@@ -1,4 +1,4 @@
-"""Finds defects in ftrace text that make a trace of it wrong without an error, and prints them on
+"""Finds defects in a text of ftrace that make its trace wrong without an error, and prints them on
 standard error.
 
   tools/ftrace-check TEXT
