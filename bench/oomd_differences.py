@@ -1,6 +1,6 @@
 #!/usr/bin/env python3
-"""Counts how often psi_oomd's kills with a rules file are those of oomd 0.5.0 with the same file,
-and finds why they differ: the figures of the table in docs/RULES.md.
+"""Counts how often psi_oomd and oomd 0.5.0 kill the same groups with the same rules file, and finds
+the causes of differences. The table in docs/RULES.md has these figures.
 
 usage: bench/oomd_differences.py [CASES [DEFAULT_CASES]]     (400 and 200 if left out; PSI_OOMD
     names the program)
@@ -48,24 +48,23 @@ INTERVALS = (1, 5)
 Patch = tuple[type, str, object]
 
 
-# ---------------------------------------------------------------- psi_oomd's rules in place of
-# oomd's
+# ---------------------------------------------------------------- psi_oomd's rules replace oomd's
 
 
 def scan_ranks(self: ByScans, look: Look, paths: list[str]) -> Ranked:
-    """Groups whose count of scanned pages rose."""
+    """Ranks only groups whose count of scanned pages rose."""
     return {path: it for path, it in OWN_SCANS(self, look, paths).items() if it[0][0] > 0}
 
 
 def pressure_ranks(self: ByPressure, look: Look, paths: list[str]) -> Ranked:
-    """Ranks by the exact sum, above 0."""
+    """Ranks groups by the exact sum of two averages, if it is above 0."""
     found = {path: look.machine.pressure(path, self.args["resource"]) for path in paths}
     sums = {path: it.avg10 + it.avg60 for path, it in found.items()}
     return {path: ((it,), "") for path, it in sums.items() if it > 0}
 
 
 def read_greatest(self: Above, look: Look) -> None:
-    """The greatest of each average among the groups."""
+    """Stores the greatest value of each average among the groups."""
     found = [
         look.machine.pressure(it, self.resource) for it in look.machine.among(self.args["cgroup"])
     ]
@@ -74,7 +73,9 @@ def read_greatest(self: Above, look: Look) -> None:
 
 
 def reclaim_run(self: Reclaim, look: Look) -> Result:
-    """Returns whether a group that existed at the previous look scanned pages."""
+    """Returns whether pages were recently scanned for a group that existed at the previous
+    evaluation.
+    """
     machine = look.machine
     paths = machine.among(self.args["cgroup"])
     if any(
@@ -87,7 +88,7 @@ def reclaim_run(self: Reclaim, look: Look) -> Result:
 
 
 def size_ranks(self: BySize, look: Look, paths: list[str]) -> Ranked:
-    """Ranks by growth over the mean of the last four sizes, for groups with a live task."""
+    """Ranks groups with a task by their growth relative to the mean of their last four sizes."""
     live = [it for it in paths if look.machine.is_populated(it)]
     past = {look.machine.group(it): HISTORY.get(look.machine.group(it), [])[-PAST:] for it in live}
     averages: Any = {group: sum(it) / len(it) if it else 0 for group, it in past.items()}
@@ -98,7 +99,7 @@ def size_ranks(self: BySize, look: Look, paths: list[str]) -> Ranked:
 def at_last(
     self: Killer, look: Look, path: str, candidates: list[Candidate]
 ) -> list[tuple[str, list[Candidate]]]:
-    """The previous victim, unless a group below it is one."""
+    """Returns the group at `path` as victim, unless a descendant can be the victim."""
     if not look.machine.is_populated(path):
         return []
     below = look.machine.children(path) if self.is_recursive else []
@@ -109,7 +110,7 @@ def at_last(
 
 
 def remembered(self: Engine, now: int) -> None:
-    """Evaluates once, and then stores each group's sizes."""
+    """Evaluates the rules once, and then stores the present size of each group."""
     OWN_LOOK(self, now)
     for path, group in self.machine.world.live.items():
         HISTORY.setdefault(group, []).append(self.machine.current(path))
@@ -134,7 +135,7 @@ FIRST_LOOK = "pressure_rising_beyond begins at 100"
 
 @contextlib.contextmanager
 def switched(names: tuple[str, ...]) -> Iterator[None]:
-    """Replaces these rules of oomd by psi_oomd's."""
+    """Replaces the rules of oomd with these names by psi_oomd's, until the context ends."""
     HISTORY.clear()
     with contextlib.ExitStack() as stack:
         stack.enter_context(mock.patch.object(Engine, "look", remembered))
@@ -202,7 +203,7 @@ def share(count: int, total: int) -> str:
 
 
 def tell(title: str, cases: list[Case]) -> None:
-    """Prints the share of cases in which both agree."""
+    """Prints the share of cases in which both programs agree, by different measures."""
     found = [it for it in cases if it.rules or it.oomd]
     print(f"{title}: {len(cases)} cases, {len(found)} with kills")
     rows: dict[str, Callable[[Case], bool]] = {
@@ -239,8 +240,8 @@ def tell_experiments() -> None:
 
 
 def by_binary(count: int) -> int:
-    """Compares the emulation with oomd itself. Returns 1 if a kill differs, except among equal
-    ranks.
+    """Compares the emulation of oomd with oomd itself in `count` cases. Returns 1 if a kill
+    differs, unless oomd's choice has an equal rank.
     """
     kills = wrong = 0
     with tempfile.TemporaryDirectory() as folder:
@@ -269,7 +270,8 @@ def main() -> int:
         same = [case(folder, seed, TICK_MS, INTERVALS[seed % 2]) for seed in range(counts[0])]
         tell_experiments()
         tell("incidents, ticks of a second, interval 1 or 5 s", same)
-        # Each case writes its files again, since all cases use the same file names.
+        # All cases use the same file names, so the files of a case are written again before its
+        # cause is found.
         tell_causes(
             [remade(folder, seed, it) for seed, it in enumerate(same) if not it.is_first_same()]
         )
@@ -280,7 +282,7 @@ def main() -> int:
 
 
 def remade(folder: str, seed: int, it: Case) -> Case:
-    """Returns the case, with its files written again."""
+    """Returns an equal case, whose files are written again into a folder of its own."""
     own = os.path.join(folder, str(seed))
     os.mkdir(own)
     return case(own, seed, TICK_MS, it.run.interval)

@@ -56,8 +56,8 @@ from .unwritten import UNWRITTEN, silent_tasks, with_unwritten
 from .wakeups import Counting, Wakeups
 
 LEVELS = ("some", "full")
-# A recording of at least this size (bytes) is surveyed in several processes, and folded in a
-# process of its own.
+# A recording of at least this size (bytes) is surveyed by several processes, and folded by a
+# separate process.
 LARGE = 16 << 20
 MOST_TRIGGERS = 256
 # The shortest and the longest lead-in (ns).
@@ -66,9 +66,7 @@ DEFAULT_PREFERENCES = {"prefer": "prefer", "avoid": "avoid", "omit": "avoid"}
 
 
 class Options(NamedTuple):
-    """The parsed command line. `wall` is the time at which the recording began, if the user gave
-    it.
-    """
+    """The parsed command line. `wall` is the time of day at the start, if an option gives it."""
 
     source: str
     output: str | None
@@ -170,8 +168,9 @@ def tell(line: str) -> None:
 
 
 class Reading(NamedTuple):
-    """The input: the whole recording, or if it is to be folded only its rare events, with all
-    events in slices, and the tasks that never leave a processor.
+    """The input. `source` has all events or, if a recording is to be folded, only the rare events;
+    then `slices` returns all events in slices. `silent` are the tasks that never leave a processor
+    according to the events.
     """
 
     source: Source
@@ -209,9 +208,7 @@ def part_of(options: Options, source: Source, whole: Window) -> Window:
 
 
 def method_of(options: Options, source: Source) -> Method:
-    """Returns how waits for IO are recognised: by the requested method, if the recording
-    supports it.
-    """
+    """Returns the requested method, which the recording must support, or the best one that it has."""
     best = best_method(source.events, source.has_switch_probe)
     kinds = {type(event) for event in source.events} if options.method else set()
     has_probe = source.has_switch_probe or SwitchProbe in kinds
@@ -222,8 +219,8 @@ def method_of(options: Options, source: Source) -> Method:
 
 
 def wakeups_of(options: Options, source: Source) -> Wakeups:
-    """Returns what moves each wakeup to the requested time. Raises a Fault if the recording
-    lacks the probe for that.
+    """Returns the object that moves wakeups to the requested time. Raises a Fault if the recording
+    lacks the probe for that time.
     """
     counting = options.counting or (Counting.PROBE if source.has_ready_probe else Counting.EVENT)
     if counting is not Counting.EVENT and not source.has_ready_probe:
@@ -232,14 +229,14 @@ def wakeups_of(options: Options, source: Source) -> Wakeups:
 
 
 def check_interrupts(options: Options, source: Source) -> None:
-    """Rejects --interrupts if the recording has no such events."""
+    """Raises a Fault if --interrupts is given but the recording has no events of interrupts."""
     if options.has_interrupts and not any(isinstance(event, Interrupts) for event in source.events):
         raise Fault("--interrupts: the recording has no such events: its kernel doesn't account interrupts, or is newer than 6.9")
 
 
 def upon_of(options: Options, source: Source) -> dict[str, list[str]]:
-    """Returns the lines to write when a group is created, by path: its preference, and its
-    triggers.
+    """Returns the words of the lines to write when a group is created, by the group's path: its
+    preference and its triggers.
     """
     upon: dict[str, list[str]] = {}
     for path, preference in sorted(source.snapshot.groups.items()):
@@ -251,9 +248,7 @@ def upon_of(options: Options, source: Source) -> dict[str, list[str]]:
 
 
 def past_of(options: Options, source: Source, window: Window) -> Past | None:
-    """Returns the requested warm-up, with the machine's averages at the reading nearest to the
-    window's start. None if none is requested.
-    """
+    """Returns the requested lead-in, with the averages in the reading nearest to the start, or None."""
     if options.lead_in is None:
         return None
     spans = spans_of(source) if os.path.isdir(options.source) else {}
@@ -265,14 +260,14 @@ def past_of(options: Options, source: Source, window: Window) -> Past | None:
 
 
 def put_in_unwritten(source: Source, window: Window) -> None:
-    """Inserts the unwritten switches, and counts those within the window."""
+    """Inserts the switches that the kernel didn't write, and counts those within the window."""
     source.events, times_ns = with_unwritten(source.events, source.gaps)
     source.mended[UNWRITTEN] += sum(window.start <= it <= window.end for it in times_ns)
 
 
 def losses_of(source: Source, window: Window, whole: Window) -> list[str]:
-    """Returns the report of losses in the window; for a whole recording also of those before its
-    first event.
+    """Returns the lines about losses in the window. For a whole recording they include the losses
+    before its first event.
     """
     gaps = source.gaps if window == whole else overlapping(source.gaps, window)
     return [f"lost: {it}" for it in [*source.losses, *([loss_text(gaps, whole)] if gaps else [])]]
@@ -319,7 +314,9 @@ def is_large(options: Options) -> bool:
 
 
 class Made(NamedTuple):
-    """A converted trace, in parts to be written, and further lines for the report."""
+    """A converted trace: the figures for the report, the bytes of the trace in parts, further lines
+    for the report, and whether folding made the trace longer.
+    """
 
     converted: Converted
     parts: Iterable[bytes]
@@ -384,7 +381,7 @@ def convert_recording(options: Options) -> int:
 
 
 def psitrace(arguments: Sequence[str] | None) -> int:
-    """Does what the arguments ask for, and returns the exit status."""
+    """Converts the recording that the arguments name, and returns the exit status."""
     try:
         return convert_recording(options_of(arguments))
     except (Different, NotATrace) as fault:
@@ -393,5 +390,5 @@ def psitrace(arguments: Sequence[str] | None) -> int:
 
 
 def main(arguments: Sequence[str] | None = None) -> int:
-    """Runs the command, with the tool's own arguments if `arguments` is None; returns the exit status."""
+    """Runs the command with these arguments, or with the process's own if None."""
     return run(lambda: psitrace(arguments))

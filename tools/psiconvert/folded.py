@@ -1,11 +1,12 @@
 """Converts a recording of any length to a folded trace, one slice of events and one window of lines
 at a time.
 
-The result is that of `convert`, which takes all events at once, apart from differences that
-don't occur in a short recording. The initial state of each task follows from the events of the
-first minute, which are read twice for that. An unwritten switch is moved back to the time at
-which its task was last seen, but at most to the previous slice. A wait for IO that only its end
-shows is found if the end is in the same slice or the next. A slice is at least 2 s long.
+The result is that of folding the result of `convert`, which takes all events at once, except in
+three cases that don't occur in a short recording. The initial state of each task follows only from
+the events of the first minute, which are read twice for that. A switch that the kernel didn't write
+is inserted at the time of its task's last event, but at earliest in the previous slice. A wait for
+IO that only its end shows is found only if the end is in the same slice or the next. A slice is at
+least 2 s long.
 """
 from __future__ import annotations
 
@@ -40,10 +41,10 @@ from .unwritten import UNWRITTEN, Chains
 
 # The number of lines that are folded at once.
 LINES = 5_000
-# The length (ns) of the first part of the events, which is read to find the initial state.
+# The initial state is found from the events of this time (ns) after the start.
 LOOK_AHEAD = 60 * 10**9
 BY_TIME = itemgetter(0)
-# A function that returns the events in slices, from the first one each time it is called.
+# A function that returns all events in slices. Each call begins again with the first slice.
 Slices = Callable[[], Iterable[list[Event]]]
 
 
@@ -51,7 +52,7 @@ class Spool:
     """The lines of a folded trace, in a temporary file until the conversion has succeeded."""
 
     def __init__(self) -> None:
-        # The file is unbuffered, since another process writes it.
+        # The file is unbuffered, since another process may write it.
         self.file = tempfile.TemporaryFile(buffering=0)
         self.header, self.events = "", 0
 
@@ -59,7 +60,7 @@ class Spool:
         return 1 + self.events
 
     def put(self, lines: list[str]) -> None:
-        """Adds lines, unless there would be no room for the end line after them."""
+        """Adds lines. Raises TooMany if a trace couldn't have them and an end line."""
         if self.events + len(lines) >= MOST_EVENTS and not lines[-1].endswith(" end"):
             raise TooMany(f"{MOST_EVENTS} events")
         self.events += len(lines)
@@ -75,7 +76,7 @@ class Spool:
             raise Unreadable(f"a temporary file in {tempfile.gettempdir()}: {fault.strerror}") from None
 
     def close(self, events: int, time_ns: int) -> None:
-        """Ends a trace of `events` lines at `time_ns` (ns)."""
+        """Ends a trace of `events` lines by an end line at `time_ns`."""
         self.file.seek(0, os.SEEK_END)
         self.write(f"{time_ns} end\n")
         self.events = events + 1
@@ -93,7 +94,7 @@ class Spool:
 
 @dataclass
 class Slice:
-    """Consecutive events, including unwritten switches, and the events of the next slice."""
+    """Consecutive events with the unwritten switches inserted, and the events of the next slice."""
 
     events: list[Event]
     following: list[Event]
@@ -111,9 +112,7 @@ class Slice:
 
 
 class Mender:
-    """Inserts the unwritten switches among the events. `times_ns` has the times (ns) of these
-    switches.
-    """
+    """Inserts the switches that the kernel didn't write. `times_ns` has their times (ns)."""
 
     def __init__(self, source: Source, silent: set[int]) -> None:
         self.chains = Chains(source.events, source.gaps)
@@ -134,8 +133,9 @@ class Mender:
             yield Slice(before, [])
 
     def mended(self, events: list[Event], before: list[Event] | None) -> tuple[list[Event], list[Event]]:
-        """Returns a slice's events with the unwritten switches since its first event, and
-        separately the unwritten switches before that.
+        """Returns a slice's events with the unwritten switches that belong into the slice, and
+        separately the unwritten switches from before its first event. `before` is the previous
+        slice.
         """
         whole, times_ns = self.chains.mended(events)
         if not times_ns:
@@ -146,13 +146,11 @@ class Mender:
         return whole[first:], whole[:first]
 
 
-# ---------------------------------------------------------------- what each task did at the start
+# ---------------------------------------------------------------- the initial state
 
 
 class Ahead:
-    """What each task did when the recording began and when the window began, according to the
-    next LOOK_AHEAD ns of events.
-    """
+    """The states of tasks when the recording and the window begin, by LOOK_AHEAD ns of events."""
 
     def __init__(self, source: Source, window: Window) -> None:
         self.source, self.start, self.end = source, window.start, min(window.end, window.start + LOOK_AHEAD)
@@ -162,11 +160,11 @@ class Ahead:
         self.is_begun = False
 
     def new(self, time_ns: int) -> Beginning:
-        """Returns an empty initial state, for events that begin at `time_ns` (ns)."""
+        """Returns an empty initial state, for events from `time_ns` on."""
         return Beginning(NEVER if self.latest_ready is None else time_ns + self.latest_ready)
 
     def take(self, events: list[Event]) -> bool:
-        """Takes the next events, and returns whether more are needed."""
+        """Processes the next events. Returns whether further events are needed."""
         for event in events:
             time_ns = event[0]
             if time_ns <= self.until:
@@ -178,9 +176,7 @@ class Ahead:
         return not events or events[-1][0] <= max(self.until, self.end)
 
     def take_late(self) -> None:
-        """Takes the first event of each processor that had none up to now: it shows which task
-        ran there since the start.
-        """
+        """Processes the first event of each processor that had no event so far."""
         begins_there = self.start <= self.source.start
         for event in self.source.events:
             if event[1] not in self.recording.runs:
@@ -190,7 +186,7 @@ class Ahead:
 
 
 def looked_ahead(source: Source, slices: Iterable[list[Event]], silent: set[int], window: Window) -> Ahead:
-    """Reads as many events as are needed to know what each task did at the start."""
+    """Reads the events that are needed for the initial state, and returns this."""
     ahead = Ahead(source, window)
     for part in Mender(source, silent).pairs(slices):
         if not ahead.take(part.events):
@@ -203,9 +199,9 @@ def looked_ahead(source: Source, slices: Iterable[list[Event]], silent: set[int]
 
 
 class Conversion:
-    """Plays the events of a recording, and passes the resulting lines to `put`. `accounts` has
-    the changes of accounting by the marker that reports them. `window` is the length (ns) of a
-    folded window.
+    """Plays the events of a recording slice by slice, and passes the resulting lines to `put`.
+    `window` is the length (ns) of a folded window. `accounts` has the changes of accounting by the
+    event that reports them.
     """
 
     def __init__(self, source: Source, wanted: Wanted, ahead: Ahead, put: Callable[[list[str]], None], window: int) -> None:
@@ -219,8 +215,8 @@ class Conversion:
         self.is_begun = False
         self.counts: Counter[str] = Counter()
         self.waits = self.uninterruptible = 0
-        # Probes whose switches are in the next slice; and for each task the number of renumberings
-        # in the next slice that were already handled.
+        # `probes` has the probes whose switches are in the next slice. `early` has for each task
+        # the number of renumberings in the next slice that the player already handled.
         self.probes: dict[int, SwitchProbe] = {}
         self.early: Counter[int] = Counter()
 
@@ -234,7 +230,7 @@ class Conversion:
         return {place for place in by_statistics(part.both()) if place < len(part.events)}
 
     def prepare(self, player: Player, part: Slice, waits: set[int]) -> None:
-        """Passes to the player what is known of a slice: waits, accounting, and renumberings."""
+        """Sets what the player needs of a slice: waits, accounting, and renumberings by exec."""
         player.waits = waits
         player.accounts.clear()
         player.changes.clear()
@@ -247,7 +243,8 @@ class Conversion:
             del player.changes[task][:count]
 
     def note_early(self, player: Player, part: Slice) -> None:
-        """Counts the renumberings in the next slice that the player already handled in this one."""
+        """Counts the renumberings in the next slice that the player handled in this slice already.
+        """
         following = part.following if part.has(Exec) else ()
         counts = Counter(event.task for event in following if type(event) is Exec and event.task != event.old)
         left = {task: sum(place >= len(part.events) for place, _ in player.changes.get(task, ())) for task in counts}
@@ -280,14 +277,16 @@ class Conversion:
         return end == len(events)
 
     def new_player(self, world: World, beginning: Beginning) -> Player:
-        """Returns a player that starts with the known state before the trace."""
+        """Writes the state before the trace into `world`, and returns a player for it."""
         assert self.prior
         begin_groups(world, self.prior)
         begin(world, self.prior, beginning)
         return Player(world, [], set(), {}, self.source.snapshot.types)
 
     def begin(self) -> None:
-        """Begins the trace, with the present state as its initial state."""
+        """Begins the trace. Its initial state is the state after the events that were played so
+        far.
+        """
         wanted, source = self.wanted, self.source
         if self.player:
             is_sound = not any(gap.start < wanted.window.start for gap in source.gaps)
@@ -302,9 +301,7 @@ class Conversion:
         self.player, self.is_begun = self.new_player(world, self.ahead.window), True
 
     def play_window(self, player: Player, events: list[Event], places: range) -> None:
-        """Plays the events at these indices, and passes the resulting lines on. For speed the
-        commonest kinds of events are handled here, by their type.
-        """
+        """Plays the events at these indices, and passes their lines on. Common kinds are inlined."""
         world, start, put, play = player.world, self.wanted.window.start, self.put, player.play
         switch, wake, migrate, lines = player.switch, player.wake, player.migrate, world.lines
         pairs: Iterable[tuple[int, Any]] = zip(places, events[places.start : places.stop])
@@ -347,7 +344,7 @@ class Conversion:
         return world
 
     def count(self, events: list[Event], waits: set[int], places: range) -> None:
-        """Counts the played events, for the summary."""
+        """Counts the events, the waits for IO and the sleeps in state D, for the report."""
         counts = Counter(map(type, events))
         counts[Switch] += counts.pop(WaitingSwitch, 0)
         self.counts.update({NAMES[kind]: count for kind, count in counts.items() if kind in NAMES})
@@ -356,9 +353,7 @@ class Conversion:
 
 
 class Folded(NamedTuple):
-    """A folded trace: the figures for the report, its lines in a file, and the outcome of
-    folding.
-    """
+    """A folded trace: figures for the report, the file with its lines, and the outcome."""
 
     converted: Converted
     spool: Spool
@@ -366,8 +361,9 @@ class Folded(NamedTuple):
 
 
 def convert_folded(source: Source, slices: Slices, ahead: Ahead, silent: set[int], wanted: Wanted, folding: Folding, is_large: bool) -> Folded:
-    """Converts and folds. If the recording is large, another process folds."""
-    # Events form no cycles, and searching them for cycles takes a tenth of the time.
+    """Converts a recording and folds the trace. If the recording is large, another process folds.
+    """
+    # Events form no reference cycles, and the search for cycles would take a tenth of the time.
     gc.disable()
     spool = Spool()
     fold = Fold(source.processors, folding.length, spool.put, folding.victims)
