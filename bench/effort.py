@@ -47,8 +47,8 @@ HERE = os.path.dirname(os.path.abspath(__file__))
 STORED = os.path.join(HERE, "effort.json")
 TOOLS = ("valgrind", "strace", "time")
 MAY_RISE_PERCENT = 3.0
-# The number of runs of which the least peak counts, and the rise of a peak (KB) that is always
-# allowed, since the system counts pages in batches.
+# The peak of a run is the least of this number of runs. A rise by MAY_RISE_KB is always allowed,
+# since the system counts pages in batches.
 PEAKS = 3
 PEAK = "peak in KB"
 MAY_RISE_KB = 256
@@ -60,7 +60,7 @@ CALLS = {
     "threads": ("clone", "clone3", "fork", "vfork"),
     "memory calls": ("mmap", "mremap", "munmap", "brk", "madvise"),
 }
-# The kinds of calls that loading a program makes too, so that the calls for loading are subtracted.
+# Loading a program makes calls of these kinds too, which are subtracted.
 LOADING = ("reads", "opens", "memory calls")
 
 # The figures of a run by name. The name contains the unit.

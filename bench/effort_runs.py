@@ -55,7 +55,7 @@ class Run:
     step: Step = Step.LINE
     # Whether no thread may be started, so that the number of memory calls is always the same.
     is_alone: bool = False
-    # How much instructions and memory vary from run to run, in percent.
+    # The variation of instructions and memory from run to run (percent).
     varies_percent: float = 0.0
     program: str = "psi_oomd"
 
@@ -156,7 +156,8 @@ def rules() -> str:
 
 
 def write_trace(program: str, trace: Trace, size: int, path: str) -> None:
-    """Writes a trace to `path`. The program generates it, except a quiet trace."""
+    """Writes a trace of this kind and size to `path`. `program` is the psi_oomd that generates it.
+    """
     with open(path, "w", encoding="utf-8") as file:
         if trace is Trace.QUIET:
             file.write(quiet_trace(size))

@@ -29,7 +29,7 @@ class Sample(NamedTuple):
     averages: tuple[str, ...]
 
     def line(self, start: int, has_averages: bool) -> str:
-        """Returns a line of CSV; `start` is ns since 1970."""
+        """Returns the sample as a line of CSV. `start` (ns since 1970) is the trace's start."""
         time = start + self.time
         more = "," + ",".join(self.averages) if has_averages else ""
         return (

@@ -49,8 +49,8 @@ HELP = {
         " without it at least"
     ),
 }
-# The number of entries in the rows of all processors at which these are added up, which keeps the
-# use of memory small.
+# If the rows of all processors have more entries than this, they are added to the sums, which keeps
+# the use of memory small.
 MOST_ENTRIES = 200_000
 
 

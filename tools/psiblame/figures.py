@@ -164,7 +164,7 @@ class Asker:
 
     def beside(self, group: Group, pairs: Pairs) -> list[Part]:
         """Returns the groups that were in the same state as `group` at the same time, and for how
-        long. Ancestors of the group are left out, since they always are.
+        long. The group's ancestors are left out, since they are always in its state.
         """
         others = {
             self.groups[other]: time

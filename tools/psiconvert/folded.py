@@ -150,7 +150,8 @@ class Mender:
 
 
 class Ahead:
-    """The states of tasks when the recording and the window begin, by LOOK_AHEAD ns of events."""
+    """The initial states of tasks, for the recording and for the window, by LOOK_AHEAD ns of events.
+    """
 
     def __init__(self, source: Source, window: Window) -> None:
         self.source, self.start, self.end = source, window.start, min(window.end, window.start + LOOK_AHEAD)

@@ -151,7 +151,8 @@ class Stage:
             world.detour(task, How.SLEEP)
 
     def put(self, task: int, state: State, is_stalled: bool) -> None:
-        """Puts a task into this state. For that the task runs, at least for zero time."""
+        """Puts a task into this state. To change its state, the task runs for zero time or longer.
+        """
         world, it = self.world, self.world.tasks[task]
         if it.state is state and it.is_stalled == is_stalled:
             return

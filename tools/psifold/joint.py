@@ -42,7 +42,9 @@ LEAVES_TO = {kind: word for word, kind in LEFT_BY.items()}
 
 
 class Element(NamedTuple):
-    """A group's path, and a kind of which the group has a task of its own on the processor."""
+    """A pair of a group's path and a kind: the group has a task of its own of this kind on the
+    processor.
+    """
 
     path: str
     kind: Kind

@@ -60,8 +60,8 @@ class View:
         return Sum(self.groups[place], state, self.without)
 
     def chain(self, slot: int) -> int:
-        """Returns the set of those of a group and its ancestors whose sums are computed. The set of
-        an excluded group is empty.
+        """Returns the set of the group and its ancestors, without those whose sums aren't computed.
+        The set is empty for an excluded group.
         """
         chain = 0
         at: int | None = slot
@@ -164,8 +164,8 @@ class Sums:
         raise IndexError(bit)
 
     def least(self, state: int, column: int) -> int:
-        """Returns the joint state without the elements that don't affect its sums, which are
-        `column`.
+        """Removes from a joint state the elements that don't affect its sums, and returns the rest.
+        `column` has the sums of the joint state.
         """
         for bit in bits_of(state):
             fewer = state ^ 1 << bit

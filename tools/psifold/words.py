@@ -127,8 +127,8 @@ def whatif_line(folding: Folding, outcome: Outcome) -> str:
 
 
 class Progress:
-    """Shows the progress on standard error, if that is a terminal: the number of seconds of the
-    trace that are done, and of `total` (ns) if that is known.
+    """Shows the progress on standard error, if that is a terminal: the seconds of the trace that
+    are done, and the seconds of the whole trace if `total` (ns) isn't None.
     """
 
     def __init__(self, name: str, total: int | None = None) -> None:

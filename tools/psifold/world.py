@@ -77,7 +77,7 @@ class Interrupts:
         self.others: Counter[int] = Counter()
 
     def add(self, slot: int, length: int) -> None:
-        """Adds the length (ns) of a line."""
+        """Adds an interrupt line of a task of the group `slot`, with its length (ns)."""
         if self.first is None:
             self.first = (slot, length)
         else:

@@ -25,8 +25,8 @@ MOST_OTHER_SLEEP = 0.05
 # The largest share of the text's time on all processors together that sleeps in state D may have if
 # no event shows which of them were waits for IO.
 MOST_UNKNOWN_SLEEP = 0.01
-# The least time (ns) between the first events of two processors that is reported. Usually the time
-# is shorter, unless the buffer was overwritten.
+# If the first events of two processors are farther apart than this (ns), that is reported: older
+# events of one of them may have been overwritten.
 LEAST_APART = 10**8
 
 KINDS = ("sched_switch", "sched_wakeup", "sched_wakeup_new", "sched_migrate_task")
@@ -93,7 +93,7 @@ class Check:
             self.lost.append(int(lost[2] or 0))
 
     def take_form(self, head: Line, line: bytes, event: Event | None) -> None:
-        """Counts lines that an importer rejects or ignores."""
+        """Counts the line if a simple importer rejects or ignores it."""
         self.faults["perf"] += head.is_perf
         self.faults["return"] += line.endswith(b"\r")
         if event is None:

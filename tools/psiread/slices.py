@@ -41,8 +41,7 @@ SAMPLES = (MARK + "mem ").encode(), (MARK + "host ").encode()
 # The number of memory samples per processor that a survey stores, to check the snapshot: the most
 # groups that the first sample can have.
 FIRST_SAMPLES = 2048
-# The shortest slice (ns). It contains several parts if parts are short, because one processor has
-# many more events than others.
+# The shortest slice (ns). A slice consists of one or more parts, which may be much shorter.
 LEAST_SLICE = 2 * 10**9
 # The number of bytes that are read at once, for all processors together.
 READ_BYTES = 8 << 20
@@ -239,7 +238,7 @@ class Surveyed:
             self.last = decoders[number](last[0], processor, data, *last[1:])
 
     def take_rare(self, event: Event, number: int) -> None:
-        """Stores an event of kind `number`, unless it is one more memory sample than are needed."""
+        """Stores an event of the kind `number`. Of memory samples it stores only the first."""
         is_sample = type(event) is Marker and event.text.startswith(SAMPLES)
         self.samples += is_sample
         if not is_sample or self.samples <= FIRST_SAMPLES:

@@ -43,7 +43,7 @@ def field_word(name: str, field: Field) -> str:
 
 
 def fields_of(name: str) -> tuple[str, ...] | None:
-    """Returns the fields of an event after the common ones, None if the event isn't read."""
+    """Returns the fields of an event after the common ones, or None if the event isn't read."""
     if name in NUMBERS:
         return NUMBERS[name][1]
     return SWITCH if name == "sched_switch" else TEXTS.get(name)

@@ -124,8 +124,8 @@ class Groups:
         return path in self.leaving
 
     def leaving_below(self, path: str) -> list[str]:
-        """Returns this group and its descendants, the deepest first, as far as they are marked for
-        removal.
+        """Returns the groups that are marked for removal among this group and its descendants, the
+        deepest first.
         """
         found = (it for it in self.leaving if it == path or it.startswith(path + "/"))
         return sorted(found, key=lambda it: (-it.count("/"), it))
