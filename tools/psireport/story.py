@@ -164,10 +164,9 @@ def value_at(series: Series, level: str, moment: int) -> tuple[int, int]:
     """Returns the time (ns) and the share over 10 s of the first report from a time on, or of the
     last report.
     """
-    place = next(
-        (place for place, it in enumerate(series.times_ns) if it >= moment), len(series.times_ns) - 1
-    )
-    return series.times_ns[place], series.shares[level, "avg10"][place]
+    times_ns = series.times_ns
+    place = next((place for place, it in enumerate(times_ns) if it >= moment), len(times_ns) - 1)
+    return times_ns[place], series.shares[level, "avg10"][place]
 
 
 def after(subject: Subject, kill: Kill, recorded: Replay, supposed: Replay) -> Optional[After]:
