@@ -1,3 +1,3 @@
-"""The format of a recording: the names that `tools/record` writes and all other tools read. Both
-import this package, and it imports neither.
+"""The format of a recording: the names of its files, keys and markers. The recorder writes them and
+the other tools read them, so both import this package, which imports neither.
 """

@@ -1,8 +1,8 @@
-"""Names of containers and pods, by the numbers in the names of their control groups: 64 hexadecimal
-digits for a container, the UID for a pod. A recording has them in the file FILE, with a line
-`NUMBER NAME` for each.
+"""Parses the names of containers and pods, keyed by the identifiers in the names of their control
+groups: 64 hexadecimal digits for a container, the UID for a pod. A recording has a line `NUMBER
+NAME` for each of them in the file FILE.
 
-They are in what these commands print: `crictl ps -a -o json`, `crictl pods -o json`,
+These commands print the names: `crictl ps -a -o json`, `crictl pods -o json`,
 `docker ps -a --no-trunc --format '{{json .}}'`, `podman ps -a --no-trunc --format json`, and
 `docker inspect`. A container of a pod is named `NAMESPACE/POD/CONTAINER`.
 """
@@ -14,14 +14,14 @@ from collections.abc import Iterator
 from typing import Any
 
 FILE = "containers"
-# A container's number may be shortened, as docker prints it.
+# The identifier of a container, possibly shortened to 12 digits as docker prints it, or of a pod.
 NUMBER = re.compile("[0-9a-f]{12,64}|[0-9a-f]{8}(?:[-_][0-9a-f]{4}){3}[-_][0-9a-f]{12}")
 KUBERNETES = "io.kubernetes."
 
 
 def names_in(text: str) -> dict[str, str]:
     """Parses the output of one of the commands, or lines `NUMBER NAME`. Returns the names by
-    number. Raises ValueError if the text has neither form.
+    identifier. Raises ValueError if the text has neither form.
     """
     found: dict[str, str] = {}
     if text.lstrip()[:1] in ("{", "["):
@@ -38,7 +38,7 @@ def names_in(text: str) -> dict[str, str]:
 
 
 def values_in(text: str) -> Iterator[Any]:
-    """Yields the objects of a JSON text, which has a single value or one value per line."""
+    """Yields the objects of a JSON text, which is a single value or has one value per line."""
     try:
         whole = json.loads(text)
     except ValueError:
@@ -63,13 +63,13 @@ def part_of(value: Any, key: str) -> Any:
 
 
 def names_of(value: dict[str, Any]) -> Iterator[tuple[str, str]]:
-    """Yields the numbers of a container or a pod, each with the name."""
+    """Yields each identifier of a container or a pod, with its name."""
     own, labels = value.get("metadata"), value.get("labels") or value.get("Labels")
     number = first_text(value.get("id"), value.get("Id"), value.get("ID"))
     name = first_text(part_of(own, "name"), value.get("Names"), value.get("Name")).lstrip("/")
     keys = (f"{KUBERNETES}pod.{it}" for it in ("name", "namespace", "uid"))
     pod, space, uid = (first_text(part_of(labels, key)) for key in keys)
-    if part_of(own, "uid"):  # a pod, whose number is that of its sandbox
+    if part_of(own, "uid"):  # A pod: `id` identifies its sandbox container.
         space, uid = (first_text(part_of(own, key)) for key in ("namespace", "uid"))
         pod, name = name, "sandbox"
     whole = f"{space}/{pod}" if space and pod else pod

@@ -1,37 +1,37 @@
 """The names in a recording: the files of its folder, their lines, the markers among its events, and
 its probes.
 
-`tools/record` writes these names and `tools/psitrace` and `tools/compare` read them, so each is
-defined once, here. All files are bytes; bytes that aren't UTF-8 are kept by the error handler
-`surrogateescape`. Paths of control groups are written as `escaped_path` returns them, from the root
-of the hierarchy, which is `/`; so no path has a blank.
+`tools/record` writes these names and `tools/psitrace` and `tools/compare` read them, so this module
+defines each once. Files may contain bytes that aren't UTF-8, which Python's error handler
+`surrogateescape` preserves. Paths of control groups begin at the root of the hierarchy, `/`, and
+are escaped by `escaped_path`, so no path contains a blank.
 
-meta        lines `KEY VALUE`, a key as often as it is needed. The last line is `end REASON`: if
+meta        lines `KEY VALUE`; a key may occur more than once. The last line is `end REASON`: if
             it is missing, the recorder was killed.
 formats     for each event a line `== SYSTEM/EVENT` and the text of the kernel's own file
             `events/SYSTEM/EVENT/format`; also `== header_page`, which has the size of a page of a
             ring buffer.
-cpuN.raw    the pages of the ring buffer of processor N, in the order in which they arrived; in a
-            compressed recording parts of them, cpuN.K.raw with K from 0, uncompressed or as
-            cpuN.K.raw.gz.
+cpuN.raw    the pages of the ring buffer of processor N, in the order in which they arrived. A
+            compressed recording has them in parts instead, cpuN.K.raw.gz with K from 0; a part that
+            isn't compressed yet is cpuN.K.raw.
 containers  names of containers and pods, if any run: lines `NUMBER NAME` (`psirec.containers`).
-snapshot    the state after the recording had begun: lines `at NS`, `group PATH PREFERENCE`, `type
+snapshot    the groups and tasks soon after the start: lines `at NS`, `group PATH PREFERENCE`, `type
             PATH TYPE` (its `cgroup.type`), `unaccounted PATH` (its `cgroup.pressure` is 0) and
             `task TID TGID STATE CPU PATH NAME`; the last line is `end`.
 pressure    for each reading `sample NUMBER PATH RESOURCE` and the two lines of that pressure file.
 
-NS is CLOCK_MONOTONIC in ns, as all times of events are (`trace_clock` is `mono`). Sizes of memory
-are bytes.
+NS is CLOCK_MONOTONIC in ns, like the times of all events (`trace_clock` is `mono`). Sizes of memory
+are in bytes.
 """
 from __future__ import annotations
 
 import re
 
-# The version of this layout, in the first line of `meta`: `recording 2`. If that line is missing, a
-# draft of the recorder wrote the folder: all of the above except the end, which is replaced by
-# SKETCH_END in the last line.
+# The version of this layout, in the first line of `meta`: `recording 2`. If that line is missing,
+# an early draft of the recorder wrote the folder; its `meta` ends in a line with the key SKETCH_END
+# in place of `end REASON`.
 VERSION = "2"
-# The versions that can be read. The first wrote no SNAPSHOT_END to its snapshot.
+# The versions that can be read. In version 1 a snapshot has no last line SNAPSHOT_END.
 WITHOUT_END, VERSIONS = "1", ("1", VERSION)
 
 # ---------------------------------------------------------------- files
@@ -62,29 +62,29 @@ def part_name(processor: int, part: int) -> str:
 
 
 class Key:
-    """The first word of a line of `meta`, and the meaning of its value."""
+    """The keys of `meta`: the first word of a line. Comments describe the values."""
 
-    RECORDING = "recording"  # VERSION; the first line
+    RECORDING = "recording"  # VERSION; this is the first line
     UNAME = "uname"  # the words of uname(2)
-    PROCESSORS = "cpus"  # how many are configured (_NPROCESSORS_CONF): so many raw files there are
-    ZONE = "zone"  # `+HH:MM`: local time is ahead of UTC by this at the start
-    MOMENT = (  # `realtime S monotonic S`, read together at the start: seconds with six decimals
+    PROCESSORS = "cpus"  # the number of configured processors (_NPROCESSORS_CONF)
+    ZONE = "zone"  # `+HH:MM`, the offset of local time from UTC at the start
+    MOMENT = (  # `realtime S monotonic S`: both clocks at the start, in s with six decimals
         "moment"
     )
-    EVENT = "event"  # `SYSTEM/EVENT`: it was on
-    NO_EVENT = "no-event"  # `SYSTEM/EVENT: REASON`: it couldn't be had
-    NO_PROBE = "no-probe"  # `DEFINITION: REASON`
-    RING = "ring"  # the trigger of a flight recorder, whose buffers were overwritten on purpose
-    RING_GROUP = "ring-group"  # the escaped path of the group whose pressure the trigger is for
-    RING_START = "ring-start"  # s: from here on all processors have events
-    FIRED = "fired"  # s: when the trigger did
-    STATS = "stats"  # `cpuN LINE`: a line of `per_cpu/cpuN/stats` at the end
-    SECONDS = "seconds"  # how long the recording lasted
-    BYTES = "bytes"  # of all pages
-    PROCESSOR_SECONDS = "cpu-seconds"  # `user S sys S`: what the recorder itself used
-    COMPRESSING = "compress-seconds"  # of a processor, in which pages were compressed
-    LEFT = "left"  # something that couldn't be removed from the machine
-    END = "end"  # REASON, below; the last line
+    EVENT = "event"  # `SYSTEM/EVENT`, an event that was switched on
+    NO_EVENT = "no-event"  # `SYSTEM/EVENT: REASON`, an event that couldn't be switched on
+    NO_PROBE = "no-probe"  # `DEFINITION: REASON`, a probe that couldn't be added
+    RING = "ring"  # the trigger of a flight recorder, whose buffers are overwritten on purpose
+    RING_GROUP = "ring-group"  # the escaped path of the group that the trigger watches
+    RING_START = "ring-start"  # the time (s) since which the events of all processors are complete
+    FIRED = "fired"  # the time (s) at which the trigger signalled pressure
+    STATS = "stats"  # `cpuN LINE`, a line of `per_cpu/cpuN/stats` at the end
+    SECONDS = "seconds"  # the length of the recording (s)
+    BYTES = "bytes"  # the size of all pages
+    PROCESSOR_SECONDS = "cpu-seconds"  # `user S sys S`, the processor time that the recorder used
+    COMPRESSING = "compress-seconds"  # the processor time (s) that compressing took
+    LEFT = "left"  # a change of the machine that couldn't be undone
+    END = "end"  # a word of Reason; this is the last line
 
 
 SKETCH_END = Key.PROCESSOR_SECONDS
@@ -96,37 +96,39 @@ LOST_STATS = ("overrun", "commit overrun", "dropped events")
 class Reason:
     """Why a recording ended."""
 
-    SECONDS = "seconds"  # the time was over
-    SIGNAL = "signal"  # SIGINT, SIGTERM or SIGHUP came
-    SIZE = "max-mb"  # so much was written
-    TRIGGER = "trigger"  # the flight recorder's trigger had fired
+    SECONDS = "seconds"  # the requested time was over
+    SIGNAL = "signal"  # SIGINT, SIGTERM or SIGHUP was received
+    SIZE = "max-mb"  # the largest permitted number of bytes was written
+    TRIGGER = "trigger"  # the flight recorder's trigger signalled pressure
     DISK_FULL = "disk-full"  # not all pages could be written
-    FAILED = "failed"  # something else, told after it
-    KILLED = "killed"  # no line says why: the recorder was killed, or the machine crashed
+    FAILED = "failed"  # an error, whose message follows this word
+    KILLED = "killed"  # `meta` has no reason: the recorder was killed, or the machine crashed
 
 
 # ---------------------------------------------------------------- probes
 
-# The instance of tracefs, and the group of the probes: PREFIX, the recorder's process number, "_",
-# and when that process started, in the clock ticks since boot of /proc/PID/stat.
+# The name of a recorder's tracing instance and probe group begins with PREFIX, followed by its pid,
+# "_", and the start time of its process in clock ticks since boot (from /proc/PID/stat).
 PREFIX = "psirec"
 
 
 class Probe:
-    """Names of probes, and of the values that they fetch."""
+    """Names of probes, and of the values that they fetch. Comments have the probed function."""
 
     STALL_BEGINS = "ms_enter"  # psi_memstall_enter
-    STALL_ENDS = "ms_leave"  # psi_memstall_leave; FLAGS is 0 where it is the outermost one
-    # psi_task_switch: PID leaves, and IO says whether psi counts it as waiting for IO
+    STALL_ENDS = "ms_leave"  # psi_memstall_leave; FLAGS is 0 at the end of the outermost stall
+    # psi_task_switch: task PID leaves its processor; IO is 1 if psi counts it as waiting for IO.
     SWITCH = "psw"
-    INTERRUPT = "irq"  # psi_account_irqtime: DELTA ns
-    # cgroup_attach_task: PID moves; ALL says whether all threads of its process do
+    INTERRUPT = "irq"  # psi_account_irqtime: interrupts took DELTA ns
+    # cgroup_attach_task: task PID moves; ALL is 1 if all threads of its process move.
     ATTACH = "cga"
-    # psi_show: the file of the resource RES of the group with the accounts GROUP is read
+    # psi_show: a process reads the pressure file of resource RES; GROUP is the address of the
+    # group's `struct psi_group`.
     SHOW = "psh"
-    # psi_avgs_work: the kernel samples the group whose accounts contain WORK
+    # psi_avgs_work: the kernel updates the averages of the group whose `struct psi_group` contains
+    # the address WORK.
     AVERAGE = "pav"
-    READY = "pch"  # psi_task_change, where SET has SET_READY: psi counts PID as ready
+    READY = "pch"  # psi_task_change: psi counts task PID as ready if SET has the bit SET_READY
     FLAGS = "flags"
     PID = "pid"
     IO = "io"
@@ -138,22 +140,21 @@ class Probe:
     SET = "set"
 
 
-# The bit of `set` with which psi counts a task as ready: TSK_RUNNING of
-# `include/linux/psi_types.h`.
+# The bit of SET with which psi counts a task as ready: TSK_RUNNING in `include/linux/psi_types.h`.
 SET_READY = 4
 
 
 # ---------------------------------------------------------------- markers
 
-# A marker is a line that the recorder writes to its own `trace_marker`: MARK, and one of the words
-# below.
+# A marker is a line that the recorder writes to the `trace_marker` of its instance: MARK, followed
+# by one of these words or by the result of one of these functions.
 MARK = "psirec "
 START = "start"
 STOP = "stop"
 TRIGGERED = "fired"
 SNAPSHOT_BEGINS = "snapshot begin"
 SNAPSHOT_ENDS = "snapshot end"
-# The kernel may cut markers that have more bytes.
+# The longest marker (bytes): the kernel may truncate longer ones.
 MOST_MARKER_BYTES = 1000
 
 
@@ -177,8 +178,8 @@ def pressure_marker(number: int, is_end: bool) -> str:
 
 
 def accounting_marker(path: str, is_on: bool) -> str:
-    """Returns the marker of a change of a group's `cgroup.pressure` since the previous sample; a
-    new group begins with 1. `path` is escaped.
+    """Returns the marker for a change of a group's `cgroup.pressure` since the previous sample. The
+    value of a new group is 1. `path` is escaped.
     """
     return f"{MARK}accounting {path} {'on' if is_on else 'off'}"
 
@@ -190,11 +191,11 @@ RESOURCES = ("io", "memory", "cpu")
 
 
 def at_line(moment_ns: int) -> str:
-    """Returns the line with the time at which a snapshot was begun: CLOCK_MONOTONIC in ns."""
+    """Returns the line with the time at which a snapshot began (CLOCK_MONOTONIC, ns)."""
     return f"at {moment_ns}"
 
 
-# The last line of a snapshot: without it the file was cut.
+# The last line of a snapshot. If it is missing, the file is incomplete.
 SNAPSHOT_END = "end"
 
 
@@ -245,7 +246,7 @@ def _escaped_component(component: bytes) -> str:
 
 
 def escaped_path(path: bytes) -> str:
-    """A group's path with the bytes alone that a trace may have: each other one becomes `\\xHH`,
-    which is how systemd escapes names of units. An escaped path stays as it is.
+    """Escapes a group's path: each byte that a path in a trace can't contain becomes `\\xHH`, as in
+    systemd's names of units. An escaped path is returned unchanged.
     """
     return "/" + "/".join(_escaped_component(it) for it in re.split(b"/+", path) if it)

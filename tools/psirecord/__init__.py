@@ -1,3 +1,3 @@
-"""The recorder, `tools/record`. It alone runs as root on the machine that is recorded, and imports
-no other package but `psirec`.
+"""The recorder, `tools/record`. It is the only tool that runs as root on the recorded machine, so
+it imports no other package but `psirec`.
 """

@@ -1,4 +1,4 @@
-"""The steps of tools/record, from the first check of the machine to the summary."""
+"""The command tools/record: the steps from the first check of the machine to the summary."""
 from __future__ import annotations
 
 import contextlib
@@ -62,8 +62,8 @@ def tell(line: str) -> None:
 def choose_sources(
     machine: Machine, wanted: Wanted, group: str, folder: Folder, undoing: Undoing
 ) -> tuple[Sources, bool]:
-    """Chooses the best available sources. Returns them, and whether the kernel's scheduler
-    statistics must be switched on for them.
+    """Chooses the best available sources of events. Returns the sources, and whether they require
+    that the kernel's scheduler statistics are switched on.
     """
     if wanted.has_probes:
         sources = add_probes(machine, group, undoing, folder.say, wanted.has_wakeups)
@@ -172,7 +172,7 @@ def record(
 
 def check_statistics(machine: Machine, sources: Sources, folder: Folder, ending: Ending) -> None:
     """Reports if the kernel's scheduler statistics were switched off during the recording, perhaps
-    by another recorder: waits for IO then seem shorter than they were.
+    by another recorder. Waits for IO then seem shorter than they were.
     """
     if sources.waits == BY_STATISTICS and statistics_of(machine) != Statistics.ON:
         what = "kernel.sched_schedstats was switched off meanwhile, so waits for IO are missing"
@@ -183,8 +183,8 @@ def check_statistics(machine: Machine, sources: Sources, folder: Folder, ending:
 
 
 def closed(folder: Folder, ending: Ending | None, left: list[str]) -> Status:
-    """Writes the last lines of `meta` and the operator's summary, and returns the exit status.
-    `left` names the changes that couldn't be undone.
+    """Writes the last lines of `meta`, prints the summary, and returns the exit status. `left`
+    names the changes of the machine that couldn't be undone.
     """
     for what in left:
         tell(f"this couldn't be undone, and is left on the machine: {what}")
@@ -208,8 +208,8 @@ def closed(folder: Folder, ending: Ending | None, left: list[str]) -> Status:
 
 
 def finish_compressing(folder: Folder, ending: Ending) -> None:
-    """Waits until all pages are compressed, and reports the processor time that this took. Pages
-    that couldn't be compressed stay as uncompressed files, so nothing is lost.
+    """Waits until all pages are compressed, and reports the processor time that this took. If
+    compressing fails, the remaining pages stay in uncompressed files, so nothing is lost.
     """
     finished = folder.finish_compressing()
     if finished:
@@ -231,9 +231,9 @@ def summarize(folder: Folder, ending: Ending) -> None:
 
 
 def make_ready() -> None:
-    """Prepares this process so that it isn't late when the machine is overloaded: it gets a high
-    priority, and its memory is locked (mlockall(2)). Raises the limit of open files too, since each
-    processor needs two. Steps that aren't permitted are skipped.
+    """Prepares this process so that it isn't late when the machine is overloaded: raises its
+    priority and locks its memory (mlockall(2)). Raises the limit of open files too, since each
+    processor needs two open files. Steps that aren't permitted are skipped.
     """
     _, most = resource.getrlimit(resource.RLIMIT_NOFILE)
     with contextlib.suppress(OSError, ValueError):
@@ -261,7 +261,8 @@ def print_status(arguments: list[str]) -> Status:
 
 
 def update_textfile(service: Service, above: str) -> None:
-    """Writes the metrics of the folder `above`, if the service has a textfile."""
+    """Writes the metrics of `above`, the folder of all recordings, if the service has a textfile.
+    """
     if service.textfile:
         try:
             write_textfile(service.textfile, above)

@@ -1,8 +1,8 @@
-"""Stores the names of containers and pods in a recording. The paths of their groups only have their
-identifiers.
+"""Stores the names of containers and pods in a recording, since the paths of their groups contain
+only their identifiers.
 
-A container runtime is asked, before and after the recording, only if the machine has groups of its
-containers.
+The names are those that the container runtimes print, before and after the recording. A runtime's
+command is run only if the machine has groups of its containers.
 """
 from __future__ import annotations
 
@@ -36,8 +36,8 @@ class ContainerNames:
     def __init__(self, machine: Machine, tell: Tell) -> None:
         self.machine, self.tell = machine, tell
         self.names: dict[str, str] = {}
-        # The folder that contains the commands in tests. It is empty on the real machine, and
-        # commands are then searched in PATH.
+        # The folder that contains the commands in tests. Empty on the real machine, on which
+        # commands are searched in PATH.
         self.root = os.path.dirname(machine.proc).rstrip("/")
 
     def look(self) -> None:

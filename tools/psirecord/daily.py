@@ -1,5 +1,5 @@
-"""A limit of recordings per day. Nobody removes recordings, so without a limit a service that is
-restarted again and again would fill the disk.
+"""Limits the number of recordings per day, so that a service that is restarted again and again
+doesn't fill the disk with recordings.
 """
 from __future__ import annotations
 
@@ -13,8 +13,8 @@ from psirec.layout import META
 from .waiting import Signals, Waiting
 
 DAY_SECONDS = 86400.0
-# The longest time (s) between two checks. The clock may be set and recordings may be removed in the
-# meantime.
+# The longest time (s) between two checks, since meanwhile somebody may set the clock or remove
+# recordings.
 LOOK_SECONDS = 60.0
 
 
@@ -30,15 +30,15 @@ def recording_times(folder: str) -> list[float]:
 
 def seconds_to_wait(folder: str, limit: int, now: float) -> float:
     """Returns the time (s) until fewer than `limit` recordings are younger than a day. Recordings
-    with times after `now`, from before a clock was set back, don't count.
+    that seem to end after `now` don't count: they were made before the clock was set back.
     """
     latest = sorted((it for it in recording_times(folder) if it <= now), reverse=True)
     return max(0.0, latest[limit - 1] + DAY_SECONDS - now) if len(latest) >= limit else 0.0
 
 
 def wait_for_room(out: str, limit: int, signals: Signals, tell: Callable[[str], None]) -> bool:
-    """Waits until another recording next to `out` is within the daily limit. Returns False if a
-    signal came first.
+    """Waits until the daily limit permits another recording in the folder above `out`. Returns
+    False if a signal came first.
     """
     folder = os.path.dirname(os.path.abspath(out))
     waiting, is_announced = Waiting(signals), False

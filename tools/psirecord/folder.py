@@ -17,13 +17,13 @@ from psirec import layout
 from .compressing import Compressor
 from .machine import Machine, read_file
 
-# A file that reserves disk space during the recording. It is deleted at the end, so that the last
-# lines can be written even if the disk is full.
+# A file that reserves disk space during the recording. The recorder deletes it at the end, so that
+# the last lines of `meta` can be written even if the disk is full.
 RESERVE = ".reserve"
 RESERVE_BYTES = 1 << 18
 FULL = (errno.ENOSPC, errno.EDQUOT, errno.EFBIG)
 PAGE_BYTES = 4096
-# The size (bytes) at which a processor's part is complete and is compressed.
+# A compressed recording stores the pages of a processor in parts of about this size (bytes).
 PART_BYTES = 8 << 20
 FOLDER_MODE, FILE_MODE = 0o700, 0o600
 FOLDER_FLAGS = os.O_RDONLY | os.O_DIRECTORY | os.O_NOFOLLOW | os.O_CLOEXEC
@@ -48,7 +48,8 @@ def append(file: int, data: bytes) -> None:
 
 def made_folder(name: str, above: int | None = None) -> int:
     """Creates a folder and returns its descriptor. `name` is relative to the open folder `above`,
-    if that isn't None.
+    or to the working directory if `above` is None. Raises OSError if another user replaced the
+    new folder before it was opened.
     """
     os.mkdir(name, FOLDER_MODE, dir_fd=above)
     folder = os.open(name, FOLDER_FLAGS, dir_fd=above)
@@ -81,11 +82,11 @@ class Folder:
     def __init__(self, path: str, is_compressed: bool = False) -> None:
         """Creates the folder. Raises OSError if it already exists, and DiskFull if there isn't room
         for the first lines. The compressing process is started before other files are opened, since
-        it must not inherit them.
+        it must not inherit their descriptors.
         """
         self.path, self.bytes, self.page_bytes = path, 0, PAGE_BYTES
         self.raw: dict[int, int] = {}
-        # The number of parts of each processor, and the bytes in the last part.
+        # The number of parts of each processor, and the number of bytes in the last part.
         self.parts: dict[int, int] = {}
         self.part_bytes: dict[int, int] = {}
         self.descriptor = made_folder(path)
@@ -154,7 +155,7 @@ class Folder:
             os.close(file)
 
     def open_raw(self, processors: int) -> None:
-        """Creates a file for each processor's pages."""
+        """Creates a file, or a first part, for each processor's pages."""
         for processor in range(processors):
             if self.compressor:
                 self.begin_part(processor)
@@ -197,7 +198,9 @@ class Folder:
         append(self.pressure, text)
 
     def write_below(self, name: str, data: bytes) -> None:
-        """Creates a file with the contents `data`, and the folders in its name."""
+        """Creates a file with the contents `data`. `name` may contain folders, which are created
+        too.
+        """
         *folders, last = name.split("/")
         at = os.dup(self.descriptor)
         try:
@@ -216,8 +219,8 @@ class Folder:
             os.close(file)
 
     def discard(self) -> None:
-        """Removes the folder, since nothing was recorded. Another folder that is now at the path
-        isn't removed.
+        """Removes the folder, since nothing was recorded. If another folder has replaced it at the
+        path, that folder isn't removed.
         """
         self.finish_compressing()
         remove_all(self.descriptor)
@@ -242,8 +245,8 @@ class Folder:
 
 
 def page_bytes(header: bytes) -> int:
-    """Returns the size (bytes) of a ring buffer page: offset plus size of the field `data` in
-    `events/header_page`.
+    """Returns the size (bytes) of a ring buffer page: the offset plus the size of the field `data`
+    in `header`, the contents of `events/header_page`.
     """
     for line in header.splitlines():
         words = {

@@ -30,16 +30,17 @@ INSTANCE = re.compile(rf"{RECORDER}(?P<statistics>{STATISTICS_SUFFIX})?")
 PROBE = re.compile(rf"[a-z]\d*:(?P<probe>{RECORDER}/\w+) ")
 # The states, in /proc/PID/stat, of processes that have ended but haven't been waited for.
 ENDED = (b"Z", b"X")
-# An instance inherits the options of the top-level instance, so the ones that matter are set.
+# The options that are set in a new instance, which would otherwise inherit the values of the
+# top-level instance.
 OPTIONS = {"overwrite": "1", "markers": "1"}
 
 
 class NotRecorded(Exception):
-    """Recording is impossible for a reason that was found only after the machine was changed."""
+    """Raised if recording turns out to be impossible after the machine was already changed."""
 
 
 class Instance:
-    """A tracing instance of a recorder, created with nothing traced."""
+    """A tracing instance of a recorder. All events are off when it is created."""
 
     def __init__(self, machine: Machine, name: str, undoing: Undoing) -> None:
         self.machine, self.name, self.undoing = machine, name, undoing
@@ -58,8 +59,8 @@ class Instance:
         write_file(f"{self.folder}/{file}", text)
 
     def prepare(self, buffer_kb: int) -> None:
-        """Sets the instance up, with nothing traced yet. Timestamps are CLOCK_MONOTONIC, and each
-        processor's buffer has `buffer_kb` KiB.
+        """Sets up the instance without switching any event on. Timestamps are CLOCK_MONOTONIC, and
+        each processor's buffer has `buffer_kb` KiB.
         """
         self.write("tracing_on", "0")
         self.write("trace_clock", "mono")
@@ -81,8 +82,8 @@ class Instance:
             raise
 
     def enable_all(self, sources: Sources, say: Say, tell: Tell) -> list[str]:
-        """Switches on the available events. Reports each unavailable one and what the recording
-        lacks without it. Returns the events that are on.
+        """Switches on the available events and returns their names. Reports each unavailable
+        event, and what the recording lacks without it.
         """
         events = []
         for event in sources.events:
@@ -101,8 +102,8 @@ class Instance:
         return events
 
     def open_files(self) -> None:
-        """Opens the buffers and the marker file. Undoing closes them before any earlier step is
-        undone, since an instance can't be removed while one of its files is open.
+        """Opens the buffers and the marker file. Undoing closes them before it removes the
+        instance, since an instance can't be removed while one of its files is open.
         """
         self.undoing.note("open files", self.close_files)
         self.marker = os.open(f"{self.folder}/trace_marker", os.O_WRONLY)
@@ -133,8 +134,8 @@ class Instance:
         self.mark(f"{MARK}{word}")
 
     def pages(self, processor: int, most_bytes: float) -> Iterator[bytes]:
-        """Yields a processor's events in pieces of whole pages, about `most_bytes` at most, until
-        the buffer is empty.
+        """Yields a processor's events in pieces of whole pages until its buffer is empty, or until
+        about `most_bytes` were read.
         """
         taken = 0
         while taken < most_bytes:
@@ -197,8 +198,8 @@ def remover(remove: Callable[[str], None], name: str) -> Callable[[], None]:
 
 
 def remove_left_behind(machine: Machine, tell: Tell) -> None:
-    """Removes the tracing instances and probes of recorders that were killed: those named after a
-    process that no longer exists.
+    """Removes the tracing instances and probes that killed recorders left on the machine. Their
+    names contain the pid of a process that no longer exists.
     """
 
     def is_left(found: re.Match[str]) -> bool:

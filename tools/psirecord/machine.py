@@ -1,4 +1,5 @@
-"""The machine that is recorded: the paths of its files, and the few changes that are made to it.
+"""The machine that is recorded: the paths of its files, and the few changes that the recorder
+makes.
 
 The kernel's documentation describes each file: Documentation/trace/ftrace.rst (instances,
 trace_marker, trace_pipe_raw), Documentation/trace/kprobetrace.rst (kprobe_events),
@@ -51,8 +52,7 @@ class Machine:
     types: str = "/sys/kernel/btf/vmlinux"
 
     def processors(self) -> int:
-        """Returns the number of configured processors, including absent ones, whose buffers are
-        empty.
+        """Returns the number of configured processors. Absent ones count, and have empty buffers.
         """
         return os.sysconf("SC_NPROCESSORS_CONF")
 
@@ -91,7 +91,7 @@ class Machine:
             yield f"pressure: {self.proc}/pressure/cpu can't be read (psi=1 at boot)"
 
     def make_instance(self, name: str) -> None:
-        """Creates a tracing instance. The kernel creates its files."""
+        """Creates the folder of a tracing instance, in which the kernel creates the files."""
         os.mkdir(f"{self.tracing}/instances/{name}")
 
     def remove_instance(self, name: str) -> None:

@@ -14,10 +14,10 @@ from .recorder import FOREVER, Wanted
 from .status import SERVICE_FOLDER
 from .stored import MEGABYTE, Limits
 
-# The first argument that prints the state of a folder instead of recording. A new folder of this
-# name is written as ./status.
+# The first argument that prints the state of a folder instead of recording. To record into a new
+# folder of this name, one writes ./status.
 STATUS_WORD = "status"
-# The default limit (MB). It is more than a trace can have: 4,000,000 events have about 220 MB.
+# The default limit (MB). The longest possible trace, of 4,000,000 events, needs about 220 MB.
 MOST_MB = 400.0
 BUFFER_KB = 8192
 TRIGGER = re.compile(rf"({'|'.join(RESOURCES)}) (some|full) ([1-9]\d*) ([1-9]\d*)")
@@ -122,8 +122,9 @@ def hook(word: str) -> str:
 
 @dataclass(frozen=True)
 class Service:
-    """What is done besides recording: the limit of recordings per day, the limits of stored
-    recordings, the program to run afterwards, and the file for metrics. None if not wanted.
+    """The options that don't concern a single recording: the limit of recordings per day, the
+    limits of stored recordings, the program to run afterwards, and the file for metrics. None if
+    the operator didn't give one.
     """
 
     daily_limit: int | None

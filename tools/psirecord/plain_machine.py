@@ -1,5 +1,5 @@
-"""A folder of plain files in place of the machine, for tests: what the kernel does by itself is
-done by hand here.
+"""A folder of plain files in place of the machine, for tests. The class does here what the kernel
+does when somebody writes to the real files.
 
     DIR/tracing    a folder with the files of an instance, `instances` and, if probes are available,
                    `kprobe_events`
@@ -48,7 +48,7 @@ class PlainMachine(Machine):
     """A folder of plain files in place of the real machine."""
 
     def processors(self) -> int:
-        """The number of processors that have buffers."""
+        """Returns the number of processors that have buffers."""
         return sum(
             bool(re.fullmatch(r"cpu\d+", it)) for it in os.listdir(f"{self.tracing}/per_cpu")
         )
@@ -58,11 +58,11 @@ class PlainMachine(Machine):
         return self.missing_files()
 
     def instance(self, name: str) -> str:
-        """The folder of an instance."""
+        """Returns the folder of an instance."""
         return f"{self.tracing}/instances/{name}"
 
     def make_instance(self, name: str) -> None:
-        """Creates an instance with the files of the top one."""
+        """Creates an instance with copies of the top-level instance's files."""
         os.mkdir(self.instance(name))
         for file in os.listdir(self.tracing):
             source, copy = f"{self.tracing}/{file}", f"{self.instance(name)}/{file}"
@@ -81,7 +81,7 @@ class PlainMachine(Machine):
         shutil.rmtree(folder)
 
     def add_probe(self, definition: str) -> None:
-        """Adds a probe, and its event to the other events."""
+        """Adds a probe, and creates the folder of its event."""
         super().add_probe(definition)
         event = f"{self.tracing}/events/{definition.split()[0].partition(':')[2]}"
         os.makedirs(event)
@@ -110,8 +110,8 @@ class PlainMachine(Machine):
             os.rmdir(os.path.dirname(f"{self.tracing}/events/{name}"))
 
     def open_trigger(self, resource: str, words: str, group: str = "") -> tuple[int, int]:
-        """Opens the FIFO `trigger`, which signals when it is written to. The machine and all groups
-        share it.
+        """Opens the FIFO `trigger`, which signals pressure when somebody writes to it. The machine
+        and all groups share this FIFO.
         """
         return (
             os.open(f"{os.path.dirname(self.tracing)}/trigger", os.O_RDWR | os.O_NONBLOCK),

@@ -1,9 +1,9 @@
 """The events and probes from which a trace is made, and the alternatives if one isn't available.
 
-Only sleeps that the kernel counts as waits for IO (`in_iowait`) are waits for IO. In state D a task
-sleeps more often: on a journaling file system a third to a half of these sleeps don't count. Three
-sources show the waits, the best first: a probe on `psi_task_switch` that reads the bit itself; the
-event `sched_stat_iowait`, which requires the sysctl kernel.sched_schedstats; and the state D.
+A task waits for IO if it sleeps while the kernel has set its bit `in_iowait`. Tasks sleep in state
+D without that bit too: on a journaling file system these are a third to a half of all sleeps in
+state D. Three sources show the waits, the best first: a probe on `psi_task_switch` that reads the
+bit; the event `sched_stat_iowait`, which requires the sysctl kernel.sched_schedstats; and state D.
 """
 from __future__ import annotations
 
@@ -18,8 +18,7 @@ from .kernel_types import KernelTypes
 from .machine import SCHEDULER_STATISTICS, Machine, read_file, write_file
 from .undoing import Undoing
 
-# Each event, and what a recording lacks without it. Recording is impossible without the needed
-# ones.
+# Each event, and what a recording lacks without it. Recording is impossible without NEEDED.
 NEEDED = ("sched/sched_switch", "sched/sched_wakeup")
 EVENTS = {
     "sched/sched_switch": "nothing can be said",
@@ -90,8 +89,8 @@ class Plan:
 
 
 def stall_plans() -> list[Plan]:
-    """Returns the probes at which a task enters and leaves a memory stall. Both functions run in
-    the task itself. On leaving the outermost stall the flags are 0.
+    """Returns the probes on the functions with which a task enters and leaves a memory stall. Both
+    run in the task itself. FLAGS is 0 when the task leaves the outermost of nested stalls.
     """
     return [
         Plan(Probe.STALL_BEGINS, "psi_memstall_enter"),
@@ -101,8 +100,8 @@ def stall_plans() -> list[Plan]:
 
 def switch_plan(types: KernelTypes) -> Plan | None:
     """Returns the probe on psi_task_switch(prev, next, sleep), which runs right before the event of
-    the context switch. Without its filter it would account for a third of all events. None if the
-    kernel's types don't have the members.
+    the context switch. Without the probe's filter a third of all events would be its events. None
+    if the kernel's types don't have the two members of `task_struct`.
     """
     places = types.members("task_struct", ("pid", "in_iowait"))
     if not places:
@@ -122,7 +121,7 @@ def interrupt_plan(machine: Machine, types: KernelTypes) -> Plan | None:
 
 def attach_plan(types: KernelTypes) -> Plan | None:
     """Returns the probe on cgroup_attach_task(group, task, whole); None if that isn't available.
-    The kernel's own event doesn't show whether the task moves without its process.
+    The kernel's own event doesn't show whether a task moves alone or with its whole process.
     """
     places = types.members("task_struct", ("pid",))
     if not places or types.parameters("cgroup_attach_task") != 3:
@@ -133,8 +132,8 @@ def attach_plan(types: KernelTypes) -> Plan | None:
 
 def moment_plans(types: KernelTypes) -> list[Plan]:
     """Returns the probes on psi_show(file, group, resource) and psi_avgs_work(work), in which the
-    kernel samples a group's times. That is a few events per second. There are none unless both are
-    available, since one of them alone shows half of the sampling times.
+    kernel samples a group's stall times. They cause a few events per second. Returns no probe
+    unless both functions are available, since one alone shows only some of the sampling times.
     """
     if types.parameters("psi_show") != 3 or types.parameters("psi_avgs_work") != 1:
         return []
@@ -143,8 +142,8 @@ def moment_plans(types: KernelTypes) -> list[Plan]:
 
 
 def ready_plan(types: KernelTypes) -> Plan | None:
-    """Returns the probe on psi_task_change(task, clear, set); None if that isn't available. There
-    is one event for each wakeup, and for each task that moves to another processor or group.
+    """Returns the probe on psi_task_change(task, clear, set); None if that isn't available. It
+    causes an event for each wakeup, and for each task that moves to another processor or group.
     """
     places = types.members("task_struct", ("pid",))
     if not places or types.parameters("psi_task_change") != 3:

@@ -1,8 +1,8 @@
-"""The recording itself: the periodic jobs until it ends, and what is written at the end.
+"""Runs one recording: its periodic jobs until it ends, and then the last writes.
 
-A plain recording empties the ring buffers four times a second or more often. A flight recorder lets
-the buffers be overwritten, waits for pressure, and writes their contents after the incident. The
-size of the buffers determines how much of the past they contain.
+A plain recording reads the ring buffers empty at least four times a second. A flight recorder lets
+the kernel overwrite the oldest events, waits for pressure, and writes the buffers after the
+incident, so the size of the buffers determines how much of the past a recording contains.
 """
 from __future__ import annotations
 
@@ -23,14 +23,15 @@ from .trigger import Trigger
 from .waiting import Job, Signals, Waiting
 
 DRAIN_SECONDS = 0.25
-# The largest share of the busiest buffer that may fill between two reads: 600,000 switches/s fill 8
-# MB in 0.1 s.
+# The largest share of the busiest buffer that may fill between two reads. At 600,000 switches/s a
+# buffer of 8 MB is full after 0.1 s.
 MOST_FULL = 0.25
 LEAST_DRAIN_SECONDS = 0.01
 SNAPSHOT_SECONDS = 60.0
 # The time (s) between two checks of whether the trigger's group was removed or created again.
 GROUP_SECONDS = 1.0
-# The delay (s) of the end after the last reading of the pressure files, which is due at the end.
+# A recording ends this time (s) late, since the last reading of the pressure files is due exactly
+# at the end.
 LAST_READING_SECONDS = 0.02
 FOREVER = float("inf")
 MEGABYTE = 10**6
@@ -38,10 +39,10 @@ MEGABYTE = 10**6
 
 @dataclass(frozen=True)
 class Wanted:
-    """The operator's request, with times in s and sizes in the units that the names have. `is_ring`
-    requests a flight recorder. `until` is its trigger, `RESOURCE some|full THRESHOLD WINDOW`, or
-    empty. `has_settings` requests the settings of systemd-oomd, and `has_containers` the names of
-    containers. `group` is the path of the trigger's group, or empty.
+    """The operator's options. Times are in s, and sizes in the unit at the end of the name.
+    `is_ring` requests a flight recorder. `until` is its trigger, `RESOURCE some|full THRESHOLD
+    WINDOW`, or empty. `has_settings` requests the settings of systemd-oomd, and `has_containers`
+    the names of containers. `group` is the path of the trigger's group, or empty.
     """
 
     seconds: float
@@ -61,8 +62,8 @@ class Wanted:
 
 @dataclass
 class Ending:
-    """The end of a recording: a reason of `layout.Reason`, the number of lost events of each
-    processor, the length in s, and whether everything else is complete.
+    """How a recording ended: the reason (`layout.Reason`), the number of lost events of each
+    processor that lost any, and the length in s. `is_whole` is False if anything else is missing.
     """
 
     reason: str
@@ -100,8 +101,8 @@ class Recorder:
         self.draining = Job(self.drain, 0.0, DRAIN_SECONDS)
 
     def record(self) -> Ending:
-        """Records from `begin` until the recording ends. What was recorded until an error is
-        written in any case.
+        """Runs the recording that `begin` started until it ends. After an error, everything
+        recorded until then is still written.
         """
         try:
             reason = self.run()
@@ -183,8 +184,8 @@ class Recorder:
         return False
 
     def follow_group(self) -> None:
-        """Opens the trigger again if its group was removed and has been created again, as the group
-        of a service is.
+        """Opens the trigger again if its group was removed and created again, which happens to the
+        group of a service at a restart.
         """
         trigger = self.trigger
         if not trigger or trigger.is_current() or self.fired:
@@ -203,8 +204,8 @@ class Recorder:
                 self.tell(f"the trigger watches the group {trigger.group} now")
 
     def fire(self, jobs: list[Job]) -> None:
-        """Handles the trigger's signal: records some seconds more. No further snapshots are taken,
-        since the ones from before the signal are needed.
+        """Handles the trigger's signal: the recording ends `after_seconds` later. No further
+        snapshots are taken, since they would replace the snapshots from before the signal.
         """
         self.waiting.unwatch()
         self.fired = time.monotonic()
@@ -216,8 +217,8 @@ class Recorder:
     # ---------------------------------------------------------------- jobs
 
     def read_pressure(self) -> None:
-        """Reads the pressure files. A flight recorder stores its readings in memory, since most of
-        them are older than its buffers when it ends.
+        """Reads the pressure files. A flight recorder stores its readings in memory, since most
+        readings are older than the events in its buffers when it ends.
         """
         reading = read_pressure(
             self.machine, self.instance.mark, self.reading_count, time.monotonic()
@@ -229,9 +230,10 @@ class Recorder:
             self.folder.append_pressure(reading.text)
 
     def take_snapshot(self) -> None:
-        """Takes a snapshot of all groups and tasks. Together with the events after it, it shows the
-        group of each task. A flight recorder stores the last two, so that one lies within the time
-        of its buffers if these are large enough. Readings older than both are dropped.
+        """Takes a snapshot of all groups and tasks. The snapshot and the events after it show the
+        group of each task at any time. A flight recorder stores the last two snapshots, so that
+        at least one is younger than the oldest event if its buffers are large enough. Readings of
+        the pressure files older than both snapshots are dropped.
         """
         self.instance.note_mark(layout.SNAPSHOT_BEGINS)
         self.snapshots.append(take_snapshot(self.machine, time.monotonic_ns()))
@@ -246,8 +248,9 @@ class Recorder:
             self.readings.popleft()
 
     def drain(self) -> None:
-        """Reads the buffers, and adapts the period to the busiest processor. A busy processor may
-        fill its buffer as fast as it is read, so at most the buffer's size is read.
+        """Reads the buffers, and adapts the time until the next read to the busiest processor. At
+        most one buffer size is read per processor, since a busy processor may fill its buffer as
+        fast as the recorder reads it.
         """
         size, before = self.wanted.buffer_kb * 1024, self.drained
         self.drained = time.monotonic()
@@ -256,8 +259,8 @@ class Recorder:
         self.draining.period = min(DRAIN_SECONDS, max(LEAST_DRAIN_SECONDS, period))
 
     def take_pages(self, most_bytes: float) -> int:
-        """Reads about `most_bytes` of each processor at most. Returns the bytes of the busiest
-        processor.
+        """Reads at most about `most_bytes` of each processor's buffer, and appends them to the
+        recording. Returns the largest number of bytes that was read from one buffer.
         """
         busiest = 0
         for processor in self.instance.buffers:
@@ -270,7 +273,9 @@ class Recorder:
     # ---------------------------------------------------------------- the end
 
     def finish(self, reason: str) -> Ending:
-        """Switches tracing off, and writes the rest of the events and the numbers of lost ones."""
+        """Switches tracing off, and writes the remaining events and the numbers of lost events.
+        Returns how the recording ended.
+        """
         with contextlib.suppress(OSError):
             if self.wanted.is_ring and not self.has_snapshot_inside():
                 self.take_snapshot()
@@ -296,8 +301,8 @@ class Recorder:
         return Ending(reason, lost, seconds, is_whole)
 
     def has_snapshot_inside(self) -> bool:
-        """Returns whether the buffers go back to the last snapshot. There is no snapshot if a
-        marker failed early.
+        """Returns whether the buffers contain all events since the last snapshot. There is no
+        snapshot if the first marker couldn't be written.
         """
         return bool(self.snapshots) and self.snapshots[-1].moment >= self.buffers_begin() * 1e9
 
@@ -311,9 +316,9 @@ class Recorder:
         )
 
     def write_ring(self, begin: float) -> bool:
-        """Writes the readings, and the snapshot with which a flight recorder's trace can begin.
-        `begin` is the time (s) at which the buffers begin. Returns False if the buffers no longer
-        contain the time of the signal.
+        """Writes the readings of the pressure files, and the snapshot with which a flight
+        recorder's trace can begin. `begin` is the time (s) since which the buffers contain all
+        events. Returns False if the events around the trigger's signal were overwritten.
         """
         self.folder.say(Key.RING_START, f"{begin:.6f}")
         inside = [it for it in self.snapshots if it.moment >= begin * 1e9] or [*self.snapshots][-1:]
@@ -331,7 +336,9 @@ class Recorder:
         return has_signal
 
     def write_statistics(self) -> dict[int, int]:
-        """Writes the kernel's statistics; returns the number of lost events of each processor."""
+        """Writes the kernel's statistics of each buffer. Returns the number of lost events of each
+        processor that lost any.
+        """
         lost = {}
         for processor in self.instance.buffers:
             statistics = self.instance.statistics(processor)

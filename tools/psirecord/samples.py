@@ -1,7 +1,9 @@
-"""Reads groups, tasks and memory, which the events don't show.
+"""Reads groups, tasks, memory and pressure from /proc and the control groups, since the events
+don't show them.
 
-This happens while the recording runs, and markers among the events show when. Changes in between
-are known from the events. A group or a task that ends before it is read is skipped.
+The recorder reads them while events are recorded, and writes markers among the events that show
+when. Changes between two snapshots are known from the events. A group or a task that disappears
+before it is read is skipped.
 """
 from __future__ import annotations
 
@@ -98,9 +100,10 @@ def is_accounted(group: Group) -> bool | None:
 
 @dataclass
 class MemorySampler:
-    """Writes the memory of the machine and of each group as markers. Writes changes of
-    `cgroup.pressure` too, since no event shows them. `unaccounted` are the groups whose pressure
-    wasn't accounted at the last check.
+    """Writes the memory of the machine and of each group as markers among the events. Writes
+    changes of `cgroup.pressure` too, since no event shows them. `unaccounted` has the groups whose
+    pressure wasn't accounted at the last check, and `too_long` counts the markers that were too
+    long to be written.
     """
 
     machine: Machine
@@ -109,8 +112,8 @@ class MemorySampler:
     too_long: int = 0
 
     def sample(self) -> None:
-        """Samples all groups once. The root's memory use is total minus available memory, so that
-        rules for the root have a value.
+        """Samples all groups once. The root has no memory files, so its memory use is the
+        machine's total minus available memory: rules for the root need a value.
         """
         known = memory_information(self.machine)
         total, swap_total, swap_free = (
@@ -130,18 +133,16 @@ class MemorySampler:
         self.unaccounted = unaccounted
 
     def sample_memory(self, group: Group) -> None:
-        """Writes a memory sample of a group. A group without memory files, such as the root, has
-        none.
-        """
+        """Writes a memory sample of a group, unless the group has no memory files, as the root."""
         current = number_in(f"{group.folder}/memory.current")
         if current is not None:
             swap = number_in(f"{group.folder}/memory.swap.current") or 0
             self.write(layout.memory_marker(group.path, current, swap, scanned_pages(group)))
 
     def sample_accounting(self, group: Group) -> bool | None:
-        """Returns whether the group's pressure is accounted, and writes a change. A group that was
-        created since the last check begins accounted, even if an unaccounted group had the same
-        path before.
+        """Returns whether the group's pressure is accounted, and writes a marker if that changed
+        since the last check. A new group counts as accounted before its first check, even if an
+        unaccounted group had the same path before.
         """
         is_on = is_accounted(group)
         if is_on is not None and is_on == (group in self.unaccounted):
@@ -149,8 +150,8 @@ class MemorySampler:
         return is_on
 
     def write(self, marker: str) -> None:
-        """Writes a marker. Counts the markers that are too long, whose paths are too long for a
-        trace too.
+        """Writes a marker. A marker that is too long is counted instead; its path is too long for
+        a trace, too.
         """
         if not self.mark(marker):
             self.too_long += 1
@@ -170,8 +171,8 @@ class Reading:
 
 
 def read_pressure(machine: Machine, mark: Mark, number: int, moment: float) -> Reading:
-    """Reads the pressure files of all groups. The kernel takes a sample at each reading, so the
-    totals depend on how often this is done.
+    """Reads the pressure files of all groups, between two markers with the reading's `number`.
+    The kernel updates a group's totals at each read, so they depend on how often this is done.
     """
     mark(layout.pressure_marker(number, is_end=False))
     parts = []
@@ -211,8 +212,8 @@ class Snapshot:
 
 
 def preference(group: Group) -> str:
-    """Returns the preference that the group's owner set, which is that of the first attribute that
-    exists; `none` if there is no attribute.
+    """Returns the preference that the group's owner set by the attributes PREFERENCES, of which the
+    first that exists counts; `none` if there is no such attribute.
     """
     for attribute, word in PREFERENCES.items():
         try:
@@ -225,8 +226,9 @@ def preference(group: Group) -> str:
 
 def task_line(machine: Machine, number: bytes, group: Group) -> str | None:
     """Returns the line of a thread of `group`, from /proc/TID; None if the thread has ended. A
-    thread's name may contain anything, so fields are counted from the last bracket: the state is
-    the first word after it, the processor the 37th (proc(5): fields 3 and 39).
+    thread's name may contain blanks and brackets, so the fields of `stat` are counted from the last
+    bracket: the state is the first word after it, the processor the 37th (fields 3 and 39 in
+    proc(5)).
     """
     folder = f"{machine.proc}/{number.decode()}"
     text = read_file(f"{folder}/stat")

@@ -1,4 +1,6 @@
-"""The state of a folder of recordings: for people, and as a textfile for node_exporter."""
+"""Describes the recordings in a folder, as lines for people or as metrics for node_exporter's
+textfile collector.
+"""
 from __future__ import annotations
 
 import os
@@ -9,7 +11,7 @@ from psirec.layout import Key
 
 from .stored import MEGABYTE, Stored, recordings
 
-# The folder of the service's recordings.
+# The folder into which the service psi-record records.
 SERVICE_FOLDER = "/var/lib/psi-record"
 # The metrics, each with its help text.
 GAUGES = (

@@ -1,4 +1,4 @@
-"""The recordings in a folder, and which of them are deleted to stay within limits."""
+"""Lists the recordings in a folder, and deletes the oldest to stay within limits."""
 from __future__ import annotations
 
 import contextlib
@@ -29,7 +29,7 @@ class Limits:
 @dataclass(frozen=True)
 class Stored:
     """A stored recording: the name of its folder, the time of the last write (s since 1970), its
-    bytes, whether a recorder is writing it, and its `meta`.
+    size in bytes, whether a recorder is still writing it, and the lines of its `meta`.
     """
 
     name: str
@@ -51,8 +51,8 @@ class Stored:
 
 
 def is_locked(file: int) -> bool:
-    """Returns whether a recorder is still writing this `meta`. A recorder holds a lock on the file,
-    which ends with its process.
+    """Returns whether a recorder is still writing the open `meta` file. A recorder holds a lock on
+    that file until its process ends.
     """
     try:
         fcntl.flock(file, fcntl.LOCK_SH | fcntl.LOCK_NB)
@@ -101,9 +101,9 @@ def recordings(folder: str) -> list[Stored]:
 
 
 def beyond(found: list[Stored], limits: Limits, own: str) -> Iterator[Stored]:
-    """Yields the recordings to delete, which are the older ones beyond the limits. The newest one
-    and those being written are never deleted. `own` is the recording that ends now and counts as
-    finished.
+    """Yields the recordings to delete so that the rest is within the limits. `found` has all
+    recordings, the newest first. The newest finished recording and unfinished ones are never
+    deleted. `own` names the recording that ends now, which counts as finished.
     """
     finished = [it for it in found if not it.is_written or it.name == own]
     total = 0
@@ -134,8 +134,9 @@ def delete(folder: str, name: str) -> None:
 
 
 def keep(folder: str, limits: Limits, tell: Callable[[str], None], own: str = "") -> None:
-    """Deletes the oldest recordings beyond the limits, except those being written. `own` names the
-    recording that ends now, if any; it counts towards the limits.
+    """Deletes the oldest recordings until the rest is within the limits, but none that a recorder
+    is still writing. `own` names the recording that ends now, which counts towards the limits;
+    empty if none ends.
     """
     if limits == Limits():
         return

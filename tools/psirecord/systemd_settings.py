@@ -10,8 +10,8 @@ etc/.. run/.. usr/..   oomd.conf with its drop-in files, and each unit file that
             override another's. All other lines of unit files are empty, since environments and
             arguments aren't recorded
 
-So the folder can be given to `tools/systemd-oomd --settings`, like any folder of files, but has
-more. Nothing of this is traced: it is stored before the recording begins.
+`tools/systemd-oomd --settings` accepts this folder, and also a folder that has only the last kind
+of files. All files are written before the recording begins.
 """
 from __future__ import annotations
 
@@ -114,8 +114,8 @@ def owner(folder: str) -> int:
 
 
 def group_line(group: Group) -> str:
-    """Returns the line of a group, with what systemd-oomd reads there and a trace doesn't
-    contain.
+    """Returns the line of a group, with the properties that systemd-oomd reads and that a trace
+    doesn't contain.
     """
     is_whole = number_in(f"{group.folder}/memory.oom.group") == 1
     avoid, omit = (is_true(group.folder, f"user.oomd_{it}") for it in ("avoid", "omit"))
@@ -156,8 +156,8 @@ def configurations(root: str) -> Iterator[str]:
 
 
 def unit_files(root: str, folders: tuple[str, ...]) -> Iterator[str]:
-    """Yields the unit files that have a setting of systemd-oomd, and those that may override them:
-    files of the same name in other folders.
+    """Yields the unit files that have a setting of systemd-oomd, and the files of the same name in
+    other folders, which may override them.
     """
     found = {
         name: os.path.basename(name) for folder in folders for name in files_below(root, folder)
@@ -167,8 +167,9 @@ def unit_files(root: str, folders: tuple[str, ...]) -> Iterator[str]:
 
 
 def settings_alone(text: bytes) -> bytes:
-    """Returns a unit file with all other lines empty, so that line numbers are unchanged. A line
-    that ends in a backslash continues on the next one that isn't a comment.
+    """Returns the text of a unit file in which all lines but the settings are empty, so that line
+    numbers are unchanged. A line that ends in a backslash continues on the next line that isn't a
+    comment.
     """
     lines, is_kept, goes_on = [], False, False
     for line in text.splitlines():
@@ -182,7 +183,7 @@ def settings_alone(text: bytes) -> bytes:
 
 
 def is_other_name(root: str, name: str) -> bool:
-    """Returns whether `name` is in `lib`, and that folder is only a link to `usr/lib`."""
+    """Returns whether `name` is a second name of a file: `lib` may be a link to `usr/lib`."""
     return name.startswith("lib/") and os.path.islink(f"{root}/lib")
 
 

@@ -9,9 +9,9 @@ from .machine import Machine
 
 
 class Trigger:
-    """A trigger `words` in the kernel's syntax, `RESOURCE some|full THRESHOLD WINDOW`, for the
-    group with the path `group`, or for the whole machine if that is empty. `file` is the descriptor
-    that signals pressure, or -1.
+    """A trigger in the kernel's syntax, `RESOURCE some|full THRESHOLD WINDOW`, for the group with
+    the path `group`, or for the whole machine if that is empty. `file` is the descriptor that
+    signals pressure, or -1 while the trigger is closed.
     """
 
     def __init__(self, machine: Machine, words: str, group: str = "") -> None:

@@ -1,5 +1,5 @@
-"""Undoes the changes to the machine. Each change is registered as soon as it is made, and changes
-are undone in reverse order.
+"""Undoes the recorder's changes to the machine, in reverse order. The step that undoes a change is
+registered with the change itself, so that an error at any point leaves nothing on the machine.
 """
 from __future__ import annotations
 
@@ -8,8 +8,8 @@ from types import TracebackType
 
 
 class Undoing:
-    """The steps that restore the machine. If a step fails, the rest still run, and `left` names the
-    change that remains.
+    """The steps that restore the machine. If a step fails, the remaining steps still run, and
+    `left` names the change that couldn't be undone.
     """
 
     def __init__(self) -> None:

@@ -15,8 +15,9 @@ ENDING = (signal.SIGINT, signal.SIGTERM, signal.SIGHUP)
 
 
 class Signals:
-    """The signals that end a recording. A hangup that nohup ignores isn't one. The handler only
-    stores the signal, so that a change of the machine or an undo step is never interrupted.
+    """The signals that end a recording. SIGHUP isn't among them if it is ignored, as with nohup.
+    The handler only stores the signal, so that a change of the machine or an undo step is never
+    interrupted.
     """
 
     def __init__(self) -> None:
@@ -32,7 +33,7 @@ class Signals:
         self.came = self.came or signal.Signals(number)
 
     def end_by_it(self) -> None:
-        """Ends this process by the signal that came, as if it hadn't been caught."""
+        """Ends this process by the signal that was received, as if it hadn't been caught."""
         if self.came:
             signal.signal(self.came, signal.SIG_DFL)
             signal.raise_signal(self.came)
@@ -79,7 +80,8 @@ class Job:
     run: Callable[[], None]
     due: float
     period: float
-    # Whether each turn counts. Otherwise one late run replaces all turns that were missed.
+    # Whether a run that is late is followed by a run for each further period that has passed.
+    # Otherwise a single late run replaces all of them.
     is_each_due: bool = False
 
     def run_until(self, moment: float) -> None:
