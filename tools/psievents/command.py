@@ -48,14 +48,16 @@ PIECE = 8 << 20
 
 
 def program_path() -> str:
-    """The path of the program that the variable names, or else of the one that is built."""
+    """Returns the path of the program that the variable PSI_CONVERT names, or else of the built
+    program.
+    """
     named = os.environ.get(VARIABLE)
     return os.path.abspath(named) if named else built_program(LAUNCHER)
 
 
 def unpacked(folder: str, processor: int, most: int | None, place: str) -> str:
-    """The path of a file with all pages of a processor: its own, or one in `place` if they are in
-    parts.
+    """Returns the path of a file with all pages of a processor. If the recording has them in parts,
+    they are joined in a new file in the folder `place`.
     """
     path = os.path.join(folder, raw_name(processor))
     if not parts_of(folder, processor):
@@ -69,12 +71,14 @@ def unpacked(folder: str, processor: int, most: int | None, place: str) -> str:
 
 
 def page_size(table: str) -> int:
-    """The size of a page in bytes, from the second line of a table."""
+    """Returns the size of a page (bytes), from the second line of a table."""
     return int(table.split("\n")[1].split(" ")[1])
 
 
 def fault_text(message: str, size: int) -> str:
-    """The program's message on a malformed page, with the page's place in bytes and the cause."""
+    """Returns the program's message on a malformed page, with the page's offset (bytes) and the
+    cause in words.
+    """
     found = PAGE_MESSAGE.fullmatch(message)
     if not found:
         return f"psi_convert: {message.strip()}"
@@ -83,7 +87,7 @@ def fault_text(message: str, size: int) -> str:
 
 
 def has_no_reader() -> bool:
-    """Whether standard output is a pipe that nobody reads."""
+    """Returns whether standard output is a pipe that nobody reads."""
     output = select.poll()
     output.register(1, 0)
     return any(event & select.POLLERR for _, event in output.poll(0))

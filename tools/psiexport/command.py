@@ -27,7 +27,7 @@ from .rows import COLUMNS, KINDS, Exporter, Row, selected
 
 REPORT_S = 1
 STANDARD_INPUT = "-"
-# A spreadsheet would take a text that begins so for a formula.
+# A spreadsheet takes a text with one of these first characters for a formula.
 FORMULAS = ("=", "+", "-", "@", "\t", "\r")
 HELP = {
     "csv": "a table with a header in place of JSON lines",
@@ -64,8 +64,8 @@ def parser() -> Parser:
 
 
 def in_groups(lines: Iterable[Line], words: list[str], known: Known) -> Iterator[Line]:
-    """Yields the lines of the groups that the words name. A word that names none is a Fault at the
-    end.
+    """Yields the lines of the groups that the words name. Raises a Fault at the end if a word names
+    no group, or more than one.
     """
     paths: dict[str, bool] = {}
     for line in lines:
@@ -87,7 +87,7 @@ def as_json(rows: Iterable[Row]) -> Iterator[str]:
 
 
 def as_table(rows: Iterable[Row]) -> Iterator[str]:
-    """A table with a header (RFC 4180, but for its line ends)."""
+    """Yields a table with a header, as in RFC 4180 except that lines end in LF."""
     text = io.StringIO()
     writer = csv.writer(text, lineterminator="\n")
     writer.writerow(COLUMNS)
@@ -100,7 +100,9 @@ def as_table(rows: Iterable[Row]) -> Iterator[str]:
 
 
 def cell(value: Any) -> Any:
-    """Returns a value of a table. No text is a formula."""
+    """Returns the value for a cell. A text that a spreadsheet would take for a formula begins with
+    an apostrophe.
+    """
     return f"'{value}" if isinstance(value, str) and value.startswith(FORMULAS) else value
 
 

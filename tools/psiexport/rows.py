@@ -32,7 +32,7 @@ def kind_of(line: Line) -> str:
 
 
 def pressure_of(level: str, pressure: Optional[Pressure]) -> Row:
-    """Returns a line of a pressure file: averages in percent, the total in us."""
+    """Returns the columns for a line of a pressure file: averages in percent, the total in us."""
     if not pressure:
         return {}
     shares = {f"{level}_{name}": getattr(pressure, name) / 100 for name in AVERAGES}
@@ -40,7 +40,7 @@ def pressure_of(level: str, pressure: Optional[Pressure]) -> Row:
 
 
 class Exporter:
-    """Makes rows. Times of day are by `wall`, if that is known."""
+    """Makes rows. `wall` is the time of day at the start of the trace; None if it isn't known."""
 
     def __init__(
         self, wall: Optional[WallTime], groups: GroupNames, rules: Optional[Rules]
@@ -75,7 +75,7 @@ class Exporter:
 def selected(
     lines: Iterable[Line], kinds: tuple[str, ...], span: Span
 ) -> Iterator[Union[Report, Event, Kill]]:
-    """The lines of these kinds in this time, both ends included."""
+    """Yields the lines of these kinds within `span`, including both of its ends."""
     for line in lines:
         if isinstance(line, End) or kind_of(line) not in kinds:
             continue

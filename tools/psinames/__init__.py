@@ -1,3 +1,3 @@
-"""Names of tasks and containers, and the time of day of a trace. A trace itself has neither:
-they are in its companion, a second file next to it.
+"""Names of tasks and containers, and the time of day of a trace. A trace can't express them, so
+they are in its companion file, which lies next to it.
 """

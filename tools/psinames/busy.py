@@ -1,5 +1,6 @@
-"""Finds the processes that ran most in each group, in windows of time. For folded traces, which
-no longer name the tasks, and for tools that don't read the whole trace.
+"""Finds the processes that ran most in each group, in consecutive windows of time. The companion
+file stores them for folded traces, which no longer name the tasks, and for tools that don't read
+the whole trace.
 """
 from __future__ import annotations
 
@@ -13,7 +14,7 @@ KEPT = 3
 
 
 class Process(NamedTuple):
-    """A process in a window: its pid, its name, and the time (ns) for which its threads ran."""
+    """A process in a window of time: its pid, its name, and how long (ns) its threads ran."""
 
     number: int
     name: str
@@ -21,8 +22,8 @@ class Process(NamedTuple):
 
 
 class Busy(NamedTuple):
-    """A group in a window: the time (ns) for which its own tasks ran, and the processes that ran
-    longest.
+    """A group in a window of time: the number of the window from 0, the group's path, how long (ns)
+    its own tasks ran, and the processes that ran longest.
     """
 
     window: int
@@ -42,7 +43,9 @@ class Runner(NamedTuple):
 
 
 class Clocks:
-    """Adds up run times in windows of `length` ns. `done` has the windows that have ended."""
+    """Adds up the run times of processes in windows of `length` ns. `done` has the groups of all
+    windows that have ended.
+    """
 
     def __init__(self, length: int) -> None:
         self.length, self.number, self.end = length, 0, length
@@ -51,8 +54,8 @@ class Clocks:
         self.done: list[Busy] = []
 
     def run(self, processor: int, path: str, life: Optional[Life], now: int) -> None:
-        """Records that `life` runs on `processor` from `now` (ns) on. None is the idle
-        processor.
+        """Records that `life` runs on `processor` from `now` (ns) on. None means that the processor
+        is idle.
         """
         while now >= self.end:
             self.close()

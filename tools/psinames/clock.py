@@ -58,9 +58,9 @@ def time_given(word: str) -> Given:
 
 
 def offset_of(word: str, epoch: int) -> Optional[int]:
-    """Returns by how many ns the clocks of a zone are ahead of UTC at `epoch` (ns since 1970).
-    The zone is `UTC`, an offset, `local`, or a name such as Europe/Berlin. Returns None if
-    `word` is no zone.
+    """Returns the offset (ns) of a time zone from UTC at `epoch` (ns since 1970). The zone is
+    `UTC`, an offset such as +01:00, `local`, or a name such as Europe/Berlin. Returns None if
+    `word` isn't a time zone.
     """
     found = OFFSET.fullmatch(word)
     if found and int(found[2]) < 15 and int(found[3]) < 60:

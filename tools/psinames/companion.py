@@ -29,10 +29,11 @@ PATH = r"(/[A-Za-z0-9_.@:\\/-]*)"
 
 @dataclass
 class Companion:
-    """What is known of a trace: its size (bytes), its SHA-256, its length (ns), the time of day
-    at its start, the time (ns) at which the recording begins after a warm-up, its tasks with
-    their lifetimes, and the processes that ran most in each window of `window` ns. The tasks of
-    a folded trace have the label 0. `containers` maps the ids of containers and pods to names.
+    """The contents of a companion file: the trace's size (bytes), its SHA-256, its length (ns),
+    the time of day at its start, the time (ns) at which the recording begins after a warm-up, its
+    tasks with their lifetimes, and the processes that ran most in each window of `window` ns. The
+    tasks of a folded trace have the label 0. `containers` maps the ids of containers and pods to
+    names.
     """
 
     size: int
@@ -105,16 +106,16 @@ FORMS: dict[str, re.Pattern[str]] = {
     "name": re.compile(f"{NUMBER} (.{{0,80}})"),
     "busy": re.compile(f"{NUMBER} {PATH} {NUMBER}((?: {NUMBER} {NUMBER})*)"),
 }  # fmt: skip
-# The kinds of lines before the tasks. They suffice for tools that only need the time of day.
+# The kinds of lines before the tasks. Tools that only need the time of day read no further.
 HEAD = ("trace", "length", "start", "begins", "container")
 
 
 class Malformed(ValueError):
-    """A line that has no place in a companion file."""
+    """Raised for a line that can't occur in a companion file."""
 
 
 class Reader:
-    """Parses the lines of a companion file, and collects what they say in `known`."""
+    """Parses the lines of a companion file, and collects their contents in `known`."""
 
     def __init__(self) -> None:
         self.known = Companion(0, "", 0)
@@ -193,8 +194,9 @@ def read(name: str, is_whole: bool = True) -> Companion:
 
 
 def led(known: Companion) -> Companion:
-    """Sets each task's `leader`, the first thread of its process: of the lives with the
-    process's number, the latest one that began no later than the task, or else the first one.
+    """Sets each task's `leader`, the first thread of its process. Since pids are reused, this is
+    the latest task with the number of the process that began no later than the task itself; if
+    there is none, the earliest one.
     """
     leaders: dict[int, list[Life]] = {}
     for life in known.tasks:

@@ -18,8 +18,8 @@ POD = re.compile("[0-9a-f]{8}(?:[-_][0-9a-f]{4}){3}[-_][0-9a-f]{12}")
 # A path component with the id of a container or pod, anywhere in a text.
 LETTERS = r"[A-Za-z0-9_.@:\\-]*"
 COMPONENT = re.compile(f"{LETTERS}(?:{CONTAINER.pattern}|{POD.pattern}){LETTERS}")
-# The digits of its id that are printed to distinguish containers of the same name, and the fewest
-# digits of an id in a file of names.
+# The number of digits of an id that are printed to distinguish containers of the same name, and the
+# least number of digits of an id in a file of names.
 SHORT, LEAST = 6, 12
 
 
@@ -70,8 +70,9 @@ class GroupNames:
     # ------------------------------------------------------------ by name
 
     def matches(self, word: str, path: str) -> bool:
-        """Whether `word` names the group at `path`: it is the path (as in the trace or as
-        printed), the last component of one of these, such as a unit, or the name of a container.
+        """Returns whether `word` names the group at `path`. It does if it is the path, as in the
+        trace or as printed; the last component of the path, such as a unit; or the name of the
+        container.
         """
         shown = self.shown(path)
         container = re.search(r"/\{([^{}]*)\}\Z", shown)
@@ -81,8 +82,8 @@ class GroupNames:
         )
 
     def find(self, word: str, paths: Iterable[str], where: str) -> str:
-        """Returns the one path of `paths` that `word` names. Raises a Fault that lists the
-        candidates if there is none or more than one; `where` says in its message where they are.
+        """Returns the only path of `paths` that `word` names. Raises a Fault with the candidates if
+        there is none or more than one. `where` says in its message what has these paths.
         """
         names = list(dict.fromkeys(paths))
         if word in names:

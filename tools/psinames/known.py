@@ -1,5 +1,5 @@
-"""Options and files that add names and the time of day to a trace, and the options that select a
-part of it.
+"""The options that add names and the time of day to a trace, and the options that select a part of
+the trace. Several tools have these options.
 """
 from __future__ import annotations
 
@@ -19,7 +19,7 @@ from .companion import Companion, find
 from .groups import GroupNames
 from .text import escaped
 
-# The default length (ns) of the time around --at.
+# The default length (ns) of the part that --at selects.
 AROUND = 60 * SECOND
 
 HELP = {
@@ -120,7 +120,7 @@ def must_fit(values: Mapping[str, Any]) -> None:
 
 
 def has_start(values: Mapping[str, Any]) -> bool:
-    """Whether the options say where the part starts."""
+    """Returns whether the options give the start of the part."""
     return values["start"] is not None or values["at"] is not None
 
 

@@ -5,10 +5,10 @@ from typing import Optional
 
 
 class Life:
-    """A task from its `fork` line to its exit (ns since the trace's start): its label in the
-    trace, its number (tid), its process, and its names, each with the time since which it had
-    it. `leader` is the life of the process's first thread, whose name is the name of the
-    process. If that isn't known, it is the task itself.
+    """A task from its `fork` line to its exit, with the times of both (ns since the trace's start):
+    its label in the trace, its tid, its pid, and its names, each with the time (ns) since which the
+    task has that name. `leader` is the process's first thread, whose name is the name of the
+    process; if that isn't known, the task itself.
     """
 
     __slots__ = ("label", "first", "last", "task", "process", "leader", "names")
@@ -23,7 +23,7 @@ class Life:
 
     @property
     def name(self) -> str:
-        """The task's last name, escaped. Empty if none is known."""
+        """The task's last name, escaped; empty if no name is known."""
         return self.names[-1][1] if self.names else ""
 
     def rename(self, now: int, name: str) -> None:
@@ -45,8 +45,8 @@ class Life:
         return found
 
     def renumber(self, number: int) -> None:
-        """Records a change of the task's number: at exec a thread takes over the number of its
-        process's first thread.
+        """Records that the task's tid became `number`: a thread that calls exec takes over the tid
+        of its process's first thread.
         """
         self.task = number
         if number == self.process:

@@ -15,8 +15,8 @@ MS = 10**6
 
 
 class Share(NamedTuple):
-    """The processes with the same name, or one thread: their numbers, and how long they ran
-    (ns).
+    """The processes with the same name, or a single thread: their pids or the tid, and how long
+    (ns) they ran.
     """
 
     name: str
@@ -26,8 +26,8 @@ class Share(NamedTuple):
 
 
 class Tasks:
-    """The lives of a trace's tasks by label. With `has_threads` each thread is counted by
-    itself, otherwise its run time counts for its process.
+    """The tasks of a trace by label, several if a label was used again. With `has_threads` each
+    thread is counted by itself, otherwise its run time counts for its process.
     """
 
     def __init__(self, known: Optional[Companion], has_threads: bool = False) -> None:
@@ -38,8 +38,9 @@ class Tasks:
                 self.lives.setdefault(life.label, []).append(life)
 
     def runner(self, label: int, now: int) -> Optional[Life]:
-        """Returns the life for which a task created at `now` (ns) counts: the first thread of
-        its process, or with `has_threads` the task itself. None if the task isn't known.
+        """Returns the task for which the run time of the task `label`, created at `now` (ns),
+        counts: the first thread of its process, or with `has_threads` the task itself. None if the
+        task isn't known.
         """
         for life in self.lives.get(label, ()):
             if life.first == now:
@@ -47,8 +48,8 @@ class Tasks:
         return None
 
     def shares(self, times: Mapping[Optional[Life], int], now: int) -> list[Share]:
-        """Adds up the times (ns) by the name that each life had at `now` (ns). The longest comes
-        first.
+        """Adds up the run times (ns) of tasks with the same name at `now` (ns). Returns the shares
+        in descending order of time.
         """
         found: dict[tuple[str, int], tuple[set[int], int]] = {}
         for life, time in times.items():
@@ -78,7 +79,7 @@ def share_text(share: Share) -> str:
 
 
 def shares_text(shares: Iterable[Share], others: int = 0) -> str:
-    """Lists the first shares by name with their times, and all others together. `others` is the
+    """Formats the first shares with their names and times, and the rest as one sum. `others` is the
     run time (ns) of processes that aren't in `shares`.
     """
     shares = list(shares)
@@ -96,8 +97,8 @@ def shares_text(shares: Iterable[Share], others: int = 0) -> str:
 
 def busiest(known: Companion, path: str, start: int, end: int) -> tuple[list[Share], int]:
     """Returns the shares of the processes that ran most in a group and its descendants, in the
-    windows that begin between `start` and `end` (ns), and the time (ns) for which others ran. A
-    process that was never among a window's busiest counts as one of the others.
+    windows that begin between `start` and `end` (ns), and how long (ns) other processes ran. In a
+    window, every process that isn't among the busiest counts as another process.
     """
     prefix = path.rstrip("/") + "/"
     names: dict[int, Life] = {}

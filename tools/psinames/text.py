@@ -1,5 +1,5 @@
-"""Escapes names, so that whoever can name a task or a container can't send control characters to
-a terminal.
+"""Escapes the names of tasks and containers. Their users choose these names, which could otherwise
+send control characters to a terminal.
 """
 from __future__ import annotations
 
@@ -22,5 +22,7 @@ def escapes(letter: str) -> str:
 
 
 def is_escaped(text: str) -> bool:
-    """Whether `text` is an escaped name: printable, and with a backslash only in an escape."""
+    """Returns whether `text` is an escaped name: it is printable, and each backslash begins an
+    escape.
+    """
     return text.isprintable() and "\\" not in ESCAPE.sub("", text)

@@ -1,4 +1,4 @@
-"""The groups of a trace, as its events create and remove them, with their last memory samples."""
+"""Follows the groups of a trace through its events, with their last memory samples."""
 from __future__ import annotations
 
 from collections.abc import Callable, Iterator
@@ -11,7 +11,9 @@ from psiworld.groups import ROOT, parent_of
 
 
 class Sample(NamedTuple):
-    """A `mem` line: the memory and the swap in use (bytes), and the pages scanned up to then."""
+    """A `mem` line: the memory and the swap in use (bytes), and the number of pages that the kernel
+    has scanned since the group's creation.
+    """
 
     memory: int
     swap: int
@@ -28,9 +30,9 @@ class Host(NamedTuple):
 
 class Group:
     """A group from its creation to its removal (`made` and `removed`, ns). Groups are numbered
-    in the order of their creation, and the root is 0. `life` counts the groups with the same
-    path, from 1. `counted` has the numbers of this group and its ancestors whose accounting is
-    on: a task of the group counts in these.
+    in the order of their creation, and the root is 0. `life` numbers the groups with the same
+    path, from 1. `counted` has the numbers of those groups, among this group and its ancestors,
+    whose accounting is on: a task of this group counts in all of them.
     """
 
     __slots__ = (
@@ -64,13 +66,13 @@ class Group:
             group = group.parent
 
     def is_below(self, top: Group) -> bool:
-        """Whether the group is `top` or a descendant of it."""
+        """Returns whether the group is `top` or a descendant of `top`."""
         return any(group is top for group in self.line())
 
     def whole_sample(self) -> Sample | None:
-        """Returns the group's last sample. A group without a sample of its own has the sum of
-        its children's, since the kernel charges a child's memory to its parent too. None without
-        any sample.
+        """Returns the group's last sample. Without one, returns the sum of its children's samples,
+        since the kernel charges a child's memory to its parent too. None if neither the group nor
+        a descendant has a sample.
         """
         if self.sample or self.path == ROOT:
             return self.sample
@@ -81,15 +83,16 @@ class Group:
         return Sample(sum(it.memory for it in below), sum(it.swap for it in below), scanned)
 
     def has_tasks(self) -> bool:
-        """Whether the group or a descendant has a task."""
+        """Returns whether the group or a descendant has a task."""
         return self.tasks > 0 or any(child.has_tasks() for child in self.children.values())
 
 
 class Groups:
-    """All groups of the trace up to the current event, by number, and the live ones by path; the
-    number of groups created with each path; the host's last sample, and the number of samples.
-    Events must be in order of time: `now` is the time (ns) of the last one. Tools override
-    `pass_to`, `made` and `removed`.
+    """The groups of a trace up to the current event. `all` has every group by number, `live` the
+    existing groups by path, and `counts` the number of groups created with each path. `host` is
+    the last sample of the host, and `samples` the number of memory samples. Events must be in order
+    of time: `now` is the time (ns) of the last event. Tools override `pass_to`, `made` and
+    `removed`.
     """
 
     def __init__(self) -> None:
@@ -116,9 +119,7 @@ class Groups:
             play(*fields)
 
     def pass_to(self, moment: int) -> None:
-        """Called before time advances to `moment` (ns), the next event's time. Nothing changed
-        since `now`.
-        """
+        """Called before time advances from `now` to `moment` (ns), the time of the next event."""
 
     def made(self, group: Group) -> None:
         """Called after `group` was created."""
@@ -168,14 +169,14 @@ class Groups:
     # ------------------------------------------------------------ names
 
     def name(self, group: Group) -> str:
-        """Returns the group's path. If several groups had it, `#` and the number of this one
+        """Returns the group's path. If several groups had this path, `#` and the group's number
         among them follow. No path contains a `#`.
         """
         return group.path if self.counts[group.path] == 1 else f"{group.path}#{group.life}"
 
     def named(self, word: str) -> list[Group]:
-        """Returns the groups with the path `word`, or the one that PATH#N names. Raises a Fault
-        if there never was such a group.
+        """Returns the groups with the path `word`, or the single group that a word PATH#N names.
+        Raises a Fault if there never was such a group.
         """
         path, _, life = word.partition("#")
         found = [it for it in self.all if it.path == path and (not life or str(it.life) == life)]

@@ -9,7 +9,7 @@ from typing import Callable, NamedTuple, Optional
 
 from psirec.meta import is_recording
 
-# The number of bytes at the start of a file by which its kind is recognised.
+# The kind of a file is recognised by its first bytes, at most this number of them.
 HEAD = 4096
 TRACE, RULES, REPLAY, JSON = (
     "a trace",
@@ -76,8 +76,8 @@ def file_kind(path: str) -> Optional[Kind]:
 
 
 def told_kind(kind: Optional[Kind], expected: str, name: str) -> str:
-    """Says what a file is instead of what was expected, as the end of a message. Empty if that
-    isn't known or the file is as expected.
+    """Returns the part of a message that says what a file is instead of `expected`. Empty if the
+    kind isn't known, or if it is the expected one.
     """
     if not kind or (kind.what, expected) in ((expected, expected), (JSON, RULES)):
         return ""
@@ -90,15 +90,15 @@ def told_kind(kind: Optional[Kind], expected: str, name: str) -> str:
 
 
 def what_it_is(path: str, expected: str, name: Optional[str] = None) -> str:
-    """Says what the file at `path` is instead of what was expected. Empty if that isn't known.
-    `name` is the name that messages use, if it isn't the path.
+    """Returns the part of a message that says what the file at `path` is instead of `expected`.
+    Empty if its kind isn't known. `name` is the name that messages use, if it isn't the path.
     """
     return told_kind(file_kind(path), expected, path if name is None else name)
 
 
 def why_refused(said: str, path: str, name: Optional[str] = None) -> str:
-    """Returns the program's message about a trace or rules. If it rejected the very beginning of
-    the file, the message also says what the file is instead.
+    """Returns the program's message `said` about a trace or rules. If the program rejected the very
+    beginning of the file, the result also says what the file is instead.
     """
     expected = (
         TRACE if said.startswith("trace line 1: ") else RULES if said.endswith("BadJson") else ""
@@ -108,7 +108,7 @@ def why_refused(said: str, path: str, name: Optional[str] = None) -> str:
 
 
 def folder_told(name: str) -> str:
-    """Says what a folder is that was given in place of a trace."""
+    """Returns the message about a folder that was given in place of a trace."""
     if is_recording(name):
         return f"{name} is a recording: `tools/psitrace {name}` makes a trace of it"
     return f"{name} is a folder"

@@ -67,7 +67,7 @@ Line = Union[Report, Event, Kill, End]
 # The most bytes of a line that are shown in a message.
 SHOWN = 60
 ADVICE = ": give all that `psi_oomd replay` prints, and see what it says on standard error"
-# No number that replay prints has more digits than these.
+# A number that replay prints, which has at most 19 digits.
 NUMBER = "(?:0|[1-9][0-9]{0,18})"
 PATH = r"/[A-Za-z0-9_.@:\\/-]*"
 SHARES = " ".join(rf"{average}=({NUMBER})\.([0-9][0-9])" for average in AVERAGES)
@@ -92,8 +92,8 @@ def pressure_of(fields: tuple[str, ...]) -> Pressure:
 
 
 class Reader:
-    """Parses line after line. It stores a report's head and its line `some` until the report is
-    complete.
+    """Parses one line after another. A report consists of several lines, so its head and its line
+    `some` are stored until the line `full`.
     """
 
     def __init__(self) -> None:
@@ -102,7 +102,9 @@ class Reader:
         self.is_ended = False
 
     def due(self) -> Optional[str]:
-        """Returns the word with which the next line must begin, or None if there are several."""
+        """Returns the word with which the next line must begin within a report, and None outside
+        of a report.
+        """
         if not self.head:
             return None
         return "full" if self.some or self.head[2] == "irq" else "some"
@@ -112,8 +114,8 @@ class Reader:
         return not self.is_ended and (verb == due if due else verb not in LEVELS)
 
     def take(self, line: str) -> Optional[Line]:
-        """Parses a line. Returns the item that it completes, or None if it completes none.
-        Raises ValueError if replay can't print the line at this point.
+        """Parses a line. Returns the report, signal, kill or end that the line completes, or None
+        if it completes none. Raises ValueError if replay can't print the line at this point.
         """
         verb = line.partition(" ")[0]
         found = FORMS[verb].fullmatch(line) if verb in FORMS and self.is_in_place(verb) else None
@@ -147,8 +149,8 @@ class Reader:
 
 
 def refused(number: int, text: bytes) -> Fault:
-    """Returns the error that replay can't print this line here. For the first line it also says
-    what the input is instead.
+    """Returns the error for a line that replay can't print at this point. For the first line the
+    message says what the input is instead.
     """
     found = told_kind(kind_of(text), REPLAY, "FILE") if number == 1 else ""
     if found:
@@ -158,8 +160,9 @@ def refused(number: int, text: bytes) -> Fault:
 
 
 def read(printed: Iterable[bytes]) -> Iterator[Line]:
-    """Yields the items of a replay's output, without the lines of live clocks. Raises a Fault at
-    a line that replay can't print there, or if the last line is missing.
+    """Yields the reports, signals and kills of a replay's output and its end, without the lines
+    `live`. Raises a Fault at a line that replay can't print at this point, or if the last line is
+    missing.
     """
     reader = Reader()
     number = 0

@@ -21,8 +21,8 @@ LAUNCHER = os.path.join(TOP, "psi_oomd")
 VARIABLE = "PSI_OOMD"
 # A trace without events, for a run that only reads rules.
 NO_EVENTS = b"psitrace 1 cpus=1\n0 end\n"
-# The longest tick allows the longest traces, so a trace that `replay` accepts with some tick is
-# accepted with this one.
+# A longer tick permits a longer trace. So a trace that `replay` accepts with any tick is accepted
+# with the longest tick.
 LONGEST_TICK = "--tick-ms=60000"
 # The statuses of a run that rejected its trace or its rules file.
 REFUSALS = (ProgramStatus.TRACE_REFUSED, ProgramStatus.RULES_REFUSED)
@@ -36,8 +36,8 @@ NOTED = "PSI_OOMD_IS_NOTED"
 
 
 def named_program() -> str:
-    """Returns the name of the program in PSI_OOMD, or the launcher's. It warns once per run if
-    that program isn't proved.
+    """Returns the program that PSI_OOMD names, or else the launcher. Warns once per run if that
+    program isn't proved.
     """
     name = os.environ.get(VARIABLE) or LAUNCHER
     if name.endswith(UNPROVED) and not os.environ.get(NOTED):
@@ -85,9 +85,9 @@ def start(words: list[str], notes: IO[bytes]) -> subprocess.Popen[bytes]:
 
 
 def finish(run: subprocess.Popen[bytes], notes: IO[bytes], what: str, name: str) -> str:
-    """Waits for a run, and returns what it printed. Raises a Fault if its status isn't 0, with
-    the program's own message and what the file is instead. The message calls the file `what` and
-    by its `name`.
+    """Waits for a run, and returns its output. Raises a Fault if its status isn't 0, with the
+    program's own message from `notes`. `what` says in that message what the file `name` is, such as
+    "the trace".
     """
     assert run.stdin and run.stdout
     try:
@@ -108,8 +108,8 @@ def finish(run: subprocess.Popen[bytes], notes: IO[bytes], what: str, name: str)
 
 
 def opened(name: str) -> IO[bytes]:
-    """Opens a file for reading. Raises a Fault if it can't be opened, in the program's words if
-    it doesn't exist.
+    """Opens a file for reading. Raises a Fault if it can't be opened. The message about a missing
+    file is the one that psi_oomd prints.
     """
     try:
         return open(name, "rb")
@@ -137,8 +137,8 @@ def accepted_rules(name: str) -> bytes:
 
 
 class CheckedTrace:
-    """The lines of a trace, each passed on to `psi_oomd check`. If that rejects the trace, the
-    last line is followed by a Fault.
+    """Reads the lines of a trace, and passes each on to `psi_oomd check`. If the program rejects
+    the trace, a Fault follows the last line.
     """
 
     def __init__(self, name: str) -> None:

@@ -25,7 +25,7 @@ TRACE_HELP = (
 # The options of a replay that tools also have, by the names of their values.
 OPTIONS = {"tick_ms": "--tick-ms", "report_s": "--report-s", "interval_s": "--interval-s"}
 REFUSED = (ProgramStatus.TRACE_REFUSED, ProgramStatus.RULES_REFUSED)
-# The statuses of a replay that succeeded, or that couldn't write because the tool closed the pipe.
+# The statuses of a replay that succeeded, or whose output pipe the tool closed early.
 UNREAD = (0, ProgramStatus.WRITE_FAULT)
 
 
@@ -36,7 +36,7 @@ def add_report(parser: Parser) -> None:
 
 
 def words_of(trace: str, values: Mapping[str, Any], report_s: int) -> list[str]:
-    """Returns the arguments of the replay that a tool's options ask for."""
+    """Returns the arguments of `psi_oomd` for a replay with a tool's options."""
     given = {name: values[name] for name in OPTIONS if values.get(name) is not None}
     options = {"report_s": report_s, **given}
     words = [f"{OPTIONS[name]}={value}" for name, value in options.items()]

@@ -26,12 +26,12 @@ class Plugin(NamedTuple):
     args: dict[str, str]
 
     def covers(self, path: str) -> bool:
-        """Whether one of the plugin's patterns matches `path`."""
+        """Returns whether one of the plugin's patterns matches `path`."""
         return any(does_match(pattern, path) for pattern in self.args["cgroup"].split(","))
 
     def may_kill(self, path: str) -> bool:
-        """Whether an action of this kind can choose `path`: it matches the path, or the action
-        is recursive and matches an ancestor.
+        """Returns whether this action can choose `path`: one of its patterns matches the path, or
+        the action is recursive and a pattern matches an ancestor.
         """
         above = [path[:place] for place, letter in enumerate(path) if letter == "/" and place]
         goes_down = self.args.get("recursive", "false") in TRUTHS
@@ -59,10 +59,10 @@ def printable(text: str) -> str:
 
 
 def does_match(pattern: str, path: str) -> bool:
-    """Whether `pattern` matches `path`: both have the same number of components, and `*` matches
-    any string within a component.
+    """Returns whether `pattern` matches `path`: both have the same number of components, and `*`
+    matches any string within a component.
 
-    `?` and `[` would be special here, but no pattern that the program accepts contains them.
+    `?` and `[` are special for fnmatch too, but no pattern that the program accepts contains them.
     """
     if pattern == "/" or path == "/":
         return pattern == path
@@ -71,7 +71,7 @@ def does_match(pattern: str, path: str) -> bool:
 
 
 def argument(value: Any) -> str:
-    """Returns an argument as a string: whole numbers and booleans as JSON spells them."""
+    """Returns an argument as a string. Whole numbers and booleans are written as in JSON."""
     return value if isinstance(value, str) else json.dumps(value)
 
 
@@ -86,8 +86,8 @@ def ruleset_of(value: Any) -> Ruleset:
 
 
 def unmatched(rulesets: list[Ruleset], paths: set[str]) -> list[str]:
-    """Returns the patterns that match none of `paths`, each with its ruleset. Such a rule does
-    nothing on these groups.
+    """Returns the patterns that match none of `paths`, each with the name of its ruleset. A
+    detector or action with only such patterns has no effect.
     """
     found = []
     for ruleset in rulesets:
@@ -133,8 +133,8 @@ class Rules:
 
 
 def size(text: str, host: Optional[int]) -> Optional[int]:
-    """Parses a size, and returns bytes. A percentage refers to `host`, the host's memory
-    (bytes); the result is None if that isn't known.
+    """Parses a size, and returns bytes. A percentage refers to the host's memory, `host` (bytes);
+    the result is None if that is None.
     """
     if text.endswith("%"):
         return None if host is None else host * int(text[:-1]) // 100

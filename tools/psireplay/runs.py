@@ -1,4 +1,6 @@
-"""Runs the commands for a page of a report, which lists each with its number."""
+"""Runs the commands from whose output a report's page is made. The page lists each command with its
+number.
+"""
 from __future__ import annotations
 
 import os
@@ -19,9 +21,9 @@ PROGRAM = "psi_oomd"
 
 
 class Done(NamedTuple):
-    """A command that was run: its number on the page, its words, its exit status, what it wrote
-    to standard error, its output, and the contents of the file that was made for it, empty if
-    there was none.
+    """A command that was run: its number on the page, its words, its exit status, its standard
+    error `said`, its standard output, and the contents of the rules file that was written for it;
+    empty if there was none.
     """
 
     number: int
@@ -41,16 +43,16 @@ class Done(NamedTuple):
 
 
 def refused_file(words: list[str], said: str) -> str:
-    """Returns the name of the file that the program rejected: its rules, or else the trace,
-    which is the last of the words.
+    """Returns the name of the file that the program rejected: its rules file if the message `said`
+    is about rules, and otherwise the trace, which is the last of the words.
     """
     rules = [word.partition("=")[2] for word in words if word.startswith("--rules=")]
     return rules[0] if rules and said.startswith("rules") else words[-1]
 
 
 class Runs:
-    """Runs psi_oomd and the tools of this folder. Standard output goes into files, since a
-    replay's can be long.
+    """Runs psi_oomd and the tools. The standard output of each goes into a temporary file, since
+    the output of a replay can be long.
     """
 
     def __init__(self) -> None:

@@ -1,8 +1,9 @@
-"""The mark of a trace that was made from samples: the first event creates a group whose name has
-the details, and the second removes it.
+"""The mark of a trace that was made from samples: its first event creates a group whose name has
+the details, and its second event removes that group.
 
 Such a trace has the pressure of groups, but its tasks, its processors and its context switches
-are synthetic. Every tool that needs real ones calls this module, and rejects such a trace.
+are synthetic. Every tool that needs real tasks or switches calls this module, and rejects such a
+trace.
 """
 from __future__ import annotations
 
@@ -25,9 +26,10 @@ MOST_BYTES = 512
 
 class Sampled(NamedTuple):
     """The contents of a mark: the interval between samples and the longest gap (ns), and whether
-    scanned pages were sampled. For traces that were made together also the set's number, the
-    part's number from 1, the time (ns) in the set at which the part begins, and the time (ns) in
-    the part up to which the previous part has the kills.
+    scanned pages were sampled. Long samples become a set of several traces, each of which is a
+    part: `whole` is the number of the set, `part` the number of the part from 1, `start` the time
+    (ns) in the set at which the part begins, and `skip` the time (ns) in the part up to which the
+    previous part has the kills.
     """
 
     every: int
@@ -61,7 +63,7 @@ class Sampled(NamedTuple):
         return [f"0 group {name}\n", f"0 rmgroup {name}\n"]
 
     def interval(self) -> str:
-        """Says the interval between samples, for people."""
+        """Describes the interval between samples in words."""
         longest = f", with gaps of up to {seconds(self.gap)} s" if self.gap > 2 * self.every else ""
         return f"samples each {seconds(self.every)} s{longest}"
 
@@ -88,8 +90,8 @@ def sampled_in(data: bytes) -> Optional[Sampled]:
 
 
 def sampled(name: str) -> Optional[Sampled]:
-    """Returns the mark of a trace. None if it has no mark, or if it can't be read: the next
-    reader reports why. `-` is the standard input, if that is a file.
+    """Returns the mark of a trace. None if it has no mark, or if it can't be read; whoever reads
+    the trace next reports why. `-` is the standard input, if that is a file.
     """
     try:
         if name == "-":
@@ -117,8 +119,8 @@ def refuse_sampled(file: str, name: str, what: str) -> None:
 
 
 class Whole(NamedTuple):
-    """A trace, or a set of traces that were made together from longer samples, named after its
-    first trace.
+    """A single trace, or a set of traces that were made together from long samples. Its name is
+    that of its first trace, and each trace has its mark.
     """
 
     name: str
@@ -126,7 +128,8 @@ class Whole(NamedTuple):
 
 
 def wholes(names: list[str]) -> list[Whole]:
-    """Groups the traces `names`: those that were made together from samples are one."""
+    """Groups the traces `names`, so that traces that were made together from samples are one set.
+    """
     found: dict[str, Whole] = {}
     for place, name in enumerate(names):
         mark = sampled(name)
@@ -139,8 +142,8 @@ def wholes(names: list[str]) -> list[Whole]:
 
 
 def time_in_whole(time: int, mark: Optional[Sampled]) -> Optional[int]:
-    """Converts a time (ns) in a part to the time in the whole set. None if the previous part has
-    it too.
+    """Converts a time (ns) in a part to the time (ns) in the whole set. None if the previous part
+    contains that time too.
     """
     if mark is None:
         return time

@@ -20,8 +20,8 @@ class Sample(NamedTuple):
 
 
 class Life:
-    """The samples of a group from its creation to its removal at `end` (ns), None if it was
-    never removed.
+    """The samples of a group from its creation to its removal. `end` is the time of the removal
+    (ns); None if the group was never removed.
     """
 
     def __init__(self) -> None:
@@ -30,7 +30,7 @@ class Life:
 
 
 class Samples(Groups):
-    """The samples of the given groups, by path and by life, and the host's last sample."""
+    """The samples of some groups. A path has several lives if its group was created again."""
 
     def __init__(self, name: str, groups: list[str], end: int) -> None:
         """Reads a trace. Raises a Fault if it doesn't end at `end` (ns)."""
@@ -38,7 +38,8 @@ class Samples(Groups):
         self.lives: dict[str, list[Life]] = {path: [Life()] for path in groups}
         trace = CheckedTrace(name)
         for line in trace.lines():
-            # The program rejects a malformed line, which is an error at the end.
+            # A malformed line is skipped here. The program rejects it, which is an error at the
+            # end of the trace.
             with contextlib.suppress(LookupError, TypeError, ValueError):
                 self.take(*event_in(line.decode("latin-1")))
         if trace.end != end:

@@ -9,13 +9,13 @@ from typing import Iterable, NamedTuple, Optional
 from .lines import LEVELS, Pressure, Report, read
 
 ROOT = "/"
-# The ranked resources, in the order of columns. Time spent on interrupts is no stall.
+# The resources by which groups are ranked, in the order of columns. Time spent on interrupts isn't
+# a stall of tasks.
 RANKED = ("io", "memory", "cpu")
 
 
 class Stalls(NamedTuple):
-    """A group, and for how long (us) some or all of its tasks were stalled, by resource and
-    level.
+    """A group, and how long (us) its tasks were stalled, by resource and level (`some` or `full`).
     """
 
     path: str
@@ -32,9 +32,8 @@ class Stalls(NamedTuple):
 
 
 class Lives:
-    """The growth of all groups' totals between two times (ns), from the reports after `start`
-    and up to `end`. A group that is created again counts with the earlier group of the same
-    path.
+    """Adds up how much the totals of each group grew in the reports after `start` and up to `end`
+    (ns). A group that is created again counts with the earlier group of the same path.
     """
 
     def __init__(self, start: int, end: float) -> None:
@@ -58,8 +57,8 @@ class Lives:
 
 def ranked(printed: Iterable[bytes], start: int = -1, end: float = float("inf")) -> list[Stalls]:
     """Returns the groups without children in the output of a replay, sorted by how long they
-    stalled between two times (ns), the longest first. Only the root if there are no other
-    groups.
+    stalled after `start` and up to `end` (ns), the longest first. Returns the root if there are no
+    other groups.
     """
     lives = Lives(start, end)
     for line in read(printed):

@@ -40,7 +40,8 @@ def row_of(stalls: Stalls, known: Known, span: Span) -> list[str]:
 
 
 def processes_of(path: str, known: Known, span: Span) -> str:
-    """Lists the processes that ran most in a group. Empty if the trace doesn't have their names."""
+    """Formats the processes that ran most in a group. Empty if the trace doesn't have their names.
+    """
     if not known.companion or not known.companion.busy:
         return ""
     shares, others = busiest(known.companion, path, *span)
@@ -71,7 +72,9 @@ def parser() -> Parser:
 
 
 def words_in(words: list[str]) -> tuple[Optional[str], int]:
-    """Returns the trace and the number of groups from the arguments, which may be in any order."""
+    """Returns the trace, or None, and the number of groups from the arguments, which may be in any
+    order.
+    """
     for it in words:
         if NUMBER.fullmatch(it) and not COUNT.fullmatch(it) and not os.path.exists(it):
             raise Fault(f"argument N: {it} isn't a whole number from 1 to 999999")

@@ -1,5 +1,5 @@
-"""Reads a trace file: its header, its end, its groups and its events. It doesn't check the
-trace.
+"""Reads the header, the end, the groups and the events of a trace file. Doesn't check that the
+trace is valid.
 """
 from __future__ import annotations
 
@@ -51,8 +51,8 @@ def end_of(trace: str, unknown: int = UNKNOWN) -> int:
 
 
 def groups_in(number: int) -> set[str]:
-    """Returns the paths of all groups that a trace ever creates, and the root, without the group
-    of a mark. `number` is the file descriptor of the trace.
+    """Returns the paths of the root and of all groups that a trace ever creates, without the group
+    that marks a trace of samples. `number` is the file descriptor of the trace.
     """
     with mmap.mmap(number, 0, access=mmap.ACCESS_READ) as data:
         found = GROUP.findall(data, len(mark_in(data[:MOST_BYTES])))
@@ -60,7 +60,7 @@ def groups_in(number: int) -> set[str]:
 
 
 def groups_of(trace: str) -> set[str]:
-    """Returns the paths of all groups that a trace ever creates, and the root. Only the root if
+    """Returns the paths of the root and of all groups that a trace ever creates. Only the root if
     the file can't be read.
     """
     try:
@@ -84,7 +84,9 @@ def events_of(trace: str) -> Iterator[Event]:
 
 
 class Events:
-    """The events of a trace file, which are taken up to one time after another."""
+    """Reads the events of a trace file step by step: each call of `until` continues after the last
+    event of the previous call.
+    """
 
     def __init__(self, trace: str) -> None:
         self.events = events_of(trace)

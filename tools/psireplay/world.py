@@ -1,10 +1,11 @@
-"""The state of a trace's tasks and groups, event by event. This is the tools' one interpreter of
-the verbs of docs/TRACES.md.
+"""Follows the state of a trace's tasks and groups, event by event. Tools that need this state use
+this interpreter of the verbs of docs/TRACES.md.
 
-The trace must be one that psi_oomd accepts. Tools override `leave` and `enter`, which are called
-before and after each change of a task, and add up what they need. Two other modules interpret
-lines too, both on purpose: psifold/world.py must reject what it can't fold, and psifold/check.py
-checks folded traces independently, so that an error here can't hide one there.
+The trace must be valid, as `psi_oomd check` says. Tools override `leave` and `enter`, which are
+called before and after each change of a task, and add up what they need. Two other modules
+interpret verbs too, both on purpose: psifold/world.py must reject events that it can't fold, and
+psifold/check.py checks folded traces independently, so that an error here can't hide an error
+there.
 """
 from __future__ import annotations
 
@@ -52,12 +53,10 @@ class World(Groups, Generic[T]):
         }  # fmt: skip
 
     def leave(self, task: T) -> None:
-        """Called before the task changes or exits: it no longer counts with its present state."""
+        """Called before the task changes or exits, when it still has its old state."""
 
     def enter(self, task: T) -> None:
-        """Called after the task was created or has changed: from now on it counts with its new
-        state.
-        """
+        """Called after the task was created or has changed, when it has its new state."""
 
     # ------------------------------------------------------------ verbs
 
