@@ -1,1 +1,3 @@
-"""Builds the package of psi_oomd: a tree of installed files, and two archives of it."""
+"""Builds the packages of psi_oomd: collects the files to install, and writes them as a Debian
+package and as a tar archive.
+"""

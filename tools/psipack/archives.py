@@ -1,5 +1,5 @@
-"""Writes reproducible archives, in which the same files give the same bytes: members sorted by
-name, owned by root, with one time.
+"""Writes reproducible archives: equal files give equal bytes. Members are sorted by name, are owned
+by root, and have the same time.
 """
 from __future__ import annotations
 
@@ -11,8 +11,7 @@ import tarfile
 
 from .tree import Member
 
-# The header of a member of an ar archive: its name, its time, its owner, its mode and its size
-# (ar(5)).
+# The header of a member of an ar archive: its name, time, owner, group, mode and size (ar(5)).
 AR_HEAD = "{name:<16}{time:<12}{owner:<6}{group:<6}{mode:<8}{size:<10}`\n"
 
 
@@ -26,8 +25,8 @@ def folders_of(paths: list[str]) -> list[str]:
 
 
 def tar_of(members: list[Member], top: str, seconds: int) -> bytes:
-    """Returns a tar archive of the members below the folder `top`, all with this time (s since
-    1970).
+    """Returns a tar archive with the members below the folder `top`. All have the same time,
+    `seconds` since 1970.
     """
     placed = {f"{top}/{member.path}": member for member in members}
     rows: list[tuple[str, Member | None]] = [(path, None) for path in folders_of(list(placed))]
@@ -47,7 +46,7 @@ def tar_of(members: list[Member], top: str, seconds: int) -> bytes:
 
 
 def gzipped(data: bytes, seconds: int) -> bytes:
-    """Returns the bytes compressed by gzip, with this time and no name."""
+    """Compresses bytes by gzip, with the time `seconds` (since 1970) and no file name."""
     output = io.BytesIO()
     with gzip.GzipFile(
         filename="", mode="wb", compresslevel=9, fileobj=output, mtime=seconds
@@ -57,7 +56,7 @@ def gzipped(data: bytes, seconds: int) -> bytes:
 
 
 def xz_of(data: bytes) -> bytes:
-    """Returns the bytes compressed by xz, with the options that dpkg expects."""
+    """Compresses bytes by xz, with options that dpkg accepts."""
     return lzma.compress(data, preset=6)
 
 

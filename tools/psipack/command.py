@@ -1,4 +1,4 @@
-"""The command line of tools/package, and its steps."""
+"""The command tools/package: its arguments, and the steps in which it builds the packages."""
 from __future__ import annotations
 
 import argparse
@@ -68,10 +68,10 @@ def git(*words: str) -> str:
 
 
 def version_of(commit: str, is_changed: bool) -> str:
-    """Returns the version of a package: that of CHANGELOG's top heading, as in `## 1.0
-    (2026-12-01)`. If the heading has no number, or its tag is at another commit, the version is
-    above the last release and has the commit's day. The part after a hyphen gets a tilde, which
-    sorts before the release in Debian's order: 1.0-rc1 is 1.0~rc1.
+    """Returns the version of a package: the number in CHANGELOG's top heading, as in `## 1.0
+    (2026-12-01)`. If the heading has no number, or if the tag of that number is at another commit,
+    the version is the last release with the day and the hash of the commit added. A hyphen
+    becomes a tilde, so that Debian sorts 1.0~rc1 before the release 1.0.
     """
     headings = re.findall(r"^## (.*)$", bytes_of(TOP, "CHANGELOG.md").decode(), re.MULTILINE)
     numbers = [found[0] if (found := NUMBER.match(it)) else "" for it in headings]
@@ -86,8 +86,8 @@ def version_of(commit: str, is_changed: bool) -> str:
 
 
 def kit_of(given: argparse.Namespace) -> str:
-    """Returns the line on what proved the programs: the kit named by --kit, or the installed one.
-    With --unproved the line says that they are unproved.
+    """Returns the line that says which toolchain proved the programs: the one that --kit names, or
+    the installed one. With --unproved the line says that the programs are unproved.
     """
     if given.unproved:
         return UNPROVED
@@ -102,8 +102,8 @@ def kit_of(given: argparse.Namespace) -> str:
 
 
 def programs_named(given: argparse.Namespace) -> dict[str, bytes]:
-    """Returns the bytes of both programs, which are built if no paths are given. A program given by
-    its path must be identical to the one that the gate built.
+    """Returns the bytes of the programs. Builds those whose paths aren't given. A program whose
+    path is given must be identical to the program that was built and proved here.
     """
     paths = dict(zip(PROGRAMS, (given.program, given.observer)))
     found = {
@@ -124,7 +124,7 @@ def programs_named(given: argparse.Namespace) -> dict[str, bytes]:
 
 
 def built_path(name: str) -> str:
-    """Returns the path to which the launcher and the gate write a built program."""
+    """Returns the path, below the repository, to which the launcher writes a built program."""
     return os.path.join("crates", f"{name}_main", "out", f"{name}_main")
 
 
@@ -135,8 +135,7 @@ def built_bytes(name: str) -> bytes:
 
 
 def check_name(name: str, path: str) -> None:
-    """Checks that the program at `path` is the one called `name`, by the usage that it prints
-    without arguments.
+    """Checks that the program at `path` is `name`, by the usage that it prints without arguments.
     """
     try:
         done = subprocess.run(
@@ -179,8 +178,8 @@ def helps_of(folder: str) -> dict[str, tuple[Help, dict[str, Help]]]:
 
 
 def completions(folder: str, helps: dict[str, tuple[Help, dict[str, Help]]]) -> list[Member]:
-    """Returns the completions of both shells. For bash there is one file, and a link to it with the
-    name of each command, since bash looks for a file of that name.
+    """Returns the completions for both shells. bash looks for a file with the name of the command,
+    so there is a single file and a link to it for each other command.
     """
     offered = []
     for name in PROGRAMS:

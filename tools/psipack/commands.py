@@ -1,4 +1,4 @@
-"""The names under which the package installs its commands: the one table of them."""
+"""The table of the tools that the package installs as commands, and of the commands' names."""
 from __future__ import annotations
 
 from dataclasses import dataclass
@@ -15,8 +15,7 @@ class Tool:
     about: str
 
 
-# A tool that is added to `tools` gets a line here. Its manual page and its completions are
-# generated from its --help.
+# All installed tools. Their manual pages and their completions are generated from their --help.
 TOOLS = (
     Tool(
         "record",

@@ -1,11 +1,11 @@
-"""Completions for bash and zsh: of commands, their options and the values of options."""
+"""Generates the completions for bash and zsh: of commands, options and the values of options."""
 from __future__ import annotations
 
 import re
 from dataclasses import dataclass
 
-# Values with these names are files. Others are numbers, paths of groups or texts, which aren't
-# completed.
+# The names of values that are files. Values with other names aren't completed: they are numbers,
+# paths of groups or texts.
 FILES = re.compile(r"FILE|FOLDER|DIR|OUT|TRACE|TEXT")
 
 
@@ -122,8 +122,8 @@ def offered(program: Words) -> dict[str, list[str]]:
 
 
 def valued(program: Words) -> dict[str, str]:
-    """Returns the value of each option, by the words up to that option: FILE, or the possible
-    values.
+    """Returns the completion of each option's value, by the words up to that option: FILE for a
+    file, or the possible values.
     """
     found: dict[str, str] = {}
     for command, options in program.commands.items():

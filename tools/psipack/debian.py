@@ -1,4 +1,4 @@
-"""The parts of a Debian package besides the installed files: its dependencies, its changelog, its
+"""Writes a Debian package: besides the installed files its dependencies, its changelog, its
 licence, and the scripts that run when it is installed or removed.
 """
 from __future__ import annotations
@@ -77,8 +77,8 @@ BEHIND_UNPACKING = f"""\
 #!/bin/sh
 set -e
 {RELOADS}"""
-# When the flight recorder is stopped, it undoes its changes to the kernel, so it is stopped before
-# its files are removed.
+# The services are stopped before their files are removed: when the flight recorder stops, it undoes
+# its changes to the kernel.
 BEFORE_REMOVAL = f"""\
 #!/bin/sh
 set -e
@@ -86,8 +86,8 @@ if [ "$1" = remove ] && [ -z "$DPKG_ROOT" ] && [ -d /run/systemd/system ]; then
     deb-systemd-invoke stop {" ".join(UNITS)} >/dev/null || true
 fi
 """
-# If the service was enabled, systemd has a link that no package owns. Recordings stay: they belong
-# to the machine's owner.
+# If a service was enabled, systemd has a link that no package owns. Recordings aren't removed,
+# since they belong to the machine's owner.
 BEHIND_REMOVAL = f"""\
 #!/bin/sh
 set -e
@@ -108,7 +108,9 @@ OVERRIDES = f"""\
 
 @dataclass(frozen=True)
 class Facts:
-    """The metadata of the package. `seconds` is its time since 1970."""
+    """The metadata of the package: its version, the commit, the least version of the C library, its
+    maintainer, and its time (s since 1970).
+    """
 
     version: str
     commit: str
@@ -121,7 +123,7 @@ class Facts:
         return time.strftime("%a, %d %b %Y %H:%M:%S +0000", time.gmtime(self.seconds))
 
     def year(self) -> int:
-        """Returns the year of that time."""
+        """Returns the year of the package's time."""
         return time.gmtime(self.seconds).tm_year
 
 
@@ -148,7 +150,8 @@ def control_of(members: list[Member], facts: Facts) -> list[Member]:
     sums = [
         f"{hashlib.md5(it.data).hexdigest()}  usr/{it.path}\n" for it in members if not it.target
     ]
-    # In KiB: each file rounded up, plus one for each folder and link (Debian's policy, 5.6.20).
+    # The installed size in KiB: the sum of the rounded-up sizes of files, plus 1 for each folder
+    # and link (Debian Policy, 5.6.20).
     folders = folders_of([f"usr/{member.path}" for member in members])
     size = len(folders) + sum(-(-len(it.data) // 1024) or 1 for it in members)
     said = CONTROL.format(

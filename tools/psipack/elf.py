@@ -1,5 +1,5 @@
-"""The version of the C library that a program requires, from the versions of the symbols that it
-uses.
+"""Finds the version of the C library that a program requires, from the versions of the symbols that
+it uses.
 """
 from __future__ import annotations
 
@@ -16,8 +16,8 @@ PREFIX = "GLIBC_"
 
 
 def least_libc(name: str, data: bytes) -> str:
-    """Returns the lowest version of the C library, such as 2.34, that has all symbols that a
-    program uses.
+    """Returns the lowest version of the C library, such as 2.34, that has all symbols of the
+    program with the bytes `data`. Raises a Fault if they aren't a program for x86-64.
     """
     if not data:
         raise Fault(f"{name} is no program: the file is empty")

@@ -1,5 +1,5 @@
-"""The manual pages of the tools, generated from the --help of each. The programs have pages of
-their own in `docs`.
+"""Generates the manual pages of the tools from their --help. The pages of the programs are written
+by hand, and are in `docs`.
 """
 from __future__ import annotations
 
@@ -25,7 +25,7 @@ which has the forms of traces and rules;
 all documents are in
 .IR /usr/share/doc/psi-oomd .
 """
-# How the blocks of --help begin that have places of their own in a page.
+# The beginnings of those blocks of --help that have sections of their own in a manual page.
 EXAMPLES, READ_ON = "examples:\n", "Read on: "
 FIRST_PAGE = "/usr/share/doc/psi-oomd/docs/README.md"
 STATUS = re.compile(r"(?:The )?status\b")
@@ -69,8 +69,8 @@ def page_of(tool: Tool, about: Help, commands: dict[str, Help], date: str, sourc
 
 
 def without_places(paragraphs: list[str]) -> list[str]:
-    """Returns the paragraphs without the examples and the reference, which have sections of their
-    own in a manual page.
+    """Returns the paragraphs without the examples and the reference to a document, which have
+    sections of their own in a manual page.
     """
     return [it for it in paragraphs if not it.startswith((EXAMPLES, READ_ON))]
 
@@ -83,7 +83,8 @@ def parted(paragraphs: list[str]) -> tuple[list[str], list[str]]:
 
 
 def paragraph(text: str) -> str:
-    """Returns a paragraph in roff. The layout is preserved if a line is indented or aligned."""
+    """Returns a paragraph in roff. Its line breaks are preserved if a line is indented or aligned.
+    """
     lines = text.split("\n")
     if any(line.startswith(" ") or re.search(r"\S {2,}\S", line) for line in lines):
         return ".PP\n.nf\n" + "".join(f"{escaped(line)}\n" for line in lines) + ".fi\n"
@@ -96,8 +97,6 @@ def items_of(items: list[Item]) -> list[str]:
 
 
 def escaped(text: str) -> str:
-    """Escapes a text for roff, so that hyphens aren't replaced and no line is taken for a
-    request.
-    """
+    """Escapes a text for roff, so that roff keeps hyphens and takes no line for a request."""
     text = text.replace("\\", "\\e").replace("-", "\\-")
     return "\\&" + text if text.startswith((".", "'")) else text

@@ -1,5 +1,5 @@
-"""The files of the package: what is installed from the repository, under which path, and with which
-edits.
+"""Collects the files of the package from the repository, with the paths at which they are installed
+and with edits for the installed names.
 """
 from __future__ import annotations
 
@@ -16,29 +16,29 @@ LIBRARY = "lib/psi-oomd"
 DOCUMENTS = "share/doc/psi-oomd"
 PAGES = "share/man/man1"
 PYTHON = b"#!/usr/bin/env python3\n"
-# Debian's own Python, which leaves no compiled files in folders that no package owns.
+# Debian's own Python; -B keeps it from writing compiled files, which no package would own.
 INSTALLED_PYTHON = b"#!/usr/bin/python3 -B\n"
-# Some tools begin with lines of shell, which report a folder as standard input and then start
-# Python.
+# Some tools begin with lines of shell, which report an error if standard input is a folder, and
+# then start Python.
 BY_SHELL = b"#!/bin/sh\n"
 STARTED = re.compile(rb"^exec python3 -B ", re.MULTILINE)
 COMMANDS = {tool.file: tool.command for tool in TOOLS}
 NAMED_TOOL = re.compile(rf"(?<![\w./-])tools/({'|'.join(map(re.escape, COMMANDS))})(?![\w/-]|\.\w)")
-# The beginning of a message, and a tool's name in its usage, in the tools that stand alone. What
-# psitrace prints about a recording is parsed by others, by its name.
+# The names of tools in their messages and usages. The messages of psitrace keep its name, since
+# other tools parse them.
 TOOL_NAME = "|".join(map(re.escape, COMMANDS))
 MESSAGE = re.compile(rf'(\bf")({TOOL_NAME.replace("psitrace|", "")})(?=: )')
 ECHOED = re.compile(rf'(?<=echo ")({TOOL_NAME})(?=: )')
 PROGRAM_NAME = re.compile(rf'(\bprog=")({TOOL_NAME})(?=")')
-# Parts of documents for readers who have the sources.
+# Parts of documents that are only for readers with the sources.
 OF_SOURCES = re.compile(r"<!-- in a checkout -->\n.*?<!-- end -->\n+", re.DOTALL)
 LINK = re.compile(r"(!?)\[([^\]]*)\]\(([^):#]+)(#[^)]*)?\)")
 
 
 @dataclass(frozen=True)
 class Member:
-    """A file, or a symbolic link if `target` is given: its path below the installation folder, its
-    bytes and its mode.
+    """A file, with its path below the installation folder, its bytes and its mode, or a symbolic
+    link to `target` if that isn't empty.
     """
 
     path: str
@@ -48,8 +48,8 @@ class Member:
 
 
 def tracked(top: str, *names: str) -> list[tuple[str, int]]:
-    """Returns the files below these names that git tracks, with their modes: untracked files aren't
-    packed.
+    """Returns the files in these files and folders that git tracks, with their modes. Untracked
+    files aren't packed.
     """
     words = ["git", "-C", top, "ls-files", "-sz", "--", *names]
     listed = subprocess.run(words, check=True, stdout=subprocess.PIPE, encoding="utf-8").stdout
@@ -93,7 +93,9 @@ def with_whole_paths(text: str) -> str:
 
 
 def programs_of(top: str, programs: dict[str, bytes], origin: str) -> list[Member]:
-    """Returns the programs, their launcher, and the text for `--version`."""
+    """Returns the programs with their launchers, and the file `origin` with the text that
+    `--version` prints.
+    """
     members = [Member(f"{LIBRARY}/origin", origin.encode())]
     for name, data in programs.items():
         members.append(Member(f"{LIBRARY}/programs/{name}", data, 0o755))
@@ -112,7 +114,7 @@ def by_installed_python(data: bytes) -> bytes:
 
 
 def tools_of(top: str) -> list[Member]:
-    """Returns the tools with their modules, and their commands."""
+    """Returns the tools with their modules, and the links by which they are commands."""
     members = []
     for path, mode in tracked(top, "tools"):
         if path.split("/")[1] not in OF_CHECKOUTS:
@@ -156,7 +158,7 @@ def without_dead_links(text: str, path: str, paths: set[str]) -> str:
 
 
 def pages_of_programs(top: str, source: str) -> dict[str, bytes]:
-    """Returns the manual pages that `docs` has, by their names; the foot of each has `source`."""
+    """Returns the manual pages in `docs` by their names, with `source` in the foot of each page."""
     found = {}
     for name in PROGRAMS:
         text = (

@@ -11,7 +11,8 @@ from dataclasses import dataclass, field
 
 from psicli.fault import Fault
 
-# Wide, so that few lines are broken, and without colours: the output is the same everywhere.
+# The variables for a tool's --help: a fixed width, so that the output is the same on each machine,
+# and no colours.
 ENVIRONMENT = {
     "COLUMNS": "100",
     "NO_COLOR": "1",
@@ -21,9 +22,9 @@ ENVIRONMENT = {
 }
 SECTION = re.compile(r"(positional arguments|options|optional arguments):")
 ITEM = re.compile(r" {2}(\S.*?)(?: {2,}(\S.*))?")
-# A command; if its name is long, its description begins in the next line.
+# A command and its description. The description of a long name begins in the next line.
 COMMAND = re.compile(r" {4}([a-z][a-z-]*)(?: {2,}(\S.*))?")
-# How an option is written: its name, and the name of its value or the possible values.
+# An option in a usage: its name, and the name of its value or the possible values.
 OPTION = re.compile(r"(--?[a-z][a-z0-9-]*)(?:[ =](\{[^}]*\}|'[^']*'|[A-Z][A-Z0-9_:=.]*))?")
 
 
@@ -37,9 +38,8 @@ class Item:
 
 @dataclass
 class Help:
-    """The parts of --help: the usage without the tool's name, paragraphs on the tool, its arguments
-    and options, its commands with their descriptions, and the paragraphs after these. The layout of
-    an indented paragraph is kept.
+    """The parts of --help: the usage without the tool's name, the paragraphs before the arguments,
+    the arguments and options, the commands with their descriptions, and the paragraphs after these.
     """
 
     usage: str
@@ -85,9 +85,7 @@ def help_in(text: str) -> Help:
 
 
 def usage_without_name(words: str) -> str:
-    """Returns the part of a usage after the name of the tool, and of its command if there is
-    one.
-    """
+    """Returns the part of a usage after the names of the tool and of its command."""
     _, *rest = words.split(" ")
     while rest and re.fullmatch("[a-z][a-z-]*", rest[0]):
         rest.pop(0)
@@ -124,7 +122,7 @@ def options_in(items: list[Item]) -> dict[str, str]:
 
 def commands_in(text: str, program: str) -> dict[str, dict[str, str]]:
     """Returns the commands of a program in the launcher's --help, with the options of each and
-    their values. A program without commands has one with an empty name.
+    their values. A program without commands has a single command with an empty name.
     """
     joined = re.sub(r"\n {10,}(?=\[)", " ", text)
     found: dict[str, dict[str, str]] = {}

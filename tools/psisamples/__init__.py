@@ -1,3 +1,3 @@
-"""Makes a trace from sampled totals: scheduler events that give the pressure that a machine
-reported.
+"""Makes a trace from samples of pressure: artificial scheduler events that cause the pressure that
+the machine reported.
 """

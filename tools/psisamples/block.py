@@ -1,12 +1,12 @@
-"""A block: a stretch of time on one processor in which tasks of one group produce six wanted times.
+"""A block is a period on a processor in which tasks of a group cause six wanted stall times.
 
-The times (ns) are in the order of LEVELS. A block needs at most four tasks, by their kinds: `w`
-waits for IO, `s` sleeps in a memory stall, `o` is ready, and `r` runs. A block has three parts. In
-the first no task is ready. In the second `o` is ready and no task runs. In the third `r` runs, to
-the end of the block, so that the block has a whole number of ms of weight.
+The times (ns) are in the order of LEVELS. A block needs at most four tasks, which are called by
+their kinds: `w` waits for IO, `s` sleeps in a memory stall, `o` is ready, and `r` runs. A block has
+three parts. In the first no task is ready. In the second `o` is ready and no task runs. In the
+third `r` runs until the end of the block, so that the weight of the block is a whole number of ms.
 
-A task's state is one letter: `w` waits for IO, `s` sleeps in a stall, `r` and `R` are ready, `x`
-and `X` run; those in capitals are in a stall. `z` sleeps.
+A letter is the state of a task: `w` waits for IO, `s` sleeps in a memory stall, `r` and `R` are
+ready, `x` and `X` run, and `z` sleeps. A task in a state `R` or `X` is in a memory stall, too.
 """
 from __future__ import annotations
 
@@ -61,8 +61,8 @@ def least_length(times: Times) -> int:
 
 
 def easy_length(times: Times) -> int:
-    """Returns the length (ns) of a block in which tasks sleep during all of memory full, which
-    needs fewer turns. If a tick hasn't that much room, returns the shortest length.
+    """Returns the length (ns) of a block in which tasks sleep during the whole time of memory full,
+    which needs fewer context switches. Returns the shortest length if a tick has less room.
     """
     io_some, io_full, mem_some, mem_full, cpu_some, _ = times
     busy = max(cpu_some, io_some - io_full, mem_some - mem_full)
@@ -76,8 +76,8 @@ def spans_of(times: Times, length: int) -> list[Span]:
     busy = max(cpu_some, io_some - io_full, mem_some - mem_full)
     idle = max(io_full, min(mem_full, length - busy))
     asleep = min(mem_full, idle)
-    # From `idle` to `stalled` the task on the processor is itself in the stall; then `s` is in the
-    # stall until `lacking`.
+    # From `idle` to `stalled` the running or ready task is itself in a memory stall. After that `s`
+    # is in a memory stall until `lacking`.
     stalled = idle + mem_full - asleep
     lacking = stalled + mem_some - mem_full
     found = [

@@ -120,7 +120,8 @@ def span_of(given: argparse.Namespace, data: Data) -> tuple[int, int]:
 
 
 def must_see(triggers: list[Trigger], data: Data) -> None:
-    """Rejects a trigger whose window is too short for the samples, or whose group has none."""
+    """Rejects a trigger whose window is too short for the samples, or whose group has no samples.
+    """
     for it in triggers:
         window = int(it.fields.split()[-1]) * 1000
         if window < 2 * data.every:
@@ -145,7 +146,7 @@ class Progress:
 
 
 def report(data: Data, made: Made, span: int) -> list[str]:
-    """Returns the lines of the report on the traces."""
+    """Returns the lines of the report on the traces, which cover `span` ns."""
     longest = f", the longest {seconds(data.gap)} s" if data.gap > data.every else ""
     several = f", in {len(made.names)} traces that overlap by 15 min" if len(made.names) > 1 else ""
     lines = [

@@ -1,4 +1,6 @@
-"""Converts rows of samples to a trace, tick by tick: each group gets the growth of its totals."""
+"""Converts rows of samples to a trace, tick by tick. The tasks of each tick cause stalls by which
+the totals of each group grow as in the samples.
+"""
 from __future__ import annotations
 
 from collections import deque
@@ -16,20 +18,22 @@ from .writer import Event, Key, Processor, Task
 
 US = 1000
 TIME = itemgetter(0)
-# The first number of artificial tasks, beyond those of kernels.
+# The first number of artificial tasks, which is greater than any pid of a kernel.
 FIRST_NUMBER = 4_000_000_000
-# A group with less growth than this (ns) waits for its next sample, unless a group below it is
-# active: averages are computed from whole percents only.
+# If a group's totals grow by less than this in a tick (ns), the growth is added at the next sample,
+# unless a descendant is active. Averages hardly depend on smaller growth, since they are computed
+# from whole percents of a tick.
 LEAST = TICK // 100
-# A difference from the target below this (ns) is ignored, so that the ticks between two samples are
-# equal.
+# A difference from the wanted total below this (ns) is ignored, so that the ticks between two
+# samples have the same events.
 SMALL = 500
-# How near (us) totals are to the samples without being reported as off.
+# A total that differs from the sample by at most this (us) isn't reported as off.
 NEAR = 2
-# A change of a size by less than a twentieth waits for the next sample.
+# Between samples, a memory sample is written only if the size changed by more than a twentieth.
 PARTS = 20
 NEVER = 2**62
-# The marker, among lines about groups, of the place at which a group's tasks are created.
+# A pseudo line `tasks NUMBER` among the lines about groups, in whose place the tasks of the group
+# are created.
 TASKS = "tasks"
 
 
@@ -48,20 +52,22 @@ class Trigger(NamedTuple):
 
 
 class Options(NamedTuple):
-    """Options: triggers, the lead-in (ticks), and whether totals grow as avg10 says."""
+    """The options of a conversion: triggers, the length of the lead-in (ticks), and whether avg10
+    determines how totals grow between samples.
+    """
 
     triggers: tuple[Trigger, ...] = ()
     lead: int = 0
     is_shaped: bool = False
 
     def later(self) -> Options:
-        """Returns the options for a part that isn't the first one: they have no lead-in."""
+        """Returns the options for the parts after the first one, which have no lead-in."""
         return self._replace(lead=0)
 
 
 class Conversion:
-    """A trace that is made tick by tick. `checks` gets the lines of the totals that a replay
-    must print at each tick, according to the samples.
+    """Makes a trace tick by tick. `checks` collects the totals that a replay must print at each
+    tick according to the samples, as lines `TIME PATH LEVEL TOTAL` (ns, us).
     """
 
     def __init__(self, lives: Lives, options: Options) -> None:
@@ -89,13 +95,15 @@ class Conversion:
         self.new: set[int] = set()
         self.ended: set[int] = set()
         self.seen: set[str] = set()
-        # The groups that have a sample in the current tick, each with the number of the resource.
+        # The groups that have a sample in the current tick, each with the number of a resource.
         self.sampled: list[tuple[Life, int]] = []
 
     # ---------------------------------------------------------------- groups
 
     def change_groups(self) -> list[str]:
-        """Removes and creates groups after the previous tick; returns the lines without times."""
+        """Removes and creates groups after the previous tick. Returns the lines for the trace,
+        without times.
+        """
         self.lives.read_until((self.tick + 1) * TICK)
         ends = [it for it in self.order if it.gone is not None and it.gone <= self.tick]
         begins = [it for it in self.lives.born if it.tick <= self.tick]
@@ -112,7 +120,9 @@ class Conversion:
         return lines
 
     def remove(self, ends: list[Life], lines: list[str]) -> list[Life]:
-        """Removes groups and their descendants; returns new lives for those that continue."""
+        """Removes groups and their descendants. Returns the new groups that continue those
+        descendants that have further samples.
+        """
         gone = {it.path for it in ends}
         again: list[Life] = []
         for life in sorted(self.order, key=lambda it: -it.path.count("/")):
@@ -128,7 +138,7 @@ class Conversion:
         return again
 
     def has_below(self, path: str) -> bool:
-        """Whether the group at `path` has a live descendant, or is the root."""
+        """Returns whether the group at `path` has a live descendant, or is the root."""
         return path == ROOT or any(it.startswith(path + "/") for it in self.live)
 
     def leave(self, life: Life, lines: list[str]) -> None:
@@ -150,7 +160,7 @@ class Conversion:
         known = self.live.get(life.path)
         self.live[life.path] = life
         if known is not None:
-            # A group that had no samples gets some now.
+            # The group was created for a descendant, and has samples from now on.
             life.number = known.number
         else:
             life.number = next(self.groups)
@@ -167,7 +177,8 @@ class Conversion:
         life.start()
 
     def arrange(self) -> None:
-        """Sorts the groups from the deepest up, and computes the chains of their ancestors."""
+        """Updates the order of the groups, from the deepest up, and the chains of their ancestors.
+        """
         self.order = sorted(self.live.values(), key=lambda it: (it.path == ROOT, -it.path.count("/"), it.path))
         chains = {}
         for life in self.order:
@@ -179,8 +190,8 @@ class Conversion:
     # ---------------------------------------------------------------- a tick
 
     def step(self) -> None:
-        """Converts the next tick. Groups are created and removed 1 ns after the previous tick,
-        which therefore counts what they had until then.
+        """Converts the next tick. Groups are created and removed 1 ns after the previous tick
+        ends, so that the previous tick still counts the stalls of removed groups.
         """
         changes = self.change_groups()
         start = self.tick * TICK
@@ -207,7 +218,7 @@ class Conversion:
         self.file.write(out)
 
     def put_changes(self, lines: list[str], time: int) -> None:
-        """Writes the lines about groups, and marks the places at which tasks are created."""
+        """Writes the lines about groups, and marks the places at which their tasks are created."""
         for line in lines:
             verb, _, number = line.partition(" ")
             if verb == TASKS:
@@ -216,8 +227,8 @@ class Conversion:
                 self.file.write([f"{time} {line}\n"])
 
     def events_of(self, start: int) -> list[Event]:
-        """Returns the events of the tick. They are those of the previous tick if all groups want
-        the same shares again.
+        """Returns the events of the tick that begins at `start` (ns). If all groups want the same
+        shares as in the previous tick, these are its events again.
         """
         wanted = self.wants(start)
         if wanted == self.wanted and self.plan is not None:
@@ -233,7 +244,7 @@ class Conversion:
         return self.lines
 
     def planned(self, wanted: list[tuple[int, tuple[int, ...]]]) -> Plan:
-        """Plans the blocks that give groups these shares."""
+        """Returns the plan of a tick with blocks that give the groups these shares (ns)."""
         plan = Plan(self.tree, self.before, self.new if self.tick else set())
         for number, times in wanted:
             plan.give(number, times)
@@ -253,7 +264,9 @@ class Conversion:
         return events
 
     def task_of(self, key: Key) -> Task:
-        """Returns a sleeping task for a group and kind: one that was put back, or a new one."""
+        """Returns a sleeping task of a group and kind: one that another processor no longer uses,
+        or a new one.
+        """
         free = self.free.get(key)
         if free:
             return free.pop()
@@ -263,15 +276,15 @@ class Conversion:
         return task
 
     def put_back(self, key: Key, task: Task) -> None:
-        """Stores a task that isn't used now, for later use."""
+        """Stores a task that no processor uses, for later use."""
         self.free.setdefault(key, []).append(task)
 
     # ---------------------------------------------------------------- what groups want
 
     def wants(self, start: int) -> list[tuple[int, tuple[int, ...]]]:
-        """Returns the shares (ns) that each group is to have in the tick that begins at `start`
-        (ns), from the deepest group up. A group without a share is left out, unless a descendant
-        has one.
+        """Returns the wanted shares (ns) of each group in the tick that begins at `start` (ns),
+        from the deepest group up. A group without any share is left out, unless a descendant has
+        one.
         """
         end, active, found = start + TICK, set[int](), []
         chains = self.tree.chains
@@ -286,7 +299,7 @@ class Conversion:
         return found
 
     def wanted_of(self, life: Life, start: int, end: int, is_active: bool) -> tuple[int, ...]:
-        """Returns the shares (ns) that one group is to have in a tick."""
+        """Returns the wanted shares (ns) of a group in the tick from `start` to `end` (ns)."""
         if not life.is_sampled:
             return NONE
         if self.tick < self.lead:
@@ -320,7 +333,9 @@ class Conversion:
     # ---------------------------------------------------------------- memory
 
     def put_memory(self, time: int, out: list[str]) -> None:
-        """Writes memory samples: at each reading, and in between if a size changed much."""
+        """Writes memory samples: one for each reading, and further ones between two readings if a
+        size changes by more than a twentieth.
+        """
         host = self.lives.host
         at = self.tick * TICK
         is_first = self.tick == 0
@@ -334,7 +349,9 @@ class Conversion:
                 self.put_sample(life, at, time, out)
 
     def put_sample(self, life: Life, at: int, time: int, out: list[str]) -> None:
-        """Writes the memory sample of one group, if it is due."""
+        """Writes the memory sample of a group, unless it is equal to the last one or, between two
+        readings, hardly differs from it.
+        """
         found, is_reading = between_samples(life.memory, at)
         last = self.written.get(life.path)
         is_same = last is not None and (found.current, found.swap, found.scans) == (last.current, last.swap, last.scans)
@@ -347,7 +364,9 @@ class Conversion:
     # ---------------------------------------------------------------- comparing
 
     def compare(self) -> None:
-        """Stores the totals that a replay must print at this tick; counts those that are off."""
+        """Stores the totals that a replay must print at this tick, and counts those totals of the
+        trace that are off.
+        """
         at = self.tick * TICK
         for life, number in self.sampled:
             for level in (2 * number, 2 * number + 1):
@@ -363,8 +382,9 @@ class Conversion:
 
 
 def next_due(samples: deque[Memory], last: Memory) -> int:
-    """Returns the time (ns) until which no memory sample is due after the last one: that of the
-    next sample, if the sizes hardly change up to it and no page is scanned.
+    """Returns the time (ns) until which no memory sample is due after the sample `last`: the time
+    of the next sample if the size hardly changes until then and no page is scanned, and otherwise
+    0.
     """
     if len(samples) < 2:
         return NEVER
@@ -373,8 +393,8 @@ def next_due(samples: deque[Memory], last: Memory) -> int:
 
 
 def bounded(growth: int, owed: int) -> int:
-    """Returns the share (ns) of a level in a tick: its growth, corrected by `owed` (ns), which
-    is negative if earlier ticks had too much. At most half of the growth is taken back, since
+    """Returns the share (ns) of a level in a tick: its growth, corrected by `owed` (ns), which is
+    negative if the total of the trace is too high. At most half of the growth is taken back, since
     otherwise a group above would need more and more weight.
     """
     if -SMALL < owed < SMALL:
@@ -392,7 +412,9 @@ def prefixes(path: str) -> list[str]:
 
 
 def goes_on(life: Life, tick: int) -> Life:
-    """Returns a new life that continues another, because a group above it was created again."""
+    """Returns a new group that continues `life` from `tick` on, because an ancestor was created
+    again.
+    """
     again = Life(life.path, tick, life.is_sampled)
     again.knots, again.memory, again.last, again.shift, again.gone = life.knots, life.memory, life.last, life.shift, life.gone
     return again

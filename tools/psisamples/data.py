@@ -41,7 +41,7 @@ class Data:
         return self.only(self.inputs.store.since(time))
 
     def only(self, rows: Iterator[Plain]) -> Iterator[Plain]:
-        """Yields the rows, with the root's from one source only."""
+        """Yields the rows, with samples of the root from a single source."""
         for row in rows:
             if row[1] != SECOND_ROOT:
                 yield row
@@ -80,7 +80,7 @@ def counted(inputs: Inputs) -> Data:
 
 
 def interval_of(gaps: Counter[int]) -> int:
-    """Returns the median of the intervals."""
+    """Returns the median of the intervals, in units of GRAIN; 0 if there are none."""
     place, total = sum(gaps.values()) // 2, 0
     for gap in sorted(gaps):
         total += gaps[gap]

@@ -21,15 +21,15 @@ from .texts import read_csv, read_json_lines, read_loop
 
 BEGINNING = 4096
 SAMPLES = "samples"
-# The interval of samples (ns) from which avg10 describes the growth of a total better than a
-# straight line. For shorter intervals it covers too much of the time before.
+# The least interval of samples (ns) for which avg10 describes the growth of a total better than a
+# straight line. For a shorter interval avg10 depends too much on the time before.
 LONG = 14 * SECOND
 PRESSURE = "pressure"
 
 
 def other_kind(name: str, beginning: str) -> str:
-    """Says what a file is instead of samples; it may be compressed by gzip. Empty if that isn't
-    known. JSON may have samples, except for a rules file.
+    """Returns the part of a message that says what a file is instead of samples. Empty if that
+    isn't known. JSON may be samples, unless it is a rules file.
     """
     kind = kind_of(beginning.encode("utf-8", "surrogateescape"))
     if kind and kind.what == JSON:
@@ -47,8 +47,9 @@ def open_text(name: str) -> TextIO:
 
 
 class Naming(NamedTuple):
-    """The names of groups: paths that replace others and their descendants; the most components
-    of a path; and the labels whose values form the path of a series without a label `id`.
+    """How groups are named: the paths that replace a group's path and those of its descendants, the
+    largest number of components of a path, and the labels whose values form the path of a series
+    without a label `id`.
     """
 
     renamed: dict[str, str]
@@ -56,7 +57,7 @@ class Naming(NamedTuple):
     labels: tuple[str, ...]
 
     def path_of(self, name: str) -> str | None:
-        """Returns a group's path, None if it is too deep."""
+        """Returns a group's path, or None if it has too many components."""
         for old in sorted(self.renamed, key=len, reverse=True) if self.renamed else ():
             if name == old or name.startswith(old.rstrip("/") + "/"):
                 name = self.renamed[old].rstrip("/") + name[len(old.rstrip("/")) :]
@@ -71,7 +72,8 @@ class Inputs:
     """Reads the samples of files. Error messages name a file and a line."""
 
     def __init__(self, naming: Naming, averages: bool | None) -> None:
-        # Whether averages are stored. None means: once intervals turn out to be long.
+        # Whether averages are stored. None means that this depends on the interval of samples,
+        # which isn't known yet.
         self.naming, self.averages = naming, averages
         self.store = Store()
         self.files: list[str] = []
@@ -85,12 +87,12 @@ class Inputs:
         return Place(self.files[where[0]], where[1])
 
     def here(self) -> Place:
-        """Returns the file and line that is being read."""
+        """Returns the file and line that are being read."""
         return Place(self.files[-1], self.line)
 
     def refused(self, beginning: str, why: str) -> Fault:
-        """Returns the error for the current line. At the first line it says what the file is
-        instead of samples, if that is known.
+        """Returns the error for the current line. For the first line the message says what the file
+        is instead of samples, if that is known.
         """
         other = other_kind(self.files[-1], beginning) if self.line == 1 else ""
         return Fault(f"{self.files[-1]}: {other}" if other else f"{self.here()}: {why}")

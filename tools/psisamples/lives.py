@@ -1,8 +1,7 @@
-"""Derives the lives of groups from their readings: when each group existed, and its totals at any
-time.
+"""Derives from the readings of groups when each group existed, and its totals at any time.
 
-Between two readings a total grows linearly. A group without a reading in three rounds of other
-groups' readings is gone, and one whose totals fall was removed and created again.
+Between two readings a total grows linearly. A group was removed if it has no reading in three
+rounds in which other groups have readings. A group whose totals fall was removed and created again.
 """
 from __future__ import annotations
 
@@ -19,17 +18,17 @@ from .shape import knots_between
 from .store import Plain
 
 US = 1000
-# The most consecutive rounds without a reading of a group that still exists.
+# A group that still exists may miss at most this number of consecutive rounds.
 MOST_MISSED = 2
-# The greatest growth of a total relative to time, and the growth (ns) that is always possible: the
-# files of a round aren't read at once.
+# A total may grow between two readings by FASTEST times the time between them, plus SLACK (ns),
+# since the files of a round aren't read at exactly the same time.
 FASTEST, SLACK = 1.5, 2 * 10**9
-# The number of rounds whose times are stored before old ones are dropped.
+# The largest number of rounds whose times are stored.
 MOST_ROUNDS = 4096
 
 
 # A time (ns since the trace's start), the totals (ns) of some and full of a resource at that time,
-# and 1 if it is a sample.
+# and 1 if this is a sample or 0 if it is computed.
 Knot = tuple[int, int, int, int]
 
 
@@ -64,8 +63,8 @@ class Reading:
         self.values: dict[int, int] = {}
 
     def totals(self) -> dict[int, tuple[int, int]]:
-        """Returns the totals (ns) of some and full, by resource. A resource without some is left
-        out; a missing full is 0.
+        """Returns the totals (ns) of some and full by the number of the resource. A resource
+        without a total of some is left out; a missing total of full is 0.
         """
         get = self.values.get
         return {
@@ -75,8 +74,8 @@ class Reading:
         }
 
     def shares(self, number: int) -> Optional[tuple[float, float]]:
-        """Returns avg10 of some and full of a resource (percent), None if averages don't shape
-        totals.
+        """Returns avg10 of some and full (percent) of the resource `number`. None if there are
+        none, or if totals grow linearly between samples.
         """
         place = AVERAGES + 6 * number
         if not self.is_shaped or place not in self.values:
@@ -85,8 +84,9 @@ class Reading:
 
 
 class Life:
-    """A group from its creation to its removal. It is created after the tick `tick`, and removed
-    after the tick `gone`. `base` has the totals (ns) at its start, which are 0 in the trace.
+    """A group from its creation, after the tick `tick`, to its removal, after the tick `gone`.
+    `base` has the totals (ns) in the samples at the group's creation, when its totals in the trace
+    are 0.
     """
 
     def __init__(self, path: str, tick: int, is_sampled: bool) -> None:
@@ -95,26 +95,26 @@ class Life:
         self.gone: Optional[int] = None
         self.last = -1
         self.knots: list[deque[Knot]] = [deque() for _ in RESOURCES]
-        # The totals at the start; the wanted totals at the last tick; and the totals that the trace
-        # has (all ns, by level).
+        # By level, in ns: the totals at the creation; the totals that the trace should have at the
+        # last tick, according to the samples; and the totals that it has.
         self.base, self.target, self.achieved = [0] * 6, [0] * 6, [0] * 6
         self.memory: deque[Memory] = deque()
         # No memory sample is written before this time (ns).
         self.memory_due = 0
-        # The totals that a root had before they were reset; whether the group was created between
+        # The totals (ns) of the root before they were reset; whether the group was created between
         # two rounds; and the time (ns) until which no total grows.
         self.shift = [0] * 6
         self.is_new = False
         self.quiet_until = -1
         # The averages of the first reading (hundredths of a percent), three for each level.
         self.averages: list[int] = []
-        # avg10 of some and full (percent) at the last reading, by resource, if totals grow as they
-        # say.
+        # avg10 of some and full (percent) at the last reading, by resource. Empty if totals grow
+        # linearly between samples.
         self.shares: dict[int, tuple[float, float]] = {}
 
     def add(self, reading: Reading) -> None:
-        """Adds a reading. A resource that occurs for the first time begins with the reading's
-        totals, or at 0 in a new group.
+        """Adds a reading. If a resource occurs for the first time, its totals begin with those of
+        the reading, or at 0 if the group is new.
         """
         totals = reading.totals()
         for number, (some, full) in totals.items():
@@ -145,13 +145,13 @@ class Life:
             self.last = reading.time
 
     def start(self) -> None:
-        """Sets the totals at the start of this life."""
+        """Sets `base` to the totals at the group's creation."""
         for number, knots in enumerate(self.knots):
             if knots:
                 self.base[2 * number : 2 * number + 2] = self.totals_at(number, self.tick * TICK)
 
     def totals_at(self, number: int, time: int) -> tuple[int, int]:
-        """Returns the absolute totals (ns) of a resource at a time (ns)."""
+        """Returns the totals (ns) of a resource at a time (ns), as in the samples."""
         knots = self.knots[number]
         last = knots[0]
         for knot in knots:
@@ -161,8 +161,8 @@ class Life:
         return last[1], last[2]
 
     def grown(self, number: int, one: Knot, other: Knot, start: int, end: int) -> tuple[int, int]:
-        """Returns the growth (ns) of a resource's totals in the tick from `start` to `end`, and
-        updates `target`. `one` and `other` are the first two knots that matter for the tick.
+        """Returns the growth (ns) of a resource's totals in the tick from `start` to `end` (ns),
+        and updates `target`. `one` and `other` are the last knot up to `start` and the next one.
         """
         target, base, level = self.target, self.base, 2 * number
         if one[0] <= start and end <= other[0]:
@@ -179,17 +179,21 @@ class Life:
         return target[level] - before[0], target[level + 1] - before[1]
 
     def is_known_until(self, time: int) -> bool:
-        """Whether there is a reading at `time` (ns) or later."""
+        """Returns whether there is a reading at `time` (ns) or later."""
         return self.last >= time
 
 
 def limit_text(elapsed: int) -> str:
-    """Says for how long a total could grow, and which unit may be wrong if it grew by more."""
+    """Returns the end of a message: for how long (ns) a total could grow, and which unit may be
+    wrong if it grew by more.
+    """
     return f"{elapsed // US} us: totals are us, or seconds in metrics"
 
 
 class Lives:
-    """All lives of groups, from rows in order of time."""
+    """The groups of all samples, from rows in order of time. `tails` has the last group with each
+    path, and `born` the groups that aren't in the trace yet. Times are in ns since `origin`.
+    """
 
     def __init__(
         self, rows: Iterator[Plain], origin: int, every: int,
@@ -220,7 +224,7 @@ class Lives:
         return found
 
     def put(self, reading: Reading, field: int, value: int, place: tuple[int, int]) -> None:
-        """Sets a value of a reading. Raises a Fault if the value is there already and differs."""
+        """Sets a value of a reading. Raises a Fault if the reading already has another value."""
         if reading.values.setdefault(field, value) != value:
             raise Fault(
                 f"{self.places(place)}: {reading.path} has another value at the same time at"
@@ -228,8 +232,8 @@ class Lives:
             )
 
     def read_until(self, time: int) -> None:
-        """Reads all readings up to `time` (ns), and as many after it as are needed to know which
-        groups are gone.
+        """Reads all readings up to `time` (ns), and then further until it is known which groups
+        were removed by that time.
         """
         while self.row is not None and (self.time < time + self.every or self.is_open(time)):
             self.read_round()
@@ -245,7 +249,7 @@ class Lives:
                 self.end(life)
 
     def read_round(self) -> None:
-        """Reads on for half of a round."""
+        """Reads the readings of the next half interval."""
         end = self.row[0] - self.origin + self.every // 2 if self.row else 0
         while self.row is not None and self.row[0] - self.origin <= end:
             reading = self.reading()
@@ -260,8 +264,8 @@ class Lives:
             del self.rounds[1 : bisect.bisect_left(self.rounds, oldest) - 1]
 
     def is_open(self, time: int) -> bool:
-        """Whether for some group without a reading at `time` (ns) or later it isn't known yet
-        whether it is gone.
+        """Returns whether there is a group without a reading at `time` (ns) or later that may still
+        have one: it isn't known yet whether that group was removed.
         """
         return any(
             not life.is_known_until(time)
@@ -272,14 +276,14 @@ class Lives:
         )
 
     def is_absent(self, life: Life, time: int) -> bool:
-        """Whether more rounds than may be missed lie between the life's last reading and `time`
-        (ns).
+        """Returns whether more than MOST_MISSED rounds lie between the group's last reading and
+        `time` (ns).
         """
         first = bisect.bisect_right(self.rounds, life.last + self.every // 2)
         return bisect.bisect_left(self.rounds, time - self.every // 2) - first > MOST_MISSED
 
     def take(self, reading: Reading) -> None:
-        """Adds a reading to the life that it continues, or begins a life with it."""
+        """Adds a reading to the existing group of its path, or begins a new group with it."""
         if HOST in reading.values:
             self.host.append(
                 (reading.time, tuple(reading.values.get(HOST + it, 0) for it in range(3)))
@@ -312,9 +316,9 @@ class Lives:
         life.add(reading)
 
     def has_fallen(self, life: Life, reading: Reading) -> bool:
-        """Whether the group was created again since the life's last reading, so that a total has
-        fallen. Raises a Fault if another total is too great to have begun at 0 since then, or if
-        a total grows faster than time.
+        """Returns whether a total has fallen since the group's last reading, because the group was
+        created again. Raises a Fault if another total is too great to have begun at 0 since then,
+        or if a total grows faster than time.
         """
         has_fallen = False
         slower: tuple[int, int] | None = None
@@ -344,11 +348,13 @@ class Lives:
         return has_fallen
 
     def named(self, reading: Reading, level: int) -> str:
-        """Names a total of a reading, with its file and line."""
+        """Returns the name of a total for a message, with the file and line of its reading."""
         return f"{self.places(reading.place)}: {reading.path} {' '.join(LEVELS[level])}"
 
     def begin(self, reading: Reading, before: Optional[Life]) -> Life:
-        """Returns a new life that begins with this reading."""
+        """Returns a new group that begins with this reading. `before` is the earlier group of the
+        path, or None.
+        """
         tick = max(0, -(-(reading.time - self.every) // TICK))
         if before is not None and before.gone is not None:
             tick = max(tick, before.gone)
@@ -364,12 +370,12 @@ class Lives:
         return life
 
     def has_begun(self) -> bool:
-        """Whether a whole round of readings had ended before this one."""
+        """Returns whether the first round of readings has ended."""
         return bool(self.rounds) and self.rounds[-1] - self.rounds[0] > self.every // 2
 
     def end(self, life: Life) -> None:
-        """Ends a life after the first tick that isn't before its last reading. A life that ended
-        before the trace begins is dropped.
+        """Marks a group as removed at the first tick at or after its last reading. A group that was
+        removed before the trace begins is dropped.
         """
         life.gone = max(life.tick + 1, -(-life.last // TICK))
         if life.last <= 0 and life in self.born:
@@ -377,8 +383,8 @@ class Lives:
 
 
 def between_samples(samples: deque[Memory], time: int) -> tuple[Memory, bool]:
-    """Returns the memory at `time` (ns), interpolated between two samples, and whether a new
-    sample was reached since the last call.
+    """Returns the memory at `time` (ns), interpolated between two samples, and whether `time` has
+    passed another sample since the last call. Samples that are no longer needed are removed.
     """
     is_new = False
     while len(samples) > 1 and samples[1].time <= time:

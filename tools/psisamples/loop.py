@@ -1,8 +1,8 @@
-"""The command tools/sample: reads pressure and memory of all groups, again and again, into a file
-that tools/samples reads.
+"""The command tools/sample: samples the pressure and the memory of all groups at a fixed interval,
+into a file that tools/samples reads.
 
-It needs no root: the files are readable by all. It needs no other module of the tools, so that this
-one file can be copied to a machine.
+The sampler needs no root, since all users can read the files. It imports no other module of the
+tools, so that this file alone can be copied to a machine.
 """
 from __future__ import annotations
 
@@ -67,8 +67,8 @@ def text_of(path: str) -> str:
 
 
 def spelled(path: str) -> str:
-    """Returns a group's path as in traces: a byte that traces don't allow becomes \\xHH, as
-    systemd writes it.
+    """Returns a group's path as traces have it: a byte that can't occur in a path of a trace
+    becomes \\xHH, as in systemd's names of units.
     """
     parts = [it for it in os.fsencode(path).split(b"/") if it]
     return "/" + "/".join(
@@ -128,7 +128,9 @@ class Machine:
             self.groups = f"{self.groups}/unified"
 
     def round(self, now: float) -> str:
-        """Returns all lines of a round. `now` is its time (s since 1970)."""
+        """Samples all groups and the machine, and returns the lines. `now` is the time (s since
+        1970).
+        """
         head = f"{now:.3f}"
         lines = [
             pressure_line(f"{head},/", it, text_of(f"{self.proc}/pressure/{it}"))
@@ -162,7 +164,7 @@ class Machine:
 
 
 class Output:
-    """The file that is written, with older files next to it, or standard output."""
+    """The output file, with older files next to it, or standard output if there is no name."""
 
     def __init__(self, name: str | None, most: int, older: int) -> None:
         self.name, self.most, self.older = name, most, older
@@ -171,7 +173,7 @@ class Output:
             self.put(HEAD)
 
     def put(self, text: str) -> None:
-        """Writes the lines of a round. A file that would become too long is begun anew."""
+        """Writes the lines of a round. If the file would become too long, it is rotated first."""
         data = text.encode()
         if self.name is None:
             sys.stdout.buffer.write(data)
@@ -185,7 +187,7 @@ class Output:
         self.size += len(data)
 
     def rotate(self, name: str) -> None:
-        """Makes the file the newest of the older files, and removes the oldest."""
+        """Compresses the file as the newest of the older files, and removes the oldest."""
         for number in range(self.older, 0, -1):
             before = f"{name}.{number - 1}.gz" if number > 1 else f"{name}.part"
             if number == 1 and self.older:
@@ -240,7 +242,7 @@ def stop(_number: int, _frame: FrameType | None) -> None:
 
 
 def run(given: argparse.Namespace) -> int:
-    """Writes rounds until the end, and returns the exit status."""
+    """Writes a round at each interval until a signal or the end, and returns the exit status."""
     machine = Machine(given.root)
     if not machine.round(0.0).count(",/,io,"):
         print(

@@ -13,7 +13,8 @@ from typing import NamedTuple, Optional, Protocol, TextIO
 from .block import LEVELS, MS
 from .rows import HOST, MEMORY, ROOT, SWAP, Put, ns_of, us_of, whole
 
-# The root by cAdvisor. Its series count only if node_exporter has none of the root.
+# The name of the root's samples from cAdvisor, which are used only if there are no samples of the
+# root from node_exporter.
 SECOND_ROOT = "/\0"
 PIECE = 1 << 16
 KINDS = {"some": "waiting", "full": "stalled"}
@@ -29,22 +30,22 @@ SIZES = {
 LABEL = re.compile(r'\s*([a-zA-Z_][a-zA-Z0-9_]*)\s*=\s*"((?:[^"\\]|\\.)*)"\s*,?')
 LINE = re.compile(r"([a-zA-Z_:][a-zA-Z0-9_:]*)?\s*(?:\{(.*)\})?\s+(\S+)\s+([0-9.eE+-]+)(?:\s+#.*)?")
 POINT = re.compile(r'\s*,?\s*\[\s*([0-9.eE+]+)\s*,\s*"([^"]*)"\s*\]')
-# A stale marker of a dump: the series has no value from here on.
+# The value of a stale marker in a dump: the series ends here.
 STALE = "NaN"
 # Timestamps with this number of digits are in ms.
 MILLISECONDS = re.compile("[0-9]{12,14}")
 
 
 class Column(NamedTuple):
-    """The group and the field that a series belongs to. Totals are in seconds."""
+    """The group and the field of the values of a series. Totals are in seconds."""
 
     group: str
     field: int
 
 
 class Metrics:
-    """Finds the series that are samples. Each field of a group has one series, since two are of
-    different machines.
+    """Finds the series that are samples. There must be a single series for each field of a group:
+    a second one comes from another machine.
     """
 
     def __init__(self, labels: tuple[str, ...]) -> None:
@@ -53,7 +54,7 @@ class Metrics:
         self.unknown: Counter[str] = Counter()
 
     def column(self, name: str, labels: dict[str, str]) -> Optional[Column]:
-        """Returns the column of a series, None if the series isn't read."""
+        """Returns the column of a series, or None if the series isn't a sample."""
         field = PRESSURE.get(name, SIZES.get(name))
         if field is None:
             if len(self.unknown) < 1000:
@@ -79,8 +80,8 @@ class Metrics:
         return found
 
     def group_of(self, name: str, labels: dict[str, str]) -> Optional[str]:
-        """Returns the group of a series, by cAdvisor's label `id`, or by the labels that
-        --labels names.
+        """Returns the group of a series, from cAdvisor's label `id` or from the labels that
+        --labels names. None if the series has no group.
         """
         if name.startswith("node_"):
             return ROOT
@@ -93,7 +94,7 @@ class Metrics:
         return labels["id"]
 
     def others(self) -> str:
-        """Names other metrics in the input, for a message."""
+        """Returns the end of a message, which names other metrics in the input."""
         names = ", ".join(name for name, _ in self.unknown.most_common(3))
         return (
             f": it has {names}, and container_pressure_.. or node_pressure_.. are needed"
@@ -103,7 +104,7 @@ class Metrics:
 
 
 def put_value(put: Put, column: Column, time: int, text: str, line: int) -> None:
-    """Stores a value of a series. NaN, which ends the series, is no sample."""
+    """Stores a value of a series at a time (ns). NaN isn't stored: it marks the end of a series."""
     if text == STALE:
         return
     put(
@@ -168,22 +169,24 @@ class Lined(Protocol):
 
 
 class Text:
-    """A text that is read piece by piece."""
+    """A text file that is read in pieces. `text` has the current piece, and `at` the position in
+    it.
+    """
 
     def __init__(self, file: TextIO, lined: Lined) -> None:
         self.file, self.lined, self.text, self.at = file, lined, "", 0
         self.lined.line = 1
 
     def more(self) -> bool:
-        """Reads another piece, and returns whether there was one."""
+        """Reads another piece. Returns False at the end of the file."""
         piece = self.file.read(PIECE)
         self.lined.line += self.text.count("\n", 0, self.at)
         self.text, self.at = self.text[self.at :] + piece, 0
         return bool(piece)
 
     def find(self, pattern: re.Pattern[str]) -> Optional[re.Match[str]]:
-        """Moves to the end of the next match of a short pattern, and returns the match. None if
-        there is none.
+        """Finds the next match of a pattern of at most 200 characters, moves to its end, and
+        returns it. None if there is no further match.
         """
         while True:
             found = pattern.search(self.text, self.at)
@@ -209,7 +212,7 @@ class Text:
             return found
 
     def points(self, put: Put, column: Optional[Column]) -> None:
-        """Reads the points of a series."""
+        """Reads the points of a series, and stores them unless `column` is None."""
         line = self.lined.line
         while True:
             found = POINT.match(self.text, self.at)
@@ -230,8 +233,8 @@ VALUES = re.compile(r'"values"\s*:\s*\[|"value"\s*:')
 
 
 def read_json(file: TextIO, metrics: Metrics, put: Put, lined: Lined) -> None:
-    """Reads the answer of Prometheus' API to a query with a range, such as `name[6h]`, or to
-    query_range.
+    """Reads the JSON with which Prometheus answers a query with a range, such as `name[6h]`, or a
+    request to query_range.
     """
     text = Text(file, lined)
     while found := text.find(METRIC):

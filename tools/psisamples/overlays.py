@@ -1,8 +1,9 @@
-"""Computes how a block looks to the groups above it, and how such a group changes that by tasks of
-its own.
+"""Computes which levels of pressure a block causes in the groups above its own, and how tasks of
+such a group change them.
 
-Such a task lies over the block: it takes no time of its own, so it adds no weight to the group,
-and no group below sees it.
+Such a task is an overlay: for a part of the block it runs, waits for IO, is in a memory stall or is
+ready. It needs no time besides that of the block, so it adds no weight to its group, and it doesn't
+count in the groups below its own.
 """
 from __future__ import annotations
 
@@ -10,8 +11,8 @@ from typing import NamedTuple
 
 from .block import Span
 
-# The bits of a status, the state of a segment of a block: a task waits for IO, a task is in a
-# memory stall, all are, a task is ready, a task runs.
+# A status describes a segment of a block by these bits: a task waits for IO, a task is in a memory
+# stall, all tasks are in memory stalls, a task is ready, a task runs.
 WAITS, STALLS, ALL_STALL, READY, RUNS = 1, 2, 4, 8, 16
 BUSY = READY | RUNS
 STATUSES = 32
@@ -19,7 +20,9 @@ IN_STALL = frozenset("sRX")
 
 
 def levels_of(status: int) -> tuple[int, ...]:
-    """Returns which of the six levels a status has, as 0 or 1 in the order of LEVELS."""
+    """Returns for each of the six levels, in the order of LEVELS, 1 if its time passes in this
+    status, and 0 otherwise.
+    """
     io, stalls, all_stall = status & WAITS, status & STALLS, status & ALL_STALL
     found = (
         io,
@@ -33,7 +36,7 @@ def levels_of(status: int) -> tuple[int, ...]:
 
 
 def status_of(states: str) -> int:
-    """Returns the status while tasks are in these states."""
+    """Returns the status of a segment in which tasks are in these states."""
     is_stalled = any(it in IN_STALL for it in states)
     is_all = is_stalled and ("X" in states or not any(it in "rx" for it in states))
     status = WAITS * ("w" in states) + STALLS * is_stalled + ALL_STALL * is_all
@@ -51,8 +54,8 @@ STATUS_OF = [
 
 
 class Overlay(NamedTuple):
-    """A task of this kind in this state, laid over a block. `after` has for each status the
-    status with the task, None if the task would change something else there.
+    """A task of this kind in this state that is laid over a block. `after` has for each status of
+    a segment the status with the task, or None if the task would change other levels too.
     """
 
     kind: str
@@ -60,12 +63,14 @@ class Overlay(NamedTuple):
     after: tuple[int | None, ...]
     # The changed levels for each status, as pairs of a level and 1 or -1.
     changes: tuple[tuple[tuple[int, int], ...], ...]
-    # A bit for each status over which the task can be laid.
+    # A set bit for each status over which the task can be laid.
     takes: int
 
 
 def overlay(kind: str, state: str, has: int, lacks: int, adds: int, takes: int = 0) -> Overlay:
-    """Returns an overlay for each status that has all bits of `has` and none of `lacks`."""
+    """Returns an overlay for segments whose status has all bits of `has` and no bit of `lacks`. It
+    sets the bits `adds`, and clears the bits `takes`.
+    """
     after = [
         (it | adds) & ~takes if it & has == has and not it & lacks else None
         for it in range(STATUSES)
@@ -92,7 +97,8 @@ LESS_CPU_FULL = (
 )
 # Overlays that reduce a level of `full`, by that level.
 LESS_FULL = {1: LESS_IO_FULL, 3: LESS_MEMORY_FULL, 5: LESS_CPU_FULL}
-# Overlays by a level of `some`: for more of some and full, and for more of some alone.
+# Overlays that increase a level of `some` and the same resource's `full`, and overlays that
+# increase a level of `some` alone, by the level of `some`.
 MORE_OF_BOTH = {
     0: overlay("w", "w", 0, WAITS | BUSY, WAITS),
     2: overlay("s", "s", 0, STALLS | BUSY, STALLS | ALL_STALL),

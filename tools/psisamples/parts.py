@@ -1,4 +1,4 @@
-"""Makes the traces: one, or several that overlap if one would be too long."""
+"""Makes a trace of the samples, or several overlapping traces if one would be too long."""
 from __future__ import annotations
 
 import os
@@ -18,21 +18,22 @@ from .data import Data
 from .lives import Lives
 from .verify import Checked, check
 
-# The overlap of two parts, in ticks: averages begin at 0, and those over 300 s are right after this
-# time.
+# The overlap of two parts, in ticks. The averages of a trace begin at 0; after this time those over
+# 300 s are right, too.
 OVERLAP = 450
-# The numbers of groups and of tasks above which a part ends, and the most groups. A trace has at
-# most 1,024 groups and 65,536 tasks; one group is the mark's.
+# A part ends if it has more than MOST_GROUPS groups or MOST_TASKS tasks. MOST_OF_ALL groups are an
+# error: a trace has at most 1,024 groups, of which one is the mark of samples, and 65,536 tasks.
 MOST_GROUPS, MOST_TASKS, MOST_OF_ALL = 980, 60_000, 1023
-# The number of lines that the next tick may need.
+# The largest number of lines that a tick may need.
 SPARE = 40_000
 Progress = Callable[[int], None]
 
 
 @dataclass
 class Made:
-    """The result of all parts: their names, lines, processors and groups, the totals that are
-    off, and the number of compared totals.
+    """The result of all parts: their file names, their numbers of lines, the largest number of
+    processors, the number of groups that were created again, the totals that are off, the number
+    of totals that were compared with a replay, and the totals that differ.
     """
 
     names: list[str] = field(default_factory=list)
@@ -57,15 +58,17 @@ class Made:
 
 
 def part_name(output: str, part: int) -> str:
-    """Returns the file name of a part: the output itself for the first one, and a number before
-    its ending for the others.
+    """Returns the file name of a part: `output` for the first part; the other parts have their
+    number before the ending.
     """
     root, ending = os.path.splitext(output)
     return output if part == 1 else f"{root}.{part}{ending}"
 
 
 def number_of(data: Data, start: int, end: int) -> int:
-    """Returns a number for a set of traces, by which its parts are recognised."""
+    """Returns a number that identifies the parts of a set of traces, from the times and groups of
+    the samples.
+    """
     return zlib.crc32(
         " ".join([str(start), str(end), str(data.every), *sorted(data.groups)]).encode(
             "utf-8", "surrogateescape"
@@ -93,7 +96,7 @@ class Maker:
         self.whole = number_of(data, start, end)
 
     def make(self, output: str) -> Made:
-        """Makes all parts next to the output, under temporary names until all are complete."""
+        """Makes all parts. The files have temporary names until all parts are complete."""
         begin: int | None = self.start
         part = 0
         try:
@@ -117,8 +120,8 @@ class Maker:
                 os.remove(f"{name}.part")
 
     def make_part(self, name: str, begin: int, part: int) -> int | None:
-        """Makes one part, and returns the time (ns) at which the next one begins, None after the
-        last.
+        """Makes the part that begins at `begin` (ns). Returns the time (ns) at which the next part
+        begins, or None after the last part.
         """
         every = self.data.every
         options = self.options if part == 1 else self.options.later()
@@ -152,7 +155,7 @@ class Maker:
         return None if is_last else begin + (conversion.tick - conversion.lead - OVERLAP) * TICK
 
     def is_full(self, conversion: Conversion) -> bool:
-        """Whether the trace is as long as it may be."""
+        """Returns whether the trace is as long as it may be, or has as many groups or tasks."""
         file = conversion.file
         most = max(self.most - SPARE, self.most // 2)
         groups = max(MOST_GROUPS, conversion.first_groups + 10)

@@ -1,4 +1,6 @@
-"""A lead-in before the first samples, so that averages begin with the machine's values."""
+"""Computes the pressure of a lead-in before the first samples, so that the averages of a trace
+begin with the machine's values instead of 0.
+"""
 from __future__ import annotations
 
 from psiconvert.lead_in import LAST, MIDDLE, WHOLE, Diffusion, stretches_of
@@ -10,8 +12,8 @@ HUNDRED = 100
 
 
 class Past:
-    """The pressure of groups in the ticks before their first samples, computed from the samples'
-    averages.
+    """The pressure of groups in the `ticks` ticks before their first samples, computed from the
+    averages avg10, avg60 and avg300 in these samples.
     """
 
     def __init__(self, ticks: int) -> None:
@@ -38,8 +40,8 @@ class Past:
 
 
 def end_past(life: Life) -> None:
-    """Resets the totals of a group at the end of its lead-in: what it has by then is what it is
-    to have.
+    """Adapts the totals of a group at the end of its lead-in: the totals that it has reached become
+    the wanted ones, so that later growth is compared with the samples.
     """
     life.target = list(life.achieved)
     life.base = [base - achieved for base, achieved in zip(life.base, life.achieved)]

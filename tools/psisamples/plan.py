@@ -1,10 +1,10 @@
-"""Places the blocks of a tick such that each group has its wanted shares.
+"""Arranges the blocks of a tick on processors such that each group has its wanted shares.
 
-A group's share is sum(weight * time) // sum(weight) over processors. A group without blocks
-below it needs one block: the share is then the block's time. A group above others adds what is
-missing, and dilutes what is too much: overlays, which weigh nothing; a block of its own; and
-ballast, a block in which only its own task runs. Groups are handled from the deepest up, so each
-sees all of the blocks below it.
+A group's share of a level is sum(weight * time) // sum(weight) over processors. A group without
+blocks of descendants needs a single block, since the share is then the block's time. For any other
+group the blocks of its descendants are corrected in three ways: by overlays, which have no weight;
+by further blocks; and by ballast, blocks in which only a task of the group runs, which lower its
+shares. Groups are handled from the deepest up, so the blocks of all descendants are known.
 """
 from __future__ import annotations
 
@@ -29,8 +29,8 @@ from .block import (
 from .overlays import LESS_FULL, LESS_OF_BOTH, MORE_OF_BOTH, MORE_SOME, Overlay, segments_of
 
 # The length of a tick (ms); the number of processors on which tasks run (a 64th is for creating and
-# ending tasks); the number of processors over which groups without others below are spread; the
-# most blocks of its own that a group may have; and the levels.
+# ending tasks); the number of processors over which groups without descendants are spread; the
+# largest number of further blocks of a group; and the numbers of the levels.
 ROOM = TICK // MS
 MOST_PROCESSORS = 63
 SPREAD = 24
@@ -42,8 +42,8 @@ ROUNDS = 12
 
 
 class Block:
-    """A block of a group on a processor: its start there, its length and its tasks' states (ns),
-    and its segments.
+    """A block of a group on a processor: its start in the tick and its length (ns), the spans of
+    its tasks' states, the overlays of other groups in `others`, and its segments.
     """
 
     __slots__ = ("group", "start", "length", "spans", "others", "segments", "has")
@@ -53,16 +53,16 @@ class Block:
         self.spans = spans_of(times, length) if times is not NONE else [Span(0, length, "r", "x")]
         self.others: list[tuple[int, Span]] = []
         self.segments = segments_of(self.spans, length)
-        # A bit for each status that a segment has or had.
+        # A set bit for each status that a segment has or had, by the number of the status.
         self.has = 0
         for segment in self.segments:
             self.has |= 1 << segment[2]
 
 
 class Offer(NamedTuple):
-    """An offer of `blocks` blocks of `length` ms each with these times, on this processor or, if
-    that is None, on empty ones. With it the group weighs `heavy` ms in total, and its shares are
-    off by `off` ns.
+    """A possible addition to a group: `blocks` blocks of `length` ms each with these times (ns), on
+    this processor or, if that is None, on processors without blocks of the group. The group then
+    has the weight `heavy` (ms), and its shares differ from the wanted ones by `off` ns.
     """
 
     off: int
@@ -74,16 +74,18 @@ class Offer(NamedTuple):
 
 
 class Tree(NamedTuple):
-    """The groups by number: each one's chain from itself up to the root, and the same as a set."""
+    """The tree of groups by their numbers: the chain from each group up to the root, as a tuple and
+    as a set.
+    """
 
     chains: dict[int, tuple[int, ...]]
     above: dict[int, frozenset[int]]
 
 
 class Plan:
-    """The blocks of one tick. `before` has the processors on which each group had blocks in the
-    previous tick. Groups in `late` are created just after the tick begins, so their blocks begin
-    1 ms later.
+    """The blocks of a tick, by processor. `before` has the processors on which each group had
+    blocks in the previous tick. Groups in `late` are created 1 ns after the tick begins, so their
+    blocks begin 1 ms later.
     """
 
     def __init__(
@@ -92,19 +94,21 @@ class Plan:
         self.tree, self.before, self.late = tree, before, late
         self.blocks: list[list[Block]] = []
         self.used: list[int] = []
-        # The weight (ms) and the six times (ns), by group and processor.
+        # The weight (ms) and the six times (ns) of the blocks, by group and processor. The blocks
+        # of descendants count.
         self.has: dict[int, dict[int, list[int]]] = {}
         self.where: dict[int, list[int]] = {}
 
     # ---------------------------------------------------------------- blocks
 
     def room(self, processor: int, group: int) -> int:
-        """Returns the ms that remain on a processor for a block of the group."""
+        """Returns the length (ms) of the longest block of the group that still fits on a processor.
+        """
         used = self.used[processor] if processor < len(self.used) else 0
         return ROOM - (used or int(group in self.late))
 
     def place(self, group: int, processor: int, length: int, times: Times) -> None:
-        """Puts a block of `length` ms after the last block of a processor."""
+        """Adds a block of `length` ms after the last block of a processor."""
         while processor >= len(self.used):
             self.used.append(0)
             self.blocks.append([])
@@ -120,13 +124,17 @@ class Plan:
             places[processor] = list(map(add, before, added)) if before else list(added)
 
     def empty_places(self, group: int) -> Iterator[int]:
-        """Yields processors without blocks of the group or below, the previous tick's first."""
+        """Yields the processors without blocks of the group or a descendant. Processors that the
+        group used in the previous tick come first.
+        """
         known, last = self.has.get(group, {}), self.before.get(group, ())
         yield from (it for it in last if it not in known)
         yield from (it for it in range(MOST_PROCESSORS) if it not in known and it not in last)
 
     def free_rooms(self, group: int) -> list[int]:
-        """Returns the ms that remain on these processors, the greatest first."""
+        """Returns the lengths (ms) that are free on processors without blocks of the group or a
+        descendant, in descending order.
+        """
         known = self.has.get(group, {})
         late = int(group in self.late)
         found = [
@@ -135,8 +143,9 @@ class Plan:
         return [ROOM - late] * (MOST_PROCESSORS - len(self.used)) + sorted(found, reverse=True)
 
     def place_alone(self, group: int, times: Times) -> None:
-        """Places the block of a group that has none below it, on the processor on which its parent
-        has the least weight: the parent sees two blocks of a processor as one longer, heavier one.
+        """Places the block of a group without blocks of descendants, on the processor on which its
+        parent has the least weight: for the parent, two blocks on a processor count as a single
+        block of their total weight.
         """
         if group in self.late:
             times = fitted(times, (ROOM - 1) * MS)
@@ -162,8 +171,8 @@ class Plan:
             self.place(group, found, length, times)
 
     def put_ballast(self, group: int, weight: int) -> None:
-        """Adds `weight` ms in which a task of the group runs, on processors on which the group
-        has nothing yet.
+        """Adds blocks of `weight` ms in total in which a task of the group runs, on processors
+        without blocks of the group or a descendant.
         """
         for processor in list(self.empty_places(group)) if weight > 0 else ():
             if weight <= 0:
@@ -176,8 +185,8 @@ class Plan:
     # ---------------------------------------------------------------- overlays
 
     def lay(self, group: int, over: Overlay, amount: int) -> int:
-        """Lays tasks of the group over blocks below it, for `amount` ns times ms of weight.
-        Returns the amount for which there was room.
+        """Lays tasks of the group over the blocks of its descendants, until the sum of time (ns)
+        times weight (ms) is `amount`. Returns the amount that was possible.
         """
         done, known = 0, self.has[group]
         for processor in sorted(known, key=lambda it: -known[it][0]):
@@ -192,7 +201,8 @@ class Plan:
         return done
 
     def lay_over(self, group: int, processor: int, block: Block, over: Overlay, most: int) -> int:
-        """Lays a task over one block for at most `most` ns, and returns for how many."""
+        """Lays a task over a block for at most `most` ns. Returns for how long (ns) it lies there.
+        """
         done, place = 0, 0
         while place < len(block.segments) and done < most:
             segment = block.segments[place]
@@ -217,7 +227,9 @@ class Plan:
     # ---------------------------------------------------------------- a group above others
 
     def sums(self, group: int) -> tuple[int, list[int]]:
-        """Returns the group's weight (ms), and for each level its sum of weight * time."""
+        """Returns the group's weight (ms), and for each level the sum over processors of weight
+        times time.
+        """
         weight = io_some = io_full = memory_some = memory_full = cpu_some = cpu_full = 0
         for heavy, *times in self.has.get(group, {}).values():
             weight += heavy
@@ -235,7 +247,7 @@ class Plan:
         return [it // max(1, weight) for it in found]
 
     def give(self, group: int, wanted: Sequence[int]) -> None:
-        """Gives the group these shares (ns), as nearly as possible."""
+        """Corrects the group's shares (ns) to the wanted ones, as nearly as possible."""
         times = possible(tuple(wanted))
         if group not in self.has:
             if any(times):
@@ -262,8 +274,8 @@ class Plan:
     def least_weight(
         self, group: int, times: Times, weight: int, sums: list[int], levels: Sequence[int]
     ) -> int:
-        """Returns the least weight (ms) by which none of these levels is too high, as far as
-        there is room.
+        """Returns the least weight (ms) with which no share of these levels is too high, limited by
+        the free room.
         """
         found = weight
         for level in levels:
@@ -274,7 +286,7 @@ class Plan:
         return found
 
     def lower(self, group: int, times: Times, heavy: int, levels: Sequence[int]) -> None:
-        """Lays overlays that reduce full."""
+        """Lays overlays that reduce the group's shares of full."""
         sums = self.sums(group)[1]
         io, memory = sums[1] - times[1] * heavy, sums[3] - times[3] * heavy
         if io > heavy and memory > heavy and self.lay(group, LESS_OF_BOTH, min(io, memory)):
@@ -286,7 +298,7 @@ class Plan:
                     sums = self.sums(group)[1]
 
     def lift(self, group: int, times: Times, heavy: int, levels: Sequence[int]) -> None:
-        """Lays overlays that increase some, and full with it."""
+        """Lays overlays that increase the group's shares of some, and of full as far as wanted."""
         sums = self.sums(group)[1]
         for level, overlays in MORE_SOME.items():
             some = times[level] * heavy - sums[level]
@@ -306,8 +318,8 @@ class Plan:
     def best_offer(
         self, group: int, times: Times, heavy: int, levels: Sequence[int]
     ) -> Optional[Offer]:
-        """Returns the lightest own blocks by which the group has its shares, or else those by
-        which it comes nearest. None if none comes nearer than now.
+        """Returns the lightest further blocks with which the group has its wanted shares, or else
+        the blocks with which it comes nearest. None if no blocks improve its shares.
         """
         known = self.has[group]
         weight, sums = self.sums(group)
@@ -340,8 +352,10 @@ class Plan:
 
 
 class Need(NamedTuple):
-    """The wanted times of a group, and what a processor has already: its weight (ms) and six
-    times (ns).
+    """The search for further blocks of a group: the wanted shares (ns) at `levels`; the group's
+    present weight (ms) and sums; `least` and `limit`, which bound its new weight (ms); in `base`
+    the weight (ms) and the six times (ns) that it has on the processor of the new blocks; and
+    `room`, the length (ms) of the longest possible block.
     """
 
     wanted: Times
@@ -355,9 +369,10 @@ class Need(NamedTuple):
     processor: Optional[int]
 
     def at(self, length: int, count: int) -> tuple[int, int, list[int], Times]:
-        """Returns for `count` blocks of `length` ms: the group's weight with ballast, the factor
-        of a ns of their times, what they have to add, and their times. A block adds (base weight
-        + length) * times + length * base times to what the group has.
+        """Returns four properties of `count` new blocks of `length` ms: the group's weight with
+        ballast (ms), the weight by which their times count, the sums that they must add by level,
+        and their times (ns). A block adds (base weight + length) * times + length * base times to
+        the group's sums.
         """
         wanted, added = self.wanted, count * length
         heavy = least = max(self.least, self.weight + added)
@@ -377,8 +392,8 @@ class Need(NamedTuple):
         )
 
     def offer(self, count: int) -> Offer:
-        """Returns the shortest blocks by which the group has its shares, or the longest that
-        there is room for.
+        """Returns the shortest `count` blocks with which the group has its wanted shares, or the
+        longest possible blocks if these don't suffice.
         """
         length, base = 1 if count == 1 else self.room, self.base[0]
         for turn in range(ROUNDS):
@@ -386,8 +401,8 @@ class Need(NamedTuple):
             lack = -(-least_length(times) // MS) - length
             if lack <= 0 or length >= self.room:
                 break
-            # The length at which a block is as long as its times need, if what they have to add
-            # stays the same. Later rounds add more and more, since that grows with the length.
+            # The length at which a block is as long as its times need, if the sums that it must add
+            # don't change. They grow with the length, so later rounds increase it by more.
             better = (isqrt(base * base + 4 * (length + lack) * (base + length)) - base) // 2
             length = min(
                 self.room, max(better + 1, length + 1 + turn * lack) if turn else better + 1

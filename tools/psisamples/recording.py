@@ -1,5 +1,5 @@
-"""Reads the samples of a recording's folder: its pressure files, and the memory samples in its
-markers.
+"""Reads samples from the folder of a recording: its readings of pressure files, and the memory
+samples in its markers.
 """
 from __future__ import annotations
 
@@ -20,9 +20,9 @@ EVERY = 2 * 10**9
 
 
 def times_of(source: Source, most: int) -> list[int]:
-    """Returns the time (ns) of each reading of the pressure files, by number from 0 to `most`. A
-    reading whose markers were lost gets an interpolated time, or one extrapolated at both ends;
-    without any marker readings are EVERY apart.
+    """Returns the time (ns) of each reading of the pressure files, by number from 0 to `most`. If
+    the markers of a reading were lost, its time is interpolated or, before the first and after the
+    last marker, extrapolated. Without any markers readings are EVERY apart.
     """
     begins = {
         number: marker.time_ns for marker, number, is_begin in reading_markers(source) if is_begin
@@ -45,8 +45,8 @@ def times_of(source: Source, most: int) -> list[int]:
 
 
 def read_folder(folder: str, put: Put) -> None:
-    """Stores all samples of a recording. The line of a row is that of the pressure file, 0 for
-    memory samples.
+    """Stores all samples of a recording. The line number of a row is its line in the pressure file,
+    and 0 for memory samples.
     """
     try:
         source, text = read_recording(folder, True), text_of(folder, PRESSURE)

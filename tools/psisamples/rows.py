@@ -1,4 +1,4 @@
-"""The rows that all input formats give, and checks of their values."""
+"""The rows into which all input formats are parsed, and checks of their values."""
 from __future__ import annotations
 
 import re
@@ -44,8 +44,8 @@ Put = Callable[[int, str, int, tuple[int, ...], int], None]
 
 
 def ns_of(text: str) -> int:
-    """Parses a decimal number of seconds, as any format writes it, and returns ns. Raises
-    ValueError if it is malformed.
+    """Parses a decimal number of seconds, possibly with an exponent, and returns ns. Raises
+    ValueError if the number is malformed.
     """
     if re.fullmatch(r"[0-9]{1,12}", text):
         return int(text) * SECOND
@@ -62,7 +62,7 @@ def ns_of(text: str) -> int:
 
 
 def us_of(text: str) -> int:
-    """The us of a number of seconds, rounded: exporters write floating point."""
+    """Parses a number of seconds, and returns us, rounded since exporters write floating point."""
     value = float(text)
     if not 0 <= value < 1e12:
         raise ValueError(text)

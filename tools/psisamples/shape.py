@@ -1,8 +1,9 @@
-"""Distributes the growth of a total over an interval, by avg10 at both of its ends.
+"""Distributes the growth of a total between two samples over the ticks in between.
 
-Between two samples a total could have grown early or late. avg10 at the end shows which, since
-it gives more weight to late growth. So the rates of the ticks in between follow a slope, bounded
-by 0 and the most, such that the growth is the total's and avg10 is the one that was read.
+A total could have grown early or late in the interval. avg10 at the end shows which, since late
+growth has more weight in it. So the rates of growth follow a straight line, bounded by 0 and the
+largest possible rate, whose slope is chosen such that the total and avg10 at the end agree with the
+samples.
 """
 from __future__ import annotations
 
@@ -19,13 +20,13 @@ STEEPEST, SLOPES, LEVELS_OF_SLOPE = 64.0, 20, 24
 
 
 def parts_of(start: int, end: int) -> list[tuple[int, int]]:
-    """Splits the interval at the ticks in it."""
+    """Splits the interval from `start` to `end` (ns) at its ticks."""
     cuts = [start, *range((start // TICK + 1) * TICK, end, TICK), end]
     return [(one, other) for one, other in zip(cuts, cuts[1:]) if one < other]
 
 
 def left_of(time: int, end: int) -> float:
-    """Returns the fraction that is left at `end` (ns) of an average that was read at `time`
+    """Returns the fraction to which an average that was read at `time` (ns) has decayed at `end`
     (ns).
     """
     return float(FACTOR ** (max(0, end - AGE - time) / TICK))
@@ -38,8 +39,8 @@ def bounded_rates(
     lengths: Sequence[int],
     growth: float,
 ) -> list[float]:
-    """Returns rates along a slope, from 0 to the most of each part, that give the total's
-    growth.
+    """Returns the rate in each part of an interval, along a line of this slope. The rates are
+    between 0 and the part's `most`, and give the total's growth (ns).
     """
     low, high = -abs(slope), 1.0 + abs(slope)
     found = [0.0] * len(recent)

@@ -1,5 +1,5 @@
-"""Stores rows, and returns them in order of time. A bounded number is in memory, and the rest in
-temporary files.
+"""Stores rows of samples, and returns them in order of time. At most MOST_IN_MEMORY rows are in
+memory, and the others in temporary files.
 """
 from __future__ import annotations
 
@@ -11,7 +11,8 @@ from collections.abc import Iterator
 from operator import itemgetter
 from typing import IO
 
-# The number of rows that are sorted in memory, and the number that is read and written at once.
+# The number of rows that are sorted in memory, and the number of rows that are read and written at
+# once.
 MOST_IN_MEMORY = 300_000
 BATCH = 5_000
 
@@ -38,7 +39,7 @@ class Store:
             self.spill()
 
     def spill(self) -> None:
-        """Writes the rows in memory as a sorted run."""
+        """Sorts the rows in memory, and writes them to a temporary file, a sorted run."""
         self.rows.sort(key=ORDER)
         run = tempfile.TemporaryFile(prefix="samples-")
         for start in range(0, len(self.rows), BATCH):
@@ -47,7 +48,7 @@ class Store:
         self.rows = []
 
     def sort(self) -> Iterator[Plain]:
-        """Yields all rows in order of time, once. After that `since` yields them."""
+        """Yields all rows in order of time. May be called once; after that `since` yields rows."""
         if not self.runs:
             self.rows.sort(key=ORDER)
             yield from self.rows

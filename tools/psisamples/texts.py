@@ -36,8 +36,8 @@ def put_totals(
     line: int,
     has_averages: bool = True,
 ) -> None:
-    """Stores the totals of a pressure file, some and full (us), and the averages of both if they
-    are there and wanted.
+    """Stores the totals of a pressure file, some and full (us), and with `has_averages` also the
+    averages of both, if `words` contains them.
     """
     base = 2 * RESOURCES.index(resource)
     put(time, group, base, (us(words[0]), us(words[1])), line)
@@ -104,8 +104,8 @@ def read_json_lines(lines: Lines, put: Put) -> None:
 
 
 class Round:
-    """A round of a loop over files: the totals of each pressure file, and the memory sizes, by
-    group.
+    """The files that a shell loop printed in one round: the totals of each pressure file, and the
+    memory sizes (bytes), by group.
     """
 
     def __init__(self, time: int) -> None:
@@ -115,7 +115,7 @@ class Round:
         self.lines: dict[str, int] = {}
 
     def take(self, number: int, line: str) -> None:
-        """Takes a line of a file."""
+        """Parses a line `PATH:LINE` of a file. `number` is its line number in the input."""
         path, _, text = line.partition(":")
         folder, name = os.path.split(path)
         if folder == "/proc/pressure" or name.endswith(".pressure"):
@@ -138,7 +138,9 @@ class Round:
             self.sizes.setdefault(group_of(folder), [None, 0, None])[2] = whole(text.split()[1])
 
     def put_all(self, put: Put) -> None:
-        """Stores the values of the round. A file for `cpu` of an old kernel has no line `full`."""
+        """Stores the values of the round. The file `cpu` of an old kernel has no line `full`, which
+        then counts as 0.
+        """
         for (group, resource), lines in self.totals.items():
             some, number = lines["some"]
             full, _ = lines.get("full", (["0", "0", "0", "0"], number))
@@ -157,7 +159,9 @@ class Round:
 
 
 def group_of(folder: str) -> str:
-    """Returns the group of a folder below the mount point of control groups."""
+    """Returns the path of the group whose folder this is, without the mount point of control
+    groups.
+    """
     for mount in ("/sys/fs/cgroup/unified", "/sys/fs/cgroup"):
         if folder == mount or folder.startswith(mount + "/"):
             return escaped_path(folder[len(mount) :].encode("utf-8", "surrogateescape")) or ROOT
@@ -165,8 +169,8 @@ def group_of(folder: str) -> str:
 
 
 def read_loop(lines: Lines, put: Put) -> None:
-    """Reads the output of a loop: for each round a line with the time (s), and then lines of
-    files as `grep . FILE ..` prints them, `PATH:LINE`.
+    """Reads the output of a shell loop: for each round a line with the time (s since 1970), and
+    then the lines of files, `PATH:LINE`, as `grep . FILE ..` prints them.
     """
     found: Round | None = None
     for number, line in lines:

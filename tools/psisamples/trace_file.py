@@ -1,5 +1,5 @@
-"""Writes a trace: events go to a temporary file, since what must precede them is known only at
-the end.
+"""Writes a trace. Events go to a temporary file first, since the number of processors in the header
+and the tasks of a group, which must precede the events, are known only at the end.
 """
 from __future__ import annotations
 
@@ -10,14 +10,14 @@ from typing import IO
 
 from .plan import MOST_PROCESSORS
 
-# The processor on which tasks are created and end. Blocks are on the processors after it.
+# The processor on which tasks are created and end. Blocks are on the other processors.
 FIRST = 0
 PIECE = 1 << 20
 
 
 class Tasks:
-    """The tasks of a group's life, which are created with the group. `at` is their place in the
-    file of events (bytes), and `time` the time (ns).
+    """The tasks of a group, which are created with the group at `time` (ns). `at` is the offset
+    (bytes) in the file of events at which the lines that create them are inserted.
     """
 
     def __init__(self, path: str) -> None:
@@ -25,8 +25,8 @@ class Tasks:
         self.numbers: list[int] = []
 
     def lines(self) -> Iterable[str]:
-        """Yields the lines that create the tasks on a processor of their own, where they fall
-        asleep one after the other.
+        """Yields the lines that create the tasks on the processor FIRST and put them to sleep one
+        after another.
         """
         yield from (f"{self.time} fork {it} {self.path} {FIRST}\n" for it in self.numbers)
         how = "idle"
@@ -67,7 +67,8 @@ class TraceFile:
         return self.lines + self.task_lines
 
     def finish(self, head: list[str], end: int, file: IO[bytes]) -> None:
-        """Writes the whole trace. `head` are the lines after the header."""
+        """Writes the whole trace, which ends at `end` (ns). `head` has the lines after the header.
+        """
         cpus = self.processors + 1
         file.write(f"psitrace 1 cpus={cpus}\n".encode())
         file.writelines(it.encode("ascii") for it in head)

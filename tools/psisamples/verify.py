@@ -24,9 +24,9 @@ NO_TOTALS: Totals = {}
 
 
 class Checked(NamedTuple):
-    """The number of compared totals, and those that differ by more than was reported: the time
-    (ns), the group, the level, the total by the samples (us), and the program's (us), None if it
-    printed none.
+    """The number of compared totals, and in `wrong` the totals that differ by more than was
+    reported: the time (ns), the group, the level, the total in the samples (us), and the total that
+    the program printed (us), None if it printed none.
     """
 
     compared: int
@@ -34,7 +34,7 @@ class Checked(NamedTuple):
 
 
 def reports(output: IO[bytes]) -> Iterator[tuple[int, Totals]]:
-    """Yields the printed totals of each tick."""
+    """Yields the time (ns) and the totals (us) of each tick in the output of a replay."""
     time, rest = -1, b""
     totals: Totals = {}
     while piece := output.read(PIECE):
@@ -61,7 +61,7 @@ def reports(output: IO[bytes]) -> Iterator[tuple[int, Totals]]:
 
 
 def wanted(checks: IO[bytes]) -> Iterator[tuple[int, Totals]]:
-    """Yields the totals that must be printed at each tick."""
+    """Yields the totals (us) that a replay must print at each tick, by the lines of `checks`."""
     time = -1
     totals: Totals = {}
     checks.seek(0)
@@ -77,8 +77,8 @@ def wanted(checks: IO[bytes]) -> Iterator[tuple[int, Totals]]:
 
 
 def check(trace: str, checks: IO[bytes], off: dict[tuple[str, int], Off]) -> Checked:
-    """Replays a trace, and compares all totals at the ticks of samples. A total may be off by
-    NEAR, or by what was reported.
+    """Replays a trace, and compares all totals at the ticks of samples. A total may differ by NEAR,
+    or by the difference that `off` already reports.
     """
     count, wrong = 0, []
     with tempfile.TemporaryFile() as notes:

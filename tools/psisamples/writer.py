@@ -1,5 +1,5 @@
-"""Writes the event lines of blocks: tasks change their states by turns of zero length on their
-processor.
+"""Writes the event lines of blocks. A task that must run to change its state, such as to begin a
+sleep, is switched to and away at the same time, so that it uses no processor time.
 """
 from __future__ import annotations
 
@@ -30,7 +30,7 @@ class Task:
 
 
 class Processor:
-    """A processor and the tasks on it."""
+    """A processor, the tasks that it uses by group and kind, and the task that runs on it."""
 
     def __init__(self, number: int, task_of: Callable[[Key], Task], put_back: Callable[[Key, Task], None]) -> None:
         self.number, self.task_of, self.put_back = number, task_of, put_back
@@ -38,8 +38,8 @@ class Processor:
         self.runs: Task | None = None
 
     def changes_of(self, blocks: Iterable[Block]) -> dict[int, dict[Key, str]]:
-        """Returns the states that begin in a tick, by the ns since its start. Tasks of the
-        previous tick fall asleep unless they continue.
+        """Returns the states that begin in a tick, by their times (ns since the tick's start).
+        Tasks that the previous tick used fall asleep at the start unless this tick uses them too.
         """
         found: dict[int, dict[Key, str]] = {}
         begins: dict[int, dict[Key, str]] = {}
@@ -62,8 +62,8 @@ class Processor:
         return found
 
     def play(self, blocks: Iterable[Block], out: list[Event]) -> None:
-        """Appends the events of a tick to `out`. Tasks that it doesn't use become available to
-        other processors.
+        """Appends the events of a tick to `out`. Tasks that the tick doesn't use become available
+        to other processors.
         """
         changes = self.changes_of(blocks)
         used = {key for states in changes.values() for key in states}
@@ -78,7 +78,9 @@ class Processor:
             del self.tasks[key]
 
     def change(self, time: int, wanted: dict[Key, str], out: list[Event]) -> None:
-        """Brings tasks into these states, by turns of zero length if they sleep or stall."""
+        """Appends the events that bring tasks into these states at `time` (ns since the tick's
+        start). A task that falls asleep, or enters or leaves a memory stall, runs for 0 ns.
+        """
         cpu, tasks, runs = self.number, self.tasks, self.runs
         changed, turns, last = list[Task](), list[Task](), None
         for key, state in wanted.items():

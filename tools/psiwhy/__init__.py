@@ -1,3 +1,3 @@
-"""Explains why rules fired or didn't, and why a group was or wasn't chosen. Used by `rules
-explain` and for the page of `report`.
+"""Explains why rules fired or didn't, and why an action chose a group or didn't. The tools `rules
+explain` and `report` print the explanations.
 """

@@ -71,8 +71,8 @@ def held(it: Plugin, wanted: str, found: Optional[Extreme], duration: Duration) 
 
 
 def miss_at(it: Measure) -> Optional[Miss]:
-    """Returns how near a detector came to being true, or None if it has no threshold to compare
-    with.
+    """Returns how near a detector came to being true, or None if it has no threshold or never had
+    a value.
     """
     if it.extreme is None or not it.extreme.limit:
         return None
@@ -85,8 +85,8 @@ def miss_at(it: Measure) -> Optional[Miss]:
 
 
 def miss_of(ruleset: Ruleset, groups: list[tuple[str, list[Measure]]]) -> Optional[Miss]:
-    """Returns how near a ruleset that never fired came: a group of detectors is as near as its
-    farthest detector, and a ruleset is as near as its nearest group. None if it fired.
+    """Returns how near a ruleset came to firing, or None if it fired. A group of detectors is as
+    near as its farthest detector, and a ruleset is as near as its nearest group.
     """
     if ruleset.fired:
         return None
@@ -151,6 +151,6 @@ def parts(engine: Engine) -> list[Part]:
 
 
 def notes(engine: Engine) -> list[str]:
-    """Returns the caveats of the answer, among them a crash of oomd."""
+    """Returns the notes on the limits of the result, and the message about a crash of oomd."""
     crash = [f"oomd crashes at {seconds(engine.last)} s: {engine.crash}"] if engine.crash else []
     return [*engine.notes.texts, *crash]

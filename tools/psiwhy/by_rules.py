@@ -16,10 +16,10 @@ from .truths import Place, has_duration, longest, spans
 
 
 class Near(NamedTuple):
-    """How near a detector, a group or a ruleset came to being true. `part` is how much of its
-    threshold was reached, and `held` for how much of the duration the condition held, both from
-    0 to 1. `watch` is the detector that was farthest from being true, and `hold` the longest
-    time (ns) for which its condition held. A greater key is nearer.
+    """How near a detector, a group of detectors or a ruleset came to being true. `part` is the
+    fraction of the threshold that was reached, and `held` the fraction of the duration for which
+    the condition held, both from 0 to 1. `watch` is the detector that was farthest from being true,
+    and `hold` the longest time (ns) for which its condition held. A greater key is nearer.
     """
 
     part: float
@@ -46,8 +46,8 @@ def hold_of(judged: Judged, place: Place, detector: dict[str, Any]) -> int:
 
 
 def detector_near(judged: Judged, place: Place, detector: dict[str, Any]) -> Near:
-    """Returns how near a detector came to being true. (`exists` is excluded: it has no
-    distance.)
+    """Returns how near a detector came to being true. The detector isn't `exists`, which has no
+    threshold.
     """
     watch = judged.watches[place[:3]]
     if judged.truths[place]:
@@ -59,8 +59,8 @@ def detector_near(judged: Judged, place: Place, detector: dict[str, Any]) -> Nea
 
 
 def group_near(judged: Judged, ruleset: int, group: int) -> Near:
-    """Returns how near a group of detectors came: as near as the farthest of them, without
-    `exists`.
+    """Returns how near a group of detectors came to being true: as near as its farthest detector.
+    Detectors `exists` don't count.
     """
     detectors = judged.json[ruleset]["detectors"][group][1:]
     found = [
@@ -72,14 +72,14 @@ def group_near(judged: Judged, ruleset: int, group: int) -> Near:
 
 
 def ruleset_near(judged: Judged, ruleset: int) -> Near:
-    """Returns how near a ruleset came: as near as its nearest group of detectors."""
+    """Returns how near a ruleset came to firing: as near as its nearest group of detectors."""
     groups = range(len(judged.json[ruleset]["detectors"]))
     near = (group_near(judged, ruleset, group) for group in groups)
     return max(near, key=lambda it: it.key, default=NEVER)
 
 
 def miss_of(judged: Judged, ruleset: int) -> Optional[Miss]:
-    """Returns how near a ruleset came that never fired, or None if it fired."""
+    """Returns how near a ruleset came to firing, or None if it fired."""
     if judged.truths[Place(ruleset)]:
         return None
     near = ruleset_near(judged, ruleset)
@@ -91,7 +91,9 @@ def miss_of(judged: Judged, ruleset: int) -> Optional[Miss]:
 
 
 def extreme(watch: Watch, host: Optional[int]) -> Optional[Extreme]:
-    """Returns a detector's value that came nearest to its threshold, or None if it has none."""
+    """Returns a detector's value that came nearest to its threshold, or None if the detector never
+    had a value.
+    """
     name, args = watch.plugin
     if watch.nearest is None or name == "exists":
         return None
@@ -129,7 +131,7 @@ def extreme(watch: Watch, host: Optional[int]) -> Optional[Extreme]:
 
 
 def measure(judged: Judged, place: Place, detector: dict[str, Any]) -> Measure:
-    """Describes a detector with its nearest value and the times at which it was true."""
+    """Describes a detector: the value nearest to its threshold, and when it was true."""
     watch = judged.watches[place[:3]]
     true = spans(judged.truths[place], judged.evaluations)
     is_measured = detector["name"] != "exists"
@@ -169,8 +171,8 @@ def parts(judged: Judged, kills: list[Kill]) -> list[Part]:
 
 
 def verdict(judged: Judged, found: list[Part]) -> str:
-    """Says in a phrase why rules killed nobody: a ruleset fired without a victim, or the nearest
-    miss.
+    """Returns in words why the rules killed nothing: which ruleset fired without a victim, or else
+    which ruleset came nearest to firing.
     """
     names = [f"ruleset {number} ‘{printable(it['name'])}’" for number, it in enumerate(judged.json)]
     for name, it in zip(names, found):

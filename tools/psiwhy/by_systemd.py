@@ -1,5 +1,5 @@
-"""Explains why systemd-oomd killed or didn't, for memory pressure in each watched group and for
-swap.
+"""Explains why systemd-oomd killed a group or didn't, for the memory pressure of each watched group
+and for swap.
 """
 from __future__ import annotations
 
@@ -18,7 +18,7 @@ KILL = "kill"
 
 
 def candidate(it: Candidate, decision: Decision) -> choice.Candidate:
-    """Describes a candidate of a decision, and why it was or wasn't chosen."""
+    """Describes a candidate of a decision, and why systemd-oomd chose it or didn't."""
     is_chosen = it.path == decision.victim
     wish = "" if it.preference == "none" else it.preference
     reason = (
@@ -37,7 +37,7 @@ def candidate(it: Candidate, decision: Decision) -> choice.Candidate:
 
 
 def firing(decision: Decision) -> Firing:
-    """Describes a decision: the group that was killed, or why none was."""
+    """Describes a decision: the group that was killed, or why no group was killed."""
     found = sorted(
         (candidate(it, decision) for it in decision.candidates), key=lambda it: not it.is_chosen
     )
@@ -64,7 +64,7 @@ def course_measure(it: Course) -> Measure:
 
 
 def course_miss(it: Course) -> Miss:
-    """Returns how near a watched group came for which systemd-oomd never decided to kill."""
+    """Returns how near a watched group came to a decision to kill, if there never was one."""
     part = min(1.0, it.most / it.limit) if it.limit else 1.0
     held = min(1.0, (it.longest or 0) / it.duration) if it.duration else 0.0
     far = (
@@ -94,7 +94,7 @@ def pressure_part(engine: Engine, path: str) -> Part:
 
 
 def swap_part(engine: Engine, settings: Settings) -> Optional[Part]:
-    """Describes the use of swap, or returns None if no unit is watched for it."""
+    """Describes the use of swap, or returns None if no unit is watched for its use of swap."""
     rule, limit = engine.swap, settings.limits.swap_used
     if not rule.was_watched:
         return None
@@ -128,7 +128,7 @@ def swap_part(engine: Engine, settings: Settings) -> Optional[Part]:
 
 
 def parts(engine: Engine, settings: Settings) -> list[Part]:
-    """Describes each watched group, and then swap."""
+    """Describes the memory pressure of each watched group, and then the use of swap."""
     found = [pressure_part(engine, path) for path in sorted(engine.pressure.courses)]
     swap = swap_part(engine, settings)
     return [*found, swap] if swap else found

@@ -18,8 +18,8 @@ Numbers = dict[str, object]
 
 
 class Candidate(NamedTuple):
-    """A group that an action matches: `text` has its values for people, `numbers` by name, and
-    `reason` says why it was or wasn't chosen.
+    """A group that an action matches. `text` has its measured values in words, `numbers` the same
+    values by name, and `reason` says why the action chose it or didn't.
     """
 
     path: str
@@ -30,8 +30,8 @@ class Candidate(NamedTuple):
 
 
 class Choice(NamedTuple):
-    """The outcome of an action: its victim, or the reason why there is none, and its candidates.
-    With `recursive` these are the candidates of all levels.
+    """The outcome of an action: its number and plugin; the path of its victim, or in `nobody` the
+    reason why it killed nothing; and its candidates, with `recursive` those of all levels.
     """
 
     action: int
@@ -42,8 +42,8 @@ class Choice(NamedTuple):
 
 
 class Measured(NamedTuple):
-    """The value by which a candidate is ranked, as a number and for people. `lack` says why the
-    value is too small, and is empty if it suffices.
+    """The value by which a candidate is ranked, as a number and in words. `lack` says why the
+    value is too small for the action; empty if it suffices.
     """
 
     value: int
@@ -97,7 +97,7 @@ def has_task(now: Evaluation, path: str) -> bool:
 def compared(
     plugin: Plugin, now: Evaluation, paths: list[str], victim: Optional[str]
 ) -> list[Candidate]:
-    """Returns the candidates of an action that ranks by one value, in order of rank."""
+    """Returns the candidates of an action that ranks groups by a single value, in order of rank."""
     measured = {path: MEASURES[plugin.name](plugin.args, now, path) for path in paths}
     order = sorted(paths, key=lambda it: (preference(now, it), -measured[it].value, it))
     found = []
@@ -131,8 +131,9 @@ def wish_of(now: Evaluation, path: str) -> str:
 
 
 class Sizes:
-    """The candidates of `kill_by_memory_size_or_growth`: `live` are those with a live task,
-    `first` those of them with the best preference, by descending size.
+    """The candidates of `kill_by_memory_size_or_growth`. `live` has the candidates with a live
+    task, and `first` those among them with the best preference, by descending size. Only the
+    largest `few` groups of `first` are chosen for their growth.
     """
 
     def __init__(self, plugin: Plugin, now: Evaluation, paths: list[str]) -> None:
@@ -178,8 +179,9 @@ class Sizes:
         }
 
     def best(self) -> Optional[str]:
-        """Returns the group that the action chooses: the largest if it is large, otherwise the
-        one that grew most, otherwise the largest. None without candidates.
+        """Returns the group that the action chooses: the largest group if it is large enough,
+        otherwise the group that grew most if it grew enough, otherwise the largest group. None
+        without candidates.
         """
         if not self.first or self.is_large(self.first[0]):
             return next(iter(self.first), None)
@@ -236,13 +238,14 @@ def by_size(
 def candidates(
     plugin: Plugin, now: Evaluation, paths: list[str], victim: Optional[str]
 ) -> list[Candidate]:
-    """Returns the candidates among sibling groups, the chosen one first."""
+    """Returns the candidates among the groups `paths`, the chosen group first."""
     make = compared if plugin.name in MEASURES else by_size
     return sorted(make(plugin, now, paths, victim), key=lambda it: not it.is_chosen)
 
 
 def best(plugin: Plugin, now: Evaluation, paths: list[str]) -> Optional[str]:
-    """Returns the first candidate in the order of the printed values, or None if none suffices."""
+    """Returns the candidate that ranks first by the printed values, or None if no value suffices.
+    """
     if plugin.name not in MEASURES:
         return Sizes(plugin, now, paths).best()
     enough = (it for it in compared(plugin, now, paths, None) if not it.reason)
@@ -250,8 +253,8 @@ def best(plugin: Plugin, now: Evaluation, paths: list[str]) -> Optional[str]:
 
 
 def step_to(plugin: Plugin, now: Evaluation, paths: list[str], victim: str) -> Optional[str]:
-    """Returns the group among `paths` that an action chose on its way to its victim: the victim
-    itself, or with `recursive` an ancestor of it.
+    """Returns the group among `paths` through which an action reached its victim: the victim itself
+    or, if the action is recursive, an ancestor of the victim.
     """
     if plugin.args.get("recursive", "false") not in TRUTHS:
         return victim
@@ -261,7 +264,9 @@ def step_to(plugin: Plugin, now: Evaluation, paths: list[str], victim: str) -> O
 
 
 def choice(number: int, plugin: Plugin, now: Evaluation, victim: Optional[str]) -> Choice:
-    """Describes what an action did at an evaluation, given its victim or None."""
+    """Describes what an action did at an evaluation. `victim` is the path of the group that it
+    killed, or None.
+    """
     paths = sorted(path for path in now.world.live if plugin.covers(path))
     if victim is None:
         return Choice(number, plugin.name, None, *nobody(plugin, now, paths))

@@ -1,5 +1,5 @@
-"""Rebuilds the machine at each evaluation of the rules: its groups, their last samples, their
-pressure, and what the rules remember of earlier evaluations.
+"""Reconstructs the state of the machine at each evaluation of the rules: its groups, their last
+samples, their pressure, and the values of earlier evaluations that the rules compare with.
 """
 from __future__ import annotations
 
@@ -14,15 +14,15 @@ from psireplay.lines import Report, read
 from .judged import Asked
 
 NO_SAMPLE = Sample(0, 0, 0)
-# The number of earlier evaluations whose sizes the rules remember.
+# The number of earlier evaluations with whose sizes the rules compare.
 REMEMBERED = 4
 
 
 class Evaluation:
-    """The machine at an evaluation, at the time `moment` (ns). `full` has full averages in
-    hundredths of a percent, by path, resource and average. `sizes` has the sizes (bytes) at
-    earlier evaluations, the newest first, and `scans` the scan counts (pages) at the previous
-    evaluation.
+    """The state of the machine at an evaluation, at the time `moment` (ns). `full` has the averages
+    of full pressure in hundredths of a percent, by path, resource and average. `sizes` has the
+    memory (bytes) of each group at earlier evaluations, the newest first, and `scans` the number of
+    pages scanned up to the previous evaluation.
     """
 
     def __init__(self, world: World[Task]) -> None:
@@ -41,7 +41,7 @@ class Evaluation:
             self.full[it.path, it.resource, "avg60"] = it.full.avg60
 
     def remember(self) -> None:
-        """Stores the sizes and scan counts with which the next evaluation compares."""
+        """Stores the sizes and scan counts with which the rules compare at later evaluations."""
         groups = self.world.live.values()
         self.scans = {group: self.sample(group).scanned for group in groups}
         self.sizes = {
@@ -78,8 +78,8 @@ class Evaluation:
 
 
 def evaluations(printed: Iterable[bytes], asked: Asked) -> Iterator[Evaluation]:
-    """Yields the evaluations of a replay that prints a report at each. It is one object, which
-    changes when the next evaluation is taken.
+    """Yields the state at each evaluation of a replay that prints a report at each of them. Yields
+    the same object each time, which then has the state of the next evaluation.
     """
     world = World(Task)
     found = Evaluation(world)

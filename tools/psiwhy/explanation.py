@@ -7,15 +7,16 @@ from typing import NamedTuple, Optional
 from psicli.times import seconds
 from .choice import Candidate, Choice
 
-# The most candidates that are printed of an action, and the most lines of firings of a ruleset.
+# The largest number of candidates that are printed of an action, and of lines about the firings of
+# a ruleset.
 MOST_CANDIDATES, MOST_FIRINGS = 8, 40
 Span = tuple[int, int]
 
 
 class Extreme(NamedTuple):
-    """The value that came nearest to a limit, the time (ns) at which it was first reached and
-    the group that reached it, and the limit. Value and limit are in `unit`; `shown` and
-    `limit_shown` are for people.
+    """The value that came nearest to a limit, the time (ns) at which it was first reached, the path
+    of the group that reached it, and the limit. `value` and `limit` are in `unit`; `shown` and
+    `limit_shown` are the printed texts. `word` is `highest` or `lowest`.
     """
 
     word: str
@@ -34,9 +35,10 @@ class Extreme(NamedTuple):
 
 
 class Measure(NamedTuple):
-    """A detector: what it waits for (`wanted`), its nearest value or why there is none
-    (`absent`), the longest time (ns) for which its condition held, the time (ns) for which it
-    must hold, and the spans (ns) in which it was true.
+    """A detector: its condition in words (`wanted`), the value nearest to its threshold or the
+    reason why there is no value (`absent`), the longest time (ns) for which the condition held, the
+    time (ns) for which it must hold, and the spans (ns) in which the detector was true. None stands
+    for a property that the detector doesn't have.
     """
 
     plugin: str
@@ -96,8 +98,8 @@ class Firing(NamedTuple):
 
 
 class Miss(NamedTuple):
-    """How near a ruleset that never fired came: which part of the threshold and of the duration
-    it reached, from 0 to 1, and for people the value that was missing.
+    """How near a ruleset that never fired came to firing: the fractions of the threshold and of the
+    duration that it reached, from 0 to 1, and in words the value that came nearest.
     """
 
     part: float
@@ -106,13 +108,13 @@ class Miss(NamedTuple):
 
     @property
     def key(self) -> tuple[float, float]:
-        """A key by which misses are compared: the nearest is the greatest."""
+        """The key by which misses are compared: the ruleset that came nearest has the greatest."""
         return self.part, self.held
 
 
 class Part(NamedTuple):
-    """A ruleset, or a rule of systemd-oomd: its name, its groups of detectors by name, its
-    firings, and how near it came if it never fired.
+    """A ruleset, or a rule of systemd-oomd: its name, its named groups of detectors, its firings,
+    and how near it came to firing if it never fired.
     """
 
     name: str
@@ -155,7 +157,7 @@ def spans_text(spans: list[Span], most: int = 3) -> str:
 
 
 def head_of(part: Part) -> str:
-    """Says in a line what a ruleset did."""
+    """Returns the first line about a ruleset: how often it fired, and what it killed."""
     if not part.firings:
         return f"{part.name}: never fired"
     killed = [f"{path} at {seconds(moment)} s" for moment, path in part.victims()]
@@ -178,8 +180,8 @@ def choice_lines(it: Choice, is_all: bool) -> list[str]:
 
 
 def firing_lines(found: list[Firing], is_all: bool) -> list[str]:
-    """Returns the lines for firings with their actions. Consecutive firings during the same rest
-    are one line.
+    """Returns the lines for firings with their actions. Consecutive firings during the same pause
+    of the ruleset share a line.
     """
     lines: list[str] = []
     place = 0
@@ -226,7 +228,9 @@ def part_lines(part: Part, is_all: bool) -> list[str]:
 
 
 def nearest(parts: list[Part]) -> Optional[Part]:
-    """Returns the ruleset that came nearest among those that never fired, or None."""
+    """Returns the ruleset that came nearest to firing among those that never fired. None if all
+    fired, or if none came near.
+    """
     missed = [it for it in parts if it.miss and it.miss.part]
     order = sorted(missed, key=lambda it: it.miss.key if it.miss else (0.0, 0.0))
     return order[-1] if order else None

@@ -1,4 +1,4 @@
-"""Finds when rulesets fired, and what their actions did then."""
+"""Finds when rulesets of psi_oomd fired, and what their actions did at these times."""
 from __future__ import annotations
 
 import collections
@@ -16,8 +16,9 @@ from .truths import Place
 
 
 class Firing(NamedTuple):
-    """A firing of a ruleset at a time (ns), and the groups of detectors that were true. If it
-    rested until a later time (ns), no action ran.
+    """A firing of a ruleset at a time (ns): the numbers of the groups of detectors that were true,
+    and what the actions did. After a kill a ruleset pauses: if it paused until a later time (ns),
+    no action ran.
     """
 
     moment: int
@@ -28,7 +29,8 @@ class Firing(NamedTuple):
 
 
 class Chains:
-    """The actions of each ruleset, its kills by time, and the time (ns) until which it rests."""
+    """The actions of each ruleset, its kills by time (ns), and the time (ns) until which it pauses.
+    """
 
     def __init__(self, judged: Judged, kills: list[Kill]) -> None:
         self.actions = [
@@ -53,7 +55,7 @@ class Chains:
                 return
 
     def resting(self, ruleset: int, moment: int) -> Optional[int]:
-        """Returns the time (ns) until which a ruleset rests, or None if it doesn't rest at
+        """Returns the time (ns) until which a ruleset pauses, or None if it doesn't pause at
         `moment` (ns).
         """
         until = self.rests.get(ruleset, 0)
@@ -61,7 +63,8 @@ class Chains:
 
 
 def firings(judged: Judged, kills: list[Kill]) -> list[Firing]:
-    """Returns all firings, in order of time and then of rulesets."""
+    """Returns all firings in order of time. Simultaneous firings are in the order of the rulesets.
+    """
     fired = {number: set(judged.truths[Place(number)]) for number in range(len(judged.json))}
     if not any(fired.values()):
         return []

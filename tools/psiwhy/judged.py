@@ -36,16 +36,17 @@ class Asked(NamedTuple):
         return [f"{name}={value}" for name, value in options if value is not None]
 
     def is_due(self, tick: int) -> bool:
-        """Whether the rules are evaluated at a tick (ns)."""
+        """Returns whether the rules are evaluated at the tick at the time `tick` (ns)."""
         length = (self.tick_ms or TICK_MS) * SECOND // 1000
         interval = (self.interval_s or INTERVAL_S) * SECOND
         return tick // interval > (tick - length) // interval
 
 
 class Judged(NamedTuple):
-    """The outcome of rules on a trace. `json` has the rules as the program parsed them, `asked`
-    the runs that show when detectors were true, and `watches` how near each detector came, by
-    ruleset, group and detector. `host` is the machine's memory (bytes).
+    """The outcome of rules on a trace: the replay `run`; in `json` the rules as the program parsed
+    them; in `asked` the runs that show when detectors were true; and in `watches` how near each
+    detector came to its threshold, by the numbers of its ruleset, its group and itself. `host` is
+    the machine's memory (bytes).
     """
 
     of: Asked
@@ -75,8 +76,8 @@ def read_rules(runs: Runs, asked: Asked) -> tuple[list[dict[str, Any]], Rules]:
 
 
 def judge(runs: Runs, asked: Asked, run: Done) -> Judged:
-    """Evaluates the rules' detectors on a trace. `run` is a replay that prints a report at each
-    evaluation.
+    """Finds when each detector of the rules was true in a trace and how near it came to its
+    threshold. `run` is a replay of the trace with a report at each evaluation.
     """
     values, rules = read_rules(runs, asked)
     before = len(runs.done)

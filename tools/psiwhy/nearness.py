@@ -1,6 +1,4 @@
-"""Measures how near each detector came to its threshold, by the highest value at the
-evaluations.
-"""
+"""Finds the value of each detector that came nearest to its threshold at any evaluation."""
 from __future__ import annotations
 
 from typing import Any, Iterable, NamedTuple, Optional
@@ -30,7 +28,7 @@ class Group(NamedTuple):
 
 class Nearest(NamedTuple):
     """The value nearest to the threshold, the time (ns) at which it was first reached, and the
-    group.
+    path of the group that reached it.
     """
 
     value: int
@@ -40,7 +38,7 @@ class Nearest(NamedTuple):
 
 class Memory:
     """The last samples of groups and of the host at an evaluation, and each group's scan count
-    (pages) at the previous one.
+    (pages) at the previous evaluation.
     """
 
     def __init__(self, trace: str) -> None:
@@ -48,7 +46,7 @@ class Memory:
         self.before: dict[TraceGroup, int] = {}
 
     def go_to(self, moment: int) -> None:
-        """Advances to the evaluation at `moment` (ns) by the events up to then."""
+        """Advances to the evaluation at `moment` (ns), and applies the events up to that time."""
         self.before = {group: scanned(group) for group in self.groups.live.values()}
         for event in self.events.until(moment):
             self.groups.take(*event)
@@ -82,12 +80,13 @@ class Watch:
         )
         self.nearest: Optional[Nearest] = None
         self.has_matched = self.lacks_swap = False
-        # The longest time (ns) for which a pressure was above the threshold, by the printed digits.
+        # The longest time (ns) for which the highest pressure was above the threshold, by the
+        # averages with the two decimals that are printed.
         self.hold = 0
         self.since: Optional[int] = None
 
     def look(self, moment: int, groups: Looked, memory: Memory) -> None:
-        """Updates the nearest value with an evaluation's."""
+        """Updates the nearest value with the values at the evaluation at `moment` (ns)."""
         name = self.plugin.name
         if name == "swap_free":
             host = memory.groups.host
@@ -139,9 +138,9 @@ class Watch:
         )
 
     def nearest_told(self, host: Optional[int], hold: int) -> str:
-        """Says in a sentence's words the nearest value, and its distance from the threshold or,
-        if it was above, by how much its hold was too short. `hold` is the longest time (ns) for
-        which the condition held.
+        """Returns in words the value nearest to the threshold and its distance from the threshold
+        or, if it was above, by how much it was above for too short a time. `hold` is the longest
+        time (ns) for which the condition held.
         """
         name, args = self.plugin
         if self.nearest is None or name in ("exists", "memory_reclaim"):
@@ -167,7 +166,7 @@ class Watch:
         return f"{share(-value)} percent of the swap was free {at}, {limit_shown}"
 
     def wanted(self) -> str:
-        """Says what the detector waits for."""
+        """Returns the detector's condition in words."""
         name, args = self.plugin
         long = lasting(args)
         whom = args.get("cgroup", "")
@@ -184,7 +183,7 @@ class Watch:
         }[name]
 
     def came(self, host: Optional[int]) -> str:
-        """Says how near the detector came to its threshold."""
+        """Returns in words how near the detector came to its threshold."""
         name, args = self.plugin
         if self.nearest is None:
             none = (
@@ -220,13 +219,13 @@ def reached(value: int, limit: int) -> float:
 
 
 def lasting(args: dict[str, str]) -> str:
-    """Says for how long a condition must hold. Empty if it has no duration."""
+    """Returns in words for how long a condition must hold. Empty if it has no duration."""
     return f" for {args['duration']} s" if args.get("duration", "0") != "0" else ""
 
 
 def short_of(args: dict[str, str], hold: int, is_above: bool) -> str:
-    """Says by how much the longest `hold` (ns) above the threshold was too short. Empty if it
-    wasn't.
+    """Returns in words by how much `hold`, the longest time (ns) above the threshold, was too
+    short. Empty if it was long enough.
     """
     missing = int(args.get("duration", "0")) * SECOND - hold
     return (
@@ -245,7 +244,7 @@ def mebibytes(number: int) -> str:
 
 
 def groups_of(reports: list[Report], memory: Memory) -> Looked:
-    """Returns the groups that had reports at an evaluation."""
+    """Returns the groups that had reports at an evaluation, by path."""
     full: dict[str, dict[tuple[str, str], int]] = {}
     for it in reports:
         shares = full.setdefault(it.path, {})
@@ -258,8 +257,9 @@ def groups_of(reports: list[Report], memory: Memory) -> Looked:
 def watch(
     printed: Iterable[bytes], trace: str, evaluations: list[int], watches: list[Watch]
 ) -> Optional[int]:
-    """Passes all evaluations of a replay with a report at each to `watches`. Returns the host's
-    memory (bytes), or None if the trace doesn't have it.
+    """Updates `watches` with each evaluation of a replay. `printed` is its output, which has
+    reports at all `evaluations` (ns). Returns the host's memory (bytes), or None if the trace
+    doesn't contain it.
     """
     memory, due = Memory(trace), set(evaluations)
     reports: list[Report] = []

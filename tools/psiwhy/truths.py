@@ -1,5 +1,5 @@
-"""Finds when detectors were true by running psi_oomd on rulesets with one detector each, which kill
-whenever the detector is true.
+"""Finds when detectors were true. psi_oomd replays the trace with rulesets of a single detector
+each, which kill whenever the detector is true.
 
 A kill changes nothing else in a replay, and an action with a post-action delay of 0 s kills at
 each evaluation. So a ruleset kills exactly when its detector is true. The victim is the root,
@@ -17,15 +17,15 @@ from psireplay.lines import Kill, read
 
 from psireplay.runs import Runs
 
-# The most rulesets in a rules file.
+# The largest number of rulesets in a rules file.
 MOST = 64
 KILL = {"name": "kill_by_memory_size_or_growth", "args": {"cgroup": "/", "post_action_delay": "0"}}
 Detector = dict[str, Any]
 
 
 class Place(NamedTuple):
-    """A ruleset, one of its groups of detectors, and one detector of the group, by indices from
-    0; -1 stands for all of them. With `held` the detector is evaluated without its duration.
+    """A ruleset, one of its groups of detectors, and one detector of the group, by numbers from 0;
+    -1 means all of them. With `held` the condition of the detector counts without its duration.
     """
 
     ruleset: int
@@ -44,8 +44,8 @@ def without_duration(detector: Detector) -> Detector:
 
 
 def has_duration(detector: Detector) -> bool:
-    """Whether the condition must hold for a duration. The duration of memory_reclaim is
-    something else: it says how long a rise counts.
+    """Returns whether a detector's condition must hold for a duration. The argument `duration` of
+    memory_reclaim has another meaning: for how long a rise counts.
     """
     return bool(
         detector["name"] != "memory_reclaim" and detector["args"].get("duration", "0") != "0"
@@ -53,7 +53,7 @@ def has_duration(detector: Detector) -> bool:
 
 
 def questions(rulesets: list[dict[str, Any]]) -> Iterator[tuple[Place, list[list[Any]]]]:
-    """Yields the detectors of the ruleset that psi_oomd evaluates for each place."""
+    """Yields each place of the rules with the detectors of the ruleset that is replayed for it."""
     yield ALWAYS, [["always"]]
     for number, ruleset in enumerate(rulesets):
         yield Place(number), ruleset["detectors"]
@@ -92,7 +92,9 @@ def truths(runs: Runs, rulesets: list[dict[str, Any]], trace: str, pace: list[st
 
 
 def spans(moments: list[int], evaluations: list[int]) -> list[tuple[int, int]]:
-    """Joins consecutive evaluations into spans: the first and last time (ns) of each."""
+    """Joins times of consecutive evaluations into spans. Returns the first and the last time (ns)
+    of each span.
+    """
     places = {moment: place for place, moment in enumerate(evaluations)}
     found: list[tuple[int, int]] = []
     last = -2
