@@ -1,9 +1,9 @@
-# Builds a program by rt, which proves it. tools/launch reads this file.
+# Functions that build a program with rt, which proves the program. tools/launch reads this file.
 
-# Copies what the program is made of. In a copy `rt ci` proves that alone, where in the repository it would also prove the tests and
-# try the must-fail edits; what it proves it keeps for the gate.
+# Copies the crates of the program into "$room/copy". There `rt ci` proves only these crates; in the
+# repository it would also prove the crates of tests and run the must-fail edits.
 copy_parts() {
-    # It is the top of a repository, so that none above it counts.
+    # The folder .git makes the copy the top of a repository for rt, whatever is above it.
     mkdir -p "$room/copy/crates" "$room/copy/.git" && cp "$top/HANDLES" "$room/copy/" || return 1
     parts >"$room/parts"
     awk 'NR == FNR { wanted[$1]; next } { line = $0; sub(/:.*/, ""); if ($1 in wanted) print line }' \
@@ -16,14 +16,16 @@ copy_parts() {
     done <"$room/parts"
 }
 
-# Prints the seconds that a crate takes, by a measurement; the median of all for a crate that is new.
+# Prints for each crate in the file $1 the measured time of its proof (s) and its name. A crate that
+# wasn't measured gets 40 s, about the median.
 weights() {
     awk 'FILENAME ~ /seconds$/ { if ($1 !~ /^#/) seconds[$1] = $2; next } { print ($1 in seconds ? seconds[$1] : 40), $1 }' \
         "$top/tools/launcher/seconds" "$1"
 }
 
-# Prints how far a build is: minutes since its beginning, and minutes in all by the speed so far. Before a tenth is done, that is the
-# time of four processors, or twice as much of two.
+# Prints the progress of a build: the minutes since its beginning, and an estimate of its total
+# minutes. $1 is the weight (s) of the proved crates, and $2 that of all. The estimate uses the speed
+# so far; before a tenth of the weight is done it is 30 minutes for four or more processors.
 progress() {
     awk -v done="$1" -v all="$2" -v begun="$3" -v now="$(date +%s)" -v processors="$processors" 'BEGIN {
         passed = now - begun
@@ -32,7 +34,8 @@ progress() {
     }'
 }
 
-# Reads what rt says of each crate when it is done with it, up to the first that isn't proved.
+# Reads the output of rt from standard input, and prints a line for each proved crate. Returns 1 at
+# the first crate that isn't proved.
 follow() {
     number=0 weight=0
     while IFS= read -r line; do
@@ -52,41 +55,45 @@ follow() {
     done
 }
 
-# Says that another logic than that of these proofs is going to judge them: they may fail there, and nobody has tried it.
+# Warns if rt checks proofs by another version of its logic than the one that checked these sources:
+# the proofs may fail then.
 warn_of_logic() {
     kit=$(rt version 2>/dev/null)
     [ "${kit##* logic }" = "$logic" ] || tell "warning: this kit is '$kit', and all was proved by logic $logic"
 }
 
-# Ends by a signal. What rt proved of a build is kept for the next one.
+# Ends the launcher after a signal. rt keeps the crates that it proved for the next build.
 interrupted() {
     [ ! -s "$room/number" ] || tell "interrupted: $(cat "$room/number") of $count crates are proved and kept, and the next build goes on from there"
     clean
     exit 130
 }
 
-# Ends what is being built or tried, and removes what it left.
+# Ends the build or trial that is running, and removes its temporary folder.
 clean() {
     [ -z "$running" ] || kill "$running" 2>/dev/null
     rm -rf "$room"
     trap - EXIT HUP INT TERM
 }
 
-# Proves each crate from nothing that no earlier run on this machine proved, and has the program built and run once on its own words.
+# Proves those crates of the program that no earlier run on this machine has proved, and links the
+# program. rt also runs the program once with the arguments of its crate.
 prove_and_link() {
     copy_parts || return 1
-    # What rt makes goes with the folder, also when it is stopped. It runs the program as nobody, who must be able to pass here.
+    # rt writes its temporary files into the folder, so that they are removed with it. It runs the
+    # program as the user nobody, who must be able to enter the folder.
     chmod 711 "$room"
     (cd "$room/copy" && TMPDIR="$room" exec rt ci) >"$room/said" 2>&1 &
     running=$!
     follow <"$room/said" && wait "$running" || return 1
     running=''
     mkdir -p "$crate/out" && cp "$room/copy/crates/${name}_main/out/${name}_main" "$program.new" || return 1
-    # What was written since the build began is newer than the program.
+    # The program gets the time at which the build began, so that sources that were edited during the
+    # build are newer than the program.
     touch -r "$room/begun" "$program.new" && mv -f "$program.new" "$program"
 }
 
-# Looks for the toolchain, and makes a folder of this run's own, which goes with it.
+# Checks that rt is installed, and makes a temporary folder, which is removed at the end of the run.
 prepare() {
     processors=$(nproc 2>/dev/null || echo 4)
     command -v rt >/dev/null 2>&1 || { tell "the command rt of the Rattle toolchain is not on the path"; return 1; }
@@ -96,7 +103,7 @@ prepare() {
     trap interrupted HUP INT TERM
 }
 
-# How long a build takes here, for a person: a measurement of four processors and of two.
+# Prints in words how long a build takes on this machine, by measurements on four processors and two.
 how_long() {
     processors=$(nproc 2>/dev/null || echo 4)
     case $processors in
@@ -105,7 +112,7 @@ how_long() {
     esac
 }
 
-# Builds the program. $1 is what to say of how to avoid it.
+# Builds the program. $1 is advice on how to avoid the build, which is printed first; may be empty.
 build() {
     prepare || return 1
     warn_of_logic
@@ -126,7 +133,8 @@ build() {
     return "$is_built"
 }
 
-# Asks a person at a terminal what to do without a program. Sets `answer`: try, build or nothing.
+# Asks the user at a terminal what to do if the program isn't built. Sets `answer` to `try`, `build`
+# or an empty text.
 ask() {
     tell "the program isn't built yet. What now?"
     {

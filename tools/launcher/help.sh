@@ -1,6 +1,6 @@
-# What --help and --version print. tools/launch reads this file.
+# Functions that print --help and --version. tools/launch reads this file.
 
-# The words that are answered here, for --help.
+# Prints the lines of --help about the options that the launcher itself handles.
 own_words() {
     echo "    $name --help        these lines"
     if [ -f "$origin" ]; then
@@ -15,7 +15,8 @@ own_words() {
     echo "    $variable=FILE          in the environment: FILE is run, and nothing is built"
 }
 
-# docs/COMMANDS.md, docs/OBSERVERS.md and docs/CONVERT.md show the commands in the same words.
+# Prints the help of psi_oomd. docs/COMMANDS.md, docs/OBSERVERS.md and docs/CONVERT.md quote the
+# commands of the three programs as they are printed here.
 help_on_psi_oomd() {
     cat <<END
 psi_oomd replays a recorded trace of scheduler events: pressure, triggers and kills.
@@ -66,8 +67,9 @@ Questions of operators:       $documents/OPERATING.md
 END
 }
 
-# What is run: the commit of the sources, and whether files differ from it. A copy without its history, or inside another's, has none.
-# What is installed says what its package was made of, and nothing is known of a program that the variable names.
+# Prints the version and the commit of the sources, and whether files differ from that commit. The
+# commit is unknown in a copy of the sources without their git repository, and for a program that the
+# variable names. An installed copy prints what its package was made of.
 version() {
     if [ -n "$named" ]; then
         case $named in
@@ -84,7 +86,8 @@ version() {
     if [ "$(git -C "$top" rev-parse --show-toplevel 2>/dev/null)" = "$top" ]; then
         commit=$(git -C "$top" describe --always --dirty=', with changes' --abbrev=40 --exclude='*' 2>/dev/null)
     fi
-    # The version is the top heading of the list of changes: `## 1.0 (2026-12-01)`, or a name without a number.
+    # The version is the number in the top heading of CHANGELOG.md, such as `## 1.0 (2026-12-01)`;
+    # empty if the heading has no number.
     version=$(sed -n '/^## /{s/^## \[\{0,1\}\([0-9][0-9A-Za-z.+-]*\).*/\1/p;q;}' "$top/CHANGELOG.md" 2>/dev/null)
     if [ -n "$version" ]; then
         commit=${commit:+commit $commit}

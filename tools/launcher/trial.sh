@@ -1,7 +1,8 @@
-# Runs a program unproved. tools/launch reads this file.
+# Functions that run a program without a proof, a trial. tools/launch reads this file.
 
-# Sets `taken` to what stands for a file in the words of a trial, which runs in another folder: the name of a copy. What can't be read
-# keeps its name, for the program to tell of; the whole path, where rt would find something else by that name.
+# Copies the file $1 for a trial, which runs in another folder, and sets `taken` to the name of the
+# copy. A file that can't be read keeps its name, so that the program reports the error. It gets its
+# whole path if the crate's folder has a file of that name.
 hand_over() {
     taken=$1
     if [ "$kind$1" = trace- ] || { [ -r "$1" ] && [ ! -d "$1" ]; }; then
@@ -13,7 +14,8 @@ hand_over() {
     fi
 }
 
-# Sets `taken` to what a trial has in place of a word. `kind` is what the option before it makes of it.
+# Sets `taken` to the word that a trial gets in place of the word $1. `next` is set by an option to
+# the kind of the word after it: a file, or another value.
 take() {
     taken=$1 kind=$next next=''
     if [ -z "$kind" ]; then
@@ -25,7 +27,7 @@ take() {
         --*) next='value'; return ;;
         esac
         plain=$((plain + 1))
-        # All names from there on are files of psi_convert.
+        # psi_convert has files at this position and after it.
         case $name in
         psi_convert) [ "$plain" -lt "$place" ] || kind='trace' ;;
         *) [ "$plain" -ne "$place" ] || kind='trace' ;;
@@ -34,7 +36,8 @@ take() {
     case $kind in file | trace) hand_over "$1" ;; esac
 }
 
-# Says what came of a trial: what the program wrote, or why there is no answer. rt has lines of its own after the program's.
+# Prints the output of the program in a trial, without the lines that rt adds, or the reason why the
+# trial gave no output. Returns 70 in the latter case.
 tell_of_trial() {
     if grep -q '^run=ended ' "$room/said"; then
         cat "$room/printed"
@@ -48,8 +51,8 @@ tell_of_trial() {
     return 70
 }
 
-# Sets `kept` to where the unproved program of these sources is kept in the user's cache, by the sums of everything that it is made of.
-# Fails if there is no such folder.
+# Sets `kept` to the path of the unproved program in the user's cache. Its name contains a checksum of
+# all sources of the program. Returns 1 if the user has no cache folder.
 find_kept() {
     cache=${XDG_CACHE_HOME:-${HOME:-}/.cache}/psi-oomd
     case $cache in /.cache/* | [!/]*) return 1 ;; esac
@@ -58,7 +61,8 @@ find_kept() {
     kept="$cache/$name-${sum%% *}-unproved"
 }
 
-# Whether a file is the program: it prints its line on faulty words, by its status, and refuses what is no trace.
+# Returns whether the file $1 is a working copy of the program: without arguments it prints its usage
+# with status 1, and it accepts an example trace.
 is_the_program() {
     said=$("$1" 2>&1 </dev/null)
     [ $? -eq 1 ] || return 1
@@ -67,7 +71,8 @@ is_the_program() {
     [ $? -eq 0 ]
 }
 
-# Copies the program that a trial links below its folder, and then runs: the file is there as long as that runs.
+# Copies the program that rt has linked for a trial from the temporary folder to the cache. The file
+# exists only while the trial runs.
 capture() {
     made=$(find "$room" -type f -name program -perm -u+x 2>/dev/null | head -n 1)
     [ -n "$made" ] && cp -- "$made" "$kept.$$" 2>/dev/null && chmod 700 "$kept.$$" && is_the_program "$kept.$$" && return 0
@@ -75,13 +80,14 @@ capture() {
     return 1
 }
 
-# Says how long the wait is by now, each ten seconds.
+# Prints every 20 s how long the build has taken so far.
 tell_of_waiting() {
     passed=$(($(date +%s) - begun))
     [ "$passed" -lt "$next_note" ] || { tell "still building, $passed s; about a minute on an idle machine"; next_note=$((next_note + 20)); }
 }
 
-# Makes the program of these sources that isn't proved, and keeps it: rt builds it for a trial, which it then runs for long.
+# Builds the unproved program of these sources, and stores it in the cache. rt has no command that
+# only builds, so the program is copied during a long trial, which is then ended.
 keep_unproved() {
     find_kept && [ "$name" = psi_oomd ] || return 1
     mkdir -p "$cache" 2>/dev/null && chmod 700 "$cache" && [ -w "$cache" ] || return 1
@@ -100,7 +106,8 @@ keep_unproved() {
     [ "$is_kept" -eq 0 ] && mv -f "$kept.$$" "$kept"
 }
 
-# Runs the program unproved on these words, and ends with its status; with 70 if it gave no answer.
+# Runs the unproved program with these arguments, and ends with its status, or with 70 if it gave no
+# output.
 try_unproved() {
     [ $# -gt 0 ] || { tell "after --try come the program's words, as in ./$name --try $example; or --build"; return 1; }
     is_path=''
@@ -118,7 +125,7 @@ try_unproved() {
     try_once "$@"
 }
 
-# Runs the program that is kept, or prints where it is.
+# Runs the unproved program in the cache, or prints its path after `--try --build`.
 run_kept() {
     if [ -n "$is_path" ]; then printf '%s\n' "$kept"; exit 0; fi
     tell "nothing is proved by this run: it is the unproved program of these sources"
@@ -126,7 +133,8 @@ run_kept() {
     run_program "$@"
 }
 
-# Runs the program unproved on these words alone, within the limits of a trial.
+# Runs the program once as a trial of rt with these arguments, within the limits of a trial. Nothing
+# is stored.
 try_once() {
     count=0 plain=0 next='' has_no_options=''
     for word do

@@ -1,12 +1,14 @@
-# What is wrong with the words of a run, as far as commands, options and files go: their values are for the program to judge.
-# tools/launch reads this file. It starts no other program as long as nothing is wrong, but `head` for the first bytes of a trace.
+# Functions that find errors in the arguments of a run: in commands, options and file names. The
+# program itself checks the values of options. tools/launch reads this file. Unless there is an
+# error, the only command that runs here is `head`, for the first bytes of a trace.
 
 commands='stall check replay gen stress import rules whatif'
 newline='
 '
 
-# Sets `options` to the options of a command, each of which takes a value, and `needed` to those that it can't do without. `role` is
-# what its first plain word names, if it has one.
+# Sets `options` to the options of the command $1, all of which take a value; `needed` to the options
+# that it requires; and `role` to the kind of file that its plain argument names, empty if it takes
+# none.
 set_options_of() {
     options='' needed='' role='trace'
     case $1 in
@@ -20,7 +22,8 @@ set_options_of() {
     esac
 }
 
-# Prints the word of a list that a person may have meant by the first word, or nothing.
+# Prints the word among $2, $3, .. that is most similar to the word $1 by the number of edits, or
+# nothing if none is similar.
 nearest() {
     awk 'function least(a, b) { return a < b ? a : b }
         function distance(a, b, i, j, cost, rows) {
@@ -43,20 +46,21 @@ nearest() {
         }' "$@"
 }
 
-# Says the one thing that is wrong with words: the program looks at no file then.
+# Sets the only hint to an error in the arguments, which replaces all hints about files.
 word_fault() {
     hints='' hint_status=''
     hint 1 "$*"
 }
 
-# Adds a line to what is said of the words. The first one sets the status that the program ends with.
+# Adds a line to `hints`. $1 is the exit status, which counts if no earlier hint has one; the other
+# arguments are the line.
 hint() {
     hint_status=${hint_status:-$1}
     shift
     hints="${hints:+$hints$newline}$*"
 }
 
-# Says that a word is unknown, and which one may be meant.
+# Sets the hint that the word $1 is unknown, and which of the words $2, $3, .. may be meant.
 unknown() {
     case $1 in
     --help | --version) word_fault "$1 comes alone: ./$name $1"; return ;;
@@ -67,7 +71,8 @@ unknown() {
     word_fault "unknown $kind $1${meant:+: did you mean $meant?}"
 }
 
-# Sets `content` to what a file is, by its first bytes, if it is no trace.
+# Sets `content` to a description of the file $1 by its first bytes, or to an empty text if the file
+# may be a trace.
 look_into() {
     content=''
     [ -f "$1" ] || return 0
@@ -90,7 +95,8 @@ look_into() {
     esac
 }
 
-# Looks at a file that the program is going to read: $1 in the role $2.
+# Adds a hint if the program won't be able to read the file $1. $2 says what the file should be, such
+# as `trace`.
 look_at_file() {
     if [ "$1" = - ]; then
         return 0
@@ -108,7 +114,8 @@ look_at_file() {
     fi
 }
 
-# Looks at an option by its name: fails if the command has no such option, or has it already.
+# Checks an option's name. Returns 1, with a hint, if the command has no such option or if the option
+# was already given.
 look_at_option() {
     case $found in *" $1 "*) word_fault "$1 may be given once"; return 1 ;; esac
     case " $options " in *" $1 "*) return 0 ;; esac
@@ -118,7 +125,8 @@ look_at_option() {
     return 1
 }
 
-# Looks at the value of an option, which is a file, a path or a number. The program judges numbers.
+# Adds a hint if the option $1 can't have the value $2: if its file can't be read, or if it takes a
+# whole number and the value isn't one. The program checks the range of numbers.
 look_at_value() {
     case $1,$2 in
     --rules,- | --drop-in,-) hint '' "$1 takes a file's name: standard input is for the trace" ;;
@@ -129,7 +137,7 @@ look_at_value() {
     esac
 }
 
-# Looks at the words after a command.
+# Checks the arguments after a command.
 look_at_rest() {
     option='' found=' ' count=0 has_no_options=''
     for word do
@@ -158,7 +166,7 @@ look_at_rest() {
     look_at_counts
 }
 
-# Looks at what is missing, or too much.
+# Checks that the command has its required options, and as many file names as it takes.
 look_at_counts() {
     [ -z "$option" ] || { word_fault "$option takes a value"; return; }
     missing=''
@@ -177,7 +185,7 @@ look_at_counts() {
     fi
 }
 
-# Looks at the words of psi_convert: a command, a table, and files of pages.
+# Checks the arguments of psi_convert: a command, a table, and files of pages.
 look_at_pages() {
     if [ "${1-}" != events ] || [ $# -lt 3 ]; then word_fault "psi_convert takes the word events and names: TABLE PAGES.."; return; fi
     shift
@@ -191,8 +199,9 @@ look_at_pages() {
     done
 }
 
-# Sets `hints` to what is wrong with these words, a line each, and `hint_status` to the status that the program ends with then. It
-# stays empty if only what is in a trace is wrong: that is for the program to judge.
+# Sets `hints` to the errors in these arguments, one per line, and `hint_status` to the exit status
+# for them. The status stays empty if only the contents of a trace or the value of an option seem
+# wrong, which the program itself checks.
 look_at_words() {
     hints='' hint_status=''
     if [ "$name" = psi_observe ]; then
