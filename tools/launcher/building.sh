@@ -24,8 +24,8 @@ weights() {
 }
 
 # Prints the progress of a build: the minutes since its beginning, and an estimate of its total
-# minutes. $1 is the weight (s) of the proved crates, and $2 that of all. The estimate uses the speed
-# so far; before a tenth of the weight is done it is 30 minutes for four or more processors.
+# minutes. $1 is the weight (s) of the proved crates, and $2 that of all. The estimate uses the
+# speed so far; before a tenth of the weight is done it is 30 minutes for four or more processors.
 progress() {
     awk -v done="$1" -v all="$2" -v begun="$3" -v now="$(date +%s)" -v processors="$processors" 'BEGIN {
         passed = now - begun
@@ -88,8 +88,8 @@ prove_and_link() {
     follow <"$room/said" && wait "$running" || return 1
     running=''
     mkdir -p "$crate/out" && cp "$room/copy/crates/${name}_main/out/${name}_main" "$program.new" || return 1
-    # The program gets the time at which the build began, so that sources that were edited during the
-    # build are newer than the program.
+    # The program gets the time at which the build began, so that sources that were edited during
+    # the build are newer than the program.
     touch -r "$room/begun" "$program.new" && mv -f "$program.new" "$program"
 }
 
@@ -103,7 +103,8 @@ prepare() {
     trap interrupted HUP INT TERM
 }
 
-# Prints in words how long a build takes on this machine, by measurements on four processors and two.
+# Prints in words how long a build takes on this machine, by measurements on four processors and
+# two.
 how_long() {
     processors=$(nproc 2>/dev/null || echo 4)
     case $processors in

@@ -68,8 +68,8 @@ END
 }
 
 # Prints the version and the commit of the sources, and whether files differ from that commit. The
-# commit is unknown in a copy of the sources without their git repository, and for a program that the
-# variable names. An installed copy prints what its package was made of.
+# commit is unknown in a copy of the sources without their git repository, and for a program that
+# the variable names. An installed copy prints what its package was made of.
 version() {
     if [ -n "$named" ]; then
         case $named in

@@ -51,8 +51,8 @@ tell_of_trial() {
     return 70
 }
 
-# Sets `kept` to the path of the unproved program in the user's cache. Its name contains a checksum of
-# all sources of the program. Returns 1 if the user has no cache folder.
+# Sets `kept` to the path of the unproved program in the user's cache. Its name contains a checksum
+# of all sources of the program. Returns 1 if the user has no cache folder.
 find_kept() {
     cache=${XDG_CACHE_HOME:-${HOME:-}/.cache}/psi-oomd
     case $cache in /.cache/* | [!/]*) return 1 ;; esac
@@ -61,8 +61,8 @@ find_kept() {
     kept="$cache/$name-${sum%% *}-unproved"
 }
 
-# Returns whether the file $1 is a working copy of the program: without arguments it prints its usage
-# with status 1, and it accepts an example trace.
+# Returns whether the file $1 is a working copy of the program: without arguments it prints its
+# usage with status 1, and it accepts an example trace.
 is_the_program() {
     said=$("$1" 2>&1 </dev/null)
     [ $? -eq 1 ] || return 1

@@ -6,9 +6,9 @@ commands='stall check replay gen stress import rules whatif'
 newline='
 '
 
-# Sets `options` to the options of the command $1, all of which take a value; `needed` to the options
-# that it requires; and `role` to the kind of file that its plain argument names, empty if it takes
-# none.
+# Sets `options` to the options of the command $1, all of which take a value; `needed` to the
+# options that it requires; and `role` to the kind of file that its plain argument names, empty if
+# it takes none.
 set_options_of() {
     options='' needed='' role='trace'
     case $1 in
@@ -95,8 +95,8 @@ look_into() {
     esac
 }
 
-# Adds a hint if the program won't be able to read the file $1. $2 says what the file should be, such
-# as `trace`.
+# Adds a hint if the program won't be able to read the file $1. $2 says what the file should be,
+# such as `trace`.
 look_at_file() {
     if [ "$1" = - ]; then
         return 0
@@ -114,8 +114,8 @@ look_at_file() {
     fi
 }
 
-# Checks an option's name. Returns 1, with a hint, if the command has no such option or if the option
-# was already given.
+# Checks an option's name. Returns 1, with a hint, if the command has no such option or if the
+# option was already given.
 look_at_option() {
     case $found in *" $1 "*) word_fault "$1 may be given once"; return 1 ;; esac
     case " $options " in *" $1 "*) return 0 ;; esac
