@@ -190,9 +190,9 @@ PREFERENCES = ("none", "prefer", "avoid", "omit")
 RESOURCES = ("io", "memory", "cpu")
 
 
-def at_line(moment_ns: int) -> str:
+def at_line(time_ns: int) -> str:
     """Returns the line with the time at which a snapshot began (CLOCK_MONOTONIC, ns)."""
-    return f"at {moment_ns}"
+    return f"at {time_ns}"
 
 
 # The last line of a snapshot. If it is missing, the file is incomplete.

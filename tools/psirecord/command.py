@@ -13,7 +13,7 @@ from .container_names import ContainerNames
 from .daily import wait_for_room
 from .folder import DiskFull, Folder
 from .hook import run_hook
-from .instance import STATISTICS_SUFFIX, Instance, NotRecorded, recorder_name, remove_left_behind
+from .instance import STATISTICS_SUFFIX, Instance, NotRecorded, recorder_name, remove_leftovers
 from .machine import Machine
 from .options import STATUS_WORD, Service, Status, parser, service_of, status_parser, wanted_of
 from .plain_machine import plain_machine
@@ -117,12 +117,12 @@ def say_machine(folder: Folder, machine: Machine, wanted: Wanted) -> None:
     """Writes the machine's name, processors and time zone, and the offset from event times to the
     time of day.
     """
-    before, realtime, behind = time.monotonic(), time.time(), time.monotonic()
+    before, realtime, after = time.monotonic(), time.time(), time.monotonic()
     folder.say(Key.UNAME, " ".join(os.uname()))
     folder.say(Key.PROCESSORS, str(machine.processors()))
     zone = time.strftime("%z", time.localtime(realtime))
     folder.say(Key.ZONE, f"{zone[:3]}:{zone[3:5]}")
-    folder.say(Key.MOMENT, f"realtime {realtime:.6f} monotonic {(before + behind) / 2:.6f}")
+    folder.say(Key.MOMENT, f"realtime {realtime:.6f} monotonic {(before + after) / 2:.6f}")
     if wanted.is_ring:
         folder.say(Key.RING, wanted.until or "none")
     if wanted.group:
@@ -144,7 +144,7 @@ def record(
                 store_settings(machine, folder, tell)
             names = ContainerNames(machine, tell)
             if wanted.has_containers:
-                names.look()
+                names.collect()
             recorder.begin()
         except (OSError, NotRecorded, DiskFull) as error:
             tell(f"nothing was recorded: {error}")
@@ -158,7 +158,7 @@ def record(
             tell(f"recording {machine.processors()} processors into {folder.path}; Ctrl-C ends it")
             ending = recorder.record()
             if wanted.has_containers:
-                names.look()
+                names.collect()
                 names.store(folder)
             check_statistics(machine, sources, folder, ending)
     if ending:
@@ -248,14 +248,14 @@ def make_ready() -> None:
 
 def print_status(arguments: list[str]) -> Status:
     """Runs the command `record status` and returns the exit status."""
-    given = status_parser().parse_args(arguments)
+    options = status_parser().parse_args(arguments)
     try:
-        if given.textfile:
-            write_textfile(given.textfile, given.folder)
+        if options.textfile:
+            write_textfile(options.textfile, options.folder)
         else:
-            print("\n".join(status_lines(given.folder)))
+            print("\n".join(status_lines(options.folder)))
     except OSError as error:
-        tell(f"{error.filename or given.folder}: {error.strerror}")
+        tell(f"{error.filename or options.folder}: {error.strerror}")
         return Status.FAILED
     return Status.RECORDED
 
@@ -285,7 +285,7 @@ def record_once(
     except (OSError, DiskFull) as error:
         tell(f"nothing was recorded: {error}")
         return Status.FAILED
-    remove_left_behind(machine, tell)
+    remove_leftovers(machine, tell)
     update_textfile(service, above)
     status = record(machine, wanted, service, folder, signals, trigger, condition)
     if service.hook and os.path.isdir(out):
@@ -300,9 +300,9 @@ def main(arguments: list[str] | None = None) -> int:
     if arguments[:1] == [STATUS_WORD]:
         return print_status(arguments[1:])
     words = parser()
-    given = words.parse_args(arguments)
-    wanted, service = wanted_of(given, words), service_of(given)
-    machine = plain_machine(given.root) if given.root else Machine()
+    options = words.parse_args(arguments)
+    wanted, service = wanted_of(options, words), service_of(options)
+    machine = plain_machine(options.root) if options.root else Machine()
     missing = list(machine.missing())
     for what in missing:
         tell(f"there must be {what}")
@@ -310,9 +310,9 @@ def main(arguments: list[str] | None = None) -> int:
         return Status.FAILED
     make_ready()
     signals = Signals()
-    keep(os.path.dirname(os.path.abspath(given.out)), service.limits, tell)
-    if service.daily_limit and not wait_for_room(given.out, service.daily_limit, signals, tell):
+    keep(os.path.dirname(os.path.abspath(options.out)), service.limits, tell)
+    if service.daily_limit and not wait_for_room(options.out, service.daily_limit, signals, tell):
         signals.end_by_it()
-    status = record_once(machine, given.out, wanted, service, signals, given.compress)
+    status = record_once(machine, options.out, wanted, service, signals, options.compress)
     signals.ignore()
     return status

@@ -40,7 +40,7 @@ class ContainerNames:
         # commands are searched in PATH.
         self.root = os.path.dirname(machine.proc).rstrip("/")
 
-    def look(self) -> None:
+    def collect(self) -> None:
         """Runs the command of each runtime that has groups now."""
         paths = [it.path for it in groups(self.machine)]
         for mark, words in COMMANDS:

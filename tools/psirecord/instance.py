@@ -169,7 +169,7 @@ def lost_events(statistics: dict[str, str], is_ring: bool) -> int:
     return sum(int(statistics.get(it, 0)) for it in LOST_STATS if not (is_ring and it == "overrun"))
 
 
-def oldest_moment(statistics: dict[str, str]) -> float:
+def oldest_time_s(statistics: dict[str, str]) -> float:
     """Returns the time (s) of the oldest event in a processor's buffer if older ones were
     overwritten, and 0 otherwise.
     """
@@ -197,7 +197,7 @@ def remover(remove: Callable[[str], None], name: str) -> Callable[[], None]:
     return lambda: remove(name)
 
 
-def remove_left_behind(machine: Machine, tell: Tell) -> None:
+def remove_leftovers(machine: Machine, tell: Tell) -> None:
     """Removes the tracing instances and probes that killed recorders left on the machine. Their
     names contain the pid of a process that no longer exists.
     """

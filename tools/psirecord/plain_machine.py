@@ -102,9 +102,9 @@ class PlainMachine(Machine):
         ):
             raise busy(name)
         with open(f"{self.tracing}/kprobe_events", encoding="ascii") as file:
-            kept = [line for line in file if line.split()[0].partition(":")[2] != name]
+            rest = [line for line in file if line.split()[0].partition(":")[2] != name]
         with open(f"{self.tracing}/kprobe_events", "w", encoding="ascii") as file:
-            file.writelines(kept)
+            file.writelines(rest)
         shutil.rmtree(f"{self.tracing}/events/{name}")
         if not os.listdir(os.path.dirname(f"{self.tracing}/events/{name}")):
             os.rmdir(os.path.dirname(f"{self.tracing}/events/{name}"))

@@ -130,7 +130,7 @@ def attach_plan(types: KernelTypes) -> Plan | None:
     return Plan(Probe.ATTACH, "cgroup_attach_task", fetched)
 
 
-def moment_plans(types: KernelTypes) -> list[Plan]:
+def sample_plans(types: KernelTypes) -> list[Plan]:
     """Returns the probes on psi_show(file, group, resource) and psi_avgs_work(work), in which the
     kernel samples a group's stall times. They cause a few events per second. Returns no probe
     unless both functions are available, since one alone shows only some of the sampling times.
@@ -157,18 +157,18 @@ def add_probes(machine: Machine, group: str, undoing: Undoing, say: Say, has_wak
     if `has_wakeups`. Reports why a probe isn't available.
     """
     types = KernelTypes(read_file(machine.types))
-    switch, attach, moments = switch_plan(types), attach_plan(types), moment_plans(types)
+    switch, attach, samples = switch_plan(types), attach_plan(types), sample_plans(types)
     if not switch:
         say(Key.NO_PROBE, f"psi_task_switch: {machine.types} has no task_struct with pid and in_iowait")
     if not attach:
         say(Key.NO_PROBE, f"cgroup_attach_task: {machine.types} has no such function of three parameters, or no pid of tasks")
-    if not moments:
+    if not samples:
         say(Key.NO_PROBE, f"psi_show, psi_avgs_work: {machine.types} has not both, or with other parameters")
     ready = ready_plan(types) if has_wakeups else None
     if has_wakeups and not ready:
         say(Key.NO_PROBE, f"psi_task_change: {machine.types} has no such function of three parameters, or no pid of tasks")
     sources = Sources()
-    for plan in [*stall_plans(), *(it for it in (switch, interrupt_plan(machine, types), attach, ready) if it), *moments]:
+    for plan in [*stall_plans(), *(it for it in (switch, interrupt_plan(machine, types), attach, ready) if it), *samples]:
         definition, name = plan.definition(group), f"{group}/{plan.name}"
         try:
             undoing.note(f"the probe {name}", probe_remover(machine, name))

@@ -16,7 +16,7 @@ from psirec import layout
 from psirec.layout import Key, Reason
 
 from .folder import DiskFull, Folder
-from .instance import Instance, NotRecorded, lost_events, oldest_moment
+from .instance import Instance, NotRecorded, lost_events, oldest_time_s
 from .probing import Tell
 from .samples import MemorySampler, Reading, Snapshot, read_pressure, take_snapshot
 from .trigger import Trigger
@@ -242,8 +242,8 @@ class Recorder:
             self.folder.write_whole(layout.SNAPSHOT, self.snapshots[-1].text())
         while (
             self.readings
-            and self.readings[0].moment
-            < self.snapshots[0].moment / 1e9 - self.wanted.pressure_seconds
+            and self.readings[0].time_s
+            < self.snapshots[0].time_ns / 1e9 - self.wanted.pressure_seconds
         ):
             self.readings.popleft()
 
@@ -304,14 +304,14 @@ class Recorder:
         """Returns whether the buffers contain all events since the last snapshot. There is no
         snapshot if the first marker couldn't be written.
         """
-        return bool(self.snapshots) and self.snapshots[-1].moment >= self.buffers_begin() * 1e9
+        return bool(self.snapshots) and self.snapshots[-1].time_ns >= self.buffers_begin() * 1e9
 
     def buffers_begin(self) -> float:
         """Returns the time (s) since which the buffers contain all events of all processors."""
         return max(
             [
                 self.start,
-                *(oldest_moment(self.instance.statistics(it)) for it in self.instance.buffers),
+                *(oldest_time_s(self.instance.statistics(it)) for it in self.instance.buffers),
             ]
         )
 
@@ -321,8 +321,8 @@ class Recorder:
         events. Returns False if the events around the trigger's signal were overwritten.
         """
         self.folder.say(Key.RING_START, f"{begin:.6f}")
-        inside = [it for it in self.snapshots if it.moment >= begin * 1e9] or [*self.snapshots][-1:]
-        for snapshot in inside[:1]:
+        inside = [it for it in self.snapshots if it.time_ns >= begin * 1e9]
+        for snapshot in (inside or [*self.snapshots][-1:])[:1]:
             self.folder.write_whole(layout.SNAPSHOT, snapshot.text())
         for reading in self.readings:
             self.folder.append_pressure(reading.text)

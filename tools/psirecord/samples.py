@@ -162,15 +162,15 @@ class MemorySampler:
 
 @dataclass(frozen=True)
 class Reading:
-    """The contents of the pressure files of all groups, read between two markers. `moment` is
+    """The contents of the pressure files of all groups, read between two markers. `time_s` is
     CLOCK_MONOTONIC in s.
     """
 
-    moment: float
+    time_s: float
     text: bytes
 
 
-def read_pressure(machine: Machine, mark: Mark, number: int, moment: float) -> Reading:
+def read_pressure(machine: Machine, mark: Mark, number: int, time_s: float) -> Reading:
     """Reads the pressure files of all groups, between two markers with the reading's `number`.
     The kernel updates a group's totals at each read, so they depend on how often this is done.
     """
@@ -188,7 +188,7 @@ def read_pressure(machine: Machine, mark: Mark, number: int, moment: float) -> R
                 head = layout.sample_line(number, group.path, resource)
                 parts.append(head.encode(errors="surrogateescape") + b"\n" + text)
     mark(layout.pressure_marker(number, is_end=True))
-    return Reading(moment, b"".join(parts))
+    return Reading(time_s, b"".join(parts))
 
 
 # ---------------------------------------------------------------- groups and tasks
@@ -196,18 +196,18 @@ def read_pressure(machine: Machine, mark: Mark, number: int, moment: float) -> R
 
 @dataclass(frozen=True)
 class Snapshot:
-    """The groups and tasks at one time, as lines. `moment` is CLOCK_MONOTONIC in ns, taken before
+    """The groups and tasks at one time, as lines. `time_ns` is CLOCK_MONOTONIC in ns, taken before
     the first group is read.
     """
 
-    moment: int
+    time_ns: int
     lines: list[str]
     unaccounted: set[Group]
 
     def text(self) -> bytes:
         """Returns the contents of the snapshot's file."""
         return "".join(
-            f"{it}\n" for it in [layout.at_line(self.moment), *self.lines, layout.SNAPSHOT_END]
+            f"{it}\n" for it in [layout.at_line(self.time_ns), *self.lines, layout.SNAPSHOT_END]
         ).encode(errors="surrogateescape")
 
 
@@ -247,8 +247,8 @@ def task_line(machine: Machine, number: bytes, group: Group) -> str | None:
     )
 
 
-def take_snapshot(machine: Machine, moment: int) -> Snapshot:
-    """Reads all groups and their threads. `moment` is the time (ns) now."""
+def take_snapshot(machine: Machine, time_ns: int) -> Snapshot:
+    """Reads all groups and their threads. `time_ns` is the time (ns) now."""
     lines, unaccounted = [], set()
     for group in groups(machine):
         lines.append(layout.group_line(group.path, preference(group)))
@@ -262,4 +262,4 @@ def take_snapshot(machine: Machine, moment: int) -> Snapshot:
             line = task_line(machine, number, group)
             if line:
                 lines.append(line)
-    return Snapshot(moment, lines, unaccounted)
+    return Snapshot(time_ns, lines, unaccounted)

@@ -41,7 +41,7 @@ SHOWN = (
 SETTING = re.compile(rb"^\s*(ManagedOOM|OOMPolicy)", re.MULTILINE)
 # The lines of a unit file that are stored: section headings, the settings of systemd-oomd, and the
 # slice of the unit's group.
-KEPT = re.compile(rb"\s*(\[|(ManagedOOM\w*|OOMPolicy|Slice)\s*=)")
+STORED = re.compile(rb"\s*(\[|(ManagedOOM\w*|OOMPolicy|Slice)\s*=)")
 TRUE = (b"1", b"yes", b"y", b"true", b"t", b"on")
 PATIENCE_SECONDS = 10
 
@@ -171,14 +171,14 @@ def settings_alone(text: bytes) -> bytes:
     numbers are unchanged. A line that ends in a backslash continues on the next line that isn't a
     comment.
     """
-    lines, is_kept, goes_on = [], False, False
+    lines, is_stored, goes_on = [], False, False
     for line in text.splitlines():
         if line.lstrip()[:1] in (b"#", b";"):
             lines.append(b"#")
             continue
-        is_kept = is_kept if goes_on else bool(KEPT.match(line))
+        is_stored = is_stored if goes_on else bool(STORED.match(line))
         goes_on = line.endswith(b"\\")
-        lines.append(line if is_kept else b"")
+        lines.append(line if is_stored else b"")
     return b"".join(it + b"\n" for it in lines)
 
 

@@ -64,11 +64,11 @@ class Waiting:
         self.poll.unregister(self.trigger)
         self.trigger = -1
 
-    def until(self, moment: float) -> bool:
-        """Waits until `moment` (CLOCK_MONOTONIC, s), a signal or pressure. Returns whether pressure
+    def until(self, time_s: float) -> bool:
+        """Waits until `time_s` (CLOCK_MONOTONIC, s), a signal or pressure. Returns whether pressure
         came.
         """
-        pause = max(0.0, moment - time.monotonic())
+        pause = max(0.0, time_s - time.monotonic())
         found = [file for file, _ in self.poll.poll(int(pause * 1000 + 0.999))]
         return self.trigger in found and self.signals.came is None
 
@@ -84,11 +84,11 @@ class Job:
     # Otherwise a single late run replaces all of them.
     is_each_due: bool = False
 
-    def run_until(self, moment: float) -> None:
-        """Runs the job once for each turn that is due at `moment`, or once for all if not each is
+    def run_until(self, time_s: float) -> None:
+        """Runs the job once for each turn that is due at `time_s`, or once for all if not each is
         due.
         """
-        while self.due <= moment:
+        while self.due <= time_s:
             self.run()
             self.due += self.period
             if not self.is_each_due:
