@@ -96,21 +96,21 @@ def trigger(word: str) -> Trigger:
 # ---------------------------------------------------------------- the work
 
 
-def read(given: argparse.Namespace) -> Data:
+def read(arguments: argparse.Namespace) -> Data:
     """Reads all samples."""
-    labels: tuple[str, ...] = tuple(filter(None, given.labels.split(",")))
-    averages = True if given.lead is not None else {"yes": True, "no": False, None: None}[given.averages]
-    inputs = Inputs(Naming(dict(given.rename), given.groups, labels), averages)
-    for name in given.files:
+    labels: tuple[str, ...] = tuple(filter(None, arguments.labels.split(",")))
+    averages = True if arguments.lead is not None else {"yes": True, "no": False, None: None}[arguments.averages]
+    inputs = Inputs(Naming(dict(arguments.rename), arguments.groups, labels), averages)
+    for name in arguments.files:
         inputs.read(name)
     return counted(inputs)
 
 
-def span_of(given: argparse.Namespace, data: Data) -> tuple[int, int]:
+def span_of(arguments: argparse.Namespace, data: Data) -> tuple[int, int]:
     """Returns the start and the end of the trace (ns since 1970)."""
     length, wall = data.end - data.start, WallTime(data.start, 0)
     ends = []
-    for option, value, default in (("--from", given.start, 0), ("--to", given.end, length)):
+    for option, value, default in (("--from", arguments.start, 0), ("--to", arguments.end, length)):
         at = default if value is None else time_in(value, wall, length, option)
         must_be_in(option, at, length, "samples")
         ends.append(data.start + at)
@@ -170,19 +170,19 @@ def report(data: Data, made: Made, span: int) -> list[str]:
     return lines
 
 
-def work(given: argparse.Namespace) -> int:
+def work(arguments: argparse.Namespace) -> int:
     """Makes the traces, and returns the exit status."""
-    must_be_writable(given.output)
-    data = read(given)
-    must_see(given.trigger, data)
-    start, end = span_of(given, data)
-    if given.lead is not None and not data.has_averages:
+    must_be_writable(arguments.output)
+    data = read(arguments)
+    must_see(arguments.trigger, data)
+    start, end = span_of(arguments, data)
+    if arguments.lead is not None and not data.has_averages:
         raise Fault("--lead-in needs avg10, avg60 and avg300 at the first samples: these have totals alone")
-    if given.averages == "yes" and not data.has_averages:
+    if arguments.averages == "yes" and not data.has_averages:
         raise Fault("--averages needs avg10 in the samples: these have totals alone")
-    is_shaped = given.averages == "yes" or given.averages is None and data.has_averages and data.every >= LONG
-    options = Options(tuple(given.trigger), (given.lead or 0) // TICK, is_shaped)
-    made = Maker(data, start, end, options, given.lines, Progress(end - start).show).make(given.output)
+    is_shaped = arguments.averages == "yes" or arguments.averages is None and data.has_averages and data.every >= LONG
+    options = Options(tuple(arguments.trigger), (arguments.lead or 0) // TICK, is_shaped)
+    made = Maker(data, start, end, options, arguments.lines, Progress(end - start).show).make(arguments.output)
     for line in report(data, made, end - start):
         complain(f"{line}")
     for at, path, level, total, found in made.wrong[:SHOWN]:

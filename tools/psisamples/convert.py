@@ -1,6 +1,4 @@
-"""Converts rows of samples to a trace, tick by tick. The tasks of each tick cause stalls by which
-the totals of each group grow as in the samples.
-"""
+"""Converts rows of samples to a trace, tick by tick, in which totals grow as in the samples."""
 from __future__ import annotations
 
 from collections import deque
@@ -20,9 +18,8 @@ US = 1000
 TIME = itemgetter(0)
 # The first number of artificial tasks, which is greater than any pid of a kernel.
 FIRST_NUMBER = 4_000_000_000
-# If a group's totals grow by less than this in a tick (ns), the growth is added at the next sample,
-# unless a descendant is active. Averages hardly depend on smaller growth, since they are computed
-# from whole percents of a tick.
+# Growth by less than this in a tick (ns) is added at the next sample, unless a descendant is active:
+# averages hardly show it, since they are computed from whole percents of a tick.
 LEAST = TICK // 100
 # A difference from the wanted total below this (ns) is ignored, so that the ticks between two
 # samples have the same events.
@@ -32,8 +29,7 @@ NEAR = 2
 # Between samples, a memory sample is written only if the size changed by more than a twentieth.
 PARTS = 20
 NEVER = 2**62
-# A pseudo line `tasks NUMBER` among the lines about groups, in whose place the tasks of the group
-# are created.
+# The first word of a pseudo line `tasks NUMBER`, in whose place a group's tasks are created.
 TASKS = "tasks"
 
 
@@ -52,9 +48,7 @@ class Trigger(NamedTuple):
 
 
 class Options(NamedTuple):
-    """The options of a conversion: triggers, the length of the lead-in (ticks), and whether avg10
-    determines how totals grow between samples.
-    """
+    """Options: triggers, the lead-in (ticks), and whether totals grow as avg10 indicates."""
 
     triggers: tuple[Trigger, ...] = ()
     lead: int = 0
@@ -94,18 +88,16 @@ class Conversion:
         self.made_again = self.made_groups = self.first_groups = 0
         self.new: set[int] = set()
         self.ended: set[int] = set()
-        self.seen: set[str] = set()
+        self.known_paths: set[str] = set()
         # The groups that have a sample in the current tick, each with the number of a resource.
         self.sampled: list[tuple[Life, int]] = []
 
     # ---------------------------------------------------------------- groups
 
     def change_groups(self) -> list[str]:
-        """Removes and creates groups after the previous tick. Returns the lines for the trace,
-        without times.
-        """
+        """Removes and creates groups after the previous tick. Returns the lines without times."""
         self.lives.read_until((self.tick + 1) * TICK)
-        ends = [it for it in self.order if it.gone is not None and it.gone <= self.tick]
+        ends = [it for it in self.order if it.end_tick is not None and it.end_tick <= self.tick]
         begins = [it for it in self.lives.born if it.tick <= self.tick]
         self.new = set()
         if not ends and not begins:
@@ -120,16 +112,14 @@ class Conversion:
         return lines
 
     def remove(self, ends: list[Life], lines: list[str]) -> list[Life]:
-        """Removes groups and their descendants. Returns the new groups that continue those
-        descendants that have further samples.
-        """
-        gone = {it.path for it in ends}
+        """Removes groups and their descendants. Returns new groups for those with more samples."""
+        removed = {it.path for it in ends}
         again: list[Life] = []
         for life in sorted(self.order, key=lambda it: -it.path.count("/")):
-            if life.path == ROOT or not (life.path in gone or any(it in gone for it in prefixes(life.path))):
+            if life.path == ROOT or not (life.path in removed or any(it in removed for it in prefixes(life.path))):
                 continue
             self.leave(life, lines)
-            if life.path not in gone:
+            if life.path not in removed:
                 again.append(goes_on(life, self.tick))
                 self.lives.tails[life.path] = again[-1]
         while empty := [it for it in self.live.values() if not it.is_sampled and not self.has_below(it.path)]:
@@ -166,8 +156,8 @@ class Conversion:
             life.number = next(self.groups)
             self.new.add(life.number)
             self.made_groups += 1
-            self.made_again += life.path in self.seen
-            self.seen.add(life.path)
+            self.made_again += life.path in self.known_paths
+            self.known_paths.add(life.path)
             self.tasks[life.number] = Tasks(life.path)
             # Rules choose among groups with a live task, so each has one.
             self.put_back((life.number, "r"), self.task_of((life.number, "r")))
@@ -177,8 +167,7 @@ class Conversion:
         life.start()
 
     def arrange(self) -> None:
-        """Updates the order of the groups, from the deepest up, and the chains of their ancestors.
-        """
+        """Sorts the groups from the deepest up, and computes the chains of their ancestors."""
         self.order = sorted(self.live.values(), key=lambda it: (it.path == ROOT, -it.path.count("/"), it.path))
         chains = {}
         for life in self.order:
@@ -264,9 +253,7 @@ class Conversion:
         return events
 
     def task_of(self, key: Key) -> Task:
-        """Returns a sleeping task of a group and kind: one that another processor no longer uses,
-        or a new one.
-        """
+        """Returns a sleeping task of a group and kind: one that isn't in use, or a new one."""
         free = self.free.get(key)
         if free:
             return free.pop()
@@ -283,8 +270,7 @@ class Conversion:
 
     def wants(self, start: int) -> list[tuple[int, tuple[int, ...]]]:
         """Returns the wanted shares (ns) of each group in the tick that begins at `start` (ns),
-        from the deepest group up. A group without any share is left out, unless a descendant has
-        one.
+        from the deepest up. Groups without shares in themselves or descendants are left out.
         """
         end, active, found = start + TICK, set[int](), []
         chains = self.tree.chains
@@ -333,9 +319,7 @@ class Conversion:
     # ---------------------------------------------------------------- memory
 
     def put_memory(self, time: int, out: list[str]) -> None:
-        """Writes memory samples: one for each reading, and further ones between two readings if a
-        size changes by more than a twentieth.
-        """
+        """Writes memory samples: at each reading, and in between if a size changed much."""
         host = self.lives.host
         at = self.tick * TICK
         is_first = self.tick == 0
@@ -349,9 +333,7 @@ class Conversion:
                 self.put_sample(life, at, time, out)
 
     def put_sample(self, life: Life, at: int, time: int, out: list[str]) -> None:
-        """Writes the memory sample of a group, unless it is equal to the last one or, between two
-        readings, hardly differs from it.
-        """
+        """Writes the memory sample of a group, unless it hardly differs from the last one."""
         found, is_reading = between_samples(life.memory, at)
         last = self.written.get(life.path)
         is_same = last is not None and (found.current, found.swap, found.scans) == (last.current, last.swap, last.scans)
@@ -364,9 +346,7 @@ class Conversion:
     # ---------------------------------------------------------------- comparing
 
     def compare(self) -> None:
-        """Stores the totals that a replay must print at this tick, and counts those totals of the
-        trace that are off.
-        """
+        """Stores the totals that a replay must print at this tick, and counts those that are off."""
         at = self.tick * TICK
         for life, number in self.sampled:
             for level in (2 * number, 2 * number + 1):
@@ -382,9 +362,8 @@ class Conversion:
 
 
 def next_due(samples: deque[Memory], last: Memory) -> int:
-    """Returns the time (ns) until which no memory sample is due after the sample `last`: the time
-    of the next sample if the size hardly changes until then and no page is scanned, and otherwise
-    0.
+    """Returns the time (ns) until which no memory sample is due after the sample `last`: that of
+    the next sample if its size is similar and no page is scanned until then, and otherwise 0.
     """
     if len(samples) < 2:
         return NEVER
@@ -412,9 +391,7 @@ def prefixes(path: str) -> list[str]:
 
 
 def goes_on(life: Life, tick: int) -> Life:
-    """Returns a new group that continues `life` from `tick` on, because an ancestor was created
-    again.
-    """
+    """Returns a new group that continues `life`, because an ancestor was created again."""
     again = Life(life.path, tick, life.is_sampled)
-    again.knots, again.memory, again.last, again.shift, again.gone = life.knots, life.memory, life.last, life.shift, life.gone
+    again.knots, again.memory, again.last, again.shift, again.end_tick = life.knots, life.memory, life.last, life.shift, life.end_tick
     return again

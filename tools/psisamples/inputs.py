@@ -11,7 +11,7 @@ from typing import NamedTuple, TextIO
 from psicli.fault import Fault
 from psicli.times import SECOND
 from psirec.meta import is_recording
-from psireplay.kinds import JSON, RULES, kind_of, told_kind
+from psireplay.kinds import JSON, RULES, kind_of, kind_message
 
 from .metrics import SECOND_ROOT, Metrics, read_dump, read_json
 from .recording import read_folder
@@ -34,7 +34,7 @@ def other_kind(name: str, beginning: str) -> str:
     kind = kind_of(beginning.encode("utf-8", "surrogateescape"))
     if kind and kind.what == JSON:
         return f"it is {RULES}, not {SAMPLES}" if '"rulesets"' in beginning else ""
-    return told_kind(kind, SAMPLES, name)
+    return kind_message(kind, SAMPLES, name)
 
 
 def open_text(name: str) -> TextIO:

@@ -84,7 +84,7 @@ class Reading:
 
 
 class Life:
-    """A group from its creation, after the tick `tick`, to its removal, after the tick `gone`.
+    """A group from its creation, after the tick `tick`, to its removal, after the tick `end_tick`.
     `base` has the totals (ns) in the samples at the group's creation, when its totals in the trace
     are 0.
     """
@@ -92,7 +92,7 @@ class Life:
     def __init__(self, path: str, tick: int, is_sampled: bool) -> None:
         self.path, self.tick, self.is_sampled = path, tick, is_sampled
         self.number = -1
-        self.gone: Optional[int] = None
+        self.end_tick: Optional[int] = None
         self.last = -1
         self.knots: list[deque[Knot]] = [deque() for _ in RESOURCES]
         # By level, in ns: the totals at the creation; the totals that the trace should have at the
@@ -241,7 +241,7 @@ class Lives:
             self.time = max(self.time, time + (MOST_MISSED + 2) * self.every)
         for life in self.tails.values():
             if (
-                life.gone is None
+                life.end_tick is None
                 and life.last < time
                 and life.path != ROOT
                 and self.is_absent(life, self.time)
@@ -258,7 +258,7 @@ class Lives:
                 self.take(reading)
         if len(self.rounds) > MOST_ROUNDS:
             oldest = min(
-                (it.last for it in self.tails.values() if it.gone is None and it.path != ROOT),
+                (it.last for it in self.tails.values() if it.end_tick is None and it.path != ROOT),
                 default=self.time,
             )
             del self.rounds[1 : bisect.bisect_left(self.rounds, oldest) - 1]
@@ -269,7 +269,7 @@ class Lives:
         """
         return any(
             not life.is_known_until(time)
-            and life.gone is None
+            and life.end_tick is None
             and (life.path == ROOT or not self.is_absent(life, self.time))
             for life in self.tails.values()
             if life.is_sampled
@@ -297,21 +297,21 @@ class Lives:
             self.rounds.append(reading.time)
         if (
             life is not None
-            and life.gone is None
+            and life.end_tick is None
             and life.path != ROOT
             and self.is_absent(life, reading.time)
         ):
             self.end(life)
-        if life is not None and life.gone is None and self.has_fallen(life, reading):
+        if life is not None and life.end_tick is None and self.has_fallen(life, reading):
             if life.path == ROOT:
                 life.shift = [
                     total for knots in life.knots for total in (knots[-1][1:3] if knots else (0, 0))
                 ]
             else:
                 self.end(life)
-        if not reading.totals() and (life is None or life.gone is not None):
+        if not reading.totals() and (life is None or life.end_tick is not None):
             return
-        if life is None or life.gone is not None:
+        if life is None or life.end_tick is not None:
             life = self.begin(reading, life)
         life.add(reading)
 
@@ -356,8 +356,8 @@ class Lives:
         path, or None.
         """
         tick = max(0, -(-(reading.time - self.every) // TICK))
-        if before is not None and before.gone is not None:
-            tick = max(tick, before.gone)
+        if before is not None and before.end_tick is not None:
+            tick = max(tick, before.end_tick)
         tick = min(tick, max(0, (reading.time - 1) // TICK))
         is_first = reading.path == ROOT or reading.time <= 0 or not (before or self.has_begun())
         life = Life(reading.path, 0 if is_first else tick, True)
@@ -377,7 +377,7 @@ class Lives:
         """Marks a group as removed at the first tick at or after its last reading. A group that was
         removed before the trace begins is dropped.
         """
-        life.gone = max(life.tick + 1, -(-life.last // TICK))
+        life.end_tick = max(life.tick + 1, -(-life.last // TICK))
         if life.last <= 0 and life in self.born:
             self.born.remove(life)
 

@@ -66,7 +66,7 @@ def text_of(path: str) -> str:
         return ""
 
 
-def spelled(path: str) -> str:
+def trace_path(path: str) -> str:
     """Returns a group's path as traces have it: a byte that can't occur in a path of a trace
     becomes \\xHH, as in systemd's names of units.
     """
@@ -153,7 +153,7 @@ class Machine:
             )
             lines.append(f"{head},/,mem,{used},{swap},0\n")
         for folder in folders(self.groups) if os.path.isdir(self.groups) else ():
-            path = spelled(folder[len(self.groups) :])
+            path = trace_path(folder[len(self.groups) :])
             if path != "/":
                 lines += [
                     pressure_line(f"{head},{path}", it, text_of(f"{folder}/{it}.pressure"))
@@ -241,30 +241,30 @@ def stop(_number: int, _frame: FrameType | None) -> None:
     raise Stopped
 
 
-def run(given: argparse.Namespace) -> int:
+def run(options: argparse.Namespace) -> int:
     """Writes a round at each interval until a signal or the end, and returns the exit status."""
-    machine = Machine(given.root)
+    machine = Machine(options.root)
     if not machine.round(0.0).count(",/,io,"):
         print(
             (
-                f"sample: no pressure files in {given.root}/proc/pressure: the kernel needs"
+                f"sample: no pressure files in {options.root}/proc/pressure: the kernel needs"
                 " CONFIG_PSI, and perhaps psi=1 at boot"
             ),
             file=sys.stderr,
         )
         return FAILED
-    output = Output(given.into, int(given.megabytes * MB), int(given.files))
+    output = Output(options.into, int(options.megabytes * MB), int(options.files))
     for name in (signal.SIGINT, signal.SIGTERM):
         signal.signal(name, stop)
     begin = due = time.monotonic()
     try:
-        while given.seconds is None or due <= begin + given.seconds:
+        while options.seconds is None or due <= begin + options.seconds:
             output.put(machine.round(time.time()))
-            due += given.every * max(1, -(-(time.monotonic() - due) // given.every))
+            due += options.every * max(1, -(-(time.monotonic() - due) // options.every))
             time.sleep(
                 max(
                     0.0,
-                    min(due, due if given.seconds is None else begin + given.seconds)
+                    min(due, due if options.seconds is None else begin + options.seconds)
                     - time.monotonic(),
                 )
             )

@@ -66,15 +66,15 @@ class Metrics:
         if group == ROOT and name.startswith("container_pressure"):
             group = SECOND_ROOT
         found = Column(group, field)
-        told = (
+        text = (
             name
             + "{"
             + ", ".join(f'{key}="{labels[key]}"' for key in sorted(labels) if key != "__name__")
             + "}"
         )
-        if self.series.setdefault(found, told) != told:
+        if self.series.setdefault(found, text) != text:
             raise ValueError(
-                f"two series of one group: {self.series[found]} and {told}: query those of one"
+                f"two series of one group: {self.series[found]} and {text}: query those of one"
                 " machine"
             )
         return found

@@ -42,8 +42,8 @@ ROUNDS = 12
 
 
 class Block:
-    """A block of a group on a processor: its start in the tick and its length (ns), the spans of
-    its tasks' states, the overlays of other groups in `others`, and its segments.
+    """A block of a group on a processor: its start in the tick and its length (ns), the states of
+    its own tasks (`spans`) and of overlays (`others`), and its segments.
     """
 
     __slots__ = ("group", "start", "length", "spans", "others", "segments", "has")
@@ -94,16 +94,14 @@ class Plan:
         self.tree, self.before, self.late = tree, before, late
         self.blocks: list[list[Block]] = []
         self.used: list[int] = []
-        # The weight (ms) and the six times (ns) of the blocks, by group and processor. The blocks
-        # of descendants count.
+        # The weight (ms) and the six times (ns), by group and processor, including descendants.
         self.has: dict[int, dict[int, list[int]]] = {}
         self.where: dict[int, list[int]] = {}
 
     # ---------------------------------------------------------------- blocks
 
     def room(self, processor: int, group: int) -> int:
-        """Returns the length (ms) of the longest block of the group that still fits on a processor.
-        """
+        """Returns the length (ms) that is free on a processor for a block of the group."""
         used = self.used[processor] if processor < len(self.used) else 0
         return ROOM - (used or int(group in self.late))
 
@@ -124,17 +122,13 @@ class Plan:
             places[processor] = list(map(add, before, added)) if before else list(added)
 
     def empty_places(self, group: int) -> Iterator[int]:
-        """Yields the processors without blocks of the group or a descendant. Processors that the
-        group used in the previous tick come first.
-        """
+        """Yields processors without blocks of the group or descendants, those of `before` first."""
         known, last = self.has.get(group, {}), self.before.get(group, ())
         yield from (it for it in last if it not in known)
         yield from (it for it in range(MOST_PROCESSORS) if it not in known and it not in last)
 
     def free_rooms(self, group: int) -> list[int]:
-        """Returns the lengths (ms) that are free on processors without blocks of the group or a
-        descendant, in descending order.
-        """
+        """Returns the lengths (ms) that are free on these processors, in descending order."""
         known = self.has.get(group, {})
         late = int(group in self.late)
         found = [
@@ -144,8 +138,7 @@ class Plan:
 
     def place_alone(self, group: int, times: Times) -> None:
         """Places the block of a group without blocks of descendants, on the processor on which its
-        parent has the least weight: for the parent, two blocks on a processor count as a single
-        block of their total weight.
+        parent has the least weight: for the parent, blocks on a processor count as a single one.
         """
         if group in self.late:
             times = fitted(times, (ROOM - 1) * MS)
@@ -201,8 +194,7 @@ class Plan:
         return done
 
     def lay_over(self, group: int, processor: int, block: Block, over: Overlay, most: int) -> int:
-        """Lays a task over a block for at most `most` ns. Returns for how long (ns) it lies there.
-        """
+        """Lays a task over a block for at most `most` ns. Returns for how many ns it does."""
         done, place = 0, 0
         while place < len(block.segments) and done < most:
             segment = block.segments[place]
@@ -227,9 +219,7 @@ class Plan:
     # ---------------------------------------------------------------- a group above others
 
     def sums(self, group: int) -> tuple[int, list[int]]:
-        """Returns the group's weight (ms), and for each level the sum over processors of weight
-        times time.
-        """
+        """Returns the group's weight (ms), and for each level its sum of weight * time."""
         weight = io_some = io_full = memory_some = memory_full = cpu_some = cpu_full = 0
         for heavy, *times in self.has.get(group, {}).values():
             weight += heavy
@@ -274,9 +264,7 @@ class Plan:
     def least_weight(
         self, group: int, times: Times, weight: int, sums: list[int], levels: Sequence[int]
     ) -> int:
-        """Returns the least weight (ms) with which no share of these levels is too high, limited by
-        the free room.
-        """
+        """Returns the least weight (ms) at which no share is too high, as far as there is room."""
         found = weight
         for level in levels:
             if times[level] and sums[level] > times[level] * found:
@@ -352,10 +340,9 @@ class Plan:
 
 
 class Need(NamedTuple):
-    """The search for further blocks of a group: the wanted shares (ns) at `levels`; the group's
-    present weight (ms) and sums; `least` and `limit`, which bound its new weight (ms); in `base`
-    the weight (ms) and the six times (ns) that it has on the processor of the new blocks; and
-    `room`, the length (ms) of the longest possible block.
+    """The search for further blocks of a group: the wanted shares (ns); the group's weight (ms) and
+    sums; the bounds of its new weight (ms); in `base` its weight (ms) and six times (ns) on the
+    processor of the new blocks; and the length (ms) of the longest possible block.
     """
 
     wanted: Times
@@ -369,10 +356,9 @@ class Need(NamedTuple):
     processor: Optional[int]
 
     def at(self, length: int, count: int) -> tuple[int, int, list[int], Times]:
-        """Returns four properties of `count` new blocks of `length` ms: the group's weight with
-        ballast (ms), the weight by which their times count, the sums that they must add by level,
-        and their times (ns). A block adds (base weight + length) * times + length * base times to
-        the group's sums.
+        """Returns for `count` new blocks of `length` ms: the group's weight with ballast (ms), the
+        weight by which their times count, the sums that they must add, and their times (ns). A
+        block adds (base weight + length) * times + length * base times to the group's sums.
         """
         wanted, added = self.wanted, count * length
         heavy = least = max(self.least, self.weight + added)
@@ -392,9 +378,7 @@ class Need(NamedTuple):
         )
 
     def offer(self, count: int) -> Offer:
-        """Returns the shortest `count` blocks with which the group has its wanted shares, or the
-        longest possible blocks if these don't suffice.
-        """
+        """Returns the shortest `count` blocks that give the group its shares, or the longest."""
         length, base = 1 if count == 1 else self.room, self.base[0]
         for turn in range(ROUNDS):
             heavy, share, rest, times = self.at(length, count)

@@ -99,10 +99,10 @@ def must_be_path(path: str, place: Place) -> None:
     if not path.startswith("/"):
         raise Fault(f"{place}: the group {path!r} doesn't begin with a /: --rename gives it a path")
     if escaped_path(path.encode("utf-8", "surrogateescape")) != path:
-        spelled = escaped_path(path.encode("utf-8", "surrogateescape"))
+        escaped = escaped_path(path.encode("utf-8", "surrogateescape"))
         raise Fault(
             f"{place}: a trace can't name the group {path!r}: rename it, as by --rename"
-            f" '{path}={spelled}'"
+            f" '{path}={escaped}'"
         )
     if len(components) > MOST_COMPONENTS or len(path) > MOST_BYTES:
         raise Fault(

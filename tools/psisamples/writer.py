@@ -78,9 +78,7 @@ class Processor:
             del self.tasks[key]
 
     def change(self, time: int, wanted: dict[Key, str], out: list[Event]) -> None:
-        """Appends the events that bring tasks into these states at `time` (ns since the tick's
-        start). A task that falls asleep, or enters or leaves a memory stall, runs for 0 ns.
-        """
+        """Appends the events that bring tasks into these states, by turns of 0 ns if necessary."""
         cpu, tasks, runs = self.number, self.tasks, self.runs
         changed, turns, last = list[Task](), list[Task](), None
         for key, state in wanted.items():
