@@ -85,14 +85,14 @@ def version_of(commit: str, is_changed: bool) -> str:
     return version + ("+changes" if is_changed else "")
 
 
-def kit_of(given: argparse.Namespace) -> str:
+def kit_of(options: argparse.Namespace) -> str:
     """Returns the line that says which toolchain proved the programs: the one that --kit names, or
     the installed one. With --unproved the line says that the programs are unproved.
     """
-    if given.unproved:
+    if options.unproved:
         return UNPROVED
-    if given.kit:
-        return f"proved by {given.kit}"
+    if options.kit:
+        return f"proved by {options.kit}"
     try:
         return f"proved by {said_by(['rt', 'version']).strip()}"
     except OSError as fault:
@@ -101,11 +101,11 @@ def kit_of(given: argparse.Namespace) -> str:
         ) from None
 
 
-def programs_named(given: argparse.Namespace) -> dict[str, bytes]:
+def programs_named(options: argparse.Namespace) -> dict[str, bytes]:
     """Returns the bytes of the programs. Builds those whose paths aren't given. A program whose
     path is given must be identical to the program that was built and proved here.
     """
-    paths = dict(zip(PROGRAMS, (given.program, given.observer)))
+    paths = dict(zip(PROGRAMS, (options.program, options.observer)))
     found = {
         name: bytes_of(path or built_program(os.path.join(TOP, name)))
         for name, path in paths.items()
@@ -114,7 +114,7 @@ def programs_named(given: argparse.Namespace) -> dict[str, bytes]:
         least_libc(name, found[name])
         if path:
             check_name(name, path)
-        if path and not given.unproved and found[name] != built_bytes(name):
+        if path and not options.unproved and found[name] != built_bytes(name):
             raise Fault(
                 f"{path} isn't the {name} that was proved here, {built_path(name)}:"
                 f" ./{name} --build makes that; with --unproved the package says that nobody proved"
@@ -238,7 +238,7 @@ def facts_of(programs: dict[str, bytes]) -> Facts:
     commit, is_changed = git("rev-parse", "HEAD"), bool(
         git("status", "--porcelain", "--untracked-files=no")
     )
-    told = f"{commit}, with changes" if is_changed else commit
+    commit_text = f"{commit}, with changes" if is_changed else commit
     libc = max(
         (least_libc(name, data) for name, data in programs.items()),
         key=lambda it: [*map(int, it.split("."))],
@@ -247,7 +247,7 @@ def facts_of(programs: dict[str, bytes]) -> Facts:
     if not said.isdecimal():
         raise Fault(f"SOURCE_DATE_EPOCH is {said!r}, which is no number of seconds")
     maintainer = git("log", "-1", "--format=%an <%ae>")
-    return Facts(version_of(commit, is_changed), told, libc, maintainer, int(said))
+    return Facts(version_of(commit, is_changed), commit_text, libc, maintainer, int(said))
 
 
 def parser() -> Parser:
@@ -268,12 +268,12 @@ def parser() -> Parser:
 
 def make() -> int:
     """Builds both files, and prints their checksums."""
-    given = parser().parse_args()
-    if given.unproved and given.kit:
+    options = parser().parse_args()
+    if options.unproved and options.kit:
         raise Fault("--unproved and --kit exclude each other")
-    programs = programs_named(given)
+    programs = programs_named(options)
     facts = facts_of(programs)
-    members = files_of(programs, facts, kit_of(given))
+    members = files_of(programs, facts, kit_of(options))
     name = f"{NAME}_{facts.version}_{ARCHITECTURE}"
     made = {
         f"{name}.deb": package_of(members, facts),
@@ -281,9 +281,9 @@ def make() -> int:
             tar_of(members, f"{NAME}-{facts.version}", facts.seconds), facts.seconds
         ),
     }
-    os.makedirs(given.into, exist_ok=True)
+    os.makedirs(options.into, exist_ok=True)
     for file, data in made.items():
-        with open(os.path.join(given.into, file), "wb") as stream:
+        with open(os.path.join(options.into, file), "wb") as stream:
             stream.write(data)
         print(f"{hashlib.sha256(data).hexdigest()}  {file}")
     return Status.DONE

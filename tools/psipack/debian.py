@@ -73,7 +73,7 @@ if [ -d /run/systemd/system ]; then
     systemctl --system daemon-reload >/dev/null || true
 fi
 """
-BEHIND_UNPACKING = f"""\
+AFTER_UNPACKING = f"""\
 #!/bin/sh
 set -e
 {RELOADS}"""
@@ -88,7 +88,7 @@ fi
 """
 # If a service was enabled, systemd has a link that no package owns. Recordings aren't removed,
 # since they belong to the machine's owner.
-BEHIND_REMOVAL = f"""\
+AFTER_REMOVAL = f"""\
 #!/bin/sh
 set -e
 if [ "$1" = remove ] || [ "$1" = purge ]; then
@@ -165,9 +165,9 @@ def control_of(members: list[Member], facts: Facts) -> list[Member]:
     return [
         Member("control", said.encode()),
         Member("md5sums", "".join(sums).encode()),
-        Member("postinst", BEHIND_UNPACKING.encode(), 0o755),
+        Member("postinst", AFTER_UNPACKING.encode(), 0o755),
         Member("prerm", BEFORE_REMOVAL.encode(), 0o755),
-        Member("postrm", BEHIND_REMOVAL.encode(), 0o755),
+        Member("postrm", AFTER_REMOVAL.encode(), 0o755),
     ]
 
 

@@ -47,23 +47,23 @@ def page_of(tool: Tool, about: Help, commands: dict[str, Help], date: str, sourc
     lines += [CALL.format(name=name, words=escaped(words)) for words in calls]
     examples = [it.partition("\n")[2] for it in about.before if it.startswith(EXAMPLES)]
     said, statuses = parted(without_places(about.before))
-    notes, more = parted(without_places(about.behind))
+    notes, more = parted(without_places(about.after))
     lines += [".SH EXAMPLES\n", *map(paragraph, examples)] if examples else []
     lines += [".SH DESCRIPTION\n", *map(paragraph, said)]
     lines += items_of(about.arguments) if not commands else []
     for command, found in commands.items():
         lines.append(f".SH {escaped(command.upper())}\n")
-        behind = without_places(found.behind)
+        after = without_places(found.after)
         lines += [
             *map(paragraph, found.before),
             *items_of(found.arguments + found.options),
-            *map(paragraph, behind),
+            *map(paragraph, after),
         ]
     lines += [".SH OPTIONS\n", *items_of(about.options)] if not commands else []
     for title, paragraphs in (("NOTES", notes), ("EXIT STATUS", statuses + more)):
         lines += [f".SH {title}\n", *map(paragraph, paragraphs)] if paragraphs else []
     page = next(
-        (it.removeprefix(READ_ON) for it in about.behind if it.startswith(READ_ON)), FIRST_PAGE
+        (it.removeprefix(READ_ON) for it in about.after if it.startswith(READ_ON)), FIRST_PAGE
     )
     return "".join([*lines, SEE_ALSO.format(page=page)]).encode()
 

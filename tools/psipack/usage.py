@@ -47,7 +47,7 @@ class Help:
     arguments: list[Item] = field(default_factory=list)
     options: list[Item] = field(default_factory=list)
     commands: list[Item] = field(default_factory=list)
-    behind: list[str] = field(default_factory=list)
+    after: list[str] = field(default_factory=list)
 
 
 def said_by(words: list[str]) -> str:
@@ -78,7 +78,7 @@ def help_in(text: str) -> Help:
         elif title:
             read_items(rest, found.options, [])
         else:
-            (found.behind if found.options else found.before).append(block)
+            (found.after if found.options else found.before).append(block)
     if not found.options:
         raise Fault(f"no option stands in this help:\n{text}")
     return found
