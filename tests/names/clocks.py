@@ -8,7 +8,7 @@ from shared.rooms import Room
 
 from psicli.fault import Fault
 from psicli.times import SECOND, wall_time
-from psinames.clock import in_zone, time_given, time_in, wall_text, zone_name
+from psinames.clock import in_zone, trace_time, time_in, wall_text, zone_name
 from psinames.groups import GroupNames
 from psirec.containers import names_in
 
@@ -43,20 +43,20 @@ def check_times_of_day(_: Room) -> None:
     """A time of day is the first one after the trace's start, in its zone."""
     for start, word, wanted in TIMES:
         must_be(f"{word} in a trace from {start}",
-                time_in(time_given(word), wall_time(start), 3600 * SECOND, "--at"), wanted * SECOND)
+                time_in(trace_time(word), wall_time(start), 3600 * SECOND, "--at"), wanted * SECOND)
     for start, word, wanted_text in OUTSIDE:
-        said = said_by(time_in, time_given(word), wall_time(start), 3600 * SECOND, "--at")
+        said = said_by(time_in, trace_time(word), wall_time(start), 3600 * SECOND, "--at")
         must_be(f"{word} in a trace from {start}: {said}",
                 (said.startswith(f"--at {word}"), wanted_text in said), (True, True))
     must_be(
         "without a start",
         "nothing says when the trace began"
-        in said_by(time_in, time_given("14:03"), None, 1, "--at"),
+        in said_by(time_in, trace_time("14:03"), None, 1, "--at"),
         True,
     )
     for word in MALFORMED:
         if word != "14":
-            must_be(f"{word} is rejected", said_by(time_given, word) != "", True)
+            must_be(f"{word} is rejected", said_by(trace_time, word) != "", True)
 
 
 def check_zones(_: Room) -> None:

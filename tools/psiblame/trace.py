@@ -15,7 +15,7 @@ from typing import Iterator, NamedTuple
 
 from psicli.fault import Fault
 from psicli.status import ProgramStatus
-from psireplay.kinds import folder_told, why_refused
+from psireplay.kinds import folder_message, why_refused
 from psireplay.program import ADVICE, LAUNCHER, built_program, program_path
 from psireplay.trace import cpus_in, end_in
 
@@ -83,7 +83,7 @@ def stalls(file: str, name: str) -> Stalls:
         ) from None
     said = why_refused(done.stderr.strip(), file, name)
     if os.path.isdir(file):
-        raise Fault(folder_told(name), ProgramStatus.READ_FAULT)
+        raise Fault(folder_message(name), ProgramStatus.READ_FAULT)
     if done.returncode in MESSAGES:
         raise Fault(MESSAGES[done.returncode].format(name=name, said=said), done.returncode)
     lines = done.stdout.splitlines(keepends=True)

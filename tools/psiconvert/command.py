@@ -31,7 +31,7 @@ from psifold.check import Different
 from psifold.words import Folding, add_window, folding_lines, folding_of, is_longer
 from psifold.world import NotATrace
 from psiftrace.text import read_text
-from psinames.clock import Given, in_zone
+from psinames.clock import TraceTime, in_zone
 from psinames.companion import Companion, companion_of, digest_of
 from psinames.companion import write as write_file
 from psinames.known import add_times, must_fit, span_in
@@ -72,9 +72,9 @@ class Options(NamedTuple):
     output: str | None
     processors: int | None
     method: Method | None
-    start: Given | None
-    end: Given | None
-    at: Given | None
+    start: TraceTime | None
+    end: TraceTime | None
+    at: TraceTime | None
     window: int | None
     wall: WallTime | None
     tz: str | None

@@ -118,8 +118,8 @@ def events() -> int:
     words = Parser(__doc__)
     words.add_argument("recording", metavar="RECORDING", help="the folder of a recording")
     words.add_argument("--table", action="store_true", help="print the table, and no events")
-    given = words.values()
-    folder = given["recording"]
+    values = words.values()
+    folder = values["recording"]
     if os.path.exists(folder) and not os.path.isdir(folder):
         raise Unreadable(f"{folder}: a recording is a folder")
     meta = meta_of(folder)
@@ -127,7 +127,7 @@ def events() -> int:
     if fault:
         raise Unreadable(fault)
     table = table_of(folder)
-    if given["table"]:
+    if values["table"]:
         write(table.encode("utf-8", "surrogateescape"))
         return Status.DONE
     return print_events(folder, meta, table)

@@ -10,7 +10,7 @@ from typing import NamedTuple, Optional
 from .lives import Life
 
 # The number of processes that are stored for each group and window.
-KEPT = 3
+MOST_PROCESSES = 3
 
 
 class Process(NamedTuple):
@@ -96,4 +96,4 @@ def busiest(window: int, ran: dict[tuple[str, Life], int]) -> Iterator[Busy]:
             groups.setdefault(path, []).append(Process(leader.process, leader.name, time))
     for path, processes in sorted(groups.items()):
         processes.sort(key=lambda it: (-it.ran, it.number))
-        yield Busy(window, path, sum(it.ran for it in processes), tuple(processes[:KEPT]))
+        yield Busy(window, path, sum(it.ran for it in processes), tuple(processes[:MOST_PROCESSES]))

@@ -24,7 +24,7 @@ class TimeOfDay(NamedTuple):
 
 
 # A time in a trace as people write it: ns since the start, a time of day, or a time with a date.
-Given = Union[int, TimeOfDay, WallTime]
+TraceTime = Union[int, TimeOfDay, WallTime]
 
 
 def time_of_day(word: str) -> Optional[TimeOfDay]:
@@ -41,7 +41,7 @@ def time_of_day(word: str) -> Optional[TimeOfDay]:
     return TimeOfDay(hour * HOUR + minute * MINUTE + second * SECOND + part, word)
 
 
-def time_given(word: str) -> Given:
+def trace_time(word: str) -> TraceTime:
     """Parses a time: seconds since the start of the trace, a time of day, or a date and time."""
     if "T" in word:
         return wall_time(word)
@@ -113,31 +113,31 @@ def span_text(wall: WallTime, length: int) -> str:
     return f"from {begin} on {first.day} {first.date.tm_year} to {end}{day}, {zone(wall.ahead)}"
 
 
-def given_text(given: Given) -> str:
+def time_text(value: TraceTime) -> str:
     """Formats a time as the user wrote it."""
-    if isinstance(given, TimeOfDay):
-        return given.text
-    return wall_text(given) if isinstance(given, WallTime) else seconds(given)
+    if isinstance(value, TimeOfDay):
+        return value.text
+    return wall_text(value) if isinstance(value, WallTime) else seconds(value)
 
 
 def time_in(
-    given: Given, wall: Optional[WallTime], length: int, option: str, after: int = 0
+    value: TraceTime, wall: Optional[WallTime], length: int, option: str, after: int = 0
 ) -> int:
     """Converts a time to ns since the start of a trace that began at `wall` and is `length` ns
     long. A time of day means its first occurrence after the start, which may be up to `after` ns
     past the end. Raises a Fault if the time isn't in the trace.
     """
-    if isinstance(given, int):
-        return given
+    if isinstance(value, int):
+        return value
     if not wall:
         why = "is a time of day, and nothing says when the trace began"
         advice = "say by --start when it began, or make the trace with psitrace -o"
-        raise Fault(f"{option} {given_text(given)} {why}: {advice}", Status.NO_TIME)
-    if isinstance(given, WallTime):
-        at = given.epoch - wall.epoch
+        raise Fault(f"{option} {time_text(value)} {why}: {advice}", Status.NO_TIME)
+    if isinstance(value, WallTime):
+        at = value.epoch - wall.epoch
     else:
-        at = (given.since_midnight - wall.epoch - wall.ahead) % DAY
+        at = (value.since_midnight - wall.epoch - wall.ahead) % DAY
     if not 0 <= at <= length + after:
         why = f"isn't in the trace, which was recorded {span_text(wall, length)}"
-        raise Fault(f"{option} {given_text(given)} {why}", Status.NO_TIME)
+        raise Fault(f"{option} {time_text(value)} {why}", Status.NO_TIME)
     return at

@@ -14,7 +14,7 @@ from psicli.times import DAY, SECOND, WallTime, seconds
 from psicli.values import nanoseconds
 from psirec.containers import names_in
 
-from .clock import Given, in_zone, time_given, time_in, zone_name
+from .clock import TraceTime, in_zone, trace_time, time_in, zone_name
 from .companion import Companion, find
 from .groups import GroupNames
 from .text import escaped
@@ -67,9 +67,9 @@ def add_clock(parser: Parser) -> None:
 
 def add_times(parser: Parser) -> None:
     """Adds the options that select a part of a trace."""
-    parser.add_argument("--from", dest="start", type=time_given, metavar="T", help=HELP["from"])
-    parser.add_argument("--to", dest="end", type=time_given, metavar="T", help=HELP["to"])
-    parser.add_argument("--at", type=time_given, metavar="T", help=HELP["at"])
+    parser.add_argument("--from", dest="start", type=trace_time, metavar="T", help=HELP["from"])
+    parser.add_argument("--to", dest="end", type=trace_time, metavar="T", help=HELP["to"])
+    parser.add_argument("--at", type=trace_time, metavar="T", help=HELP["at"])
     parser.add_argument("--window", type=nanoseconds, metavar="S", help=HELP["window"])
     add_clock(parser)
 
@@ -142,11 +142,11 @@ def span_in(
     return Span(start, end)
 
 
-def end_in(given: Given, wall: Optional[WallTime], length: int) -> int:
+def end_in(value: TraceTime, wall: Optional[WallTime], length: int) -> int:
     """Returns the end of a part (ns), at most the end of the trace. A time of day may be up to
     half a day after the end.
     """
-    return min(time_in(given, wall, length, "--to", DAY // 2), length)
+    return min(time_in(value, wall, length, "--to", DAY // 2), length)
 
 
 def must_be_in(option: str, at: int, length: int, what: str) -> None:

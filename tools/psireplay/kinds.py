@@ -75,7 +75,7 @@ def file_kind(path: str) -> Optional[Kind]:
         return None
 
 
-def told_kind(kind: Optional[Kind], expected: str, name: str) -> str:
+def kind_message(kind: Optional[Kind], expected: str, name: str) -> str:
     """Returns the part of a message that says what a file is instead of `expected`. Empty if the
     kind isn't known, or if it is the expected one.
     """
@@ -93,7 +93,7 @@ def what_it_is(path: str, expected: str, name: Optional[str] = None) -> str:
     """Returns the part of a message that says what the file at `path` is instead of `expected`.
     Empty if its kind isn't known. `name` is the name that messages use, if it isn't the path.
     """
-    return told_kind(file_kind(path), expected, path if name is None else name)
+    return kind_message(file_kind(path), expected, path if name is None else name)
 
 
 def why_refused(said: str, path: str, name: Optional[str] = None) -> str:
@@ -107,7 +107,7 @@ def why_refused(said: str, path: str, name: Optional[str] = None) -> str:
     return f"{said}: {found}" if found else said
 
 
-def folder_told(name: str) -> str:
+def folder_message(name: str) -> str:
     """Returns the message about a folder that was given in place of a trace."""
     if is_recording(name):
         return f"{name} is a recording: `tools/psitrace {name}` makes a trace of it"

@@ -6,7 +6,7 @@ from typing import Iterable, Iterator, NamedTuple, Optional, Union
 
 from psicli.fault import Fault
 
-from .kinds import REPLAY, kind_of, told_kind
+from .kinds import REPLAY, kind_of, kind_message
 
 RESOURCES = ("io", "memory", "cpu", "irq")
 LEVELS = ("some", "full")
@@ -152,7 +152,7 @@ def refused(number: int, text: bytes) -> Fault:
     """Returns the error for a line that replay can't print at this point. For the first line the
     message says what the input is instead.
     """
-    found = told_kind(kind_of(text), REPLAY, "FILE") if number == 1 else ""
+    found = kind_message(kind_of(text), REPLAY, "FILE") if number == 1 else ""
     if found:
         return Fault(f"the input: {found}")
     shown = repr(text[:SHOWN].decode("latin-1").rstrip("\n")) + (".." if len(text) > SHOWN else "")

@@ -100,9 +100,9 @@ def finish(run: subprocess.Popen[bytes], notes: IO[bytes], what: str, name: str)
     if status:
         notes.seek(0)
         said = notes.read().decode("utf-8", "replace").strip() or f"its status is {status}"
-        told = why_refused(said, name)
+        why = why_refused(said, name)
         raise Fault(
-            f"psi_oomd {'refuses' if status in REFUSALS else 'failed on'} {what} {name}: {told}"
+            f"psi_oomd {'refuses' if status in REFUSALS else 'failed on'} {what} {name}: {why}"
         )
     return printed
 
@@ -122,9 +122,9 @@ def opened(name: str) -> IO[bytes]:
 def accepted_rules(name: str) -> bytes:
     """Returns the bytes of a rules file. Raises a Fault if the program rejects it."""
     with opened(name) as rules:
-        given = rules.read()
+        data = rules.read()
     with tempfile.NamedTemporaryFile(suffix=".json") as file, tempfile.TemporaryFile() as notes:
-        file.write(given)
+        file.write(data)
         file.flush()
         run = start(["replay", "-", "--rules", file.name], notes)
         assert run.stdin
@@ -133,7 +133,7 @@ def accepted_rules(name: str) -> bytes:
         except BrokenPipeError:
             pass  # A rejected rules file ends the run before the trace is read.
         finish(run, notes, "the rules file", name)
-    return given
+    return data
 
 
 class CheckedTrace:

@@ -15,7 +15,7 @@ from psicli.parser import Parser, tool_name
 from psicli.status import ProgramStatus
 from psicli.values import whole_number
 
-from .kinds import REPLAY, file_kind, folder_told, why_refused
+from .kinds import REPLAY, file_kind, folder_message, why_refused
 from .program import ADVICE, LAUNCHER, built_program, program_path
 
 TRACE_HELP = (
@@ -37,8 +37,8 @@ def add_report(parser: Parser) -> None:
 
 def words_of(trace: str, values: Mapping[str, Any], report_s: int) -> list[str]:
     """Returns the arguments of `psi_oomd` for a replay with a tool's options."""
-    given = {name: values[name] for name in OPTIONS if values.get(name) is not None}
-    options = {"report_s": report_s, **given}
+    chosen = {name: values[name] for name in OPTIONS if values.get(name) is not None}
+    options = {"report_s": report_s, **chosen}
     words = [f"{OPTIONS[name]}={value}" for name, value in options.items()]
     rules = [f"--rules={values['rules']}"] if values.get("rules") is not None else []
     return ["replay", *words, *rules, "--", trace]
@@ -92,7 +92,7 @@ def must_have_ended(
     notes.seek(0)
     said = notes.read().decode("utf-8", "replace").strip() or f"its status is {status}"
     if os.path.isdir(trace):
-        raise Fault(folder_told(trace))
+        raise Fault(folder_message(trace))
     if status == ProgramStatus.NO_FILE:
         raise Fault(said)
     name = rules if rules is not None and status == ProgramStatus.RULES_REFUSED else trace

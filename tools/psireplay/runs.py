@@ -31,7 +31,7 @@ class Done(NamedTuple):
     status: int
     said: str
     output: IO[bytes]
-    given: str = ""
+    rules_text: str = ""
 
     def lines(self) -> Iterator[bytes]:
         self.output.seek(0)
@@ -75,7 +75,7 @@ class Runs:
         path = os.path.join(TOP, "tools", name)
         return self.run([sys.executable, path, *words], [f"tools/{name}", *words], taken)
 
-    def run(self, words: list[str], told: list[str], taken: tuple[int, ...]) -> Done:
+    def run(self, words: list[str], shown: list[str], taken: tuple[int, ...]) -> Done:
         output = tempfile.TemporaryFile()
         environment = {**os.environ, "PSI_OOMD": self.path, "PYTHONDONTWRITEBYTECODE": "1"}
         try:
@@ -88,8 +88,9 @@ class Runs:
         if done.returncode not in taken:
             said = why_refused(said, refused_file(words, said))
             status = done.returncode if done.returncode > 0 else Status.FAILED
-            raise Fault(f"{shlex.join(told)}: {said or f'its status is {done.returncode}'}", status)
-        found = Done(len(self.done) + 1, shlex.join(told), done.returncode, said, output)
+            why = said or f"its status is {done.returncode}"
+            raise Fault(f"{shlex.join(shown)}: {why}", status)
+        found = Done(len(self.done) + 1, shlex.join(shown), done.returncode, said, output)
         self.done.append(found)
         return found
 

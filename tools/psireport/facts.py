@@ -16,7 +16,7 @@ from psicli.times import SECOND, WallTime, seconds
 from psinames.clock import in_zone
 from psinames.groups import GroupNames
 from psinames.known import known_of
-from psireplay.kinds import folder_told
+from psireplay.kinds import folder_message
 from psireplay.lines import RESOURCES, Kill
 from psireplay.rules import unmatched
 from psireplay.runs import Done, Runs
@@ -271,7 +271,7 @@ def must_be_files(given: Given) -> None:
         if not os.path.exists(name):
             raise Fault(f"there is no {what} {name}", ProgramStatus.NO_FILE)
         if os.path.isdir(name):
-            said = folder_told(name) if name == given.trace else f"the {what} {name} is a folder"
+            said = folder_message(name) if name == given.trace else f"the {what} {name} is a folder"
             raise Fault(said, ProgramStatus.READ_FAULT)
     if given.recording is not None and not os.path.isdir(given.recording):
         raise Fault(f"the recording {given.recording} isn't a folder", ProgramStatus.NO_FILE)

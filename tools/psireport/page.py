@@ -55,8 +55,8 @@ def made(page: Element, facts: Facts, runs: Runs) -> None:
         status = f" (status {run.status})" if run.status else ""
         line = add(commands, "li", id=f"command-{run.number}")
         say(line, "code", run.words).tail = status
-        if run.given:
-            say(folded(line, "DETECTORS.json"), "pre", run.given)
+        if run.rules_text:
+            say(folded(line, "DETECTORS.json"), "pre", run.rules_text)
     if facts.judged:
         what = (
             "DETECTORS.json has a ruleset for each detector, which kills whenever it is true: so"

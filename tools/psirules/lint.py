@@ -10,7 +10,7 @@ from psicli.fault import Fault
 from psicli.running import complain
 from psicli.status import Status
 from psicli.wording import quoted
-from psireplay.kinds import RULES, kind_of, told_kind
+from psireplay.kinds import RULES, kind_of, kind_message
 from psirules import oomd_notes, telling
 from psirules.mending import Finding, Kind, Mender
 from psirules.program import Program, Refusal
@@ -95,9 +95,8 @@ class Linted:
         try:
             reading = Reading(data)
         except Fault as fault:
-            found = (
-                told_kind(kind_of(data), RULES, "FILE") or f"{fault}: oomd doesn't take this either"
-            )
+            known = kind_message(kind_of(data), RULES, "FILE")
+            found = known or f"{fault}: oomd doesn't take this either"
             self.findings.append(Finding(WHOLE_FILE, Kind.REFUSED, found))
             return
         self.findings += [Finding(WHOLE_FILE, Kind.REFUSED, *change) for change in reading.changes]

@@ -11,7 +11,7 @@ from typing import IO, TypeVar
 
 from psicli.fault import Fault
 from psicli.status import ProgramStatus
-from psireplay.kinds import folder_told, why_refused
+from psireplay.kinds import folder_message, why_refused
 from psireplay.program import VARIABLE, named_program
 
 EMPTY_TRACE = b"psitrace 1 cpus=1\n0 end\n"
@@ -89,7 +89,7 @@ class Refusal(Fault):
         if status == ProgramStatus.NO_FILE:
             name = ""  # the program's message names it
         elif status == ProgramStatus.READ_FAULT and os.path.isdir(file):
-            name, told, advice = "", "", folder_told(file)
+            name, told, advice = "", "", folder_message(file)
         elif told != said:
             advice = ""
         super().__init__(": ".join(filter(None, [name, told, advice])))

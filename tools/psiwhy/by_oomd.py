@@ -44,13 +44,13 @@ def measure(it: Plugin) -> Measure:
         wanted = f"{cgroup}: full {it.resource} pressure over {average} {limit}"
         shown = percent(it.most.value or 0)
         found = extreme(it.most, shown, it.threshold, f"{it.threshold} %", "percent")
-        return held(it, wanted, found, it.duration)
+        return timed_measure(it, wanted, found, it.duration)
     if isinstance(it, MemoryAbove):
         wanted = f"{cgroup}: memory above {size(it.threshold)}{lasting(it.duration)}"
         found = extreme(
             it.most, size(it.most.value or 0), it.threshold, size(it.threshold), "bytes"
         )
-        return held(it, wanted, found, it.duration)
+        return timed_measure(it, wanted, found, it.duration)
     if isinstance(it, SwapFree):
         shown, wanted = size(it.least.value or 0), f"less than {size(it.limit)} of the swap is free"
         found = extreme(it.least, f"{shown} free", it.limit, size(it.limit), "bytes")
@@ -63,7 +63,7 @@ def measure(it: Plugin) -> Measure:
     return Measure(it.name, cgroup, None, "it measures nothing", None, None, None)
 
 
-def held(it: Plugin, wanted: str, found: Optional[Extreme], duration: Duration) -> Measure:
+def timed_measure(it: Plugin, wanted: str, found: Optional[Extreme], duration: Duration) -> Measure:
     absent = "" if found else NO_VALUE
     return Measure(
         it.name, wanted, found, absent, duration.longest, duration.seconds * SECOND, None

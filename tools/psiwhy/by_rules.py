@@ -17,19 +17,20 @@ from .truths import Place, has_duration, longest, spans
 
 class Near(NamedTuple):
     """How near a detector, a group of detectors or a ruleset came to being true. `part` is the
-    fraction of the threshold that was reached, and `held` the fraction of the duration for which
-    the condition held, both from 0 to 1. `watch` is the detector that was farthest from being true,
-    and `hold` the longest time (ns) for which its condition held. A greater key is nearer.
+    fraction of the threshold that was reached, and `duration_part` the fraction of the duration
+    for which the condition held, both from 0 to 1. `watch` is the detector that was farthest
+    from being true, and `hold` the longest time (ns) for which its condition held. A greater key
+    is nearer.
     """
 
     part: float
-    held: float
+    duration_part: float
     watch: Optional[Watch] = None
     hold: int = 0
 
     @property
     def key(self) -> tuple[float, float]:
-        return self.part, self.held
+        return self.part, self.duration_part
 
 
 NEVER, TRUE = Near(0.0, 0.0), Near(1.0, 1.0)
@@ -41,8 +42,8 @@ def hold_of(judged: Judged, place: Place, detector: dict[str, Any]) -> int:
     """
     if detector["name"] == "pressure_rising_beyond":
         return judged.watches[place[:3]].hold
-    held = place._replace(held=True) if has_duration(detector) else place
-    return longest(judged.truths[held], judged.evaluations)
+    instant = place._replace(is_instant=True) if has_duration(detector) else place
+    return longest(judged.truths[instant], judged.evaluations)
 
 
 def detector_near(judged: Judged, place: Place, detector: dict[str, Any]) -> Near:
@@ -54,8 +55,8 @@ def detector_near(judged: Judged, place: Place, detector: dict[str, Any]) -> Nea
         return TRUE._replace(watch=watch)
     hold = hold_of(judged, place, detector)
     duration = int(detector["args"].get("duration", "0")) * SECOND
-    held = min(1.0, hold / duration) if duration else 0.0
-    return Near(watch.part(judged.host), held, watch, hold)
+    duration_part = min(1.0, hold / duration) if duration else 0.0
+    return Near(watch.part(judged.host), duration_part, watch, hold)
 
 
 def group_near(judged: Judged, ruleset: int, group: int) -> Near:
@@ -87,7 +88,7 @@ def miss_of(judged: Judged, ruleset: int) -> Optional[Miss]:
         return Miss(0.0, 0.0, "nothing that it watches came near a threshold")
     if near.key == TRUE.key:
         return Miss(1.0, 1.0, "its detectors were each true at some time, but not at once")
-    return Miss(near.part, near.held, near.watch.nearest_told(judged.host, near.hold))
+    return Miss(near.part, near.duration_part, near.watch.nearest_text(judged.host, near.hold))
 
 
 def extreme(watch: Watch, host: Optional[int]) -> Optional[Extreme]:
@@ -97,7 +98,7 @@ def extreme(watch: Watch, host: Optional[int]) -> Optional[Extreme]:
     name, args = watch.plugin
     if watch.nearest is None or name == "exists":
         return None
-    value, moment, path = watch.nearest
+    value, time_ns, path = watch.nearest
     if name in PRESSURE:
         limit = float(args["threshold"])
         return Extreme(
@@ -107,14 +108,14 @@ def extreme(watch: Watch, host: Optional[int]) -> Optional[Extreme]:
             limit,
             f"{limit:g} %",
             "percent",
-            moment,
+            time_ns,
             path,
         )
     if name == "memory_above":
         level = size(args["threshold"], host)
         shown = f"{mebibytes(value)} MiB"
         asked = args["threshold"] if level is None else f"{mebibytes(level)} MiB"
-        return Extreme("highest", value, shown, level, asked, "bytes", moment, path)
+        return Extreme("highest", value, shown, level, asked, "bytes", time_ns, path)
     if name == "swap_free":
         limit = float(args["threshold_pct"])
         return Extreme(
@@ -124,10 +125,10 @@ def extreme(watch: Watch, host: Optional[int]) -> Optional[Extreme]:
             limit,
             f"{limit:g} %",
             "percent",
-            moment,
+            time_ns,
             "",
         )
-    return Extreme("highest", value, f"rise {value} pages", None, "", "pages", moment, path)
+    return Extreme("highest", value, f"rise {value} pages", None, "", "pages", time_ns, path)
 
 
 def measure(judged: Judged, place: Place, detector: dict[str, Any]) -> Measure:
@@ -166,7 +167,7 @@ def parts(judged: Judged, kills: list[Kill]) -> list[Part]:
     for it in firings(judged, kills):
         names = [judged.json[it.ruleset]["detectors"][group][0] for group in it.groups]
         by = [f"group {group} {quoted(name)}" for group, name in zip(it.groups, names)]
-        found[it.ruleset].append(Firing(it.moment, by, it.rests_until, it.choices))
+        found[it.ruleset].append(Firing(it.time_ns, by, it.paused_until, it.choices))
     return [part(judged, number, fired) for number, fired in enumerate(found)]
 
 
@@ -179,7 +180,7 @@ def verdict(judged: Judged, found: list[Part]) -> str:
         if it.firings:
             first = it.firings[0]
             why = first.choices[0].nobody if len(first.choices) == 1 else "no action found a victim"
-            return f"{name} fired at {seconds(first.moment)} s, and {why}"
+            return f"{name} fired at {seconds(first.time_ns)} s, and {why}"
     misses = [it.miss for it in found if it.miss]
     best = max(misses, key=lambda it: it.key, default=None)
     if best is None or not best.part:

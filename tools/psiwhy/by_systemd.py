@@ -42,8 +42,8 @@ def firing(decision: Decision) -> Firing:
         (candidate(it, decision) for it in decision.candidates), key=lambda it: not it.is_chosen
     )
     why, _, nobody = decision.why.partition("; but ")
-    act = choice.Choice(0, KILL, decision.victim, nobody, found)
-    return Firing(decision.moment, [why], None, [act])
+    outcome = choice.Choice(0, KILL, decision.victim, nobody, found)
+    return Firing(decision.moment, [why], None, [outcome])
 
 
 def course_measure(it: Course) -> Measure:
@@ -66,13 +66,13 @@ def course_measure(it: Course) -> Measure:
 def course_miss(it: Course) -> Miss:
     """Returns how near a watched group came to a decision to kill, if there never was one."""
     part = min(1.0, it.most / it.limit) if it.limit else 1.0
-    held = min(1.0, (it.longest or 0) / it.duration) if it.duration else 0.0
+    duration_part = min(1.0, (it.longest or 0) / it.duration) if it.duration else 0.0
     far = (
         f"{percent(it.limit - it.most)} below"
         if it.most <= it.limit
         else f"{seconds(it.duration - (it.longest or 0))} s too short"
     )
-    return Miss(part, held, f"{course_measure(it).line()}: {far}")
+    return Miss(part, duration_part, f"{course_measure(it).line()}: {far}")
 
 
 def pressure_part(engine: Engine, path: str) -> Part:
@@ -84,11 +84,11 @@ def pressure_part(engine: Engine, path: str) -> Part:
         firing(it) for it in engine.decisions if it.by == MEMORY_PRESSURE and it.watched == path
     ]
     paused = [
-        Firing(moment, [f"memory pressure of {path}"], until, [])
-        for moment, whose, until in engine.pressure.paused
+        Firing(time_ns, [f"memory pressure of {path}"], until, [])
+        for time_ns, whose, until in engine.pressure.paused
         if whose == path
     ]
-    fired = sorted([*decided, *paused], key=lambda it: it.moment)
+    fired = sorted([*decided, *paused], key=lambda it: it.time_ns)
     miss = None if fired else course_miss(course)
     return Part(f"{MEMORY_PRESSURE} of {path}", [("", [course_measure(course)])], fired, miss)
 
@@ -98,7 +98,7 @@ def swap_part(engine: Engine, settings: Settings) -> Optional[Part]:
     rule, limit = engine.swap, settings.limits.swap_used
     if not rule.was_watched:
         return None
-    share, memory, moment = rule.most
+    share, memory, time_ns = rule.most
     absent = "the machine has no swap" if rule.is_absent else "the trace doesn't contain it"
     wanted = f"more than {percent(limit)} of memory and of swap are used"
     found = Extreme(
@@ -108,7 +108,7 @@ def swap_part(engine: Engine, settings: Settings) -> Optional[Part]:
         limit / 100,
         percent(limit),
         "percent",
-        moment,
+        time_ns,
         "",
     )
     at_most = f"with {percent(memory)} of memory" if share >= 0 else ""

@@ -109,12 +109,12 @@ def compared(
             continue
         reason = it.lack if has_task(now, path) else "no live task"
         if not reason and victim:
-            reason = behind(now, path, victim, it.value, measured[victim].value)
+            reason = why_ranked_lower(now, path, victim, it.value, measured[victim].value)
         found.append(Candidate(path, text, it.numbers, False, reason))
     return found
 
 
-def behind(now: Evaluation, path: str, victim: str, value: int, most: int) -> str:
+def why_ranked_lower(now: Evaluation, path: str, victim: str, value: int, most: int) -> str:
     """Says why the victim is ranked before another candidate whose value suffices."""
     if preference(now, path) > preference(now, victim):
         return f"{victim} is preferred"

@@ -19,22 +19,22 @@ REMEMBERED = 4
 
 
 class Evaluation:
-    """The state of the machine at an evaluation, at the time `moment` (ns). `full` has the averages
+    """The state of the machine at an evaluation, at `time_ns`. `full` has the averages
     of full pressure in hundredths of a percent, by path, resource and average. `sizes` has the
     memory (bytes) of each group at earlier evaluations, the newest first, and `scans` the number of
     pages scanned up to the previous evaluation.
     """
 
     def __init__(self, world: World[Task]) -> None:
-        self.moment = 0
+        self.time_ns = 0
         self.world = world
         self.full: dict[tuple[str, str, str], int] = {}
         self.sizes: dict[Group, list[int]] = {}
         self.scans: dict[Group, int] = {}
 
-    def take(self, moment: int, reports: list[Report]) -> None:
-        """Advances to the evaluation at `moment` (ns) with its reports."""
-        self.moment = moment
+    def take(self, time_ns: int, reports: list[Report]) -> None:
+        """Advances to the evaluation at `time_ns` with its reports."""
+        self.time_ns = time_ns
         self.full = {}
         for it in reports:
             self.full[it.path, it.resource, "avg10"] = it.full.avg10
@@ -85,10 +85,10 @@ def evaluations(printed: Iterable[bytes], asked: Asked) -> Iterator[Evaluation]:
     found = Evaluation(world)
     reports = (it for it in read(printed) if isinstance(it, Report))
     events = Events(asked.trace)
-    for moment, of_moment in itertools.groupby(reports, key=lambda it: it.moment):
-        if asked.is_due(moment):
-            for event in events.until(moment):
+    for time_ns, found_reports in itertools.groupby(reports, key=lambda it: it.moment):
+        if asked.is_due(time_ns):
+            for event in events.until(time_ns):
                 world.take(*event)
-            found.take(moment, list(of_moment))
+            found.take(time_ns, list(found_reports))
             yield found
             found.remember()

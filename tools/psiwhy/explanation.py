@@ -25,13 +25,13 @@ class Extreme(NamedTuple):
     limit: Optional[float]
     limit_shown: str
     unit: str
-    moment: int
+    time_ns: int
     path: str
 
     def line(self) -> str:
         whose = f" ({self.path})" if self.path else ""
         limit = f", threshold {self.limit_shown}" if self.limit_shown else ""
-        return f"{self.word} {self.shown} at {seconds(self.moment)} s{whose}{limit}"
+        return f"{self.word} {self.shown} at {seconds(self.time_ns)} s{whose}{limit}"
 
 
 class Measure(NamedTuple):
@@ -64,7 +64,7 @@ class Measure(NamedTuple):
         if extreme:
             value = {
                 "value": extreme.value, "threshold": extreme.limit, "unit": extreme.unit,
-                "at_ns": extreme.moment, "path": extreme.path or None,
+                "at_ns": extreme.time_ns, "path": extreme.path or None,
             }  # fmt: skip
         return {
             "plugin": self.plugin, "wanted": self.wanted, **value,
@@ -73,13 +73,13 @@ class Measure(NamedTuple):
 
 
 class Firing(NamedTuple):
-    """A firing at the time `moment` (ns): what was true then, and what the actions did. No
+    """A firing at `time_ns`: what was true then, and what the actions did. No
     action ran if the ruleset rested until a later time (ns) or was paused.
     """
 
-    moment: int
+    time_ns: int
     by: list[str]
-    rests_until: Optional[int]
+    paused_until: Optional[int]
     choices: list[Choice]
 
     def record(self) -> dict[str, object]:
@@ -92,7 +92,7 @@ class Firing(NamedTuple):
             for it in self.choices
         ]  # fmt: skip
         return {
-            "moment_ns": self.moment, "by": self.by, "rests_until_ns": self.rests_until,
+            "moment_ns": self.time_ns, "by": self.by, "rests_until_ns": self.paused_until,
             "actions": choices,
         }  # fmt: skip
 
@@ -103,13 +103,13 @@ class Miss(NamedTuple):
     """
 
     part: float
-    held: float
+    duration_part: float
     text: str
 
     @property
     def key(self) -> tuple[float, float]:
         """The key by which misses are compared: the ruleset that came nearest has the greatest."""
-        return self.part, self.held
+        return self.part, self.duration_part
 
 
 class Part(NamedTuple):
@@ -124,7 +124,7 @@ class Part(NamedTuple):
 
     def victims(self) -> list[tuple[int, str]]:
         """Returns the kills as pairs of a time (ns) and a path."""
-        return [(it.moment, one.victim) for it in self.firings for one in it.choices if one.victim]
+        return [(it.time_ns, one.victim) for it in self.firings for one in it.choices if one.victim]
 
     def record(self) -> dict[str, object]:
         groups = [
@@ -133,7 +133,7 @@ class Part(NamedTuple):
         ]
         miss = self.miss and {
             "part": self.miss.part,
-            "held": self.miss.held,
+            "held": self.miss.duration_part,
             "text": self.miss.text,
         }
         return {
@@ -160,7 +160,7 @@ def head_of(part: Part) -> str:
     """Returns the first line about a ruleset: how often it fired, and what it killed."""
     if not part.firings:
         return f"{part.name}: never fired"
-    killed = [f"{path} at {seconds(moment)} s" for moment, path in part.victims()]
+    killed = [f"{path} at {seconds(time_ns)} s" for time_ns, path in part.victims()]
     more = f" and {len(killed) - 3} more" if len(killed) > 3 else ""
     whom = f"killed {', '.join(killed[:3])}{more}" if killed else "killed nobody"
     times = len(part.firings)
@@ -189,19 +189,19 @@ def firing_lines(found: list[Firing], is_all: bool) -> list[str]:
         first = found[place]
         last = place
         while (
-            first.rests_until
+            first.paused_until
             and last + 1 < len(found)
-            and found[last + 1].rests_until == first.rests_until
+            and found[last + 1].paused_until == first.paused_until
         ):
             last += 1
-        when = f"{seconds(first.moment)} s"
-        if first.rests_until:
+        when = f"{seconds(first.time_ns)} s"
+        if first.paused_until:
             many = (
-                f" to {seconds(found[last].moment)} s  fired {last - place + 1} times"
+                f" to {seconds(found[last].time_ns)} s  fired {last - place + 1} times"
                 if last > place
                 else "  fired"
             )
-            lines.append(f"{when}{many}, resting until {seconds(first.rests_until)} s")
+            lines.append(f"{when}{many}, resting until {seconds(first.paused_until)} s")
         else:
             lines.append(f"{when}  fired by {first.by[0]}")
             lines += [f"    and {it}" for it in first.by[1:]]

@@ -21,10 +21,10 @@ class Firing(NamedTuple):
     no action ran.
     """
 
-    moment: int
+    time_ns: int
     ruleset: int
     groups: list[int]
-    rests_until: Optional[int]
+    paused_until: Optional[int]
     choices: list[Choice]
 
 
@@ -39,27 +39,27 @@ class Chains:
         self.kills: dict[tuple[int, int], dict[int, str]] = collections.defaultdict(dict)
         for kill in kills:
             self.kills[kill.ruleset, kill.moment][kill.action] = kill.path
-        self.rests: dict[int, int] = {}
+        self.pauses: dict[int, int] = {}
 
     def run(self, ruleset: int, now: Evaluation) -> Iterator[Choice]:
         """Yields what the actions of a firing ruleset did, up to the action that ended the
         chain.
         """
-        kills = self.kills[ruleset, now.moment]
+        kills = self.kills[ruleset, now.time_ns]
         for number, plugin in enumerate(self.actions[ruleset]):
             victim = kills.get(number)
             yield choice(number, plugin, now, victim)
             if victim is not None and plugin.args["always_continue"] not in TRUTHS:
                 delay = int(plugin.args["post_action_delay"]) * SECOND
-                self.rests[ruleset] = now.moment + delay
+                self.pauses[ruleset] = now.time_ns + delay
                 return
 
-    def resting(self, ruleset: int, moment: int) -> Optional[int]:
+    def pause_end(self, ruleset: int, time_ns: int) -> Optional[int]:
         """Returns the time (ns) until which a ruleset pauses, or None if it doesn't pause at
-        `moment` (ns).
+        `time_ns`.
         """
-        until = self.rests.get(ruleset, 0)
-        return until if moment < until else None
+        until = self.pauses.get(ruleset, 0)
+        return until if time_ns < until else None
 
 
 def firings(judged: Judged, kills: list[Kill]) -> list[Firing]:
@@ -70,12 +70,12 @@ def firings(judged: Judged, kills: list[Kill]) -> list[Firing]:
         return []
     chains, found = Chains(judged, kills), []
     for now in evaluations(judged.run.lines(), judged.of):
-        for number, moments in fired.items():
-            if now.moment not in moments:
+        for number, times_ns in fired.items():
+            if now.time_ns not in times_ns:
                 continue
             groups = range(len(judged.json[number]["detectors"]))
-            true = [it for it in groups if now.moment in judged.truths[Place(number, it)]]
-            until = chains.resting(number, now.moment)
+            true = [it for it in groups if now.time_ns in judged.truths[Place(number, it)]]
+            until = chains.pause_end(number, now.time_ns)
             choices = [] if until else list(chains.run(number, now))
-            found.append(Firing(now.moment, number, true, until, choices))
+            found.append(Firing(now.time_ns, number, true, until, choices))
     return found

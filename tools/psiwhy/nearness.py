@@ -10,7 +10,7 @@ from psireplay.lines import Report, read
 from psireplay.rules import Plugin, argument, size
 from psireplay.trace import Events
 
-Looked = dict[str, "Group"]
+GroupsByPath = dict[str, "Group"]
 # The pressure detectors, each with the window (s) of the average that it compares.
 PRESSURE = {"pressure_above": 10, "pressure_rising_beyond": 60}
 
@@ -32,7 +32,7 @@ class Nearest(NamedTuple):
     """
 
     value: int
-    moment: int
+    time_ns: int
     path: str
 
 
@@ -45,10 +45,10 @@ class Memory:
         self.groups, self.events = Groups(), Events(trace)
         self.before: dict[TraceGroup, int] = {}
 
-    def go_to(self, moment: int) -> None:
-        """Advances to the evaluation at `moment` (ns), and applies the events up to that time."""
+    def go_to(self, time_ns: int) -> None:
+        """Advances to the evaluation at `time_ns`, and applies the events up to that time."""
         self.before = {group: scanned(group) for group in self.groups.live.values()}
-        for event in self.events.until(moment):
+        for event in self.events.until(time_ns):
             self.groups.take(*event)
 
     def memory(self, path: str) -> Optional[int]:
@@ -85,26 +85,27 @@ class Watch:
         self.hold = 0
         self.since: Optional[int] = None
 
-    def look(self, moment: int, groups: Looked, memory: Memory) -> None:
-        """Updates the nearest value with the values at the evaluation at `moment` (ns)."""
+    def update(self, time_ns: int, groups: GroupsByPath, memory: Memory) -> None:
+        """Updates the nearest value with the values at the evaluation at `time_ns`."""
         name = self.plugin.name
         if name == "swap_free":
             host = memory.groups.host
             self.lacks_swap = bool(host and not host.swap)
             if host and host.swap:
-                self.take(-100 * 100 * host.swap_free // host.swap, moment, "")
+                self.take(-100 * 100 * host.swap_free // host.swap, time_ns, "")
             return
         values = {
             path: self.value(group) for path, group in groups.items() if self.plugin.covers(path)
         }
         for path, value in values.items():
-            self.take(value, moment, path)
+            self.take(value, time_ns, path)
         if name in PRESSURE:
             is_above = max((it or 0 for it in values.values()), default=0) > 100 * int(
                 self.plugin.args["threshold"]
             )
-            self.since = (moment if self.since is None else self.since) if is_above else None
-            self.hold = max(self.hold, moment - self.since) if self.since is not None else self.hold
+            self.since = (time_ns if self.since is None else self.since) if is_above else None
+            if self.since is not None:
+                self.hold = max(self.hold, time_ns - self.since)
 
     def value(self, group: Group) -> Optional[int]:
         name, args = self.plugin
@@ -114,10 +115,10 @@ class Watch:
             return group.full[args["resource"], "avg60"]
         return {"memory_above": group.memory, "memory_reclaim": group.rise}.get(name, 1)
 
-    def take(self, value: Optional[int], moment: int, path: str) -> None:
+    def take(self, value: Optional[int], time_ns: int, path: str) -> None:
         self.has_matched = True
         if value is not None and (self.nearest is None or value > self.nearest.value):
-            self.nearest = Nearest(value, moment, path)
+            self.nearest = Nearest(value, time_ns, path)
 
     def part(self, host: Optional[int]) -> float:
         """Returns how close the detector came to its threshold, as a fraction from 0 to 1.
@@ -137,7 +138,7 @@ class Watch:
             else float(value > 0)
         )
 
-    def nearest_told(self, host: Optional[int], hold: int) -> str:
+    def nearest_text(self, host: Optional[int], hold: int) -> str:
         """Returns in words the value nearest to the threshold and its distance from the threshold
         or, if it was above, by how much it was above for too short a time. `hold` is the longest
         time (ns) for which the condition held.
@@ -145,8 +146,8 @@ class Watch:
         name, args = self.plugin
         if self.nearest is None or name in ("exists", "memory_reclaim"):
             return self.came(host)
-        value, moment, path = self.nearest
-        at = f"at {seconds(moment)} s"
+        value, time_ns, path = self.nearest
+        at = f"at {seconds(time_ns)} s"
         if name in PRESSURE:
             what = f"full {args['resource']} pressure of {path} over {PRESSURE[name]} s"
             what += f" was {share(value)} percent {at}"
@@ -195,8 +196,8 @@ class Watch:
                 "the machine has no swap" if self.lacks_swap else "the trace says nothing of swap"
             )
             return swap if name == "swap_free" else none
-        value, moment, path = self.nearest
-        at = f"({path} at {seconds(moment)} s)"
+        value, time_ns, path = self.nearest
+        at = f"({path} at {seconds(time_ns)} s)"
         if name in PRESSURE:
             missing = int(args["threshold"]) * 100 - value
             return f"highest {share(value)} % {at}" + (
@@ -209,8 +210,8 @@ class Watch:
         if name == "memory_reclaim":
             return f"highest rise {value} pages {at}" if value else "no page was scanned"
         if name == "swap_free":
-            return f"lowest {share(-value)} % free (at {seconds(moment)} s)"
-        return f"first there: {path} at {seconds(moment)} s"
+            return f"lowest {share(-value)} % free (at {seconds(time_ns)} s)"
+        return f"first there: {path} at {seconds(time_ns)} s"
 
 
 def reached(value: int, limit: int) -> float:
@@ -243,7 +244,7 @@ def mebibytes(number: int) -> str:
     return f"{number / 2**20:.1f}"
 
 
-def groups_of(reports: list[Report], memory: Memory) -> Looked:
+def groups_of(reports: list[Report], memory: Memory) -> GroupsByPath:
     """Returns the groups that had reports at an evaluation, by path."""
     full: dict[str, dict[tuple[str, str], int]] = {}
     for it in reports:
@@ -263,21 +264,21 @@ def watch(
     """
     memory, due = Memory(trace), set(evaluations)
     reports: list[Report] = []
-    groups: Looked = {}
+    groups: GroupsByPath = {}
 
-    def look() -> None:
+    def evaluate() -> None:
         nonlocal groups
         if reports and reports[0].moment in due:
             memory.go_to(reports[0].moment)
             groups = groups_of(reports, memory)
             for it in watches:
-                it.look(reports[0].moment, groups, memory)
+                it.update(reports[0].moment, groups, memory)
 
     for line in read(printed):
         if isinstance(line, Report):
             if reports and line.moment != reports[0].moment:
-                look()
+                evaluate()
                 reports = []
             reports.append(line)
-    look()
+    evaluate()
     return memory.groups.host.memory if memory.groups.host else None

@@ -25,13 +25,14 @@ Detector = dict[str, Any]
 
 class Place(NamedTuple):
     """A ruleset, one of its groups of detectors, and one detector of the group, by numbers from 0;
-    -1 means all of them. With `held` the condition of the detector counts without its duration.
+    -1 means all of them. With `is_instant` the condition of the detector counts without its
+    duration.
     """
 
     ruleset: int
     group: int = -1
     detector: int = -1
-    held: bool = False
+    is_instant: bool = False
 
 
 ALWAYS = Place(-1)
@@ -84,31 +85,31 @@ def truths(runs: Runs, rulesets: list[dict[str, Any]], trace: str, pace: list[st
             for line in read(done.lines()):
                 if isinstance(line, Kill):
                     found[part[line.ruleset][0]].append(line.moment)
-            told = json.dumps(rules)
+            rules_text = json.dumps(rules)
             runs.done[-1] = done._replace(
-                words=done.words.replace(name, "DETECTORS.json"), given=told
+                words=done.words.replace(name, "DETECTORS.json"), rules_text=rules_text
             )
     return found
 
 
-def spans(moments: list[int], evaluations: list[int]) -> list[tuple[int, int]]:
+def spans(times_ns: list[int], evaluations: list[int]) -> list[tuple[int, int]]:
     """Joins times of consecutive evaluations into spans. Returns the first and the last time (ns)
     of each span.
     """
-    places = {moment: place for place, moment in enumerate(evaluations)}
+    places = {time_ns: place for place, time_ns in enumerate(evaluations)}
     found: list[tuple[int, int]] = []
     last = -2
-    for moment in moments:
-        place = places[moment]
+    for time_ns in times_ns:
+        place = places[time_ns]
         found = (
-            [*found[:-1], (found[-1][0], moment)]
+            [*found[:-1], (found[-1][0], time_ns)]
             if place == last + 1
-            else [*found, (moment, moment)]
+            else [*found, (time_ns, time_ns)]
         )
         last = place
     return found
 
 
-def longest(moments: list[int], evaluations: list[int]) -> int:
+def longest(times_ns: list[int], evaluations: list[int]) -> int:
     """Returns the longest time (ns) for which a place was true without interruption."""
-    return max((end - start for start, end in spans(moments, evaluations)), default=0)
+    return max((end - start for start, end in spans(times_ns, evaluations)), default=0)
