@@ -18,8 +18,8 @@ US = 1000
 TIME = itemgetter(0)
 # The first number of artificial tasks, which is greater than any pid of a kernel.
 FIRST_NUMBER = 4_000_000_000
-# Growth by less than this in a tick (ns) is added at the next sample, unless a descendant is active:
-# averages hardly show it, since they are computed from whole percents of a tick.
+# Growth by less than this in a tick (ns) is added at the next sample, unless a descendant is
+# active: averages hardly show it, since they are computed from whole percents of a tick.
 LEAST = TICK // 100
 # A difference from the wanted total below this (ns) is ignored, so that the ticks between two
 # samples have the same events.
