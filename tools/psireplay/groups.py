@@ -107,19 +107,19 @@ class Groups:
             "mem": self.play_mem, "host": self.play_host, "pressure": self.play_pressure,
         }  # fmt: skip
 
-    def take(self, moment: int, verb: str, fields: list[str]) -> None:
-        """Applies an event at `moment` (ns). Verbs that change nothing here are skipped."""
-        if moment != self.now:
-            if moment < self.now:
+    def take(self, time_ns: int, verb: str, fields: list[str]) -> None:
+        """Applies an event at `time_ns`. Verbs that change nothing here are skipped."""
+        if time_ns != self.now:
+            if time_ns < self.now:
                 raise ValueError("time goes back")
-            self.pass_to(moment)
-            self.now = moment
+            self.pass_to(time_ns)
+            self.now = time_ns
         play = self.plays.get(verb)
         if play:
             play(*fields)
 
-    def pass_to(self, moment: int) -> None:
-        """Called before time advances from `now` to `moment` (ns), the time of the next event."""
+    def pass_to(self, time_ns: int) -> None:
+        """Called before time advances from `now` to `time_ns`, the time of the next event."""
 
     def made(self, group: Group) -> None:
         """Called after `group` was created."""

@@ -129,9 +129,9 @@ class Reader:
         elif verb == "full":
             return self.whole_report(pressure_of(fields))
         elif verb == "event":
-            moment, trigger, path, resource, level, threshold, window = fields
+            time_ns, trigger, path, resource, level, threshold, window = fields
             return Event(
-                int(moment), int(trigger), path, resource, level, int(threshold), int(window)
+                int(time_ns), int(trigger), path, resource, level, int(threshold), int(window)
             )
         elif verb == "kill":
             return Kill(int(fields[0]), int(fields[1]), int(fields[2]), fields[3])
@@ -142,8 +142,8 @@ class Reader:
 
     def whole_report(self, full: Pressure) -> Report:
         assert self.head
-        moment, path, resource = self.head
-        report = Report(int(moment), path, resource, self.some, full)
+        time_ns, path, resource = self.head
+        report = Report(int(time_ns), path, resource, self.some, full)
         self.head = self.some = None
         return report
 

@@ -72,8 +72,8 @@ def groups_of(trace: str) -> set[str]:
 
 def event_in(line: str) -> Event:
     """Parses a line after the header."""
-    moment, verb, *fields = line.split()
-    return int(moment), verb, fields
+    time_ns, verb, *fields = line.split()
+    return int(time_ns), verb, fields
 
 
 def events_of(trace: str) -> Iterator[Event]:
@@ -92,8 +92,8 @@ class Events:
         self.events = events_of(trace)
         self.following = next(self.events, None)
 
-    def until(self, moment: float) -> Iterator[Event]:
-        """Yields the next events up to `moment` (ns)."""
-        while self.following and self.following[0] <= moment:
+    def until(self, time_ns: float) -> Iterator[Event]:
+        """Yields the next events up to `time_ns`."""
+        while self.following and self.following[0] <= time_ns:
             yield self.following
             self.following = next(self.events, None)
