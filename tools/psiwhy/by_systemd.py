@@ -26,13 +26,13 @@ def candidate(it: Candidate, decision: Decision) -> choice.Candidate:
         if is_chosen
         else it.passed_over or ("ranked lower" if decision.victim else "")
     )
-    told = it.told(decision.by, decision.span).removesuffix(f", {it.passed_over or wish}")
+    text = it.told(decision.by, decision.span).removesuffix(f", {it.passed_over or wish}")
     numbers: choice.Numbers = {
         "scanned_pages": it.scanned, "memory_bytes": it.memory, "swap_bytes": it.swap,
         "preference": it.preference,
     }  # fmt: skip
     return choice.Candidate(
-        it.path, ", ".join(filter(None, [told, wish])), numbers, is_chosen, reason
+        it.path, ", ".join(filter(None, [text, wish])), numbers, is_chosen, reason
     )
 
 
