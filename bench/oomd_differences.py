@@ -251,7 +251,7 @@ def by_binary(count: int) -> int:
                 Program(), it.run, "oomd"
             ).kills
             same = [
-                k.moment == o.moment and o.may_kill(k.path) for k, o in zip(found, own.decisions)
+                k.time_ns == o.time_ns and o.may_kill(k.path) for k, o in zip(found, own.decisions)
             ]
             kills += len(found)
             wrong += len(found) != len(own.decisions) or not all(same)

@@ -78,7 +78,7 @@ def run_of(room: Room, it: Experiment) -> Run:
 
 def spelled(kill: Kill) -> str:
     who = "" if (kill.ruleset, kill.action) == (0, 0) else f"(r{kill.ruleset}a{kill.action})"
-    return f"{kill.moment / SECOND:g}s:{kill.path}{who}"
+    return f"{kill.time_ns / SECOND:g}s:{kill.path}{who}"
 
 
 def kills_of(text: str) -> list[str]:
@@ -93,8 +93,8 @@ def must_agree(what: str, it: Engine, kills: list[Kill]) -> None:
     """Every kill is allowed by the emulation: the same, or one of equal rank."""
     for own, other in zip(it.decisions, kills):
         found = own.kill()
-        same = (found.moment, found.ruleset, found.action) == (
-            other.moment, other.ruleset, other.action
+        same = (found.time_ns, found.ruleset, found.action) == (
+            other.time_ns, other.ruleset, other.action
         )
         must(same and own.may_kill(other.path), f"{what}: oomd {other}, the emulation {found}")
     must_be(f"{what}: how many kills", len(it.decisions), len(kills))

@@ -109,7 +109,7 @@ def decided(
     said = [
         it.replace(f"{room.path}/", "") for it in [*settings.notes, *warnings(engine, settings)]
     ]
-    return [(it.moment / SECOND, it.victim) for it in engine.decisions], said
+    return [(it.time_ns / SECOND, it.victim) for it in engine.decisions], said
 
 
 def decisions(

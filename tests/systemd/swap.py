@@ -92,7 +92,7 @@ def check_a_plain_reading(room: Room) -> None:
         ).output
         wanted = plain_systemd.decisions(text, printed, 1000, 2 * SECOND)
         engine = replayed(program, trace, Settings(settings), 1)
-        must_be(f"seed {seed}", [(it.moment, it.victim, it.by) for it in engine.decisions], wanted)
+        must_be(f"seed {seed}", [(it.time_ns, it.victim, it.by) for it in engine.decisions], wanted)
         for _, victim, by in wanted:
             victims[by] += victim is not None
     must(min(victims.values()) > 5, f"there are kills of both kinds: {victims}")

@@ -148,7 +148,7 @@ class Chart:
 
     def kill(self, kill: Kill) -> Event:
         """Returns the description and the labels of a kill."""
-        at = self.axis.time_text(kill.moment)
+        at = self.axis.time_text(kill.time_ns)
         path = self.shown(kill.path)
         would, who = f"{path} would be killed", f"ruleset {kill.ruleset}, action {kill.action}"
         hint = f"{would} at {at} by {who}"
@@ -163,7 +163,7 @@ class Chart:
         # which the axis shows. If the title names the killer, the label has the time.
         second = f"{would} at {at}" if f" by {who}" in self.heading else f"{would} by {who}"
         texts = (f"{would} at {at} by {who}", second, f"{would} at {at}", would, path)
-        return Event(kill.moment, "kill", hint, texts)
+        return Event(kill.time_ns, "kill", hint, texts)
 
     def end(self, removal: Removal) -> Event:
         """Returns the description and the labels of a removal."""
@@ -179,7 +179,7 @@ class Chart:
         which = ", ".join(paths[:-1]) + " and " * (len(paths) > 1) + paths[-1]
         which = which if len(paths) <= TITLED else f"{len(paths)} groups"
         kills = counted(self.replay.end.kills, "would-be kill")
-        title = f"Pressure of {which}, {rounded(self.replay.end.moment)}, {kills}"
+        title = f"Pressure of {which}, {rounded(self.replay.end.time_ns)}, {kills}"
         return (
             title + self.killers()
             if len(title + self.killers()) <= max(most, TITLE_ROOM)
@@ -273,7 +273,7 @@ class Chart:
         """Shades all panels after the first kill. In the shaded time the replay without the killed
         groups assumes that all other tasks behave as recorded.
         """
-        first = min((kill.moment for kill in self.replay.kills), default=self.axis.end)
+        first = min((kill.time_ns for kill in self.replay.kills), default=self.axis.end)
         if first >= self.axis.end:
             return
         left = self.axis.x(max(first, self.axis.start))

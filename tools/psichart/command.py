@@ -146,7 +146,7 @@ def must_have_reports(
     if start < end and any(start <= time_ns <= end for it in series for time_ns in it.times_ns):
         return
     about = f" on {resources[0]}" if len(resources) == 1 and resources[0] == "irq" else ""
-    when = f"from {seconds(start)} s to {seconds(end)} s of {seconds(replay.end.moment)} s"
+    when = f"from {seconds(start)} s to {seconds(end)} s of {seconds(replay.end.time_ns)} s"
     advice = (
         "ask replay for more by --report-s and --tick-ms, or chart for another --group, --from or"
         " --to"
@@ -161,9 +161,9 @@ def read_recorded(name: str, groups: list[str], replay: Replay) -> Replay:
             recorded = read_replay(printed, groups)
         except Fault as fault:
             raise Fault(f"{name}: {fault}") from None
-    if (recorded.end.moment, recorded.end.ticks) != (replay.end.moment, replay.end.ticks):
+    if (recorded.end.time_ns, recorded.end.ticks) != (replay.end.time_ns, replay.end.ticks):
         ends = [
-            f"{it.end.ticks} ticks up to {seconds(it.end.moment)} s" for it in (recorded, replay)
+            f"{it.end.ticks} ticks up to {seconds(it.end.time_ns)} s" for it in (recorded, replay)
         ]
         raise Fault(
             f"{name} has {ends[0]}, and the standard input {ends[1]}: give two of one trace and of"
@@ -204,7 +204,7 @@ def span_of(options: Options, known: Known, replay: Replay) -> tuple[int, int]:
     """Returns the start and the end of the time span to draw (ns). Without an option it begins
     where the recording begins in the trace.
     """
-    span = span_in(options.values, known.wall, replay.end.moment, "replay")
+    span = span_in(options.values, known.wall, replay.end.time_ns, "replay")
     source = options.summary or known.companion
     begins = source.begins if source else 0
     return (span.start if has_start(options.values) else begins), span.end
@@ -239,10 +239,10 @@ def chart() -> int:
         known.groups.find(path, sorted(replay.rounds.paths), "in the replay")
     resources = resources_of(replay, options)
     for path in groups:
-        must_have_reports(replay, resources, 0, max(1, replay.end.moment), [path])
+        must_have_reports(replay, resources, 0, max(1, replay.end.time_ns), [path])
     must_have_reports(replay, resources, start, end, groups)
     recorded = read_recorded(options.beside, groups, replay) if options.beside is not None else None
-    samples = samples_of(options, groups, replay.end.moment)
+    samples = samples_of(options, groups, replay.end.time_ns)
     picture = Chart(
         Wanted(
             replay,

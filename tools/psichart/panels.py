@@ -317,11 +317,11 @@ class MemoryPanel(Panel):
         span is moved to its start, and the last sample is repeated at its end.
         """
         end = self.axis.end if life.end is None else min(life.end, self.axis.end)
-        inside = [it for it in life.samples if self.axis.start <= it.moment <= end]
-        before = [it for it in life.samples if it.moment < self.axis.start][-1:]
+        inside = [it for it in life.samples if self.axis.start <= it.time_ns <= end]
+        before = [it for it in life.samples if it.time_ns < self.axis.start][-1:]
         if end >= self.axis.start:
-            inside = [it._replace(moment=self.axis.start) for it in before] + inside
-        return inside + [it._replace(moment=end) for it in inside[-1:]]
+            inside = [it._replace(time_ns=self.axis.start) for it in before] + inside
+        return inside + [it._replace(time_ns=end) for it in inside[-1:]]
 
     def name_end(self) -> float:
         return RIGHT - MEMORY_LEGEND
@@ -357,7 +357,7 @@ class MemoryPanel(Panel):
         last: Optional[float] = None
         for sample in samples:
             x, y = (
-                self.axis.x(sample.moment),
+                self.axis.x(sample.time_ns),
                 frame.bottom - (sample.swap if is_swap else sample.memory) * frame.scale,
             )
             if last is not None:

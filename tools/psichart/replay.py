@@ -25,7 +25,7 @@ class Series:
 
     def take(self, report: Report, number: int) -> None:
         """Adds a report of the round `number`."""
-        self.times_ns.append(report.moment)
+        self.times_ns.append(report.time_ns)
         self.rounds.append(number)
         for level, pressure in (("some", report.some), ("full", report.full)):
             if pressure:
@@ -88,7 +88,7 @@ class Replay:
 
     def take_report(self, report: Report) -> None:
         """Adds a report if it is on a drawn group, and counts it for its round."""
-        self.rounds.take(report.moment, report.path)
+        self.rounds.take(report.time_ns, report.path)
         if report.path in self.groups:
             series = self.series.setdefault((report.path, report.resource), Series())
             series.take(report, self.rounds.number)
@@ -97,7 +97,7 @@ class Replay:
         """Adds an event of a trigger if it is of a drawn group."""
         if event.path in self.groups:
             self.events.setdefault((event.path, event.resource, event.level), []).append(
-                event.moment
+                event.time_ns
             )
 
     def removals(self) -> list[Removal]:

@@ -35,10 +35,10 @@ class Summary(NamedTuple):
                 f"{self.name} is the summary of another trace than {trace}: give the summary of"
                 " this trace"
             )
-        if self.length is not None and abs(self.length - replay.end.moment) > SECOND // 1000:
+        if self.length is not None and abs(self.length - replay.end.time_ns) > SECOND // 1000:
             lengths = (
                 f"a trace of {seconds(self.length)} s, and the replay's has"
-                f" {seconds(replay.end.moment)} s"
+                f" {seconds(replay.end.time_ns)} s"
             )
             raise Fault(f"{self.name} is the summary of {lengths}: give the summary of this trace")
 

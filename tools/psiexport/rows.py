@@ -49,9 +49,9 @@ class Exporter:
 
     def row(self, line: Union[Report, Event, Kill]) -> Row:
         """Returns the row of a line."""
-        row: Row = {"kind": kind_of(line), "time_s": line.moment / SECOND}
+        row: Row = {"kind": kind_of(line), "time_s": line.time_ns / SECOND}
         if self.wall:
-            row["time"] = wall_text(self.wall._replace(epoch=self.wall.epoch + line.moment))
+            row["time"] = wall_text(self.wall._replace(epoch=self.wall.epoch + line.time_ns))
         row["group"] = line.path
         if self.groups.shown(line.path) != line.path:
             row["name"] = self.groups.shown(line.path)
@@ -79,5 +79,5 @@ def selected(
     for line in lines:
         if isinstance(line, End) or kind_of(line) not in kinds:
             continue
-        if span.start <= line.moment <= span.end:
+        if span.start <= line.time_ns <= span.end:
             yield line

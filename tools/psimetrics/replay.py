@@ -46,8 +46,8 @@ class Metrics:
 
     def take_report(self, report: Report) -> None:
         """Takes the totals of a pressure file, which are in us."""
-        if not self.rounds or report.moment != self.rounds[-1]:
-            self.rounds.append(report.moment)
+        if not self.rounds or report.time_ns != self.rounds[-1]:
+            self.rounds.append(report.time_ns)
         for level, pressure in (("some", report.some), ("full", report.full)):
             if pressure:
                 self.take_total(report, WORDS[level], pressure.total)
@@ -55,9 +55,9 @@ class Metrics:
     def take_total(self, report: Report, word: str, total: int) -> None:
         if report.path == "/" and (report.resource, word) != ("cpu", "stalled"):
             family = pressure_family("node", "the machine", report.resource, word)
-            self.points(family).add(report.moment, total)
+            self.points(family).add(report.time_ns, total)
         family = pressure_family("container", "the group", report.resource, word)
-        self.points(family, ("id", report.path)).add(report.moment, total)
+        self.points(family, ("id", report.path)).add(report.time_ns, total)
 
     def count(self, family: Counter, moment: int, *labels: tuple[str, str]) -> None:
         self.happened[family].setdefault((*labels, *self.labels), []).append(moment)
@@ -66,7 +66,7 @@ class Metrics:
         numbers = (("ruleset", str(kill.ruleset)), ("action", str(kill.action)))
         killer = self.rules.killer(kill) if self.rules else None
         names = (("ruleset_name", killer.ruleset), ("plugin", killer.plugin)) if killer else ()
-        self.count(KILLS, kill.moment, ("id", kill.path), *numbers, *names)
+        self.count(KILLS, kill.time_ns, ("id", kill.path), *numbers, *names)
 
     def take_event(self, event: Event) -> None:
         times = [seconds(it * 1000) for it in (event.threshold, event.window)]
@@ -74,7 +74,7 @@ class Metrics:
         limits = (("threshold_seconds", times[0]), ("window_seconds", times[1]))
         self.count(
             EVENTS,
-            event.moment,
+            event.time_ns,
             ("id", event.path),
             ("trigger", str(event.trigger)),
             *what,

@@ -65,15 +65,16 @@ class BinaryRun:
 
     def line(self, kill: Kill) -> str:
         """Returns the line for a kill."""
-        return f"{seconds(kill.moment)} s  by {self.path}: would kill {kill.path}, {self.who(kill)}"
+        at = f"{seconds(kill.time_ns)} s"
+        return f"{at}  by {self.path}: would kill {kill.path}, {self.who(kill)}"
 
     def record(self) -> dict[str, object]:
         """Returns the run as a JSON object."""
         kills = [
-            {"moment_ns": it.moment, "ruleset": it.ruleset, "action": it.action, "victim": it.path}
+            {"moment_ns": it.time_ns, "ruleset": it.ruleset, "action": it.action, "victim": it.path}
             for it in self.kills
         ]
-        restarts = [{"moment_ns": it.moment, "service": it.service} for it in self.restarts]
+        restarts = [{"moment_ns": it.time_ns, "service": it.service} for it in self.restarts]
         return {
             "program": self.path, "version": self.version, "sandbox": self.sandbox,
             "looks": self.looks, "kills": kills, "restarts": restarts, "fault": self.fault or None,
@@ -172,10 +173,10 @@ class Looks:
         for number in range(1, self.warm + 1):
             yield (number - self.warm) * self.run.interval * SECOND
         for tick in self.ticks:
-            self.take(tick.moment)
+            self.take(tick.time_ns)
             self.files.machine.take_pressure(tick.reports)
             self.files.update()
-            yield tick.moment
+            yield tick.time_ns
 
 
 @dataclass

@@ -98,7 +98,7 @@ class Comparison:
 
     def line(self, kill: Kill) -> str:
         by = f"by {self.name}: would kill {kill.path}, {self.rules.killer(kill)}"
-        return f"{seconds(kill.moment)} s  {by}"
+        return f"{seconds(kill.time_ns)} s  {by}"
 
 
 def verdict(own: list[Kill], other: list[Kill], names: tuple[str, str]) -> str:
@@ -106,7 +106,7 @@ def verdict(own: list[Kill], other: list[Kill], names: tuple[str, str]) -> str:
     if not own or not other:
         who = names[0] if own else names[1]
         return f"first kill: by {who} alone" if own or other else "no kill by either"
-    apart = other[0].moment - own[0].moment
+    apart = other[0].time_ns - own[0].time_ns
     which = "the same victim" if own[0].path == other[0].path else "another victim"
     if not apart:
         return f"first kill: {which}, at the same time"
@@ -148,14 +148,14 @@ def agreement(own: Engine, ran: binary.BinaryRun) -> str:
     """
     for decision, other in zip(own.decisions, ran.kills):
         found = decision.kill()
-        is_same = (found.moment, found.ruleset, found.action) == (
-            other.moment,
+        is_same = (found.time_ns, found.ruleset, found.action) == (
+            other.time_ns,
             other.ruleset,
             other.action,
         )
         if not is_same or not decision.may_kill(other.path):
-            where = f"{seconds(found.moment)} s {found.path}"
-            other_kill = f"{seconds(other.moment)} s {other.path}"
+            where = f"{seconds(found.time_ns)} s {found.path}"
+            other_kill = f"{seconds(other.time_ns)} s {other.path}"
             return f"it differs from {VERSION} as emulated: {other_kill} in place of {where}"
     apart = len(ran.kills) - len(own.decisions)
     if apart:
@@ -169,17 +169,17 @@ def binary_lines(answers: Answers, ran: binary.BinaryRun) -> list[str]:
     did = f"{counted(ran.looks, 'look')}, {counted(len(ran.kills), 'kill')}"
     head = f"{ran.path}: oomd {ran.version} in {ran.sandbox}: {did}"
     lines = [f"{head}; {answers.agreement()}"]
-    lines += [f"{seconds(it.moment)} s  {ran.path}: restarts {it.service}" for it in ran.restarts]
+    lines += [f"{seconds(it.time_ns)} s  {ran.path}: restarts {it.service}" for it in ran.restarts]
     return [*lines, ran.fault] if ran.fault else lines
 
 
 def kill_lines(answers: Answers, is_all: bool) -> list[str]:
     """Returns the lines about the kills of all, in order of time."""
-    rows = [(it.moment, 0, it.lines(is_all)) for it in answers.decisions()]
+    rows = [(it.time_ns, 0, it.lines(is_all)) for it in answers.decisions()]
     if answers.other:
-        rows += [(it.moment, 1, [answers.other.line(it)]) for it in answers.other.kills]
+        rows += [(it.time_ns, 1, [answers.other.line(it)]) for it in answers.other.kills]
     if answers.ran:
-        rows += [(it.moment, 2, [answers.ran.line(it)]) for it in answers.ran.kills]
+        rows += [(it.time_ns, 2, [answers.ran.line(it)]) for it in answers.ran.kills]
     return [line for _, _, lines in sorted(rows, key=lambda row: row[:2]) for line in lines]
 
 

@@ -35,17 +35,17 @@ class Nearest:
     def __init__(self, is_least: bool = False) -> None:
         self.sign = -1 if is_least else 1
         self.value: int | None = None
-        self.moment = 0
+        self.time_ns = 0
         self.path = ""
 
     def take(self, now: int, value: int, path: str = "") -> None:
         if self.value is None or value * self.sign > self.value * self.sign:
-            self.value, self.moment, self.path = value, now, path
+            self.value, self.time_ns, self.path = value, now, path
 
     def words(self, text: str) -> str:
         where = f" of {self.path}" if self.path else ""
         extreme = "at least" if self.sign < 0 else "at most"
-        return f"{extreme} {text}{where}, at {seconds(self.moment)} s"
+        return f"{extreme} {text}{where}, at {seconds(self.time_ns)} s"
 
 
 class Above(Plugin):

@@ -54,7 +54,7 @@ class Run:
 class Tick:
     """A look of oomd: its time (ns), and the pressure of each group."""
 
-    moment: int
+    time_ns: int
     reports: dict[str, Pressure]
 
 
@@ -76,7 +76,7 @@ def needed_lines(printed: Iterable[bytes]) -> Iterator[bytes]:
 def ticks_of(printed: Iterable[bytes], interval: int) -> Iterator[Tick]:
     """Yields the looks of a replay."""
     reports = (it for it in read(needed_lines(printed)) if isinstance(it, Report))
-    for moment, of_moment in itertools.groupby(reports, key=lambda it: it.moment):
+    for moment, of_moment in itertools.groupby(reports, key=lambda it: it.time_ns):
         found: dict[str, Pressure] = {}
         for it in of_moment:
             averages = Averages(it.full.avg10, it.full.avg60, it.full.avg300)
@@ -123,10 +123,10 @@ def decide(it: Engine, run: Run, ticks: Iterator[Tick]) -> None:
     if run.warm:
         warm_up(it, run, world)
     for tick in ticks:
-        for event in events.until(tick.moment):
+        for event in events.until(tick.time_ns):
             world.take(*event)
         it.machine.take_pressure(tick.reports)
-        it.look(tick.moment)
+        it.look(tick.time_ns)
 
 
 def prepare_engine(run: Run) -> Engine:

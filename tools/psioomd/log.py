@@ -21,7 +21,7 @@ UNKNOWN = -1
 class Restart:
     """A service that oomd would have restarted, and the time of that (ns)."""
 
-    moment: int
+    time_ns: int
     service: str
 
 

@@ -57,7 +57,7 @@ class Fired:
     and what the actions did, or the time (ns) until which the ruleset was paused.
     """
 
-    moment: int
+    time_ns: int
     why: list[str]
     paused_until: int | None = None
     acts: list[Act] = field(default_factory=list)
@@ -87,7 +87,7 @@ class Decision:
     found.
     """
 
-    moment: int
+    time_ns: int
     source: Source
     victim: Victim
     why: list[str] = field(default_factory=list)
@@ -95,7 +95,7 @@ class Decision:
     def kill(self) -> Kill:
         """Returns the kill in the form of a replay's kills."""
         action = -1 if self.source.action is None else self.source.action
-        return Kill(self.moment, self.source.ruleset, action, self.victim.path)
+        return Kill(self.time_ns, self.source.ruleset, action, self.victim.path)
 
     def may_kill(self, path: str) -> bool:
         """Whether oomd may choose the group at `path`: it is the victim, or equal in rank."""
@@ -103,7 +103,7 @@ class Decision:
 
     def lines(self, is_all: bool) -> list[str]:
         """Returns the kill as lines of text."""
-        when = f"{seconds(self.moment)} s"
+        when = f"{seconds(self.time_ns)} s"
         gap = " " * (len(when) + 2)
         path = self.victim.path
         lines = [f"{when}  would kill {path}", f"{gap}by {self.source.text()}"]
@@ -134,7 +134,7 @@ class Decision:
         ]  # fmt: skip
         source = self.source
         return {
-            "moment_ns": self.moment, "victim": self.victim.path, "equal": self.victim.equals,
+            "moment_ns": self.time_ns, "victim": self.victim.path, "equal": self.victim.equals,
             "ruleset": source.ruleset, "ruleset_name": source.ruleset_name, "action": source.action,
             "plugin": source.plugin, "drop_in": source.drop_in or None, "dry": self.victim.is_dry,
             "why": self.why, "candidates": candidates,

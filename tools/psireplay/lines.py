@@ -25,7 +25,7 @@ class Pressure(NamedTuple):
 class Report(NamedTuple):
     """A pressure file at a time (ns). The file for interrupts has no line `some`."""
 
-    moment: int
+    time_ns: int
     path: str
     resource: str
     some: Optional[Pressure]
@@ -35,7 +35,7 @@ class Report(NamedTuple):
 class Event(NamedTuple):
     """A signal of a trigger at a time (ns). The threshold and the window are in us."""
 
-    moment: int
+    time_ns: int
     trigger: int
     path: str
     resource: str
@@ -47,7 +47,7 @@ class Event(NamedTuple):
 class Kill(NamedTuple):
     """A kill that an action of a ruleset would have made at a time (ns). Numbers count from 0."""
 
-    moment: int
+    time_ns: int
     ruleset: int
     action: int
     path: str
@@ -56,7 +56,7 @@ class Kill(NamedTuple):
 class End(NamedTuple):
     """The last line: the end of the trace (ns), and the numbers of ticks, signals and kills."""
 
-    moment: int
+    time_ns: int
     ticks: int
     events: int
     kills: int

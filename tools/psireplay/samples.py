@@ -14,7 +14,7 @@ from .trace import event_in
 class Sample(NamedTuple):
     """A `mem` line: its time (ns), and the memory and swap in use (bytes)."""
 
-    moment: int
+    time_ns: int
     memory: int
     swap: int
 

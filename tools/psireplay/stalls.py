@@ -50,7 +50,7 @@ class Lives:
                 last = self.last.get(key, 0)
                 grown = pressure.total - (last if pressure.total >= last else 0)
                 self.last[key] = pressure.total
-                if self.start < report.moment <= self.end:
+                if self.start < report.time_ns <= self.end:
                     totals = self.found.setdefault(report.path, Stalls(report.path, {})).totals
                     totals[key[1:]] = totals.get(key[1:], 0) + grown
 

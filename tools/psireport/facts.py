@@ -196,7 +196,7 @@ def suppose(runs: Runs, given: Given, replay: Replay, subject: Subject) -> Optio
     supposed = read_replay(run.lines(), replay.groups)
     kills = [(kill, after(subject, kill, replay, supposed)) for kill in supposed.kills]
     first = replay.kills[0]
-    words = [f"--from={seconds(first.moment)}"] if first.moment < replay.end.moment else []
+    words = [f"--from={seconds(first.time_ns)}"] if first.time_ns < replay.end.time_ns else []
     blamed = runs.tool(
         "blame", *words, f"--victim={first.path}", *given.names_words(), "--json", "--", given.trace
     )
@@ -314,7 +314,7 @@ def collect(runs: Runs, given: Given) -> Facts:
         thin(supposed.replay)
     found = blamed_of(runs, given, subject, stretch) if mark is None else None
     wall = around.wall or (zoned(began(known.summary.said), given) if known else None)
-    samples = samples_of(given, groups, replay.end.moment)
+    samples = samples_of(given, groups, replay.end.time_ns)
     why = parts(judged, peaks.kills) if judged else []
     return Facts(
         given, run, replay, peaks, subject, stretch, more, missing, drawn, samples, wall, found,

@@ -44,13 +44,13 @@ def ruleset(section: Element, facts: Facts, judged: Judged, number_: int) -> Non
     """Adds the part on one ruleset: when its detectors were true, and how near each came to its
     threshold.
     """
-    axis = time_axis(0, facts.replay.end.moment, None)
+    axis = time_axis(0, facts.replay.end.time_ns, None)
     name = judged.rules.rulesets[number_].name
     kills = [it for it in facts.replay.kills if it.ruleset == number_]
     fired = judged.truths[Place(number_)]
     say(section, "h3", f"Ruleset {number_} ‘{name}’")
     say(section, "p", fired_text(judged, number_, fired, kills))
-    section.append(strip("it fires", axis, judged.evaluations, {"true": fired}, [it.moment for it in kills]))
+    section.append(strip("it fires", axis, judged.evaluations, {"true": fired}, [it.time_ns for it in kills]))
     if facts.parts[number_].firings:
         lines = firing_lines(facts.parts[number_].firings, is_all=False)[:MOST_FIRINGS]
         say(folded(section, "Why it killed, and whom not"), "pre", "\n".join(lines))
@@ -72,7 +72,7 @@ def fired_text(judged: Judged, number_: int, fired: list[int], kills: list[Kill]
         none = "no detector of it was ever true" if many else "it has no detectors"
         what = f"at most {true} of {many} detectors were true at once" if true else none
         return f"It never fired: {what}."
-    killed = ", ".join(f"{it.path} at {seconds(it.moment)} s" for it in kills[:SHOWN])
+    killed = ", ".join(f"{it.path} at {seconds(it.time_ns)} s" for it in kills[:SHOWN])
     killed += f" and {len(kills) - SHOWN} more" if len(kills) > SHOWN else ""
     when = told_spans(spans(fired, judged.evaluations))
     return f"It fired {when}. " + (f"It would have killed {killed}." if kills else "It would have killed nobody, since it found no victim.")
@@ -98,8 +98,8 @@ def supposed_kills(section: Element, facts: Facts) -> Picture:
     say(section, "h3", "Had the kills happened ", source(supposed.run))
     rows = [
         [
-            seconds(kill.moment), kill.path, killer(facts, kill),
-            *((seconds(it.moment), percent(it.was), percent(it.most)) if it else ("-", "-", "-")),
+            seconds(kill.time_ns), kill.path, killer(facts, kill),
+            *((seconds(it.time_ns), percent(it.was), percent(it.most)) if it else ("-", "-", "-")),
         ]
         for kill, it in supposed.after
     ]  # fmt: skip
@@ -107,7 +107,7 @@ def supposed_kills(section: Element, facts: Facts) -> Picture:
     heads = ["kill at, s", "victim", "by", "looked at, s", f"{what}, % as recorded", "% at most"]
     table(section, "Half a minute after each kill", heads, rows[:SHOWN], 3)
     rest(section, len(rows), "kills")
-    axis = time_axis(0, facts.replay.end.moment, facts.wall)
+    axis = time_axis(0, facts.replay.end.time_ns, facts.wall)
     album = Album(supposed.replay, axis, facts.judged.rules if facts.judged else None, None)
     found = album.pressure(*facts.subject, recorded=facts.replay)
     box = add(section, "figure", class_="whatif")
@@ -118,7 +118,7 @@ def supposed_kills(section: Element, facts: Facts) -> Picture:
         keys = ("waited_ns", "while_victim_ran_ns", "less_at_least_ns")
         rows = [[it["group"], *(in_seconds(it[key]) for key in keys)] for it in supposed.blame]
         victim = facts.replay.kills[0]
-        say(section, "p", f"Of waits for a processor from {seconds(victim.moment)} s on, this much less at least without {victim.path} ",
+        say(section, "p", f"Of waits for a processor from {seconds(victim.time_ns)} s on, this much less at least without {victim.path} ",
             source(supposed.blame_run), ":")  # fmt: skip
         table(section, "In s", ["group", "waited", f"while {victim.path} ran", "at least less"], rows[:SHOWN])
     return found

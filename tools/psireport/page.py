@@ -29,7 +29,7 @@ def when(facts: Facts) -> str:
     """Returns the line with the trace's name, its length, and the time of day of its start if
     known.
     """
-    length = f"{os.path.basename(facts.given.trace)}, {rounded(facts.replay.end.moment)}"
+    length = f"{os.path.basename(facts.given.trace)}, {rounded(facts.replay.end.time_ns)}"
     if not facts.wall:
         return length
     at = clock_time((facts.wall.epoch + facts.wall.ahead) // SECOND * SECOND)
@@ -90,7 +90,7 @@ def data(facts: Facts, pictures: list[Picture]) -> str:
     return data_of(
         {
             "start": 0,
-            "end": facts.replay.end.moment // MS,
+            "end": facts.replay.end.time_ns // MS,
             "wall": wall,
             "panels": [it.data for it in pictures],
         }

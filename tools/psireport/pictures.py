@@ -145,7 +145,7 @@ def memory_data(panel: MemoryPanel) -> dict[str, Any]:
     rows: list[tuple[Optional[int], Optional[int], Optional[int]]] = []
     for life in panel.lives:
         rows += [(None, None, None)] if rows else []
-        rows += [(it.moment // MS, it.memory, it.swap) for it in life]
+        rows += [(it.time_ns // MS, it.memory, it.swap) for it in life]
     moments, memory, swap = (list(column) for column in zip(*rows)) if rows else ([], [], [])
     return {
         "t": moments,

@@ -23,7 +23,7 @@ class Peak(NamedTuple):
     """
 
     share: int
-    moment: int
+    time_ns: int
 
 
 class Peaks:
@@ -39,7 +39,7 @@ class Peaks:
         for level, pressure in (("some", report.some), ("full", report.full)):
             key = report.path, report.resource, level
             if pressure and (key not in self.found or pressure.avg10 > self.found[key].share):
-                self.found[key] = Peak(pressure.avg10, report.moment)
+                self.found[key] = Peak(pressure.avg10, report.time_ns)
 
     def highest(self, path: str, resource: str, level: str) -> Peak:
         return self.found.get((path, resource, level), Peak(0, 0))
@@ -105,4 +105,4 @@ def thinned(series: Series, start: int, end: int) -> Series:
 def thin(replay: Replay) -> None:
     """Reduces all series of a replay to the reports that a picture can show."""
     for which, series in replay.series.items():
-        replay.series[which] = thinned(series, 0, replay.end.moment)
+        replay.series[which] = thinned(series, 0, replay.end.time_ns)

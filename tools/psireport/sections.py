@@ -72,7 +72,7 @@ def lead(facts: Facts) -> list[Words]:
     """Returns the first sentences of the page: what happened on the machine, and what the rules
     would have done.
     """
-    end = facts.replay.end.moment
+    end = facts.replay.end.time_ns
     found: list[Words] = [sampling(facts.sampled)] if facts.sampled else []
     if facts.greatest:
         found += [machine_sentence(*facts.greatest, end, caveat(end)) + " ", source(facts.replay_run), " "]
@@ -87,7 +87,7 @@ def lead(facts: Facts) -> list[Words]:
         return [*found, nobody, source(facts.judged.run), "; " + verdict(facts.judged, facts.parts) + "."]
     first = kills[0]
     more = f" (the first of {len(kills)} kills)" if len(kills) > 1 else ""
-    at = f"{seconds(first.moment)} s{more}{early(first.moment)}"
+    at = f"{seconds(first.time_ns)} s{more}{early(first.time_ns)}"
     found += [f" {killer(facts, first)} would have killed {first.path} at {at} ", source(facts.judged.run)]
     later = facts.supposed.after[0][1] if facts.supposed and facts.supposed.after else None
     if not later or not facts.supposed:
@@ -97,7 +97,7 @@ def lead(facts: Facts) -> list[Words]:
 
 def outcome(path: str, later: After) -> str:
     """Returns a sentence on how the first kill would have changed a group's pressure."""
-    was, most, at = percent(later.was), percent(later.most), f"at {seconds(later.moment)} s"
+    was, most, at = percent(later.was), percent(later.most), f"at {seconds(later.time_ns)} s"
     if was != most:
         return f"without it {path} would have had at most {most} percent in place of {was} {at}"
     if later.was_over:
@@ -129,7 +129,7 @@ class Near(NamedTuple):
 
     true: int
     many: int
-    moment: int
+    time_ns: int
 
     @property
     def part(self) -> float:
@@ -210,7 +210,7 @@ def time_lines(page: Element, facts: Facts) -> list[Picture]:
     """Returns the pictures: one for each group that stalled most, resource by resource, and one for
     its memory.
     """
-    axis = time_axis(0, facts.replay.end.moment, facts.wall)
+    axis = time_axis(0, facts.replay.end.time_ns, facts.wall)
     album = Album(facts.replay, axis, facts.judged.rules if facts.judged else None, facts.samples)
     pictures = [album.pressure(path, resource) for path, resource in facts.drawn if (path, resource) in facts.replay.series]
     for path in dict.fromkeys(path for path, _ in facts.drawn):

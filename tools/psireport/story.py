@@ -52,7 +52,7 @@ class After(NamedTuple):
     share only fell after the kill.
     """
 
-    moment: int
+    time_ns: int
     was: int
     most: int
     was_over: bool
@@ -174,14 +174,14 @@ def after(subject: Subject, kill: Kill, recorded: Replay, supposed: Replay) -> O
     group. Returns None unless the subject has reports after the kill in both replays.
     """
     one, other = (it.series.get(subject) for it in (recorded, supposed))
-    if not one or not other or one.times_ns[-1] <= kill.moment or other.times_ns[-1] <= kill.moment:
+    if not one or not other or min(one.times_ns[-1], other.times_ns[-1]) <= kill.time_ns:
         return None
-    moment, was = value_at(one, subject.level, kill.moment + LATER)
+    moment, was = value_at(one, subject.level, kill.time_ns + LATER)
     same, most = value_at(other, subject.level, moment)
     shares = [
         share_
         for at, share_ in zip(one.times_ns, one.shares[subject.level, "avg10"])
-        if kill.moment <= at <= moment
+        if kill.time_ns <= at <= moment
     ]
     was_over = all(later <= before for before, later in zip(shares, shares[1:]))
     return After(moment, was, most, was_over) if same == moment else None

@@ -64,10 +64,10 @@ def difference(
         )
         if one.path != other.path:
             return Difference("other victim", one, other, f"other victim: {both}")
-        if one.moment != other.moment:
+        if one.time_ns != other.time_ns:
             word = (
-                f"{'earlier' if other.moment < one.moment else 'later'} by"
-                f" {seconds(abs(other.moment - one.moment))} s"
+                f"{'earlier' if other.time_ns < one.time_ns else 'later'} by"
+                f" {seconds(abs(other.time_ns - one.time_ns))} s"
             )
             return Difference(word, one, other, f"{word}: {both}")
     return Difference("same", None, None, f"same: {victims(new)}")
@@ -77,7 +77,7 @@ def told_old(old: Kill, new: Kill, old_rules: RulesFile, new_rules: RulesFile) -
     """Describes the kill by OLD, without what it has in common with the kill by NEW."""
     path = "" if old.path == new.path else f"{old.path} "
     killer = "" if old_rules.killer(old) == new_rules.killer(new) else f", {old_rules.killer(old)}"
-    return f"{path}at {seconds(old.moment)} s{killer}"
+    return f"{path}at {seconds(old.time_ns)} s{killer}"
 
 
 @dataclass(frozen=True)

@@ -38,7 +38,7 @@ def victims(kills: list[Kill]) -> str:
         return "no kill"
     moments: dict[str, list[str]] = {}
     for kill in kills:
-        moments.setdefault(kill.path, []).append(f"{seconds(kill.moment)} s")
+        moments.setdefault(kill.path, []).append(f"{seconds(kill.time_ns)} s")
     told = [
         f"{path} at {', '.join(it[:MOST_MOMENTS])}{' and later' * bool(it[MOST_MOMENTS:])}"
         for path, it in moments.items()
@@ -102,11 +102,11 @@ class First(Expectation):
         found = [
             kill
             for kill in kills
-            if kill.moment == kills[0].moment and matches(self.path, kill.path)
+            if kill.time_ns == kills[0].time_ns and matches(self.path, kill.path)
         ]
         if not found:
             return Verdict(False, f"the first is {kills[0].path}, {rules.killed(kills[0])}")
-        when = found[0].moment
+        when = found[0].time_ns
         late = f", {seconds(when - self.end)} s late" if when > self.end else ""
         early = f", {seconds(self.start - when)} s early" if when < self.start else ""
         return Verdict(not late and not early, rules.killed(found[0]) + late + early)
@@ -184,7 +184,7 @@ class NoKillBefore(Expectation):
     start: int
 
     def verdict(self, kills: list[Kill], rules: RulesFile) -> Verdict:
-        early = [kill for kill in kills if kill.moment < self.start]
+        early = [kill for kill in kills if kill.time_ns < self.start]
         if early:
             return Verdict(False, f"{early[0].path} {killed(early, rules)}")
         return Verdict(True, victims(kills))

@@ -70,7 +70,7 @@ def by_rules(given: argparse.Namespace) -> list[Part]:
         words = ["--report-s=1", f"--rules={file.path}", *asked.pace]
         judged = judge(runs, asked, runs.program("replay", *words, "--", given.trace))
     return rules_parts.parts(
-        judged, [Kill(it.moment, it.ruleset, it.action, it.path) for it in found]
+        judged, [Kill(it.time_ns, it.ruleset, it.action, it.path) for it in found]
     )
 
 

@@ -180,7 +180,7 @@ def summary(given: argparse.Namespace, traces: list[str], found: list[Answer]) -
             kill
             for name, mark in whole.parts
             for kill in all_kills[name] or ()
-            if time_in_whole(kill.moment, mark) is not None
+            if time_in_whole(kill.time_ns, mark) is not None
         ]
         if not kills and not any(name in faults for name, _ in whole.parts):
             without.append(whole.name)

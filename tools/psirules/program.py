@@ -48,7 +48,7 @@ class Kill:
     the victim's path.
     """
 
-    moment: int
+    time_ns: int
     ruleset: int
     action: int
     path: str

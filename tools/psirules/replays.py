@@ -57,8 +57,8 @@ class Traces:
             return replay(trace)
         kills = []
         for name, mark in self.parts[trace]:
-            times = [(kill, time_in_whole(kill.moment, mark)) for kill in replay(name)]
-            kills += [replace(kill, moment=time) for kill, time in times if time is not None]
+            times = [(kill, time_in_whole(kill.time_ns, mark)) for kill in replay(name)]
+            kills += [replace(kill, time_ns=time) for kill, time in times if time is not None]
         return kills
 
     def groups(self, trace: str) -> set[str] | None:

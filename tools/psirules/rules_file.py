@@ -53,12 +53,12 @@ class RulesFile:
 
     def killed(self, kill: Kill) -> str:
         """Says when and by what a group was killed, to follow the group's path."""
-        return f"killed at {seconds(kill.moment)} s by {self.killer(kill)}"
+        return f"killed at {seconds(kill.time_ns)} s by {self.killer(kill)}"
 
     def record(self, kill: Kill) -> dict[str, object]:
         """Returns the kill as a JSON object."""
         return {
-            "moment_ns": kill.moment,
+            "moment_ns": kill.time_ns,
             "path": kill.path,
             "ruleset": kill.ruleset,
             "ruleset_name": self.ruleset_name(kill.ruleset),

@@ -49,7 +49,7 @@ class Task:
 
 def first_of(kills: list[Kill]) -> tuple[Kill, ...]:
     """Returns the kills at the time of the first kill."""
-    return tuple(it for it in kills if it.moment == kills[0].moment)
+    return tuple(it for it in kills if it.time_ns == kills[0].time_ns)
 
 
 def kind_of(wanted: Expectation, kills: list[Kill]) -> str:
@@ -58,9 +58,9 @@ def kind_of(wanted: Expectation, kills: list[Kill]) -> str:
         return EARLY
     if not isinstance(wanted, First):
         return OTHER
-    if not kills or kills[0].moment > wanted.end:
+    if not kills or kills[0].time_ns > wanted.end:
         return LATE
-    return EARLY if kills[0].moment < wanted.start else OTHER
+    return EARLY if kills[0].time_ns < wanted.start else OTHER
 
 
 class Judge:
@@ -96,7 +96,7 @@ class Judge:
     def faults(self, trace: str, kills: list[Kill]) -> Iterator[tuple[str, str]]:
         """Yields what is wrong with the kills in a trace, each with its kind."""
         if trace in self.task.quiet and kills:
-            yield EARLY, f"kills {kills[0].path} at {seconds(kills[0].moment)} s"
+            yield EARLY, f"kills {kills[0].path} at {seconds(kills[0].time_ns)} s"
         for wanted in self.task.wanted if trace in self.task.incidents else ():
             verdict = wanted.verdict(kills, self.subject.rules)
             if not verdict.holds:

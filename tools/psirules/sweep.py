@@ -93,7 +93,7 @@ class Row:
             self.trace,
             *self.values,
             str(len(self.found)),
-            f"{seconds(first.moment)} s" if first else "-",
+            f"{seconds(first.time_ns)} s" if first else "-",
             first.path if first else "-",
         ]
 

@@ -65,7 +65,7 @@ class Compared:
 
     def line(self, kill: Kill) -> str:
         return (
-            f"{seconds(kill.moment)} s  by {self.name}: would kill {kill.path},"
+            f"{seconds(kill.time_ns)} s  by {self.name}: would kill {kill.path},"
             f" {self.rules.killer(kill)}"
         )
 
@@ -75,7 +75,7 @@ class Compared:
         if not one or not other:
             who = "systemd-oomd" if one else self.name if other else "neither"
             return f"first kill: by {who} alone" if one or other else "no kill by either"
-        apart = other.moment - one.moment
+        apart = other.time_ns - one.time_ns
         when = (
             "at the same moment"
             if not apart
@@ -100,7 +100,7 @@ def told_decisions(decisions: list[Decision], is_all: bool) -> Iterator[tuple[in
     group for swap are listed once.
     """
     for _, same in itertools.groupby(
-        decisions, key=lambda it: (it.by, it.victim, it.by == SWAP or it.moment)
+        decisions, key=lambda it: (it.by, it.victim, it.by == SWAP or it.time_ns)
     ):
         first, *others = same
         lines = first.lines(is_all)
@@ -108,15 +108,15 @@ def told_decisions(decisions: list[Decision], is_all: bool) -> Iterator[tuple[in
             gap = lines[-1][: len(lines[-1]) - len(lines[-1].lstrip())]
             lines.append(
                 f"{gap}again at {len(others)} looks that found new samples, up to"
-                f" {seconds(others[-1].moment)} s"
+                f" {seconds(others[-1].time_ns)} s"
             )
-        yield first.moment, lines
+        yield first.time_ns, lines
 
 
 def tell_lines(engine: Engine, other: Compared | None, is_all: bool) -> None:
     """Prints text for people: the decisions in order of time, and how near the limits came."""
     told = [(moment, 0, lines) for moment, lines in told_decisions(engine.decisions, is_all)]
-    told += [(it.moment, 1, [other.line(it)]) for it in other.kills] if other else []
+    told += [(it.time_ns, 1, [other.line(it)]) for it in other.kills] if other else []
     for _, _, lines in sorted(told, key=lambda it: it[:2]):
         print("\n".join(lines))
     kills = list(engine.kills())

@@ -47,7 +47,7 @@ class Second:
     the root, in hundredths of a percent.
     """
 
-    moment: int
+    time_ns: int
     averages: dict[str, int]
 
 
@@ -75,7 +75,7 @@ def is_needed(path: str, settings: Settings) -> bool:
 def seconds_of(printed: Iterable[bytes], settings: Settings) -> Iterator[Second]:
     """Yields the checks of a replay."""
     reports = (it for it in read(kept(printed, settings)) if isinstance(it, Report))
-    for moment, of_moment in itertools.groupby(reports, key=lambda it: it.moment):
+    for moment, of_moment in itertools.groupby(reports, key=lambda it: it.time_ns):
         yield Second(moment, {it.path: it.full.avg10 for it in of_moment})
 
 
@@ -83,9 +83,9 @@ def decide(engine: Engine, trace: str, seconds: Iterator[Second]) -> None:
     """Passes the trace's events and the checks to `engine`, merged by time."""
     events = Events(trace)
     for second in seconds:
-        for event in events.until(second.moment):
+        for event in events.until(second.time_ns):
             engine.take(*event)
-        engine.look_at_pressure(second.moment, second.averages)
+        engine.look_at_pressure(second.time_ns, second.averages)
     for event in events.until(math.inf):
         engine.take(*event)
 
@@ -126,7 +126,7 @@ def kills_of(decisions: Iterable[Decision]) -> list[Kill]:
     the ruleset.
     """
     return [
-        Kill(it.moment, BY.index(it.by), 0, it.victim) for it in decisions if it.victim is not None
+        Kill(it.time_ns, BY.index(it.by), 0, it.victim) for it in decisions if it.victim is not None
     ]
 
 

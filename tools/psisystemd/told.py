@@ -56,7 +56,7 @@ class Decision:
     and all candidates in order of rank. `span` says in which time the pages were scanned.
     """
 
-    moment: int
+    time_ns: int
     victim: str | None
     by: str
     watched: str
@@ -66,7 +66,7 @@ class Decision:
 
     def lines(self, is_all: bool) -> list[str]:
         """Returns the decision as lines of text."""
-        when = f"{seconds(self.moment)} s"
+        when = f"{seconds(self.time_ns)} s"
         gap = " " * (len(when) + 2)
         chosen = next((it for it in self.candidates if it.path == self.victim), None)
         others = [it for it in self.candidates if it is not chosen]
@@ -91,7 +91,8 @@ class Decision:
             for it in self.candidates
         ]  # fmt: skip
         return {
-            "moment_ns": self.moment, "victim": self.victim, "by": self.by, "watched": self.watched,
+            "moment_ns": self.time_ns, "victim": self.victim, "by": self.by,
+            "watched": self.watched,
             "why": self.why,
             "candidates": candidates,
         }  # fmt: skip

@@ -28,7 +28,7 @@ def extreme(
         return None
     word = "highest" if most.sign > 0 else "lowest"
     value = most.value / 100 if unit == "percent" else most.value
-    return Extreme(word, value, shown, limit, limit_shown, unit, most.moment, most.path)
+    return Extreme(word, value, shown, limit, limit_shown, unit, most.time_ns, most.path)
 
 
 def lasting(duration: Duration) -> str:
@@ -130,7 +130,7 @@ def choice(act: Act) -> Choice:
 
 
 def firing(it: Fired) -> Firing:
-    return Firing(it.moment, it.why, it.paused_until, [choice(act) for act in it.acts])
+    return Firing(it.time_ns, it.why, it.paused_until, [choice(act) for act in it.acts])
 
 
 def part(ruleset: Ruleset) -> Part:

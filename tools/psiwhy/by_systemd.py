@@ -43,7 +43,7 @@ def firing(decision: Decision) -> Firing:
     )
     why, _, nobody = decision.why.partition("; but ")
     outcome = choice.Choice(0, KILL, decision.victim, nobody, found)
-    return Firing(decision.moment, [why], None, [outcome])
+    return Firing(decision.time_ns, [why], None, [outcome])
 
 
 def course_measure(it: Course) -> Measure:

@@ -85,7 +85,7 @@ def evaluations(printed: Iterable[bytes], asked: Asked) -> Iterator[Evaluation]:
     found = Evaluation(world)
     reports = (it for it in read(printed) if isinstance(it, Report))
     events = Events(asked.trace)
-    for time_ns, found_reports in itertools.groupby(reports, key=lambda it: it.moment):
+    for time_ns, found_reports in itertools.groupby(reports, key=lambda it: it.time_ns):
         if asked.is_due(time_ns):
             for event in events.until(time_ns):
                 world.take(*event)

@@ -38,7 +38,7 @@ class Chains:
         ]
         self.kills: dict[tuple[int, int], dict[int, str]] = collections.defaultdict(dict)
         for kill in kills:
-            self.kills[kill.ruleset, kill.moment][kill.action] = kill.path
+            self.kills[kill.ruleset, kill.time_ns][kill.action] = kill.path
         self.pauses: dict[int, int] = {}
 
     def run(self, ruleset: int, now: Evaluation) -> Iterator[Choice]:

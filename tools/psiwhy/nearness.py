@@ -268,15 +268,15 @@ def watch(
 
     def evaluate() -> None:
         nonlocal groups
-        if reports and reports[0].moment in due:
-            memory.go_to(reports[0].moment)
+        if reports and reports[0].time_ns in due:
+            memory.go_to(reports[0].time_ns)
             groups = groups_of(reports, memory)
             for it in watches:
-                it.update(reports[0].moment, groups, memory)
+                it.update(reports[0].time_ns, groups, memory)
 
     for line in read(printed):
         if isinstance(line, Report):
-            if reports and line.moment != reports[0].moment:
+            if reports and line.time_ns != reports[0].time_ns:
                 evaluate()
                 reports = []
             reports.append(line)

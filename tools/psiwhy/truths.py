@@ -84,7 +84,7 @@ def truths(runs: Runs, rulesets: list[dict[str, Any]], trace: str, pace: list[st
             done = runs.program("replay", "--report-s=0", f"--rules={name}", *pace, "--", trace)
             for line in read(done.lines()):
                 if isinstance(line, Kill):
-                    found[part[line.ruleset][0]].append(line.moment)
+                    found[part[line.ruleset][0]].append(line.time_ns)
             rules_text = json.dumps(rules)
             runs.done[-1] = done._replace(
                 words=done.words.replace(name, "DETECTORS.json"), rules_text=rules_text
