@@ -9,6 +9,8 @@ import sys
 from psicli.fault import Fault
 from psireplay.program import TOP
 
+from .ending import end
+
 SHELL = ("bash", "-o", "pipefail", "-c")
 
 
@@ -25,6 +27,18 @@ def show(line: str) -> None:
     print(f"$ {line}", file=sys.stderr, flush=True)
 
 
+def status_of(line: str) -> int:
+    """Runs a line, and returns its status. If it is interrupted, its processes undo their changes
+    first.
+    """
+    step = subprocess.Popen([*SHELL, line], stdin=subprocess.DEVNULL)
+    try:
+        return step.wait()
+    except BaseException:
+        end(step)
+        raise
+
+
 class Steps:
     """The steps, in order. A step whose status isn't expected ends the incident."""
 
@@ -34,7 +48,7 @@ class Steps:
         """
         show(line)
         try:
-            status = subprocess.run([*SHELL, line], stdin=subprocess.DEVNULL).returncode
+            status = status_of(line)
         except OSError as error:
             raise Fault(f"bash can't be run: {error.strerror}") from error
         if status not in taken:
@@ -44,4 +58,4 @@ class Steps:
     def try_to(self, line: str) -> bool:
         """Runs a line that may fail."""
         show(line)
-        return subprocess.run([*SHELL, line], stdin=subprocess.DEVNULL).returncode == 0
+        return status_of(line) == 0
