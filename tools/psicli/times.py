@@ -93,6 +93,20 @@ def zone(ahead: int) -> str:
     return f"UTC{'-' if ahead < 0 else '+'}{minutes // 60:02}:{minutes % 60:02}" if ahead else "UTC"
 
 
+class Shown:
+    """The time of day at the start of the trace whose times are printed. None if it isn't known."""
+
+    wall: WallTime | None = None
+
+
+def time_text(ns: int) -> str:
+    """Formats a time in a trace (ns) in seconds, and as a time of day too if that is known."""
+    if Shown.wall is None:
+        return f"{seconds(ns)} s"
+    clock = clock_time(Shown.wall.epoch + Shown.wall.ahead + ns).clock
+    return f"{seconds(ns)} s ({clock.partition('.')[0]})"
+
+
 WALL_TIME = re.compile(
     r"([0-9]{4})-([0-9]{2})-([0-9]{2})T([0-9]{2}):([0-9]{2}):([0-9]{2})(?:\.([0-9]{1,9}))?"
     r"(?:Z|([+-])([0-9]{2}):([0-9]{2}))"

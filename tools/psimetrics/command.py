@@ -9,9 +9,13 @@ from psicli.options import add_start
 from psicli.parser import Parser
 from psicli.running import run, write
 from psicli.status import Status
+from psinames.clock import in_zone
+from psinames.groups import GroupNames
+from psinames.known import add_containers, add_part, add_zone, containers_in, must_fit, span_in
 from psireplay.rules import Rules
 
 from .replay import metrics_of
+from .selected import NAME, in_part, length_of, with_names
 from .text import openmetrics, prometheus
 
 ABOUT = (
@@ -46,7 +50,10 @@ def parser() -> Parser:
     """Returns the parser of the command line."""
     words = Parser(ABOUT, AFTER, reads_input=True)
     option = words.add_argument
+    add_part(words)
     add_start(words, "", is_required=True)
+    add_zone(words)
+    add_containers(words)
     option("--label", type=label, action="append", default=[], metavar="NAME=VALUE",
            help="a label for each metric, or several")  # fmt: skip
     option("--rules", metavar="FILE",
@@ -63,10 +70,16 @@ def work() -> int:
     names: list[Union[Label, str]] = [name for name, _ in given.label]
     if len(set(names)) < len(names):
         raise Fault("--label has a name twice: give each name once")
+    if NAME in names and given.containers is not None:
+        raise Fault(f"--label has {NAME}, which is the label for the names of --containers")
     rules = Rules(given.rules) if given.rules is not None else None
+    containers = GroupNames(containers_in(given.containers) if given.containers else {})
+    must_fit(vars(given))
     with open(0, "rb", closefd=False) as printed:
-        families = metrics_of(printed, rules, tuple(given.label))
-    write("".join(f"{line}\n" for line in TEXTS[given.format](families, given.wall)).encode())
+        families = with_names(metrics_of(printed, rules, tuple(given.label)), containers)
+    wall = in_zone(given.wall, given.tz)
+    families = in_part(families, span_in(vars(given), wall, length_of(families), "replay"))
+    write("".join(f"{line}\n" for line in TEXTS[given.format](families, wall)).encode())
     return Status.DONE
 
 

@@ -67,6 +67,11 @@ class GroupNames:
         name = re.sub(r"[\s{}]", lambda letter: escapes(letter[0]), self.containers[known])
         return f"{name}@{number[:SHORT]}" if self.containers[known] in self.several else name
 
+    def container(self, path: str) -> str | None:
+        """Returns the name of the container or pod whose group is at `path`, or None."""
+        found = re.search(r"/\{([^{}]*)\}\Z", self.shown(path))
+        return found[1] if found else None
+
     # ------------------------------------------------------------ by name
 
     def matches(self, word: str, path: str) -> bool:
@@ -74,12 +79,9 @@ class GroupNames:
         trace or as printed; the last component of the path, such as a unit; or the name of the
         container.
         """
-        shown = self.shown(path)
-        container = re.search(r"/\{([^{}]*)\}\Z", shown)
-        names = {path, shown, path.rpartition("/")[2]}
-        return (
-            word in names or container is not None and word in (container[1], f"{{{container[1]}}}")
-        )
+        container = self.container(path)
+        names = {path, self.shown(path), path.rpartition("/")[2]}
+        return word in names or container is not None and word in (container, f"{{{container}}}")
 
     def find(self, word: str, paths: Iterable[str], where: str) -> str:
         """Returns the only path of `paths` that `word` names. Raises a Fault with the candidates if

@@ -59,24 +59,39 @@ class Known(NamedTuple):
     groups: GroupNames
 
 
-def add_clock(parser: Parser) -> None:
-    """Adds the options for the start of a trace and for the time zone of times of day."""
-    add_start(parser, ", if it has no companion file that says so")
+def add_zone(parser: Parser) -> None:
+    """Adds the option for the time zone of times of day."""
     parser.add_argument("--tz", type=zone_name, metavar="ZONE", help=HELP["tz"])
 
 
-def add_times(parser: Parser) -> None:
-    """Adds the options that select a part of a trace."""
+def add_clock(parser: Parser) -> None:
+    """Adds the options for the start of a trace and for the time zone of times of day."""
+    add_start(parser, ", if it has no companion file that says so")
+    add_zone(parser)
+
+
+def add_part(parser: Parser) -> None:
+    """Adds the options that select a part of a trace, without those for its clock."""
     parser.add_argument("--from", dest="start", type=trace_time, metavar="T", help=HELP["from"])
     parser.add_argument("--to", dest="end", type=trace_time, metavar="T", help=HELP["to"])
     parser.add_argument("--at", type=trace_time, metavar="T", help=HELP["at"])
     parser.add_argument("--window", type=nanoseconds, metavar="S", help=HELP["window"])
+
+
+def add_times(parser: Parser) -> None:
+    """Adds the options that select a part of a trace, and those for its clock."""
+    add_part(parser)
     add_clock(parser)
+
+
+def add_containers(parser: Parser) -> None:
+    """Adds the option for the names of containers."""
+    parser.add_argument("--containers", metavar="FILE", help=HELP["containers"])
 
 
 def add_names(parser: Parser) -> None:
     """Adds the options about names of processes and containers."""
-    parser.add_argument("--containers", metavar="FILE", help=HELP["containers"])
+    add_containers(parser)
     parser.add_argument("--no-names", action="store_true", help=HELP["no-names"])
 
 

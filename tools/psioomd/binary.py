@@ -27,8 +27,10 @@ from psioomd.emulation import (
     ticks_of,
 )
 from psicli.fault import Fault
+from psinames.known import Span
+from psireplay.part import within
 from psireplay.trace import Events
-from psicli.times import SECOND, seconds
+from psicli.times import SECOND, time_text
 from psicli.wording import quoted
 from psioomd.sandbox import PATIENCE, SANDBOXES, Sandbox, sandbox
 from psirules.program import Kill, Program, processors
@@ -55,6 +57,12 @@ class BinaryRun:
     restarts: list[Restart] = field(default_factory=list)
     fault: str = ""
 
+    def select(self, part: Span | None) -> None:
+        """Leaves only the kills and restarts in a part of the trace."""
+        pairs = [it for it in zip(self.kills, self.plugins) if within([it[0]], part)]
+        self.kills, self.plugins = [kill for kill, _ in pairs], [plugin for _, plugin in pairs]
+        self.restarts = within(self.restarts, part)
+
     def who(self, kill: Kill) -> str:
         """Names the ruleset and the action of a kill."""
         plugin = quoted(self.plugins[self.kills.index(kill)])
@@ -65,8 +73,7 @@ class BinaryRun:
 
     def line(self, kill: Kill) -> str:
         """Returns the line for a kill."""
-        at = f"{seconds(kill.time_ns)} s"
-        return f"{at}  by {self.path}: would kill {kill.path}, {self.who(kill)}"
+        return f"{time_text(kill.time_ns)}  by {self.path}: would kill {kill.path}, {self.who(kill)}"
 
     def record(self) -> dict[str, object]:
         """Returns the run as a JSON object."""
@@ -194,7 +201,7 @@ class Follower:
         """
         end = self.daemon.sleep_end()
         said = self.daemon.new_log()
-        when = "start" if moment is None else f"{seconds(moment)} s"
+        when = "start" if moment is None else time_text(moment)
         if self.log and said:
             self.log.write(f"== {when}\n{said}")
         if moment is not None:

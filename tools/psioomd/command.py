@@ -13,10 +13,10 @@ from psicli.options import add_json
 from psicli.parser import Parser
 from psicli.running import complain, run
 from psicli.status import Status
-from psicli.times import SECOND, seconds
+from psicli.times import SECOND, seconds, time_text
 from psicli.values import whole_number
 from psicli.wording import counted
-from psinames.known import add_names
+from psinames.known import Span, add_names, add_times
 from psinames.shown import show_containers
 from psioomd import binary
 from psioomd.emulation import TICK_MS, UPTIME, Run, emulate
@@ -24,6 +24,8 @@ from psioomd.engine import Engine
 from psioomd.faults import Refused
 from psioomd.machine import Extras
 from psioomd.outcome import Decision
+from psireplay.part import part_of, part_text, show_clock, within
+from psireplay.trace import end_of
 from psirules.program import Kill, Pace, Program, processors
 from psirules.replays import accepted
 from psirules.rules_file import RulesFile
@@ -85,6 +87,7 @@ def parser() -> Parser:
         help="with --binary: write oomd's log there, with the trace's times")  # fmt: skip
     add("--compare", metavar="FILE", help="print the kills by these rules of psi_oomd too")
     add("--all", dest="is_all", action="store_true", help="print each candidate that isn't chosen")
+    add_times(words)
     add_names(words)
     add_json(words)
     return words
@@ -98,7 +101,7 @@ class Comparison:
 
     def line(self, kill: Kill) -> str:
         by = f"by {self.name}: would kill {kill.path}, {self.rules.killer(kill)}"
-        return f"{seconds(kill.time_ns)} s  {by}"
+        return f"{time_text(kill.time_ns)}  {by}"
 
 
 def verdict(own: list[Kill], other: list[Kill], names: tuple[str, str]) -> str:
@@ -132,6 +135,16 @@ class Answers:
     own: Engine | None
     ran: binary.BinaryRun | None
     other: Comparison | None
+    part: Span | None
+
+    def select(self) -> None:
+        """Leaves only the kills in the part that is shown."""
+        if self.own:
+            self.own.decisions = within(self.own.decisions, self.part)
+        if self.ran:
+            self.ran.select(self.part)
+        if self.other:
+            self.other.kills = within(self.other.kills, self.part)
 
     def decisions(self) -> list[Decision]:
         return self.own.decisions if self.own else []
@@ -154,8 +167,8 @@ def agreement(own: Engine, ran: binary.BinaryRun) -> str:
             other.action,
         )
         if not is_same or not decision.may_kill(other.path):
-            where = f"{seconds(found.time_ns)} s {found.path}"
-            other_kill = f"{seconds(other.time_ns)} s {other.path}"
+            where = f"{time_text(found.time_ns)} {found.path}"
+            other_kill = f"{time_text(other.time_ns)} {other.path}"
             return f"it differs from {VERSION} as emulated: {other_kill} in place of {where}"
     apart = len(ran.kills) - len(own.decisions)
     if apart:
@@ -169,7 +182,7 @@ def binary_lines(answers: Answers, ran: binary.BinaryRun) -> list[str]:
     did = f"{counted(ran.looks, 'look')}, {counted(len(ran.kills), 'kill')}"
     head = f"{ran.path}: oomd {ran.version} in {ran.sandbox}: {did}"
     lines = [f"{head}; {answers.agreement()}"]
-    lines += [f"{seconds(it.time_ns)} s  {ran.path}: restarts {it.service}" for it in ran.restarts]
+    lines += [f"{time_text(it.time_ns)}  {ran.path}: restarts {it.service}" for it in ran.restarts]
     return [*lines, ran.fault] if ran.fault else lines
 
 
@@ -188,7 +201,7 @@ def print_lines(answers: Answers, is_all: bool) -> None:
     own, other, ran = answers.own, answers.other, answers.ran
     lines = kill_lines(answers, is_all)
     if own and not own.decisions:
-        lines.append("nobody would be killed")
+        lines.append(f"nobody would be killed{part_text(answers.part)}")
     if own and own.crash:
         lines.append(own.crash)
     if own and other:
@@ -263,13 +276,17 @@ def collect_answers(given: argparse.Namespace) -> Answers:
             else None
         )
         other = compare(program, given.compare, trace, run.interval) if given.compare else None
-    return Answers(run, own, ran, other)
+        part = part_of(given.trace, vars(given), end_of(trace))
+    answers = Answers(run, own, ran, other, part)
+    answers.select()
+    return answers
 
 
 def work(given: argparse.Namespace) -> int:
     """Prints what oomd would have done, and returns the exit status."""
     if not given.is_json:
         show_containers([given.trace], vars(given))
+        show_clock(given.trace, vars(given))
     if not given.binary and (given.sandbox or given.log):
         raise Fault("--sandbox and --log are for --binary")
     answers = collect_answers(given)

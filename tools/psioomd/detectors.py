@@ -3,7 +3,7 @@ from __future__ import annotations
 
 from typing import Any
 
-from psicli.times import SECOND, seconds
+from psicli.times import SECOND, seconds, time_text
 from psioomd.configuration import PluginUse
 from psioomd.machine import NO_PRESSURE, Averages
 from psioomd.numbers import float32
@@ -45,7 +45,7 @@ class Nearest:
     def words(self, text: str) -> str:
         where = f" of {self.path}" if self.path else ""
         extreme = "at least" if self.sign < 0 else "at most"
-        return f"{extreme} {text}{where}, at {seconds(self.time_ns)} s"
+        return f"{extreme} {text}{where}, at {time_text(self.time_ns)}"
 
 
 class Above(Plugin):

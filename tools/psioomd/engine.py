@@ -16,7 +16,7 @@ from psioomd.detectors import (
     Rising,
     SwapFree,
 )
-from psicli.times import SECOND, seconds
+from psicli.times import SECOND, time_text
 from psicli.wording import quoted
 from psioomd.faults import Crash, Refused
 from psioomd.killers import ByPressure, ByScans, BySize, BySwap, Killer
@@ -260,7 +260,7 @@ class Engine:
                 self.decisions += ruleset.decisions
                 ruleset.decisions = []
         except Crash as crash:
-            self.crash = f"{seconds(now)} s  {crash}: nothing is known after this"
+            self.crash = f"{time_text(now)}  {crash}: nothing is known after this"
         self.scanned = {group: self.machine.scanned(path) for path, group in groups}
 
     def courses(self) -> list[Course]:

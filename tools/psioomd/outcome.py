@@ -3,7 +3,7 @@ from __future__ import annotations
 
 from dataclasses import dataclass, field
 
-from psicli.times import seconds
+from psicli.times import time_text
 from psicli.wording import listed, quoted
 from psirules.program import Kill
 
@@ -103,7 +103,7 @@ class Decision:
 
     def lines(self, is_all: bool) -> list[str]:
         """Returns the kill as lines of text."""
-        when = f"{seconds(self.time_ns)} s"
+        when = time_text(self.time_ns)
         gap = " " * (len(when) + 2)
         path = self.victim.path
         lines = [f"{when}  would kill {path}", f"{gap}by {self.source.text()}"]

@@ -1,11 +1,12 @@
 """The command line of tools/rules."""
 from collections.abc import Callable
+from typing import Any
 
 from psicli.options import add_interval, add_tick
 from psicli.parser import Parser
 from psicli.running import run
 from psicli.values import whole_number
-from psinames.known import add_names
+from psinames.known import add_names, add_times
 from psinames.shown import show_containers
 from psirules import by_oomd, by_systemd, compare, expect, explain, from_oomd, from_systemd, lint, suggest, sweep, to_oomd
 from psirules.program import Pace
@@ -39,6 +40,7 @@ def add_pace(command: Parser) -> None:
 def add_replay(command: Parser) -> None:
     """Adds the options for replays, and for the names of groups."""
     add_pace(command)
+    add_times(command)
     add_names(command)
     jobs = "how many replays run side by side: one a processor if left out"
     command.add_argument("--jobs", type=whole_number(1, 1024), metavar="N", help=jobs)
@@ -68,6 +70,7 @@ def add_explain(command: Parser) -> None:
     command.add_argument("--systemd", type=whole_number(247, 9999), metavar="N", help="with --by systemd-oomd: by which version of systemd")
     command.add_argument("--all", dest="is_all", action="store_true", help="print all firings and candidates")
     add_pace(command)
+    add_times(command)
     add_names(command)
     add_form(command, False)
     command.set_defaults(run=explain.run)
@@ -84,6 +87,8 @@ def add_suggest(command: Parser) -> None:
     command.add_argument("--by", choices=explain.KILLERS, default=explain.PSI_OOMD, help=by)
     command.add_argument("--systemd", type=whole_number(247, 9999), metavar="N", help="with --by systemd-oomd: by which version of systemd")
     add_pace(command)
+    add_times(command)
+    add_names(command)
     command.add_argument("--jobs", type=whole_number(1, 1024), metavar="N", help="how many replays run side by side: one a processor if left out")
     add_form(command, False)
     command.set_defaults(run=suggest.run)
@@ -138,6 +143,13 @@ def parser() -> Parser:
     return words
 
 
+def traces_in(values: dict[str, Any]) -> list[str]:
+    """Returns the traces of a command."""
+    if "incidents" in values:
+        return [*values["incidents"], *values["quiet"]]
+    return values.get("traces") or [values["trace"]]
+
+
 def rules() -> int:
     """Runs one of the commands, and returns the exit status."""
     options = parser().parse_args()
@@ -145,7 +157,7 @@ def rules() -> int:
         options.pace = Pace(options.tick_ms, options.interval_s)
     if "no_names" in options and options.form is not Form.JSON:
         values = vars(options)
-        show_containers(values.get("traces") or [values["trace"]], values)
+        show_containers(traces_in(values), values)
     status: int = options.run(options)
     return status
 

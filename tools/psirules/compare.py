@@ -6,7 +6,8 @@ from dataclasses import dataclass
 
 from psicli.fault import Fault
 from psicli.running import complain
-from psicli.times import seconds
+from psicli.times import seconds, time_text
+from psireplay.part import clock_of
 from psirules import telling
 from psirules.expectations import victims
 from psirules.program import Kill, Program
@@ -77,7 +78,7 @@ def told_old(old: Kill, new: Kill, old_rules: RulesFile, new_rules: RulesFile) -
     """Describes the kill by OLD, without what it has in common with the kill by NEW."""
     path = "" if old.path == new.path else f"{old.path} "
     killer = "" if old_rules.killer(old) == new_rules.killer(new) else f", {old_rules.killer(old)}"
-    return f"{path}at {seconds(old.time_ns)} s{killer}"
+    return f"{path}at {time_text(old.time_ns)}{killer}"
 
 
 @dataclass(frozen=True)
@@ -115,7 +116,7 @@ def run(given: argparse.Namespace) -> int:
     with contextlib.ExitStack() as files:
         old, old_file = accepted(program, given.old, files, ORDER)
         new, new_file = accepted(program, given.new, files, ORDER)
-        traces = Traces.of(given.traces, given.pace, given.jobs)
+        traces = Traces.of(given.traces, given.pace, given.jobs, vars(given))
         replays = traces.replays(program, [old_file, new_file])
     whole = [
         trace
@@ -127,7 +128,8 @@ def run(given: argparse.Namespace) -> int:
     compared = []
     for trace, one, other in zip(traces.names, *replays):
         fault = next((it for it in (one, other) if isinstance(it, Fault)), None)
-        compared.append(Compared(trace, fault or difference(one, other, old, new)))
+        with clock_of(trace, vars(given)):
+            compared.append(Compared(trace, fault or difference(one, other, old, new)))
     outcomes = [it.outcome() for it in compared]
 
     def record(status: int) -> object:

@@ -5,6 +5,7 @@ from collections.abc import Iterable
 
 from psicli.fault import Fault
 from psicli.running import complain
+from psireplay.part import clock_of
 from psirules import by_oomd, by_systemd, expectations, telling
 from psirules.expectations import Expectation
 from psirules.program import Kill, Program
@@ -135,7 +136,7 @@ def judge(given: argparse.Namespace, program: Program) -> list[Judged]:
     program.prepare()
     if STANDARD_INPUT in given.traces:
         read_again()
-    traces = Traces.of(given.traces, given.pace, given.jobs)
+    traces = Traces.of(given.traces, given.pace, given.jobs, vars(given))
     with contextlib.ExitStack() as files:
         if given.by == by_systemd.NAME:
             rules: RulesFile = by_systemd.BySystemd(given.settings)
@@ -155,9 +156,11 @@ def judge(given: argparse.Namespace, program: Program) -> list[Judged]:
         ]
         note_unmatched(traces, judged, [rules])
         note_samples(judged, [rules])
-    return [
-        Judged(traces, trace, found, wanted, rules) for trace, found in zip(traces.names, replays)
-    ]
+    all_judged = []
+    for trace, found in zip(traces.names, replays):
+        with clock_of(trace, vars(given)):
+            all_judged.append(Judged(traces, trace, found, wanted, rules))
+    return all_judged
 
 
 def run(given: argparse.Namespace) -> int:

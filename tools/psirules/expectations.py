@@ -5,7 +5,7 @@ from abc import ABC, abstractmethod
 from dataclasses import dataclass
 
 from psicli.fault import Fault
-from psicli.times import seconds
+from psicli.times import seconds, time_text
 from psicli.values import nanoseconds
 from psicli.wording import counted, listed, quoted, suggested
 from psirules.patterns import is_pattern, matches
@@ -38,7 +38,7 @@ def victims(kills: list[Kill]) -> str:
         return "no kill"
     moments: dict[str, list[str]] = {}
     for kill in kills:
-        moments.setdefault(kill.path, []).append(f"{seconds(kill.time_ns)} s")
+        moments.setdefault(kill.path, []).append(time_text(kill.time_ns))
     told = [
         f"{path} at {', '.join(it[:MOST_MOMENTS])}{' and later' * bool(it[MOST_MOMENTS:])}"
         for path, it in moments.items()

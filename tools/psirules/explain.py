@@ -7,6 +7,7 @@ from psicli.running import complain
 from psicli.status import Status
 from psioomd.emulation import Run, emulate
 from psireplay.lines import Kill
+from psireplay.part import part_of, part_text, show_clock
 from psireplay.runs import Runs
 from psirules import by_oomd, by_systemd, telling
 from psirules.program import Program, processors
@@ -31,7 +32,7 @@ ABOUT = """Prints why the rulesets of RULES fired on TRACE, or didn't:
 
 With --by oomd the rules are evaluated by oomd's algorithm, as by tools/oomd; RULES is its
 configuration then. With --by systemd-oomd RULES is a folder with the settings of systemd-oomd, as
-of tools/systemd-oomd."""
+of tools/systemd-oomd. --from, --to and --at select the firings."""
 STATUS = "The status is 0 if everything was printed, and 2 if something couldn't be run."
 PSI_OOMD = "psi_oomd"
 KILLERS = (PSI_OOMD, by_oomd.NAME, by_systemd.NAME)
@@ -62,7 +63,7 @@ def by_rules(given: argparse.Namespace) -> list[Part]:
         )
         must_judge(given.trace, rules.data, given.file)
         found = program.replay(given.trace, file, given.pace, processors())
-        traces = Traces.of([given.trace], given.pace, None)
+        traces = Traces.of([given.trace], given.pace, None, vars(given))
         note_unmatched(traces, traces.names, [rules])
         note_samples(traces.names, [rules])
         runs = Runs()
@@ -96,18 +97,17 @@ def parts_of(given: argparse.Namespace) -> list[Part]:
 
 def run(given: argparse.Namespace) -> int:
     check_words(given)
-    found = parts_of(given)
+    part = part_of(given.trace, vars(given))
+    show_clock(given.trace, vars(given))
+    found = [it.within(part) for it in parts_of(given)]
     if given.form is Form.JSON:
         telling.tell_json(
             {"rules": given.file, "trace": given.trace, "by": given.by, **record_of(found)}
         )
-    else:
-        mark = note(given.trace)
-        print(
-            "\n".join(
-                [f"{given.trace}{mark}:", *lines_of(found, given.is_all)]
-                if mark
-                else lines_of(found, given.is_all)
-            )
-        )
+        return Status.DONE
+    mark = note(given.trace)
+    head = [f"{given.trace}{mark}:"] if mark else []
+    if part:
+        head.append(f"firings{part_text(part)}; values and holds are those of the whole trace")
+    print("\n".join([*head, *lines_of(found, given.is_all)]))
     return Status.DONE

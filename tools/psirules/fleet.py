@@ -11,7 +11,7 @@ import subprocess
 import sys
 import tempfile
 import threading
-from dataclasses import dataclass, field
+from dataclasses import dataclass, field, replace
 from typing import IO
 
 from psicli.fault import Fault
@@ -19,10 +19,14 @@ from psicli.parser import Parser
 from psicli.running import complain, run
 from psicli.status import Status
 from psicli.wording import counted, quoted
+from psinames.known import Span, add_names, add_times
+from psinames.shown import show_containers
+from psireplay.part import part_of, within
 from psireplay.program import program_path
 from psireplay.sampled import time_in_whole, wholes
 from psirules.command import add_form, add_pace
 from psirules.program import Pace, Program, read_kills
+from psirules.replays import length_of
 from psirules.rules_file import RulesFile, bytes_of, kept
 from psirules.telling import Form, tell_json
 
@@ -159,7 +163,19 @@ def answers(given: argparse.Namespace, options: list[str], traces: list[str]) ->
     return found
 
 
-def summary(given: argparse.Namespace, traces: list[str], found: list[Answer]) -> dict[str, object]:
+def parts_of(given: argparse.Namespace, traces: list[str]) -> dict[str, Span | None]:
+    """Returns the part of each trace whose kills count, or None for all of it. Traces that were
+    made together from the same samples are one.
+    """
+    return {it.name: part_of(it.name, vars(given), length_of(it)) for it in wholes(traces)}
+
+
+def summary(
+    given: argparse.Namespace,
+    traces: list[str],
+    found: list[Answer],
+    parts: dict[str, Span | None],
+) -> dict[str, object]:
     """Counts the results. Traces made together from the same samples count as one, and a kill in
     the time that two of them share counts once.
     """
@@ -177,11 +193,12 @@ def summary(given: argparse.Namespace, traces: list[str], found: list[Answer]) -
     together = wholes(traces)
     for whole in together:
         kills = [
-            kill
+            replace(kill, moment=time)
             for name, mark in whole.parts
             for kill in all_kills[name] or ()
-            if time_in_whole(kill.time_ns, mark) is not None
+            if (time := time_in_whole(kill.time_ns, mark)) is not None
         ]
+        kills = within(kills, parts[whole.name])
         if not kills and not any(name in faults for name, _ in whole.parts):
             without.append(whole.name)
         rulesets.update(
@@ -241,10 +258,12 @@ def fleet() -> int:
     program.prepare()
     with kept(bytes_of(given.rules), given.rules) as rules:
         program.judge(rules)
-    summed = summary(given, traces, answers(given, options, traces))
+    parts = parts_of(given, traces)
+    summed = summary(given, traces, answers(given, options, traces), parts)
     if given.form is Form.JSON:
         tell_json(summed)
     else:
+        show_containers(traces, vars(given))
         tell(summed)
     return Status.FAILED if summed["not_run"] else Status.DONE
 
@@ -266,6 +285,8 @@ def parser() -> Parser:
         help="print the commands, and run nothing (`-- -vv`: with their hosts)",
     )
     add_pace(found)
+    add_times(found)
+    add_names(found)
     add_form(found, False)
     return found
 

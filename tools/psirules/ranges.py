@@ -33,12 +33,14 @@ class Outcome:
 
 @dataclass(frozen=True)
 class Range:
-    """Consecutive values that hold, both ends included, and why the next value on each side
-    doesn't; empty if there is no next value.
+    """Consecutive values that hold, both ends included, and why the next value that was tried on
+    each side doesn't; None and empty if there is no next value.
     """
 
     low: int
     high: int
+    lower: int | None
+    higher: int | None
     below: str
     above: str
 
@@ -120,13 +122,14 @@ def joined(found: dict[int, Outcome], is_exact: bool) -> list[Range]:
         is_same = before is not None and (
             value - before == 1 or found[before].first == found[value].first
         )
-        above = found[values[place + 1]].why() if place + 1 < len(values) else ""
+        higher = values[place + 1] if place + 1 < len(values) else None
+        above = found[higher].why() if higher is not None else ""
         if is_joined and (is_same or not is_exact):
             last = ranges.pop()
-            ranges.append(Range(last.low, value, last.below, above))
+            ranges.append(Range(last.low, value, last.lower, higher, last.below, above))
         else:
             below = found[before].why() if before is not None else ""
-            ranges.append(Range(value, value, below, above))
+            ranges.append(Range(value, value, before, higher, below, above))
     return ranges
 
 

@@ -2,7 +2,7 @@
 import contextlib
 import functools
 import json
-from collections.abc import Callable
+from collections.abc import Callable, Mapping
 import mmap
 import os
 import re
@@ -11,12 +11,16 @@ import stat
 import sys
 import tempfile
 from dataclasses import dataclass, field, replace
+from typing import Any
 
 from psicli.fault import Fault
 from psicli.running import complain
 from psicli.wording import quoted
+from psinames.known import Span
 from psireplay.kinds import TRACE, kind_of
-from psireplay.sampled import MOST_BYTES, Sampled, mark_in, time_in_whole, wholes
+from psireplay.part import part_of, within
+from psireplay.sampled import MOST_BYTES, Sampled, Whole, mark_in, time_in_whole, wholes
+from psireplay.trace import UNKNOWN, end_of
 from psirules.patterns import matches
 from psirules.program import Kill, Pace, Program, Refusal, RulesAt, processors, side_by_side
 from psirules.rules_file import RulesFile, bytes_of, kept
@@ -30,26 +34,38 @@ GROUP = re.compile(rb"^[0-9]+ group (\S+)$", re.MULTILINE)
 class Traces:
     """Traces by name, the lengths of ticks and intervals, and how many are replayed at a time
     (None for the number of processors). Traces that were made together from samples are one,
-    named after the first; `parts` has all of them.
+    named after the first; `parts` has all of them. `spans` has the time of each trace whose kills
+    count, if not all do.
     """
 
     names: list[str]
     pace: Pace
     jobs: int | None
     parts: dict[str, list[tuple[str, Sampled | None]]] = field(default_factory=dict)
+    spans: dict[str, Span] = field(default_factory=dict)
 
     @staticmethod
-    def of(names: list[str], pace: Pace, jobs: int | None) -> "Traces":
-        """Returns the traces `names`, in which those that were made together are one."""
+    def of(
+        names: list[str], pace: Pace, jobs: int | None, values: Mapping[str, Any]
+    ) -> "Traces":
+        """Returns the traces `names`, in which those that were made together are one. The
+        options of `add_times` are among `values`.
+        """
         found = wholes(names)
+        spans = {it.name: part_of(it.name, values, length_of(it)) for it in found}
         return Traces(
             [it.name for it in found],
             pace,
             jobs,
             {it.name: it.parts for it in found if len(it.parts) > 1},
+            {name: span for name, span in spans.items() if span},
         )
 
     def joined(self, trace: str, replay: Callable[[str], list[Kill]]) -> list[Kill]:
+        """Returns the kills in a trace, or in all its parts, that count."""
+        return within(self.all_kills(trace, replay), self.spans.get(trace))
+
+    def all_kills(self, trace: str, replay: Callable[[str], list[Kill]]) -> list[Kill]:
         """Returns the kills in a trace, or in all its parts. A kill in the time that two parts
         share counts once.
         """
@@ -98,6 +114,12 @@ class Traces:
         return side_by_side(
             [functools.partial(call, trace) for trace in self.names], self.jobs or processors()
         )
+
+
+def length_of(whole: Whole) -> int:
+    """Returns the length (ns) of a trace, or of traces that were made together."""
+    ends = [time_in_whole(end_of(name), mark) for name, mark in whole.parts]
+    return max((it for it in ends if it is not None), default=UNKNOWN)
 
 
 def read_again() -> None:

@@ -6,7 +6,7 @@ from contextlib import contextmanager
 from typing import Any
 
 from psicli.fault import Fault
-from psicli.times import seconds
+from psicli.times import time_text
 from psicli.wording import quoted
 from psirules.program import Kill, RulesAt
 
@@ -53,7 +53,7 @@ class RulesFile:
 
     def killed(self, kill: Kill) -> str:
         """Says when and by what a group was killed, to follow the group's path."""
-        return f"killed at {seconds(kill.time_ns)} s by {self.killer(kill)}"
+        return f"killed at {time_text(kill.time_ns)} by {self.killer(kill)}"
 
     def record(self, kill: Kill) -> dict[str, object]:
         """Returns the kill as a JSON object."""

@@ -1,14 +1,16 @@
 """tools/rules suggest: finds thresholds and durations that catch incidents and spare quiet days."""
 import argparse
 import contextlib
-from collections.abc import Iterator
+from collections.abc import Iterator, Mapping
 from dataclasses import dataclass
+from typing import Any
 
 from psicli.fault import Fault
 from psicli.running import complain
 from psicli.status import Status
-from psicli.times import SECOND, seconds
+from psicli.times import SECOND, time_text
 from psicli.wording import quoted
+from psireplay.part import clock_of
 from psireplay.sampled import sampled
 from psireplay.trace import end_of
 from psirules import by_oomd, by_systemd, expectations, ranges, telling
@@ -36,15 +38,20 @@ STATUS = "The status is 0 if there are such values, 1 if not, and 2 if something
 
 @dataclass(frozen=True)
 class Task:
-    """The incidents with their expectations, and the quiet traces."""
+    """The incidents with their expectations, the quiet traces, and the options about clocks."""
 
     incidents: list[str]
     wanted: list[Expectation]
     quiet: list[str]
     traces: Traces
+    values: Mapping[str, Any]
 
     def is_monotone(self) -> bool:
-        return all(isinstance(it, (First, NoKillBefore)) for it in self.wanted)
+        """Returns whether a lower value can't make a first kill later. If only the kills of some
+        time count, it can: by an earlier kill, after which the ruleset rests.
+        """
+        is_first = all(isinstance(it, (First, NoKillBefore)) for it in self.wanted)
+        return is_first and not self.traces.spans
 
 
 def first_of(kills: list[Kill]) -> tuple[Kill, ...]:
@@ -89,14 +96,15 @@ class Judge:
                 raise it
             kills.append(it)
         for trace, of_trace in zip(self.task.traces.names, kills):
-            for kind, why in self.faults(trace, of_trace):
-                faults.setdefault(kind, f"{trace}{note(trace)}: {why}")
+            with clock_of(trace, self.task.values):
+                for kind, why in self.faults(trace, of_trace):
+                    faults.setdefault(kind, f"{trace}{note(trace)}: {why}")
         return Outcome(faults, tuple(map(first_of, kills)))
 
     def faults(self, trace: str, kills: list[Kill]) -> Iterator[tuple[str, str]]:
         """Yields what is wrong with the kills in a trace, each with its kind."""
         if trace in self.task.quiet and kills:
-            yield EARLY, f"kills {kills[0].path} at {seconds(kills[0].time_ns)} s"
+            yield EARLY, f"kills {kills[0].path} at {time_text(kills[0].time_ns)}"
         for wanted in self.task.wanted if trace in self.task.incidents else ():
             verdict = wanted.verdict(kills, self.subject.rules)
             if not verdict.holds:
@@ -124,15 +132,18 @@ class Answer:
         if here:
             yield f"  margin: {knob.present - here.low} below, {here.high - knob.present} above"
         for it in search.ranges:
-            for value, why in ((it.low - search.step, it.below), (it.high + search.step, it.above)):
+            for value, why in ((it.lower, it.below), (it.higher, it.above)):
                 if why:
                     yield f"  not {value}: {why}"
 
     def record(self) -> dict[str, object]:
         found = [
-            {"low": it.low, "high": it.high, "below": it.below or None, "above": it.above or None}
+            {
+                "low": it.low, "high": it.high, "lower": it.lower, "higher": it.higher,
+                "below": it.below or None, "above": it.above or None,
+            }
             for it in self.search.ranges
-        ]
+        ]  # fmt: skip
         return {
             "place": self.knob.place, "argument": self.knob.argument, "unit": self.knob.unit,
             "now": self.knob.present, "ranges": found, "by": self.search.way,
@@ -188,7 +199,7 @@ def task_of(given: argparse.Namespace) -> Task:
     matches no group of an incident.
     """
     wanted = expectations.read(given.want, bytes_of(given.want))
-    traces = Traces.of([*given.incidents, *given.quiet], given.pace, given.jobs)
+    traces = Traces.of([*given.incidents, *given.quiet], given.pace, given.jobs, vars(given))
     for trace in given.incidents:
         groups = traces.groups(trace)
         for it in wanted if groups else ():
@@ -196,7 +207,8 @@ def task_of(given: argparse.Namespace) -> Task:
             if missing:
                 raise Fault(f"{given.want} line {it.line}: {trace}: {missing}")
     incidents = [it for it in traces.names if it in given.incidents]
-    return Task(incidents, wanted, [it for it in traces.names if it not in incidents], traces)
+    quiet = [it for it in traces.names if it not in incidents]
+    return Task(incidents, wanted, quiet, traces, vars(given))
 
 
 def check_wanted(task: Task, it: Subject, name: str) -> None:

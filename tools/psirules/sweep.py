@@ -10,8 +10,10 @@ from decimal import Decimal
 from psicli.fault import Fault
 from psicli.running import complain
 from psicli.status import ProgramStatus
-from psicli.times import seconds
+from psicli.times import time_text
 from psicli.wording import quoted
+from psinames.known import Span
+from psireplay.part import clock_of, part_of, within
 from psirules import places, telling
 from psirules.places import Place
 from psirules.program import Kill, Pace, Program, Refusal, processors, side_by_side
@@ -78,24 +80,19 @@ def axis(rules: RulesFile, text: str) -> Axis:
 @dataclass(frozen=True)
 class Row:
     """A trace, a value of each argument, and the kills with these values, or why there was no
-    replay.
+    replay. `first` is the time of the first kill for people.
     """
 
     trace: str
     values: tuple[str, ...]
     found: list[Kill] | Fault
+    first: str
 
     def cells(self) -> list[str]:
         if isinstance(self.found, Fault):
             return [self.trace, *self.values, "not run", "-", "-"]
-        first = self.found[0] if self.found else None
-        return [
-            self.trace,
-            *self.values,
-            str(len(self.found)),
-            f"{seconds(first.time_ns)} s" if first else "-",
-            first.path if first else "-",
-        ]
+        victim = self.found[0].path if self.found else "-"
+        return [self.trace, *self.values, str(len(self.found)), self.first, victim]
 
     def outcome(self, axes: list[Axis], has_trace: bool) -> Outcome:
         name = f"{self.trace}: " * has_trace + named(axes, self.values)
@@ -117,9 +114,14 @@ Choice = tuple[str, tuple[str, ...]]
 
 
 def replay(
-    choice: Choice, axes: list[Axis], rules: RulesFile, given: argparse.Namespace, threads: int
+    choice: Choice,
+    axes: list[Axis],
+    rules: RulesFile,
+    given: argparse.Namespace,
+    part: Span | None,
+    threads: int,
 ) -> list[Kill]:
-    """Returns the kills in a trace with these values of the axes."""
+    """Returns the kills in a trace, or in a part of it, with these values of the axes."""
     trace, values = choice
     data = places.changed(
         rules, [(one.place, one.argument, value) for one, value in zip(axes, values)]
@@ -127,7 +129,7 @@ def replay(
     pace: Pace = given.pace
     with kept(data, rules.name) as file:
         try:
-            return Program().replay(trace, file, pace, threads)
+            return within(Program().replay(trace, file, pace, threads), part)
         except Refusal as refusal:
             if refusal.program_status != ProgramStatus.RULES_REFUSED:
                 raise
@@ -153,15 +155,30 @@ def tell_table(axes: list[Axis], rows: list[Row]) -> None:
         complain(fault)
 
 
+def first_time(trace: str, found: list[Kill] | Fault, given: argparse.Namespace) -> str:
+    """Returns the time of the first kill in a trace for people, or `-` without a kill."""
+    if isinstance(found, Fault) or not found:
+        return "-"
+    with clock_of(trace, vars(given)):
+        return time_text(found[0].moment)
+
+
 def rows_of(axes: list[Axis], rules: RulesFile, given: argparse.Namespace) -> list[Row]:
     """Replays each combination of a trace and values, and returns their rows."""
     pairs = itertools.product(given.traces, itertools.product(*(one.values for one in axes)))
     choices = list(itertools.islice(pairs, MOST_RUNS + 1))
     if len(choices) > MOST_RUNS:
         raise Fault(f"more than {MOST_RUNS} replays are asked for: take greater steps")
-    calls = [functools.partial(replay, choice, axes, rules, given) for choice in choices]
+    parts = {trace: part_of(trace, vars(given)) for trace in given.traces}
+    calls = [
+        functools.partial(replay, choice, axes, rules, given, parts[choice[0]])
+        for choice in choices
+    ]
     results = side_by_side(calls, given.jobs or processors())
-    return [Row(trace, values, found) for (trace, values), found in zip(choices, results)]
+    return [
+        Row(trace, values, found, first_time(trace, found, given))
+        for (trace, values), found in zip(choices, results)
+    ]
 
 
 def run(given: argparse.Namespace) -> int:

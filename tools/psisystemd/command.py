@@ -13,10 +13,12 @@ from psicli.options import add_interval, add_json
 from psicli.parser import Parser
 from psicli.running import complain, run
 from psicli.status import Status
-from psicli.times import seconds
+from psicli.times import seconds, time_text
 from psicli.values import whole_number
-from psinames.known import add_names
+from psinames.known import Span, add_names, add_times
 from psinames.shown import show_containers
+from psireplay.part import part_of, part_text, show_clock, within
+from psireplay.trace import end_of
 from psirules.program import Kill, Pace, Program, processors
 from psirules.replays import accepted
 from psirules.rules_file import RulesFile
@@ -52,6 +54,7 @@ def parser() -> Parser:
     add("--compare", metavar="FILE", help="print the kills by these rules of oomd's form too")
     add_interval(words, "with --compare: ")
     add("--all", dest="is_all", action="store_true", help="print each candidate that isn't chosen")
+    add_times(words)
     add_names(words)
     add_json(words)
     return words
@@ -65,7 +68,7 @@ class Compared:
 
     def line(self, kill: Kill) -> str:
         return (
-            f"{seconds(kill.time_ns)} s  by {self.name}: would kill {kill.path},"
+            f"{time_text(kill.time_ns)}  by {self.name}: would kill {kill.path},"
             f" {self.rules.killer(kill)}"
         )
 
@@ -108,12 +111,14 @@ def told_decisions(decisions: list[Decision], is_all: bool) -> Iterator[tuple[in
             gap = lines[-1][: len(lines[-1]) - len(lines[-1].lstrip())]
             lines.append(
                 f"{gap}again at {len(others)} looks that found new samples, up to"
-                f" {seconds(others[-1].time_ns)} s"
+                f" {time_text(others[-1].time_ns)}"
             )
         yield first.time_ns, lines
 
 
-def tell_lines(engine: Engine, other: Compared | None, is_all: bool) -> None:
+def tell_lines(
+    engine: Engine, other: Compared | None, is_all: bool, part: Span | None
+) -> None:
     """Prints text for people: the decisions in order of time, and how near the limits came."""
     told = [(moment, 0, lines) for moment, lines in told_decisions(engine.decisions, is_all)]
     told += [(it.time_ns, 1, [other.line(it)]) for it in other.kills] if other else []
@@ -121,7 +126,7 @@ def tell_lines(engine: Engine, other: Compared | None, is_all: bool) -> None:
         print("\n".join(lines))
     kills = list(engine.kills())
     if not kills:
-        print("nobody would be killed")
+        print(f"nobody would be killed{part_text(part)}")
     if other:
         print(other.verdict(kills))
     for course in sorted(engine.pressure.courses.values(), key=lambda it: it.path):
@@ -134,7 +139,7 @@ def tell_lines(engine: Engine, other: Compared | None, is_all: bool) -> None:
     elif swap >= 0:
         limit = percent(engine.swap.settings.limits.swap_used)
         print(
-            f"watched for swap: at most {percent(swap)} used, at {seconds(moment)} s, with"
+            f"watched for swap: at most {percent(swap)} used, at {time_text(moment)}, with"
             f" {percent(memory)} of memory; limit {limit}"
         )
 
@@ -168,6 +173,7 @@ def work(given: argparse.Namespace) -> int:
     """Prints what systemd-oomd would have done, and returns the exit status."""
     if not given.is_json:
         show_containers([given.trace], vars(given))
+        show_clock(given.trace, vars(given))
     if given.interval_s and not given.compare:
         raise Fault("--interval-s is of the rules of --compare: systemd-oomd looks each second")
     settings = Settings(given.settings, given.systemd)
@@ -176,12 +182,16 @@ def work(given: argparse.Namespace) -> int:
     with kept_trace(given.trace) as trace:
         engine = replayed(program, trace, settings, processors())
         other = compared(program, given.compare, trace, given.interval_s) if given.compare else None
+        part = part_of(given.trace, vars(given), end_of(trace))
+    engine.decisions = within(engine.decisions, part)
+    if other:
+        other.kills = within(other.kills, part)
     for text in [*settings.notes, *warnings(engine, settings)]:
         complain(text)
     if given.is_json:
         tell_json(engine, other, given, settings)
     else:
-        tell_lines(engine, other, given.is_all)
+        tell_lines(engine, other, given.is_all, part)
     return Status.DONE
 
 

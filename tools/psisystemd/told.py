@@ -3,7 +3,7 @@ from __future__ import annotations
 
 from dataclasses import dataclass, field
 
-from psicli.times import seconds
+from psicli.times import seconds, time_text
 from psisystemd.values import percent
 
 MEMORY_PRESSURE, SWAP = "memory pressure", "swap"
@@ -66,7 +66,7 @@ class Decision:
 
     def lines(self, is_all: bool) -> list[str]:
         """Returns the decision as lines of text."""
-        when = f"{seconds(self.time_ns)} s"
+        when = time_text(self.time_ns)
         gap = " " * (len(when) + 2)
         chosen = next((it for it in self.candidates if it.path == self.victim), None)
         others = [it for it in self.candidates if it is not chosen]
@@ -129,7 +129,7 @@ class Course:
         )
         limits = f"limit {percent(self.limit)} for {seconds(self.duration)} s"
         return (
-            f"{self.path}: at most {percent(self.most)}, at {seconds(self.most_at)} s; {limits},"
+            f"{self.path}: at most {percent(self.most)}, at {time_text(self.most_at)}; {limits},"
             f" {above}"
         )
 

@@ -3,7 +3,7 @@ from __future__ import annotations
 
 from typing import Optional
 
-from psicli.times import SECOND, seconds
+from psicli.times import SECOND, time_text
 from psicli.wording import quoted
 from psioomd.detectors import Above, MemoryAbove, Nearest, Reclaim, Rising, SwapFree
 from psioomd.engine import Engine, Ruleset
@@ -151,6 +151,6 @@ def parts(engine: Engine) -> list[Part]:
 
 
 def notes(engine: Engine) -> list[str]:
-    """Returns the notes on the limits of the result, and the message about a crash of oomd."""
-    crash = [f"oomd crashes at {seconds(engine.last)} s: {engine.crash}"] if engine.crash else []
+    """Returns the caveats of the answer, among them a crash of oomd."""
+    crash = [f"oomd crashes at {time_text(engine.last)}: {engine.crash}"] if engine.crash else []
     return [*engine.notes.texts, *crash]

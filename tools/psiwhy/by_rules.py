@@ -3,7 +3,7 @@ from __future__ import annotations
 
 from typing import Any, NamedTuple, Optional
 
-from psicli.times import SECOND, seconds
+from psicli.times import SECOND, time_text
 from psicli.wording import quoted
 from psireplay.lines import Kill
 from psireplay.rules import printable, size
@@ -180,7 +180,7 @@ def verdict(judged: Judged, found: list[Part]) -> str:
         if it.firings:
             first = it.firings[0]
             why = first.choices[0].nobody if len(first.choices) == 1 else "no action found a victim"
-            return f"{name} fired at {seconds(first.time_ns)} s, and {why}"
+            return f"{name} fired at {time_text(first.time_ns)}, and {why}"
     misses = [it.miss for it in found if it.miss]
     best = max(misses, key=lambda it: it.key, default=None)
     if best is None or not best.part:

@@ -4,7 +4,10 @@ from __future__ import annotations
 from typing import NamedTuple, Optional
 
 
-from psicli.times import seconds
+from psicli.times import seconds, time_text
+from psinames.known import Span as Selected
+from psireplay.part import within
+
 from .choice import Candidate, Choice
 
 # The largest number of candidates that are printed of an action, and of lines about the firings of
@@ -31,7 +34,7 @@ class Extreme(NamedTuple):
     def line(self) -> str:
         whose = f" ({self.path})" if self.path else ""
         limit = f", threshold {self.limit_shown}" if self.limit_shown else ""
-        return f"{self.word} {self.shown} at {seconds(self.time_ns)} s{whose}{limit}"
+        return f"{self.word} {self.shown} at {time_text(self.time_ns)}{whose}{limit}"
 
 
 class Measure(NamedTuple):
@@ -126,6 +129,10 @@ class Part(NamedTuple):
         """Returns the kills as pairs of a time (ns) and a path."""
         return [(it.time_ns, one.victim) for it in self.firings for one in it.choices if one.victim]
 
+    def within(self, part: Optional[Selected]) -> Part:
+        """Returns this part with only the firings in a time of the trace."""
+        return self._replace(firings=within(self.firings, part))
+
     def record(self) -> dict[str, object]:
         groups = [
             {"name": name, "detectors": [it.record() for it in found]}
@@ -149,7 +156,7 @@ def candidate_record(it: Candidate) -> dict[str, object]:
 def spans_text(spans: list[Span], most: int = 3) -> str:
     """Formats the first `most` spans (ns), such as `from 146 s to 214 s`."""
     found = [
-        f"at {seconds(start)} s" if start == end else f"from {seconds(start)} s to {seconds(end)} s"
+        f"at {time_text(start)}" if start == end else f"from {time_text(start)} to {time_text(end)}"
         for start, end in spans[:most]
     ]
     more = f" and {len(spans) - most} times more" if len(spans) > most else ""
@@ -159,8 +166,8 @@ def spans_text(spans: list[Span], most: int = 3) -> str:
 def head_of(part: Part) -> str:
     """Returns the first line about a ruleset: how often it fired, and what it killed."""
     if not part.firings:
-        return f"{part.name}: never fired"
-    killed = [f"{path} at {seconds(time_ns)} s" for time_ns, path in part.victims()]
+        return f"{part.name}: {'never fired' if part.miss else 'fired at other times only'}"
+    killed = [f"{path} at {time_text(time_ns)}" for time_ns, path in part.victims()]
     more = f" and {len(killed) - 3} more" if len(killed) > 3 else ""
     whom = f"killed {', '.join(killed[:3])}{more}" if killed else "killed nobody"
     times = len(part.firings)
@@ -194,14 +201,14 @@ def firing_lines(found: list[Firing], is_all: bool) -> list[str]:
             and found[last + 1].paused_until == first.paused_until
         ):
             last += 1
-        when = f"{seconds(first.time_ns)} s"
+        when = time_text(first.time_ns)
         if first.paused_until:
             many = (
-                f" to {seconds(found[last].time_ns)} s  fired {last - place + 1} times"
+                f" to {time_text(found[last].time_ns)}  fired {last - place + 1} times"
                 if last > place
                 else "  fired"
             )
-            lines.append(f"{when}{many}, resting until {seconds(first.paused_until)} s")
+            lines.append(f"{when}{many}, resting until {time_text(first.paused_until)}")
         else:
             lines.append(f"{when}  fired by {first.by[0]}")
             lines += [f"    and {it}" for it in first.by[1:]]

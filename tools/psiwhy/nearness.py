@@ -3,7 +3,7 @@ from __future__ import annotations
 
 from typing import Any, Iterable, NamedTuple, Optional
 
-from psicli.times import SECOND, seconds
+from psicli.times import SECOND, seconds, time_text
 from psireplay.groups import Group as TraceGroup
 from psireplay.groups import Groups
 from psireplay.lines import Report, read
@@ -147,7 +147,7 @@ class Watch:
         if self.nearest is None or name in ("exists", "memory_reclaim"):
             return self.came(host)
         value, time_ns, path = self.nearest
-        at = f"at {seconds(time_ns)} s"
+        at = f"at {time_text(time_ns)}"
         if name in PRESSURE:
             what = f"full {args['resource']} pressure of {path} over {PRESSURE[name]} s"
             what += f" was {share(value)} percent {at}"
@@ -197,7 +197,7 @@ class Watch:
             )
             return swap if name == "swap_free" else none
         value, time_ns, path = self.nearest
-        at = f"({path} at {seconds(time_ns)} s)"
+        at = f"({path} at {time_text(time_ns)})"
         if name in PRESSURE:
             missing = int(args["threshold"]) * 100 - value
             return f"highest {share(value)} % {at}" + (
@@ -210,8 +210,8 @@ class Watch:
         if name == "memory_reclaim":
             return f"highest rise {value} pages {at}" if value else "no page was scanned"
         if name == "swap_free":
-            return f"lowest {share(-value)} % free (at {seconds(time_ns)} s)"
-        return f"first there: {path} at {seconds(time_ns)} s"
+            return f"lowest {share(-value)} % free (at {time_text(time_ns)})"
+        return f"first there: {path} at {time_text(time_ns)}"
 
 
 def reached(value: int, limit: int) -> float:
