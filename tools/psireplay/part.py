@@ -18,7 +18,7 @@ class Timed(Protocol):
     """What happens at a time of a trace (ns)."""
 
     @property
-    def moment(self) -> int: ...
+    def time_ns(self) -> int: ...
 
 
 Event = TypeVar("Event", bound=Timed)
@@ -39,7 +39,7 @@ def part_of(
 
 def within(found: Iterable[Event], part: Optional[Span]) -> list[Event]:
     """Returns those that happen in a part, its ends included; all if it is None."""
-    return [it for it in found if part is None or part.start <= it.moment <= part.end]
+    return [it for it in found if part is None or part.start <= it.time_ns <= part.end]
 
 
 def part_text(part: Optional[Span]) -> str:

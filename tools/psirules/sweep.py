@@ -160,7 +160,7 @@ def first_time(trace: str, found: list[Kill] | Fault, given: argparse.Namespace)
     if isinstance(found, Fault) or not found:
         return "-"
     with clock_of(trace, vars(given)):
-        return time_text(found[0].moment)
+        return time_text(found[0].time_ns)
 
 
 def rows_of(axes: list[Axis], rules: RulesFile, given: argparse.Namespace) -> list[Row]:
