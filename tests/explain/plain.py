@@ -76,7 +76,7 @@ def reports_of(printed: str) -> dict[int, dict[tuple[str, str, str], int]]:
         if words[0] == "report":
             head = words
         elif words[0] == "full":
-            for word in words[1:3]:
+            for word in words[1:4]:
                 name, _, value = word.partition("=")
                 found.setdefault(int(head[1]), {})[head[2], head[3], name] = (
                     int(value.replace(".", ""))
