@@ -58,6 +58,14 @@ def page_name(word: str) -> str:
     return word
 
 
+def recorder_words(words: str) -> str:
+    """Returns options of the recorder, each quoted for the shell."""
+    try:
+        return " ".join(map(shlex.quote, shlex.split(words)))
+    except ValueError as fault:
+        raise Malformed(f"{words} can't be split into words: {fault}") from None
+
+
 def add_shared(words: Parser) -> None:
     """The options of both ways to a page."""
     add = words.add_argument
@@ -118,6 +126,7 @@ def parser() -> Parser:
     words.add_argument(
         "--record",
         metavar="OPTIONS",
+        type=recorder_words,
         default="",
         help="more options of tools/record, for example '--buffer-kb 65536'",
     )
@@ -171,9 +180,7 @@ def record(options: argparse.Namespace) -> int:
     """Records, and writes the page."""
     steps, output = Steps(), Output(options.output)
     output.must_be_new(output.base)
-    words = " ".join(
-        [f"--seconds {options.seconds}", *map(shlex.quote, shlex.split(options.record))]
-    )
+    words = f"--seconds {options.seconds} {options.record}".rstrip()
     make = record_there if options.host else record_here
     status = make(steps, options, output.base, words)
     write_page(steps, output.base, output, options.fold, report_words(options))

@@ -46,7 +46,7 @@ A kill changes nothing, as in `psi_oomd replay`: what follows the first supposes
 nothing.
 
 Statuses: 0 all was printed, 2 something couldn't be run: a wrong option, a configuration that oomd
-refuses, a trace that psi_oomd refuses, a program that isn't oomd."""
+refuses, a trace that psi_oomd refuses, a program that isn't oomd, 12 a time outside the trace."""
 
 
 def given_number(word: str) -> tuple[tuple[str, str], int]:

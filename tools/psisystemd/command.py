@@ -40,7 +40,7 @@ STATUS = """A kill changes nothing, as in `psi_oomd replay`: what follows the fi
 freed nothing.
 
 The status is 0 if everything was printed, and 2 if something couldn't be run: a usage
-error, a bad setting, a trace that psi_oomd rejects."""
+error, a bad setting, a trace that psi_oomd rejects, 12 for a time outside the trace."""
 
 
 def parser() -> Parser:
