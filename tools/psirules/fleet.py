@@ -19,13 +19,13 @@ from psicli.parser import Parser
 from psicli.running import complain, run
 from psicli.status import Status
 from psicli.wording import counted, quoted
-from psinames.known import Span, add_names, add_times
+from psinames.known import Span, add_names, add_times, must_fit
 from psinames.shown import show_containers
 from psireplay.part import part_of, within
 from psireplay.program import program_path
-from psireplay.sampled import time_in_whole, wholes
+from psireplay.sampled import Whole, time_in_whole, wholes
 from psirules.command import add_form, add_pace
-from psirules.program import Pace, Program, read_kills
+from psirules.program import Kill, Pace, Program, read_kills
 from psirules.replays import length_of
 from psirules.rules_file import RulesFile, bytes_of, kept
 from psirules.telling import Form, tell_json
@@ -163,22 +163,28 @@ def answers(given: argparse.Namespace, options: list[str], traces: list[str]) ->
     return found
 
 
-def parts_of(given: argparse.Namespace, traces: list[str]) -> dict[str, Span | None]:
-    """Returns the part of each trace whose kills count, or None for all of it. Traces that were
-    made together from the same samples are one.
-    """
-    return {it.name: part_of(it.name, vars(given), length_of(it)) for it in wholes(traces)}
+def selected(given: argparse.Namespace, whole: Whole) -> Span | None | Fault:
+    """Returns the part of a trace whose kills count: None for all of it, or why there is none."""
+    try:
+        return part_of(whole.name, vars(given), length_of(whole))
+    except Fault as fault:
+        return fault
 
 
-def summary(
-    given: argparse.Namespace,
-    traces: list[str],
-    found: list[Answer],
-    parts: dict[str, Span | None],
-) -> dict[str, object]:
-    """Counts the results. Traces made together from the same samples count as one, and a kill in
-    the time that two of them share counts once.
+def kills_in(whole: Whole, all_kills: dict[str, list[Kill] | None]) -> list[Kill]:
+    """Returns the kills in a trace, or in traces that were made together from the same samples. A
+    kill in the time that two of them share counts once.
     """
+    return [
+        replace(kill, time_ns=time)
+        for name, mark in whole.parts
+        for kill in all_kills[name] or ()
+        if (time := time_in_whole(kill.time_ns, mark)) is not None
+    ]
+
+
+def summary(given: argparse.Namespace, traces: list[str], found: list[Answer]) -> dict[str, object]:
+    """Counts the results. Traces made together from the same samples count as one."""
     rules = RulesFile(given.rules, bytes_of(given.rules))
     rulesets: collections.Counter[str] = collections.Counter()
     paths: collections.Counter[str] = collections.Counter()
@@ -192,13 +198,11 @@ def summary(
     }
     together = wholes(traces)
     for whole in together:
-        kills = [
-            replace(kill, moment=time)
-            for name, mark in whole.parts
-            for kill in all_kills[name] or ()
-            if (time := time_in_whole(kill.time_ns, mark)) is not None
-        ]
-        kills = within(kills, parts[whole.name])
+        part = selected(given, whole)
+        if isinstance(part, Fault):
+            faults.setdefault(whole.name, str(part))
+            continue
+        kills = within(kills_in(whole, all_kills), part)
         if not kills and not any(name in faults for name, _ in whole.parts):
             without.append(whole.name)
         rulesets.update(
@@ -258,8 +262,8 @@ def fleet() -> int:
     program.prepare()
     with kept(bytes_of(given.rules), given.rules) as rules:
         program.judge(rules)
-    parts = parts_of(given, traces)
-    summed = summary(given, traces, answers(given, options, traces), parts)
+    must_fit(vars(given))
+    summed = summary(given, traces, answers(given, options, traces))
     if given.form is Form.JSON:
         tell_json(summed)
     else:
