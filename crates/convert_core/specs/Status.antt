@@ -31,6 +31,7 @@ table_cause_text table.BadHeader = codes "BadHeader"
 table_cause_text table.BadPage = codes "BadPage"
 table_cause_text table.BadRow = codes "BadRow"
 table_cause_text table.NoEnd = codes "NoEnd"
+table_cause_text table.NoNewline = codes "NoNewline"
 table_cause_text table.AfterEnd = codes "AfterEnd"
 
 -- Word number `number` (from 0), or nothing if there are fewer words.

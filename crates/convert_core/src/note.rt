@@ -29,6 +29,7 @@ fn table_cause_name(cause: TableCause) -> &'static [u8]
         TableCause::BadPage => b"BadPage",
         TableCause::BadRow => b"BadRow",
         TableCause::NoEnd => b"NoEnd",
+        TableCause::NoNewline => b"NoNewline",
         TableCause::AfterEnd => b"AfterEnd",
     }
 }

@@ -1,6 +1,6 @@
 -- Defines the layout that a table describes, or the first error of the table. A table is a text of
 -- lines, whose words are separated by spaces.
-use Rattle.std.specs.Prelude.{ℕ, ◌+◌, List, [], ◌∷◌, ◌++◌, length, nat_lt, nat_le, ◌==◌, ◌&&◌, Bool, true, false, if◌then◌else◌, codes, Option, None, Some, option_map, Result, Ok, Err}
+use Rattle.std.specs.Prelude.{ℕ, ◌+◌, List, [], ◌∷◌, ◌++◌, length, nat_lt, nat_le, ◌==◌, ◌&&◌, if◌then◌else◌, codes, Option, None, Some, option_map, Result, Ok, Err}
 use Rattle.std.specs.Str.{bytes_eq}
 use Rattle.psi_base.specs.Number.{number_of}
 use Rattle.psi_base.specs.OptionSteps.{◌>>=◌}
@@ -13,7 +13,7 @@ use Rattle.page_spec.specs.declared.layout.StateLetter.{StateLetter}
 use Rattle.page_spec.specs.declared.layout.Width.{Width}
 use Rattle.page_spec.specs.declared.layout.Width.TheVariants.{One, Two, Four, Eight}
 use Rattle.convert_table.specs.declared.fault.TableCause.{TableCause}
-use Rattle.convert_table.specs.declared.fault.TableCause.TheVariants.{TooLong, BadHeader, BadPage, BadRow, NoEnd, AfterEnd}
+use Rattle.convert_table.specs.declared.fault.TableCause.TheVariants.{TooLong, BadHeader, BadPage, BadRow, NoEnd, NoNewline, AfterEnd}
 use Rattle.convert_table.specs.declared.fault.TableFault.{TableFault}
 use Rattle.convert_table.specs.declared.row.PageSize.{PageSize}
 use Rattle.convert_table.specs.declared.row.Row.{Row}
@@ -149,16 +149,17 @@ table_fault line why = record { line = line; cause = why }
 abbrev pub layout_with : PageSize → List StateLetter → List Kind → Layout
 layout_with size letters kinds = record { page = size.page; header = size.header; letters = letters; kinds = kinds }
 
--- Whether only an empty part remains, because the text ends with a newline.
-abbrev pub is_last : List (List ℕ) → Bool
-is_last ([] ∷ []) = true
-is_last _ = false
+-- The error after the line `end`, which has number `number`, or `None`: the line must have a
+-- newline, and nothing may follow the newline.
+abbrev pub end_fault : ℕ → List (List ℕ) → Option TableFault
+end_fault number [] = Some (table_fault number NoNewline)
+end_fault number ([] ∷ []) = None
+end_fault number _ = Some (table_fault (number + 1) AfterEnd)
 
--- The result after the line `end`, which has number `number`: the layout if nothing follows, and
--- otherwise an error in the next line.
-abbrev pub end_from : PageSize → ℕ → List StateLetter → List Kind → List (List ℕ) → Result Layout TableFault
-end_from size number letters kinds lines =
-    if is_last lines then Ok (layout_with size letters kinds) else Err (table_fault (number + 1) AfterEnd)
+-- The result after the line `end`, given the error after the line or `None`.
+abbrev pub end_from : PageSize → List StateLetter → List Kind → Option TableFault → Result Layout TableFault
+end_from size letters kinds None = Ok (layout_with size letters kinds)
+end_from size letters kinds (Some why) = Err why
 
 -- The result for a row in line `number`: its letter or kind is appended to the previous ones, and
 -- `following` gives the result of the further lines. If the line isn't a row, the result is an
@@ -174,7 +175,7 @@ row_then number letters kinds (Some (row.Event kind)) following = following lett
 abbrev pub rows_from : PageSize → ℕ → List StateLetter → List Kind → List (List ℕ) → Result Layout TableFault
 rows_from size number letters kinds [] = Err (table_fault number NoEnd)
 rows_from size number letters kinds (line ∷ lines) =
-    if bytes_eq line (codes "end") then end_from size number letters kinds lines
+    if bytes_eq line (codes "end") then end_from size letters kinds (end_fault number lines)
     else row_then number letters kinds (row_of line) (λ more_letters more_kinds. rows_from size (number + 1) more_letters more_kinds lines)
 
 -- The result for the lines after the second line, which gave the sizes; an error if it gave none.

@@ -14,6 +14,8 @@ pub enum TableCause {
     BadRow,
     /// The table ends without the line `end`.
     NoEnd,
+    /// The line `end` has no newline.
+    NoNewline,
     /// Text follows the line `end`.
     AfterEnd,
 }

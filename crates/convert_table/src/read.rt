@@ -1,8 +1,8 @@
 //! Parses a whole table, line by line. The form of each line is in `row`.
-ghost use Rattle.std.specs.Prelude.{◌≡◌, ◌+◌, ◌^◌, ◌<◌, ◌≤◌, [], IfOk, length};
+ghost use Rattle.std.specs.Prelude.{◌≡◌, ◌+◌, ◌-◌, ◌^◌, ◌<◌, ◌≤◌, [], IfOk, length};
 ghost use Rattle.psi_base.specs.Gives.{Gives};
 ghost use Rattle.psi_base.specs.Path.{parts_at};
-ghost use Rattle.convert_table.specs.Table.{is_last, layout_with, lines_layout, rows_from, table_of};
+ghost use Rattle.convert_table.specs.Table.{end_fault, layout_with, lines_layout, rows_from, table_of};
 ghost use Rattle.convert_table.specs.Takes.{refused_at};
 
 use crate::fault::{TableCause, TableFault};
@@ -21,13 +21,24 @@ fn refused(line: u32, cause: TableCause) -> Fault<TableFault>
     Fault::Refused(TableFault { line, cause })
 }
 
-// Returns whether only an empty part remains: the text ends with the newline of the line before.
-fn is_last(mut lines: Lines) -> bool
-    ensures { result ≡ is_last lines.entry }
+// Returns the error after the line `end`, which has number `number`, or `None`.
+fn end_fault(number: u32, mut lines: Lines) -> Option<TableFault>
+    requires { number < 2 ^ 32 - 1 }
+    ensures { result ≡ end_fault number lines.entry }
 {
-    match lines.next_part() {
-        Some(rest) => rest.is_empty() && lines.next_part().is_none(),
-        None => false,
+    let Some(rest) = lines.next_part() else {
+        return Some(TableFault {
+            line: number,
+            cause: TableCause::NoNewline,
+        });
+    };
+    if rest.is_empty() && lines.next_part().is_none() {
+        None
+    } else {
+        Some(TableFault {
+            line: number + 1,
+            cause: TableCause::AfterEnd,
+        })
     }
 }
 
@@ -45,15 +56,15 @@ fn read_rows(alloc: Global, size: PageSize, lines: Lines) -> Result<Layout, Faul
     let mut kinds = Vec::new(alloc);
     'lines: while let Some(line) = lines.next_part() {
         if line == b"end".as_slice() {
-            if is_last(lines) {
-                return Ok(Layout {
-                    page: size.page,
-                    header: size.header,
-                    letters: LetterList::new(letters),
-                    kinds: KindList::new(kinds),
-                });
+            if let Some(fault) = end_fault(number, lines) {
+                return Err(Fault::Refused(fault));
             }
-            return Err(refused(number + 1, TableCause::AfterEnd));
+            return Ok(Layout {
+                page: size.page,
+                header: size.header,
+                letters: LetterList::new(letters),
+                kinds: KindList::new(kinds),
+            });
         }
         match row_of(alloc, line) {
             Ok(Row::Letter(letter)) => letters.push(letter)?,

@@ -114,7 +114,9 @@ fn bad_rows(rt: HostRuntime) {
 #[test]
 fn ends(rt: HostRuntime) {
     // The line `end` must end with a newline, and nothing may follow it.
-    for rest in &["end", "end\n\n", "end\nend\n"] {
+    let table = format!(in rt.alloc(); "{START}end").expect(&rt, "memory");
+    assert_refused(&rt, table.as_bytes(), 3, TableCause::NoNewline, "NoNewline");
+    for rest in &["end\n\n", "end\nend\n", "end\nx"] {
         let table = format!(in rt.alloc(); "{START}{rest}").expect(&rt, "memory");
         let cause = TableCause::AfterEnd;
         assert_refused(&rt, table.as_bytes(), 4, cause, "AfterEnd");
