@@ -186,7 +186,7 @@ def check_growth(room: Room) -> None:
     with open(os.path.join(TOP, "docs", "blame.1"), encoding="utf-8") as file:
         text = " ".join(file.read().split())
     must(
-         "from the last sample before the time (or, if there is none, the first sample in it) to "
-         "the highest sample in it"
-         in text,
-         "the manual page says from when to when")  # fmt: skip
+        "from the last sample before the selected part (or, if there is none, from the first "
+        "sample in that part) to the highest sample in that part" in text,
+        "the manual page says from when to when",
+    )
