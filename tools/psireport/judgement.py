@@ -58,7 +58,7 @@ def ruleset(section: Element, facts: Facts, judged: Judged, number_: int) -> Non
         for which, detector in enumerate(detectors):
             one = Place(number_, place, which)
             watch = judged.watches[number_, place, which]
-            held = judged.truths.get(one._replace(is_instant=True), [])
+            held = judged.truths.get(one._replace(held=True), [])
             rest_ = held_text(judged, held, detector) + truth_text(judged, one)
             what, came = f" in ‘{group}’: {watch.wanted()}. ", word("strong", watch.came(judged.host))
             say(section, "p", word("code", detector["name"]), what, came, rest_)

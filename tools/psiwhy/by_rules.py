@@ -42,7 +42,7 @@ def hold_of(judged: Judged, place: Place, detector: dict[str, Any]) -> int:
     """
     if detector["name"] == "pressure_rising_beyond":
         return judged.watches[place[:3]].hold
-    instant = place._replace(is_instant=True) if has_duration(detector) else place
+    instant = place._replace(held=True) if has_duration(detector) else place
     return longest(judged.truths[instant], judged.evaluations)
 
 

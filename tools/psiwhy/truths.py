@@ -25,14 +25,14 @@ Detector = dict[str, Any]
 
 class Place(NamedTuple):
     """A ruleset, one of its groups of detectors, and one detector of the group, by numbers from 0;
-    -1 means all of them. With `is_instant` the condition of the detector counts without its
-    duration.
+    -1 means all of them. With `held` the condition of the detector counts without its duration.
+    The page of a report shows places with the names of these fields.
     """
 
     ruleset: int
     group: int = -1
     detector: int = -1
-    is_instant: bool = False
+    held: bool = False
 
 
 ALWAYS = Place(-1)
