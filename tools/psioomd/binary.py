@@ -73,7 +73,8 @@ class BinaryRun:
 
     def line(self, kill: Kill) -> str:
         """Returns the line for a kill."""
-        return f"{time_text(kill.time_ns)}  by {self.path}: would kill {kill.path}, {self.who(kill)}"
+        when = time_text(kill.time_ns)
+        return f"{when}  by {self.path}: would kill {kill.path}, {self.who(kill)}"
 
     def record(self) -> dict[str, object]:
         """Returns the run as a JSON object."""
