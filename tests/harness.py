@@ -1,11 +1,12 @@
 """The harness of the tests: how a check fails, and how checks are run and reported.
 
-A check is a function whose name begins with `check_`; it raises Wrong if what it finds isn't what
-is expected. `run_checks` runs checks at the same time, each in a process and in an empty folder of
-its own. It prints a line when a check ends: ok or FAILED, its seconds and its name. A failure is
-followed by what differs and by the command that repeats this check. A check that doesn't end in
-time fails too, with its stack and the commands that still run. The last line lists the checks that
-failed. Each test takes -j N (checks at the same time) and the names of checks.
+A check is a function whose name begins with `check_`; it raises Wrong if a result differs from the
+expected one. `run_checks` runs several checks at the same time, each in a process and in an empty
+folder of its own. When a check ends, a line is printed: ok or FAILED, its duration in seconds and
+its name. A failure is followed by the difference and by the command that repeats this check. A
+check that exceeds its time limit fails too; the report has its stack and the commands that still
+run. The last line lists the failed checks. Each test takes -j N (the number of checks that run at
+the same time) and the names of checks.
 """
 from __future__ import annotations
 
@@ -30,28 +31,30 @@ from typing import IO, NamedTuple
 from shared.difference import difference
 from shared.program import TOP, USED, program_of
 
-# A check may take this long (s), far longer than any needs, times the processes that share each
-# processor. If it takes longer, it is interrupted, and again after each AGAIN_S seconds.
+# The time limit (s) of a check, far longer than any check needs; it is multiplied by the number of
+# processes per processor. A check that exceeds its limit is interrupted, and again after each
+# AGAIN_S seconds.
 LIMIT_S, AGAIN_S = 300.0, 10.0
-# The most characters of a failure that are shown: the rest is cut in the middle.
+# The largest number of characters of a failure that are printed: a longer text is cut in the
+# middle.
 MOST_SHOWN = 20_000
 
-# The folder of Python's own modules, whose part of a stack isn't shown.
+# The folder of Python's own modules; their frames are left out of a printed stack.
 PYTHON = os.path.dirname(os.__file__) + os.sep
 
 Check = Callable[..., object]
-# Calls a check; the text is the path of its empty folder.
+# A function that calls a check; the text is the path of the check's empty folder.
 Call = Callable[[Check, str], object]
 Source = ModuleType | Mapping[str, object]
 
 
 class Wrong(Exception):
-    """A failed check: what differs from what is expected."""
+    """Raised by a check that fails; the text says how the result differs from the expected one."""
 
 
 class Overdue(BaseException):
-    """A check that didn't end in time, with the commands that it had started and that still run. It
-    is no Exception, so that no check handles it.
+    """Raised in a check that exceeds its time limit, with the commands that the check had started
+    and that still run. It is no Exception, so that no `except Exception` in a check catches it.
     """
 
     def __init__(self, seconds: float, commands: Sequence[str]) -> None:
@@ -60,19 +63,19 @@ class Overdue(BaseException):
 
 
 def must(is_right: object, what: str) -> None:
-    """Fails the check unless this is right."""
+    """Raises Wrong with the text `what` unless `is_right` is true."""
     if not is_right:
         raise Wrong(what)
 
 
 def must_be(what: str, actual: object, expected: object) -> None:
-    """Fails the check unless the actual value is the expected one."""
+    """Raises Wrong with the difference between the two values unless they are equal."""
     if actual != expected:
         raise Wrong(f"{what}:\n{difference(expected, actual)}")
 
 
 def must_have_none(faults: Iterable[str]) -> None:
-    """Fails the check if there are faults, each a line."""
+    """Raises Wrong with the faults, one per line, if there are any."""
     found = list(faults)
     must(not found, "\n".join(found))
 
@@ -89,7 +92,7 @@ class Outcome(NamedTuple):
 
 
 def cut(text: str) -> str:
-    """This text, without its middle if it is too long."""
+    """Returns the text, cut in the middle if it has more than MOST_SHOWN characters."""
     if len(text) <= MOST_SHOWN:
         return text
     half = MOST_SHOWN // 2
@@ -98,7 +101,7 @@ def cut(text: str) -> str:
 
 @contextlib.contextmanager
 def captured(file: IO[bytes]) -> Iterator[None]:
-    """Puts what this process and its children print into the file."""
+    """Redirects the output of this process and of its children into the file."""
     sys.stdout.flush()
     output = os.dup(1)
     os.dup2(file.fileno(), 1)
@@ -111,11 +114,11 @@ def captured(file: IO[bytes]) -> Iterator[None]:
 
 
 def children() -> dict[int, str]:
-    """The running children of this process, by number, and their commands."""
+    """Returns the commands of this process's running children, by process id."""
     numbers: list[str] = []
     found: dict[int, str] = {}
     for path in glob.glob("/proc/self/task/*/children"):
-        with contextlib.suppress(OSError):  # a thread may end meanwhile, and a child too
+        with contextlib.suppress(OSError):  # a thread or a child may end meanwhile
             numbers += pathlib.Path(path).read_text(encoding="ascii").split()
     for number in numbers:
         with contextlib.suppress(OSError):
@@ -125,13 +128,13 @@ def children() -> dict[int, str]:
 
 
 def allowed_seconds() -> float:
-    """How long (s) a check may take at the machine's load."""
+    """Returns how long (s) a check may take at the machine's load."""
     return LIMIT_S * max(1.0, max(os.getloadavg()) / len(os.sched_getaffinity(0)))
 
 
 @contextlib.contextmanager
 def limited() -> Iterator[None]:
-    """Raises Overdue in what it contains if that doesn't end in time."""
+    """Raises Overdue in the body of the `with` statement if the body exceeds the time limit."""
     began = time.monotonic()
 
     def end(*_: object) -> None:
@@ -148,8 +151,8 @@ def limited() -> Iterator[None]:
 
 
 def overdue_fault(overdue: Overdue) -> str:
-    """The failure of a check that didn't end: the commands that it had started and that still ran,
-    and its stack at the limit. Ends its commands.
+    """Returns the report of a check that exceeded its time limit: its stack at that time, and the
+    commands that it had started and that still ran. Kills these commands.
     """
     for child in children():
         with contextlib.suppress(ProcessLookupError):
@@ -167,7 +170,9 @@ def overdue_fault(overdue: Overdue) -> str:
 
 
 def outcome_of(name: str, check: Check, call: Call) -> Outcome:
-    """Runs a check in a new folder. An exception of any other kind is a failure with its place."""
+    """Runs a check in a new folder and returns its outcome. Any exception other than Wrong is also
+    a failure; its report says at which line it was raised.
+    """
     fault, began = "", time.monotonic()
     with tempfile.TemporaryDirectory() as folder, tempfile.TemporaryFile() as printed:
         with captured(printed):
@@ -185,18 +190,18 @@ def outcome_of(name: str, check: Check, call: Call) -> Outcome:
     return Outcome(name, time.monotonic() - began, cut(fault), text)
 
 
-# The checks of this test, which forked workers inherit, and how they are called.
+# The checks of this test by name, and the function that calls them. Forked workers inherit both.
 running: dict[str, Check] = {}
 calling: list[Call] = []
 
 
 def outcome_of_named(name: str) -> Outcome:
-    """Runs a check of this test in a worker."""
+    """Runs the check with this name, in a worker process, and returns its outcome."""
     return outcome_of(name, running[name], calling[0])
 
 
 def outcomes(checks: Mapping[str, Check], call: Call, jobs: int) -> Iterator[Outcome]:
-    """Runs the checks, `jobs` at a time, and gives each one's outcome when it ends."""
+    """Runs the checks, `jobs` at a time, and yields the outcome of each check when it ends."""
     if jobs == 1 or len(checks) == 1:
         yield from (outcome_of(name, check, call) for name, check in checks.items())
         return
@@ -209,12 +214,14 @@ def outcomes(checks: Mapping[str, Check], call: Call, jobs: int) -> Iterator[Out
 
 
 def test_name() -> str:
-    """The name of the test that runs: its folder's."""
+    """Returns the name of the running test, which is the name of its folder."""
     return os.path.basename(os.path.dirname(os.path.abspath(sys.argv[0])))
 
 
 def repetition(name: str) -> str:
-    """The command that repeats a check of this test, with the programs that no launcher built."""
+    """Returns the command that repeats a check of this test, with the variables that name the
+    programs unless the launcher built them.
+    """
     named = [
         f"{variable}={shlex.quote(path)}"
         for variable, path in USED.items()
@@ -237,7 +244,9 @@ def print_outcome(outcome: Outcome) -> None:
 
 
 def options_of(words: Sequence[str]) -> tuple[int, list[str]]:
-    """How many checks run at the same time, and the names of checks, from a test's arguments."""
+    """Parses a test's arguments; returns the number of checks to run at the same time, and the
+    names of the checks.
+    """
     jobs, names = len(os.sched_getaffinity(0)), list(words)
     if names[:1] == ["-j"] and len(names) > 1 and names[1].isdecimal() and int(names[1]):
         jobs, names = int(names[1]), names[2:]
@@ -245,8 +254,8 @@ def options_of(words: Sequence[str]) -> tuple[int, list[str]]:
 
 
 def chosen_of(checks: Mapping[str, Check], names: Sequence[str]) -> dict[str, Check]:
-    """The named checks, or all. A name may lack what follows a colon: then it names each part.
-    Exits with status 2 if there is no check with a name.
+    """Returns the named checks, or all checks if no name is given. The part of a check's name up to
+    a colon selects all checks that begin with it. Exits with status 2 if a name matches no check.
     """
     chosen: dict[str, Check] = {}
     for name in names:
@@ -263,10 +272,10 @@ def chosen_of(checks: Mapping[str, Check], names: Sequence[str]) -> dict[str, Ch
 
 
 def run_checks(checks: Mapping[str, Check], call: Call, words: Sequence[str]) -> int:
-    """Runs the checks, or those that the words name, and returns the exit status: 0 if all passed,
-    1 if one failed or there is none.
+    """Runs the checks, or only those that the words name, and returns the exit status: 0 if all
+    passed, 1 if one failed or if there is none.
     """
-    # A shell's background jobs ignore interrupts, and so would the tools that a check interrupts.
+    # A shell's background jobs ignore interrupts, and tools started by a check would inherit that.
     signal.signal(signal.SIGINT, signal.default_int_handler)
     jobs, names = options_of(words)
     chosen = chosen_of(checks, names)
@@ -282,7 +291,7 @@ def run_checks(checks: Mapping[str, Check], call: Call, words: Sequence[str]) ->
 
 
 def checks_of(*sources: Source) -> dict[str, Check]:
-    """The functions `check_NAME` of modules or dictionaries, by NAME."""
+    """Returns the functions `check_NAME` of modules or dictionaries, by NAME."""
     found: dict[str, Check] = {}
     for source in sources:
         names = source if isinstance(source, Mapping) else vars(source)
@@ -294,11 +303,14 @@ def checks_of(*sources: Source) -> dict[str, Check]:
 
 
 def run_on_program(*sources: Source) -> int:
-    """Runs all checks of the sources, or the named ones, with the path of psi_oomd."""
+    """Runs all checks of the sources, or only the named ones; each check gets the path of psi_oomd.
+    """
     program, words = program_of(sys.argv[1:])
     return run_checks(checks_of(*sources), lambda check, _: check(program), words)
 
 
 def run_in_folders(*sources: Source) -> int:
-    """Runs all checks of the sources, or the named ones, with the path of an empty folder."""
+    """Runs all checks of the sources, or only the named ones; each gets the path of an empty
+    folder.
+    """
     return run_checks(checks_of(*sources), lambda check, folder: check(folder), sys.argv[1:])

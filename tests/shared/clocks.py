@@ -1,5 +1,5 @@
-"""The clocks of a path's groups after each change of each processor, and the ticks of a trace: from
-the rules alone.
+"""Computes the clocks of the groups that had a path, after each change of each processor, and the
+ticks of a trace, from the rules of the documentation alone.
 """
 from __future__ import annotations
 
@@ -9,15 +9,15 @@ from collections.abc import Iterable
 from shared.machine import Machine
 
 NO_TIMES = [0] * 7
-# For each group's number: the times (ns) of its states, and whether each state holds.
+# By the group's number: the times (ns) of its states, and whether each state holds.
 Times = dict[int, list[int]]
 States = dict[int, list[bool]]
 
 
 @dataclasses.dataclass
 class Tick:
-    """A tick (ns): the group with the path, if any, and the number of changes of each processor up
-    to it.
+    """A tick: its time (ns), the group that has the path then (None if no group has), and how many
+    changes each processor had before the tick.
     """
 
     moment: int
@@ -57,13 +57,13 @@ class Clocks:
             self.end_tick(tick, machine, path)
 
     def end_tick(self, tick: int, machine: Machine, path: str) -> None:
-        """Adds the next tick."""
+        """Adds the next tick to the list of ticks."""
         counts = [len(changes) - 1 for changes in self.changes]
         self.ticks.append(Tick((len(self.ticks) + 1) * tick, machine.live.get(path), counts))
 
     def times(self, tick: Tick, cpu: int, count: int, at: int) -> list[int]:
-        """The times (ns) of the tick's group after `count` changes of the processor, extended to
-        the time `at` (ns).
+        """Returns the times (ns) of the tick's group after `count` changes of the processor,
+        extended to the time `at` (ns).
         """
         moment, times, states = self.changes[cpu][count]
         group = -1 if tick.group is None else tick.group
@@ -71,5 +71,5 @@ class Clocks:
 
 
 def opened(times: list[int], holds: Iterable[int], length: int) -> list[int]:
-    """Returns the times (ns) after these states held for `length` ns more."""
+    """Returns the times (ns), increased by `length` ns for each state that holds."""
     return [time + length if is_held else time for time, is_held in zip(times, holds)]

@@ -1,18 +1,18 @@
-"""What differs between two values, as a unified diff for people to read."""
+"""Shows how two values differ, as a unified diff."""
 from __future__ import annotations
 
 import difflib
 import pprint
 from collections.abc import Mapping, Sequence
 
-# The columns after which a line is wrapped, so that a difference within a long line shows.
+# Longer lines are wrapped at this column, so that a difference within a long line is visible.
 COLUMNS = 160
-# The most lines of a difference that are shown: more are cut in the middle.
+# The largest number of lines of a difference that are shown: more are cut in the middle.
 MOST_LINES = 80
 
 
 def wrapped(line: str) -> list[str]:
-    """Returns the pieces of a line of at most COLUMNS each."""
+    """Returns the line in pieces of at most COLUMNS characters."""
     return [line[at : at + COLUMNS] for at in range(0, len(line), COLUMNS)] or [""]
 
 
@@ -31,8 +31,8 @@ def text_lines(text: str) -> list[str]:
 
 
 def lines_of(value: object) -> list[str]:
-    """Returns a value as lines: a text's own lines, and those of each item of a sequence or
-    mapping.
+    """Returns a value as a list of lines: the lines of a text, or the lines of each item of a
+    sequence or mapping.
     """
     if isinstance(value, (bytes, bytearray)):
         return lines_of(value.decode("utf-8", "backslashreplace"))
@@ -50,7 +50,7 @@ def lines_of(value: object) -> list[str]:
 
 
 def item_lines(name: str, item: object) -> list[str]:
-    """Returns the lines of an item, after its name if it has one."""
+    """Returns the lines of an item, preceded by its name if the name isn't empty."""
     lines = lines_of(item) if isinstance(item, (str, bytes)) else [repr(item)]
     lines = [piece for line in lines for piece in wrapped(line)]
     head = f"{name}: " if name else ""
@@ -58,7 +58,9 @@ def item_lines(name: str, item: object) -> list[str]:
 
 
 def cut(lines: list[str]) -> list[str]:
-    """These lines, or only the first and last of them and how many are between."""
+    """Returns the lines; if there are more than MOST_LINES, only the first and the last, with the
+    number of lines between them.
+    """
     if len(lines) <= MOST_LINES:
         return lines
     half = MOST_LINES // 2
@@ -70,7 +72,7 @@ def cut(lines: list[str]) -> list[str]:
 
 
 def difference(expected: object, actual: object) -> str:
-    """Returns how the actual value differs from the expected one."""
+    """Returns a text that shows how the actual value differs from the expected one."""
     old, new = lines_of(expected), lines_of(actual)
     if len(old) <= 1 and len(new) <= 1 or old == new:
         return f"  expected: {expected!r}\n  actual:   {actual!r}"

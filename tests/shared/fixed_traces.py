@@ -1,4 +1,4 @@
-"""Traces written by hand, each for some rule of docs/PRESSURE.md."""
+"""Traces written by hand; each exercises some rule of docs/PRESSURE.md."""
 from __future__ import annotations
 
 STALLS = """psitrace 1 cpus=1
@@ -103,7 +103,8 @@ BETWEEN = """psitrace 1 cpus=1
 1500000000 wake 1 0
 2000000000 end
 """
-# No count differs at most events here, and each is a change.
+# At most events of this trace no count of tasks changes, but each event is a change of its
+# processor.
 NOTHING_DIFFERS = """psitrace 1 cpus=2
 0 switch 0 0 idle
 0 fork 1 / 0
@@ -123,8 +124,8 @@ IDLE = """psitrace 1 cpus=2
 0 switch 0 0 iowait
 9000000000 end
 """
-# Interrupts are changes, also on an idle processor; they begin and end no state, and live lines
-# don't have their time.
+# Interrupts (`irq` lines) are changes, also on an idle processor. They begin and end no state, and
+# lines of `live` don't contain their time.
 INTERRUPTS = """psitrace 2 cpus=2
 0 irq 0 0
 0 group /a
@@ -139,8 +140,8 @@ INTERRUPTS = """psitrace 2 cpus=2
 2500000000 irq 0 1
 3000000000 end
 """
-# An account goes off over a tick and a change of its task, and another has a child that is on; a
-# group is removed, and created again.
+# The account of /a is switched off over a tick and over a change of its task. Another group is off
+# while its child is on. A group is removed and created again.
 SWITCHED = """psitrace 2 cpus=2
 0 group /a
 0 group /a/b

@@ -1,4 +1,4 @@
-"""Random texts of ftrace: what a scheduler could have done, with and without faults."""
+"""Makes random ftrace texts: lines that a scheduler could have printed, with and without faults."""
 from __future__ import annotations
 
 import random
@@ -36,8 +36,8 @@ PIECES = (
 
 @dataclass
 class Scheduler:
-    """Tasks on some processors that do only what a scheduler allows, and the lines that report it.
-    Times are in us.
+    """Simulates tasks on some processors that do only what a scheduler allows, and prints the
+    ftrace lines that report it. Times are in us.
     """
 
     rng: random.Random
@@ -51,14 +51,14 @@ class Scheduler:
     others: tuple[bytes, ...] = OTHERS
 
     def line(self, cpu: int, event: bytes) -> bytes:
-        """Returns a line on this processor, with a random form of head."""
+        """Returns the ftrace line of an event on this processor; the form of its head is random."""
         moment = b"%d.%06d" % divmod(self.now, 10**6)
         return self.rng.choice(HEADS) % (
             self.name(), self.runs.get(cpu, 0), cpu, moment
         ) + event + b"\n"
 
     def name(self) -> bytes:
-        """Returns a random task name; names aren't compared."""
+        """Returns a random task name. `import` ignores names."""
         return self.rng.choice(self.names)
 
     def switch(self, cpu: int, state: bytes, pid: int) -> bytes:
@@ -83,7 +83,7 @@ class Scheduler:
         return line
 
     def wakeup(self, pid: int) -> bytes:
-        """Wakes a task that is asleep or has exited."""
+        """Wakes a task that is asleep or has exited; returns the line that reports it."""
         cpu = self.rng.randrange(self.cpus)
         event = b"sched_wakeup_new" if self.modes.get(pid, "gone") == "gone" else b"sched_wakeup"
         self.modes[pid], self.places[pid] = "ready", cpu
@@ -91,7 +91,7 @@ class Scheduler:
         return self.line(self.rng.randrange(self.cpus), told)
 
     def step(self) -> bytes:
-        """One random event."""
+        """Makes one random event and returns its line."""
         self.now += self.rng.choice((0, 1, 7, 1000, 300_000))
         pid = self.rng.randint(1, self.tasks)
         mode = self.modes.get(pid, "gone")

@@ -1,5 +1,5 @@
-"""Tasks, groups and states after each event of a trace, from the rules alone: the states are
-derived from the tasks.
+"""Computes tasks, groups and states after each event of a trace. States are derived from the tasks
+by the rules of docs/PRESSURE.md alone.
 """
 from __future__ import annotations
 
@@ -20,11 +20,12 @@ class Task:
 
 
 class Machine:
-    """The state after the events so far of a valid trace. Groups are numbered in the order of their
-    creation; 0 is the root.
+    """The state of the machine after some events of a valid trace. Groups are numbered in the order
+    of their creation; 0 is the root.
 
-    `off` has the groups whose account is off. `interrupts` has, by processor and group, how long
-    (ns) interrupts took there while the group's account was on and a task of it ran.
+    `off` contains the groups whose account is switched off. `interrupts` is, by processor and
+    group, how long (ns) interrupts ran while the group's account was on and one of its tasks was
+    running there.
     """
 
     def __init__(self, cpus: int) -> None:
@@ -36,7 +37,7 @@ class Machine:
         self.interrupts = collections.Counter[tuple[int, int]]()
 
     def is_under(self, group: int | None, top: int) -> bool:
-        """Returns whether a group is this one or below it."""
+        """Returns whether `group` is `top` or below it."""
         while group is not None and group != top:
             group = self.parents[group]
         return group == top
@@ -46,8 +47,8 @@ class Machine:
         return [pid for pid, task in self.tasks.items() if task.cpu == cpu and task.at == "running"]
 
     def holds(self, cpu: int, group: int) -> list[bool]:
-        """Returns whether each of the seven states holds for the group on the processor: none while
-        its account is off.
+        """Returns whether each of the seven states holds for the group on the processor. No state
+        holds while the group's account is switched off.
         """
         if group in self.off:
             return [False] * 7
@@ -75,7 +76,7 @@ class Machine:
         ]
 
     def take(self, verb: str, *fields: str) -> set[int]:
-        """Applies an event, and returns the processors that it changes."""
+        """Applies an event, and returns the set of processors for which it is a change."""
         changed: set[int] = getattr(self, f"take_{verb}")(*fields)
         return changed
 
@@ -122,8 +123,8 @@ class Machine:
         return {self.tasks[pid].cpu}
 
     def take_irq(self, cpu: str, length: str) -> set[int]:
-        """Interrupts take `length` ns from the running task, and so from its group and all
-        ancestors whose account is on. The processor changes in any case.
+        """Adds `length` ns of interrupts to the running task's group and to its ancestors, except
+        groups whose account is off. The event is a change of the processor even if nothing runs.
         """
         for pid in self.running(int(cpu)):
             group: int | None = self.tasks[pid].group
@@ -134,12 +135,12 @@ class Machine:
         return {int(cpu)}
 
     def take_pressure(self, path: str, switched: str) -> set[int]:
-        """Switches the account of a group on or off. Every processor changes."""
+        """Switches the account of a group on or off. This is a change of every processor."""
         (self.off.discard if switched == "on" else self.off.add)(self.live[path])
         return set(range(self.cpus))
 
     def take_other(self, *_: str) -> set[int]:
-        """Changes no processor."""
+        """Ignores an event that is no change of any processor."""
         return set()
 
     take_prefer = take_mem = take_host = take_trigger = take_end = take_other

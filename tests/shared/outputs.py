@@ -1,4 +1,4 @@
-"""Outputs of the program and of tools that draw, convert or show them."""
+"""Runs of the program, and of tools that draw, convert or show its output."""
 from __future__ import annotations
 
 import functools
@@ -20,7 +20,7 @@ RUNAWAY = (
 
 
 def run(words: Sequence[str], given: bytes = b"") -> bytes:
-    """Returns the output of a run, which must succeed."""
+    """Returns the output of a command, which must succeed."""
     done = subprocess.run(words, cwd=TOP, input=given, capture_output=True)
     must_be(f"the status of {words}, which said {done.stderr!r}", done.returncode, 0)
     return done.stdout
@@ -28,12 +28,12 @@ def run(words: Sequence[str], given: bytes = b"") -> bytes:
 
 @functools.lru_cache(maxsize=None)
 def story(program: str) -> bytes:
-    """Returns the output of a replay of the story."""
+    """Returns the output of psi_oomd's replay of examples/runaway.trace (the story)."""
     return run([program, *RUNAWAY])
 
 
 def fault_of(tool: str, printed: bytes, *words: str, status: int = 2, **variables: str) -> str:
-    """Returns the tool's message for a fault: the tool must print nothing else, and exit with this
+    """Returns the tool's message for a fault. The tool must print nothing else and exit with this
     status. The variables are added to the environment.
     """
     at = {**os.environ, **variables}

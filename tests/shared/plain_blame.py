@@ -1,7 +1,7 @@
-"""Who ran while a group waited, and who stalled at the same time, by a plain walk: the reference
-for tools/blame.
+"""Computes who ran while a group waited, and who stalled at the same time, without optimization:
+the reference for tools/blame.
 
-It follows docs/TRACES.md alone: after each event it looks at all tasks of tests/shared/machine.py,
+It follows docs/TRACES.md alone: after each event it examines all tasks of tests/shared/machine.py,
 on each processor, for each group.
 """
 from __future__ import annotations
@@ -12,14 +12,14 @@ from typing import NamedTuple, Optional
 from shared.machine import Machine
 
 WAITS_FOR_IO, IN_A_STALL, WAITS = 0, 2, 4
-# Times (ns) by group, and by the group that ran or was in the same state. Groups are numbered in
-# the order of their creation; None means that nothing ran.
+# Times (ns) by the group that waited and by the group that ran (or was in the same state). Groups
+# are numbered in the order of their creation; None means that no task ran.
 Pairs = collections.Counter[tuple[int, Optional[int]]]
 
 
 class Plain(NamedTuple):
-    """The sums of an interval. `times` is by group, processor and state; `less` by group, for a
-    victim.
+    """The sums (ns) of an interval. `times` is by group, processor and state. `less` is, by group,
+    how much less it would have waited without the victim.
     """
 
     ran: collections.Counter[int]
@@ -37,8 +37,8 @@ def runner_of(machine: Machine, cpu: int) -> Optional[int]:
 
 
 def would_wait(machine: Machine, cpu: int, victims: set[int]) -> bool:
-    """Returns whether a task would wait there if the tasks of these groups, one of which runs,
-    didn't exist: one more task could run.
+    """Returns whether a task would still wait on the processor without the tasks of the groups
+    `victims`, one of which runs there: true if two or more other tasks are ready.
     """
     ready = [
         task
@@ -49,7 +49,7 @@ def would_wait(machine: Machine, cpu: int, victims: set[int]) -> bool:
 
 
 def add_stretch(plain: Plain, machine: Machine, victims: set[int], length: int) -> None:
-    """Adds what holds for `length` ns."""
+    """Adds `length` ns to each sum to which the machine's present state contributes."""
     groups, cpus = range(len(machine.parents)), range(machine.cpus)
     holds = {(group, cpu): machine.holds(cpu, group) for group in groups for cpu in cpus}
     for cpu in cpus:
@@ -72,8 +72,8 @@ def add_stretch(plain: Plain, machine: Machine, victims: set[int], length: int) 
 
 
 def walk(trace: str, start: int, to: int, victim: str) -> Plain:
-    """Returns the sums from `start` to `to` (ns). The victim is all groups with this path, and
-    those below.
+    """Returns the sums from `start` to `to` (ns). The victim is all groups that have the path
+    `victim`, and the groups below them.
     """
     header, *lines = trace.splitlines()
     machine = Machine(int(header.partition("cpus=")[2]))

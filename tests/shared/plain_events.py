@@ -1,4 +1,4 @@
-"""The lines of `psi_convert events`, from the decoder of tools/psitrace."""
+"""Computes the lines that `psi_convert events` must print, with the decoder of tools/psitrace."""
 from __future__ import annotations
 
 from collections.abc import Iterator
@@ -11,7 +11,7 @@ from psiread.table import fields_of
 
 
 def value_text(value: Any) -> str:
-    """Returns a value of an event as a word."""
+    """Returns a value of an event as it is printed."""
     if not isinstance(value, bytes):
         return str(value)
     return "".join(
@@ -20,8 +20,8 @@ def value_text(value: Any) -> str:
 
 
 def least_of(form: Format) -> int:
-    """Returns the least size in bytes of a record with the fields that are read: a text may be
-    empty.
+    """Returns the smallest size (bytes) of a record that has the fields which are read. A text may
+    be empty.
     """
     fields = [form.fields[name] for name in (CURRENT, *(fields_of(form.name) or ()))]
     is_text = [
@@ -32,7 +32,7 @@ def least_of(form: Format) -> int:
 
 
 class Lines:
-    """Decodes pages by a recording's formats."""
+    """Decodes pages of a recording with the recording's event formats."""
 
     def __init__(self, formats: str) -> None:
         sections = sections_of(formats)
@@ -42,7 +42,8 @@ class Lines:
         self.least = {number: least_of(self.forms[number]) for number in self.decoders}
 
     def page_lines(self, data: bytes, at: int, processor: int) -> Iterator[str]:
-        """Yields the lines of one page; PageFault with the cause if it is malformed."""
+        """Yields the lines of one page. Raises PageFault, with the cause, if the page is malformed.
+        """
         try:
             page = page_at(data, at, self.page)
         except PageFault:
@@ -60,8 +61,8 @@ class Lines:
                 yield " ".join(map(str, words))
 
     def file_lines(self, data: bytes, processor: int) -> tuple[list[str], str]:
-        """Returns the lines of a file's whole pages, and the first fault: its page and cause, or
-        nothing.
+        """Returns the lines of a file's whole pages, and the first fault as page and cause, or ""
+        if there is none.
         """
         lines: list[str] = []
         for page in range(len(data) // self.page.size):

@@ -1,8 +1,8 @@
-"""The result that `import` must give for a text of ftrace, in plain Python, from docs/IMPORT.md
-alone.
+"""Computes the result that `import` must give for an ftrace text, in plain Python, from
+docs/IMPORT.md alone.
 
-Its only table is that of the tasks that the trace has so far. tests/imports and
-tests/release/import_lines compare it with the program. Times are in ns.
+The only state is a table of the tasks in the trace so far. tests/imports and
+tests/release/import_lines compare this result with the program's. Times are in ns.
 """
 from __future__ import annotations
 
@@ -24,11 +24,11 @@ HOW = {b"R": "preempt", b"D": "iowait", b"X": "exit", b"Z": "exit"}
 
 
 class Bad(Exception):
-    """The cause for which a line is rejected."""
+    """Raised for a line that `import` rejects; the text is the cause."""
 
 
 class Switch(NamedTuple):
-    """A processor switched from one task to the next; 0 is the idle task."""
+    """A processor switched from one task to the next; task 0 is the idle task."""
 
     cpu: int
     previous: int
@@ -55,7 +55,7 @@ Seen = Switch | Wakeup | Migration
 
 @dataclass
 class Task:
-    """A live task: `asleep`, `ready` or `running`, and its processor."""
+    """A task that has not exited: its state (`asleep`, `ready` or `running`) and its processor."""
 
     mode: str
     cpu: int
@@ -89,7 +89,9 @@ def number(key: bytes, part: bytes) -> int:
 
 
 def head_of(head: bytes) -> tuple[int, int]:
-    """Returns the time of a head, and its processor: the last number in brackets."""
+    """Returns the time (ns) and the processor in the head of a line. The processor is the last
+    number in brackets.
+    """
     time = TIME.fullmatch(after_last(b" ", head))
     processors = BRACKET.findall(head)
     if not time or not processors or len(processors[-1]) > 3:
@@ -98,7 +100,7 @@ def head_of(head: bytes) -> tuple[int, int]:
 
 
 def switch_of(cpu: int, tail: bytes) -> Switch:
-    """Parses a switch's tail, which the last arrow divides."""
+    """Parses the tail of a switch line, which the last `==>` divides."""
     left, arrow, right = tail.rpartition(b" ==> ")
     if not arrow:
         raise Bad("BadLine")
@@ -110,7 +112,7 @@ def switch_of(cpu: int, tail: bytes) -> Switch:
 
 
 def task_and_cpu(tail: bytes, key: bytes) -> tuple[int, int]:
-    """Returns the task in a tail, which mustn't be 0, and the processor after the key."""
+    """Returns the task in a tail, which mustn't be 0, and the processor that follows the key."""
     pid = number(b" pid=", tail)
     if pid == 0:
         raise Bad("BadLine")
@@ -118,8 +120,8 @@ def task_and_cpu(tail: bytes, key: bytes) -> tuple[int, int]:
 
 
 def read_line(line: bytes) -> tuple[int, Seen] | None:
-    """Returns the event of a line, with its time; None for a line without an event, or that begins
-    with #.
+    """Returns the time (ns) and the event of a line; None for a comment line (#) and for a line
+    without an event.
     """
     mark = None if line.startswith(b"#") else MARK.search(line)
     if mark is None:
@@ -137,7 +139,7 @@ def read_line(line: bytes) -> tuple[int, Seen] | None:
 
 
 class Importer:
-    """The trace of the lines so far."""
+    """Builds the trace from the lines so far."""
 
     def __init__(self, cpus: int) -> None:
         self.cpus = cpus
@@ -148,7 +150,7 @@ class Importer:
         self.lines: list[bytes] = []
 
     def acts_of(self, seen: Seen) -> list[str]:
-        """Returns the verbs and fields that a line becomes."""
+        """Returns the events (verb and fields) into which a line is converted."""
         if isinstance(seen, Switch):
             return [] if seen.next and self.runs.get(
                 seen.cpu
@@ -186,7 +188,7 @@ class Importer:
         ]
 
     def play(self, act: str) -> None:
-        """Applies an event to the table of tasks."""
+        """Applies an event of the trace to the table of tasks."""
         verb, *fields = act.split()
         if verb == "switch":
             cpu, pid, how = int(fields[0]), int(fields[1]), fields[2]
@@ -202,7 +204,9 @@ class Importer:
             self.tasks[int(fields[0])] = Task("ready", int(fields[-1]))
 
     def take(self, time: int, seen: Seen) -> None:
-        """Adds a line's event to the trace, or raises the first cause against it."""
+        """Adds the events of a line to the trace, or raises Bad with the first cause to reject the
+        line.
+        """
         self.first = time if self.first is None else self.first
         moment = max(self.moment, time - self.first)
         acts = self.acts_of(seen)

@@ -1,9 +1,9 @@
-"""What observers of a group may print for a trace, computed plainly: the reference for psi_observe.
+"""Computes what observers of a group may print for a trace: the reference for psi_observe.
 
-It follows docs/OBSERVERS.md alone. The samples that are due for an observer, and what a sample must
-contain after N changes of its processor, are computed from the rules: states are derived from the
-tasks, and the signals are those of docs/PRESSURE.md. The number of changes that a sample saw is
-free within its interval, and so is the order of different observers' samples in one interval.
+It follows docs/OBSERVERS.md alone. Two things are computed from the rules: which samples each
+observer must take, and what a sample must contain after N changes of its processor. States are
+derived from the tasks, and signals from docs/PRESSURE.md. Within its interval a sample may have
+seen any number of changes, and samples of different observers in one interval may have any order.
 """
 from __future__ import annotations
 
@@ -23,8 +23,8 @@ SAMPLE = re.compile(rb"sample observer=([0-9]+) cpu=[0-9]+ count=([0-9]+) .*")
 
 @dataclasses.dataclass
 class Due:
-    """A sample that is due for each observer: its tick, its processor, and the least and the
-    largest number of changes that it may have seen.
+    """A sample that each observer must take: its tick, its processor, and the smallest and largest
+    number of changes that it may have seen.
     """
 
     tick: Tick
@@ -34,8 +34,8 @@ class Due:
 
 
 class Observed:
-    """What observers of a path may print for a trace: the samples due for each, in their order, and
-    the lines after them.
+    """What observers of a path may print for a trace: the samples that each must take, in order,
+    and the lines that follow the samples.
     """
 
     def __init__(self, trace: str, path: str) -> None:
@@ -44,12 +44,13 @@ class Observed:
         replay = Replay(Run("", trace, TICK, 0))
         self.signals = sum(line.startswith("event ") for line in replay.output())
         self.end = replay.end
-        # The texts after the observer's number, by group, processor and count: many samples of a
-        # quiet trace are equal.
+        # The text of a sample after the observer's number, by group, processor and number of
+        # changes. It is cached because many samples of a quiet trace are equal.
         self.texts: dict[tuple[int | None, int, int], str] = {}
 
     def all_due(self) -> Iterator[Due]:
-        """For each tick at which the path is live, a sample on each processor, from processor 0 on.
+        """Yields, for each tick at which the path is live, a sample of each processor in ascending
+        order.
         """
         before = [0] * len(self.clocks.changes)
         for tick in self.clocks.ticks:
@@ -60,7 +61,7 @@ class Observed:
             before = tick.counts
 
     def line(self, due: Due, observer: int, count: int) -> bytes:
-        """The line of an observer's sample after `count` changes of its processor."""
+        """Returns the line of an observer's sample after `count` changes of its processor."""
         key = due.tick.group, due.cpu, count
         if key not in self.texts:
             at = self.clocks.changes[due.cpu][count][0]
@@ -69,8 +70,8 @@ class Observed:
         return f"sample observer={observer} {self.texts[key]}".encode()
 
     def last_lines(self, observers: int) -> list[bytes]:
-        """Returns the lines after all samples: each observer's last reading of the board, and the
-        end.
+        """Returns the lines that follow all samples: the last values that each observer read, and
+        the end.
         """
         board = f"tick={len(self.clocks.ticks)} events={self.signals} kills=0"
         lines = [f"board observer={observer} {board}" for observer in range(observers)]
@@ -81,7 +82,7 @@ class Observed:
 
 
 class Observer:
-    """An observer whose samples are taken from an output, one after another."""
+    """Matches one observer's samples, in order, with the samples that it must take."""
 
     def __init__(self, number: int, observed: Observed) -> None:
         self.number, self.observed = number, observed
@@ -90,7 +91,7 @@ class Observer:
         self.last: dict[int, int] = {}
 
     def take(self, line: bytes, count: int) -> Tick:
-        """Takes its next sample, which has this count, and returns the sample's tick."""
+        """Checks the observer's next sample, which saw `count` changes, and returns its tick."""
         due = next(self.left, None)
         if due is None:
             raise Wrong("a sample that isn't due")
@@ -109,7 +110,9 @@ class Observer:
 
 
 def compare(printed: bytes, observed: Observed, observers: int) -> None:
-    """Raises unless this many observers may print the output. Samples are in order of ticks."""
+    """Raises an exception unless this many observers may print the output. Samples must be in the
+    order of ticks.
+    """
     *lines, after = printed.split(b"\n")
     must_be("what stands after the last line", after, b"")
     count = observers * len(observed.due)

@@ -1,7 +1,7 @@
-"""The output of `replay` and `stall` for a trace, computed with the formulas in docs/PRESSURE.md.
+"""Computes the output of `replay` and `stall` for a trace with the formulas in docs/PRESSURE.md.
 
-What tasks do, which states hold and which tasks interrupts delay comes from
-tests/shared/machine.py, which follows the rules alone.
+tests/shared/machine.py, which follows the rules alone, computes the states of tasks and groups and
+the tasks that interrupts delay.
 """
 from __future__ import annotations
 
@@ -17,13 +17,13 @@ from shared.machine import Machine
 PAGE = pathlib.Path(__file__).resolve().parents[2] / "docs" / "PRESSURE.md"
 RESOURCES = ("io", "memory", "cpu")
 LEVELS = ("some", "full")
-# The times of a group on a processor: six pressure states, the time not idle, and the time of
-# interrupts.
+# Indices into the times of a group on a processor: six pressure states, then the time not idle,
+# then the time of interrupts.
 PRESSURES, NONIDLE, INTERRUPTS, TIMES = 6, 6, 7, 8
 
 
 def formulas_of(page: str) -> dict[str, Any]:
-    """Returns the definitions in the page's blocks of Python."""
+    """Returns the definitions in the page's Python code blocks, by name."""
     names: dict[str, Any] = {}
     for block in re.findall(r"^```python\n(.*?)^```$", page, re.DOTALL | re.MULTILINE):
         exec(compile(block, str(PAGE), "exec"), names)
@@ -35,8 +35,8 @@ PRESSURE = formulas_of(PAGE.read_text(encoding="utf-8"))
 
 @dataclasses.dataclass
 class Run:
-    """A replay: its name, its trace, the length of a tick and the period of reports (ns), and more
-    arguments.
+    """The arguments of a replay: its name, its trace, the length of a tick and the period of
+    reports (ns), and further arguments.
     """
 
     name: str
@@ -47,8 +47,8 @@ class Run:
 
 
 class Group:
-    """The times (ns) of a group on each processor, and its pressure by the page's formulas, indexed
-    like the times.
+    """A group: its times (ns) on each processor, and its pressure by the page's formulas, with one
+    item per index of the times.
     """
 
     def __init__(self, number: int, path: str, cpus: int, made: int) -> None:
@@ -59,7 +59,9 @@ class Group:
         self.averages = {place: PRESSURE["Averages"](made) for place in self.totals}
 
     def sample(self, now: int) -> None:
-        """Adds the growth of the times to the totals and averages, at a tick (ns)."""
+        """Adds the growth of the times since the last tick to the totals and averages, at tick
+        `now` (ns).
+        """
         growths = [
             [time - before for time, before in zip(*them)] for them in zip(self.times, self.sampled)
         ]
@@ -70,9 +72,7 @@ class Group:
             averages.tick(now, self.totals[place])
 
     def file_line(self, place: int, level: str) -> str:
-        """Returns the line of a pressure file for a state, or for interrupts, by the index of its
-        time.
-        """
+        """Returns a line of a pressure file, for the state (or interrupts) with this index."""
         is_zero = self.path == "/" and place == PRESSURES - 1
         averages = [0] * 3 if is_zero else self.averages[place].averages.values()
         texts = [PRESSURE["percent_text"](average) for average in averages]
@@ -93,8 +93,8 @@ class Group:
 
 @dataclasses.dataclass
 class Watch:
-    """A trigger of the trace: the fields of its line, the group that it watches, the state's
-    number, and the page's trigger.
+    """A trigger of the trace: the fields of its line, the watched group, the number of the state,
+    and the trigger object of the page's formulas.
     """
 
     fields: list[str]
@@ -104,7 +104,7 @@ class Watch:
 
 
 class Replay:
-    """A replay by the page's formulas."""
+    """Replays a trace with the page's formulas."""
 
     def __init__(self, run: Run) -> None:
         header, *lines = run.trace.splitlines()
@@ -117,7 +117,7 @@ class Replay:
         self.now, self.ticks, self.signals = 0, 0, 0
 
     def output(self) -> Iterator[str]:
-        """Yields the lines that `replay` prints, without kills."""
+        """Yields the lines that `replay` prints, except kills."""
         for moment, verb, *fields in self.lines:
             yield from self.go_to(int(moment), False)
             self.take(verb, fields)
@@ -125,7 +125,7 @@ class Replay:
         yield f"end {self.end} ticks={self.ticks} events={self.signals}"
 
     def stall(self) -> Iterator[str]:
-        """Yields the lines that `stall` prints, once all of `output` has been taken."""
+        """Yields the lines that `stall` prints, after `output` has been exhausted."""
         shown = TIMES if self.version == 2 else INTERRUPTS
         for cpu in range(self.machine.cpus):
             for path in sorted(self.live):
@@ -135,7 +135,9 @@ class Replay:
                 )
 
     def go_to(self, moment: int, is_end: bool) -> Iterator[str]:
-        """Advances to this time (ns). A tick at exactly this time comes after its events."""
+        """Advances to this time (ns). A tick at exactly this time comes after the events of that
+        time.
+        """
         while (self.ticks + 1) * self.run.tick < moment + is_end:
             self.ticks += 1
             self.pass_to(self.ticks * self.run.tick)
@@ -192,12 +194,12 @@ class Replay:
         ) and self.now // period > before // period
 
 
-# ---------------------------------------------------------------- the program held against it
+# ---------------------------------------------------------------- comparison with the program
 
 
 def difference(run: Run, words: list[str], wanted: list[str]) -> str:
-    """Returns the first difference between the program's output for the trace and these lines, or
-    ''.
+    """Returns the first difference between the program's output for the trace and the wanted lines,
+    or '' if they are equal.
     """
     done = subprocess.run(words, input=run.trace, capture_output=True, encoding="utf-8")
     if done.returncode != 0:
@@ -212,7 +214,9 @@ def difference(run: Run, words: list[str], wanted: list[str]) -> str:
 
 
 def fault_of(run: Run, program: str) -> str:
-    """Returns the first difference between `replay` or `stall` and the page's formulas, or ''."""
+    """Returns the first difference between the output of `replay` or `stall` and the page's
+    formulas, or '' if they are equal.
+    """
     replay = Replay(run)
     wanted = list(replay.output())
     words = [

@@ -1,8 +1,8 @@
-"""What rules files and drop-in files mean, read plainly: the reference for psi_oomd.
+"""Parses rules files and drop-in files in plain Python: the reference for psi_oomd.
 
-It follows docs/RULES.md alone. A file's bytes become rulesets, with every argument as the text that
-is printed for it, or the first fault on the walk through the file; parts are joined into rulesets;
-and rulesets become the line that `rules` prints.
+It follows docs/RULES.md alone. The bytes of a file become rulesets, each argument in the form in
+which it is printed, or the first fault in the file's order. The parts of drop-in files replace
+parts of rulesets, and rulesets become the line that `rules` prints.
 """
 from __future__ import annotations
 
@@ -14,7 +14,7 @@ from typing import Any, NamedTuple, Optional
 LONGEST, DEEPEST = 1_048_576, 127
 MOST_RULESETS, MOST_ITEMS, MOST_PATTERNS = 64, 16, 16
 MOST_SECONDS, MOST_BYTES, MOST_WHOLE = 1_000_000, 2**60, 2**64 - 1
-# Every limit has fewer than 21 digits.
+# No limit has more than 20 digits.
 NUMBER = "(0|[1-9][0-9]{0,19})"
 PART = r"(?:\.([0-9]{1,3}))?"
 UNITS = "KMGT"
@@ -22,14 +22,14 @@ Place = tuple[tuple[str, int], ...]
 
 
 class Refused(Exception):
-    """The first fault of a file: its place and its cause."""
+    """Raised for the first fault of a file, with its place and its cause."""
 
     def __init__(self, place: Place, cause: str) -> None:
         super().__init__(f"{''.join(f' {word} {number}' for word, number in place)}: {cause}")
 
 
 class Token(NamedTuple):
-    """A JSON number as it is spelled."""
+    """A JSON number, with its original spelling."""
 
     text: str
 
@@ -42,14 +42,14 @@ class Plugin(NamedTuple):
 
 
 class Group(NamedTuple):
-    """A group of detectors."""
+    """A group of detectors: its name and its detectors."""
 
     name: str
     detectors: list[Plugin]
 
 
 class Ruleset(NamedTuple):
-    """A ruleset. In a drop-in file it may lack its groups or its actions."""
+    """A ruleset. In a drop-in file its groups or its actions may be missing."""
 
     name: str
     groups: Optional[list[Group]]
@@ -62,12 +62,14 @@ Form = Callable[[str], Optional[str]]
 
 
 def number(most: int) -> Form:
-    """Returns a form: a decimal number of at most `most`, without leading zeros."""
+    """Returns the parser of a decimal number of at most `most`, without leading zeros."""
     return lambda text: text if re.fullmatch(NUMBER, text, re.ASCII) and int(text) <= most else None
 
 
 def ratio(text: str) -> Optional[str]:
-    """Returns a number of at most 1000 with up to three decimals; it is printed with three."""
+    """Parses a number of at most 1000 with up to three decimals; returns it with three, or None if
+    malformed.
+    """
     found = re.fullmatch(NUMBER + PART, text, re.ASCII)
     return (
         f"{found[1]}.{(found[2] or '').ljust(3, '0')}" if found and int(found[1]) <= 1000 else None
@@ -75,7 +77,9 @@ def ratio(text: str) -> Optional[str]:
 
 
 def size(text: str) -> Optional[str]:
-    """Bytes, with a power of 1024 or without, printed as whole bytes; or a percentage."""
+    """Parses a size, in bytes or with a suffix for a power of 1024, or a percentage; returns it as
+    it is printed, in whole bytes, or None if malformed.
+    """
     percent = re.fullmatch(f"{NUMBER}%", text, re.ASCII)
     if percent:
         return text if int(percent[1]) <= 100 else None
@@ -100,7 +104,9 @@ def resource(text: str) -> Optional[str]:
 
 
 def pattern(text: str) -> Optional[str]:
-    """Returns the root, or components separated by slashes; a leading slash isn't printed."""
+    """Parses a cgroup pattern: the root, or components separated by slashes. The leading slash
+    isn't printed.
+    """
     parts = text.removeprefix("/").split("/")
     is_good = all(
         re.fullmatch(r"[A-Za-z0-9_.@:\\*-]+", part, re.ASCII) and part not in (".", "..")
@@ -139,7 +145,7 @@ ACTIONS: dict[str, Arguments] = {
 
 
 def of_each_action(delay: str) -> Arguments:
-    """Returns the arguments that every action has, if this is the ruleset's own delay (seconds)."""
+    """Returns the arguments that every action has; `delay` (seconds) is the ruleset's own delay."""
     truths: Arguments = tuple((name, truth, "false") for name in ("recursive", "always_continue"))
     return (*truths, ("post_action_delay", SECONDS, delay))
 
@@ -152,7 +158,7 @@ def refuse(_: str) -> None:
 
 
 def float_token(text: str) -> Token:
-    """Returns a number with a point or an exponent, which must fit a 64-bit float."""
+    """Parses a number as a Token; raises ValueError if it exceeds a 64-bit float."""
     if float(text) in (float("inf"), float("-inf")):
         raise ValueError("no number")
     return Token(text)
@@ -172,14 +178,14 @@ def texts_in(value: Any) -> Iterator[str]:
 
 
 def depth_of(value: Any) -> int:
-    """Returns the nesting depth of lists and objects."""
+    """Returns how deeply lists and objects are nested in a JSON value."""
     if not isinstance(value, (dict, list)):
         return 0
     return 1 + max(map(depth_of, value.values() if isinstance(value, dict) else value), default=0)
 
 
 def json_of(data: bytes) -> Any:
-    """Returns the JSON value of a file, with tokens for numbers; if a key is repeated, the last one
+    """Parses a file's bytes as JSON, with Tokens for numbers. If a key is repeated, its last value
     counts.
     """
     try:
@@ -194,11 +200,11 @@ def json_of(data: bytes) -> Any:
     return value
 
 
-# ---------------------------------------------------------------- the walk
+# ---------------------------------------------------------------- reading a file
 
 
 def member(value: dict[str, Any], key: str, kind: type, place: Place) -> Any:
-    """Returns the value of a required key."""
+    """Returns the value of a required key; raises Refused if it is missing or of another kind."""
     if key not in value:
         raise Refused(place, "MissingKey")
     return of_kind(value[key], kind, place)
@@ -217,8 +223,8 @@ def short(items: list[Any], most: int, place: Place) -> list[Any]:
 
 
 def argument(value: Any, form: Form, place: Place) -> str:
-    """Returns the printed text of an argument; a string, a whole number or a boolean may give
-    it.
+    """Returns an argument in its printed form. It may be a string, a whole number or a boolean in
+    the file.
     """
     if isinstance(value, bool):
         value = "true" if value else "false"
@@ -235,7 +241,9 @@ def argument(value: Any, form: Form, place: Place) -> str:
 
 
 def plugin(value: Any, known: dict[str, Arguments], more: Arguments, place: Place) -> Plugin:
-    """Returns a plugin with one of these names, and with these arguments besides its own."""
+    """Reads a plugin. Its name must be in `known`; it may have the arguments that `known` lists for
+    it and those in `more`.
+    """
     value = of_kind(value, dict, place)
     name = member(value, "name", str, place)
     if name not in known:
@@ -260,8 +268,8 @@ def group(value: Any, place: Place) -> Group:
 
 
 def ruleset(value: Any, is_part: bool, place: Place) -> Ruleset:
-    """Reads a ruleset: its name, its delay, its groups and its actions, in this order. A part may
-    lack the last two.
+    """Reads a ruleset: its name, its delay, its groups and its actions, in this order. A part of a
+    drop-in file may lack groups or actions.
     """
     value = of_kind(value, dict, place)
     name = member(value, "name", str, place)
@@ -280,7 +288,7 @@ def ruleset(value: Any, is_part: bool, place: Place) -> Ruleset:
 
 
 def read(data: bytes, is_drop_in: bool = False) -> list[Ruleset]:
-    """Returns the rulesets of a rules file, or the parts of a drop-in file, from its bytes."""
+    """Reads the rulesets of a rules file, or the parts of a drop-in file, from the file's bytes."""
     if len(data) > LONGEST:
         raise Refused((), "TooLong")
     rulesets = short(member(of_kind(json_of(data), dict, ()), "rulesets", list, ()), MOST_RULESETS,
@@ -288,11 +296,13 @@ def read(data: bytes, is_drop_in: bool = False) -> list[Ruleset]:
     return [ruleset(it, is_drop_in, (("ruleset", i),)) for i, it in enumerate(rulesets)]
 
 
-# ---------------------------------------------------------------- parts and text
+# ---------------------------------------------------------------- drop-in parts and output
 
 
 def joined(base: list[Ruleset], parts: list[Ruleset]) -> list[Ruleset]:
-    """Returns the rulesets; what a part gives replaces that of the first ruleset with its name."""
+    """Returns the rulesets after the parts of a drop-in file have been applied. What a part gives
+    replaces that of the first ruleset with the part's name.
+    """
     rulesets = list(base)
     for i, part in enumerate(parts):
         if part.groups is None and part.actions is None:
@@ -309,7 +319,7 @@ def joined(base: list[Ruleset], parts: list[Ruleset]) -> list[Ruleset]:
 
 
 def value_of(it: Ruleset) -> dict[str, Any]:
-    """Returns a ruleset as a JSON value."""
+    """Returns a ruleset as a JSON object."""
     groups = [
         [group.name, *(one._asdict() for one in group.detectors)] for group in it.groups or []
     ]
@@ -325,9 +335,7 @@ def text_of(rulesets: list[Ruleset]) -> str:
 
 
 def run(rules: bytes, drop_in: Optional[bytes]) -> tuple[int, str, str]:
-    """Returns the result of `rules` for these files: its status, its output, and its standard
-    error.
-    """
+    """Returns the status, the output and the standard error of `rules` for these files."""
     try:
         base = read(rules)
     except Refused as fault:

@@ -1,5 +1,6 @@
-"""A plain version of docs/SYSTEMD.md, which reads the whole trace again at each look; and random
-traces of slices, all watched for swap and for memory pressure with one limit.
+"""Computes the kills of systemd-oomd by docs/SYSTEMD.md, reading the whole trace again at each
+evaluation; and makes random traces of slices. All slices are watched for swap and for memory
+pressure, with one limit.
 """
 from __future__ import annotations
 
@@ -15,9 +16,10 @@ Decision = tuple[int, "str | None", str]
 
 @dataclass
 class State:
-    """The state at a time: for each group the number of the line that created it, its sample, the
-    scans of it and of removed groups below it, its preference, and whether its account is on; the
-    group of each task; the machine's sample, and the number of samples.
+    """The state at a time. By group: the number of the trace line that created it (`made`), its
+    sample, the scanned pages of removed groups below it (`gone`), its preference, and whether its
+    account is off. Also the group of each task (`homes`), the machine's sample, and the number of
+    samples.
     """
 
     made: dict[str, int]
@@ -33,14 +35,17 @@ class State:
         return [it for it in self.made if it != "/" and it.rpartition("/")[0] == path.rstrip("/")]
 
     def sample(self, path: str) -> list[int] | None:
-        """Memory, swap and scans: the group's own sample, or the sum of its children's."""
+        """Returns memory and swap (bytes) and scanned pages of the group: its own sample, or the
+        sum of its children's samples; None if there is no sample.
+        """
         if path in self.samples or path == "/":
             return self.samples.get(path)
         parts = [it for it in map(self.sample, self.below(path)) if it]
         return [sum(it) for it in zip(*parts, [0, 0, self.gone.get(path, 0)])] if parts else None
 
     def read(self, path: str) -> list[int] | None:
-        """Returns the figures that systemd-oomd reads for it."""
+        """Returns the figures of the group that systemd-oomd reads, or None if it can't read them.
+        """
         found = self.sample(path)
         return [
             found[0] if found else 0, 0, 0
@@ -87,12 +92,12 @@ def state_at(lines: list[Line], moment: int) -> State:
 
 
 def first_of(state: State, ranked: list[str]) -> str | None:
-    """Returns the first candidate with a task in it."""
+    """Returns the first candidate if it has a task, or else None."""
     return ranked[0] if ranked and state.runs(ranked[0]) else None
 
 
 def by_swap(lines: list[Line], end: int) -> Iterator[Decision]:
-    """Decisions by swap: a look each 0.15 s, if there is a new sample."""
+    """Yields the decisions by swap use: an evaluation each 0.15 s if there is a new sample."""
     count, was_told = 0, False
     for now in range(SECOND * 15 // 100, end + 1, SECOND * 15 // 100):
         state = state_at(lines, now)
@@ -118,12 +123,12 @@ def by_swap(lines: list[Line], end: int) -> Iterator[Decision]:
         was_told = victim is None
 
 
-# A group: its path, and the number of the line that created it.
+# Identifies a group: its path, and the number of the trace line that created it.
 Key = tuple[str, int]
 
 
 def rise(lines: list[Line], key: Key, before: dict[Key, int], total: int) -> int:
-    """Returns by how much a group's total of scanned pages rose since the sample before."""
+    """Returns by how much a group's total of scanned pages rose since the previous sample."""
     old = before.get(key, total if is_first(lines, key) else 0)
     return total - (old if old <= total else 0)
 
@@ -131,8 +136,8 @@ def rise(lines: list[Line], key: Key, before: dict[Key, int], total: int) -> int
 def followed(
     known: list[int | None], now: int, total: int, is_above: bool
 ) -> list[int | None]:
-    """Returns what is known of a watched group after an evaluation: since when (ns) its pressure
-    is above the limit, its total of scanned pages, and when that last rose (ns).
+    """Returns the updated record of a watched group after an evaluation: since when (ns) its
+    pressure is above the limit, its total of scanned pages, and when that total last rose (ns).
     """
     since, scanned, last = known
     last = now if total != scanned and (total > (scanned or 0) or total > 0) else last
@@ -140,14 +145,14 @@ def followed(
 
 
 def leaves_inside(state: State, watched: dict[Key, int]) -> list[str]:
-    """Returns the groups without children that are in a watched group, or are one."""
+    """Returns the groups without children that are watched themselves or are in a watched group."""
     return [it for it in state.leaves() if any(is_inside(it, key[0]) for key in watched)]
 
 
 def by_pressure(
     lines: list[Line], end: int, averages: dict[tuple[int, str], int], limit: int, length: int
 ) -> Iterator[Decision]:
-    """Decisions by memory pressure: a look each second."""
+    """Yields the decisions by memory pressure: an evaluation each second."""
     known: dict[Key, list[int | None]] = {}
     lost, told, totals, risen = set[Key](), set[Key](), dict[Key, int](), dict[str, int]()
     count, rests, had = 0, 0, set[Key]()
@@ -186,8 +191,8 @@ def by_pressure(
 
 
 def most_scanned(state: State, above: str, risen: dict[str, int]) -> str | None:
-    """Returns the victim below a group, by new scans; by all scans if the group wasn't a leaf at
-    the previous look.
+    """Returns the victim in a group by the rise of scanned pages; a group without a known rise is
+    ranked by its total.
     """
     inside = [it for it in state.leaves() if is_inside(it, above)]
     found = {it: state.read(it) or [0, 0, 0] for it in inside}
@@ -210,7 +215,9 @@ def is_first(lines: list[Line], key: tuple[str, int]) -> bool:
 
 
 def decisions(text: str, printed: str, limit: int, length: int) -> list[Decision]:
-    """Returns the decisions for a trace, from psi_oomd's output for it, in order of time."""
+    """Returns the decisions for a trace in order of time. `printed` is psi_oomd's output for the
+    trace, from which the pressure averages are taken.
+    """
     lines = [(int(it.split()[0]), it.split()[1:]) for it in text.splitlines()[1:-1]]
     end = int(text.splitlines()[-1].split()[0])
     found = re.findall(r"^report (\d+) (\S+) memory\nsome .*\nfull avg10=(\d+)\.(\d\d)", printed,
@@ -221,14 +228,16 @@ def decisions(text: str, printed: str, limit: int, length: int) -> list[Decision
 
 
 def is_empty(path: str, others: list[str]) -> bool:
-    """Whether no other group and no task is in the group `path`; `others` are the paths of the
-    groups and of the tasks' groups.
+    """Returns whether no other group and no task is in the group `path`; `others` are the paths of
+    the groups and of the tasks' groups.
     """
     return sum(it.startswith(path) for it in others) == 1
 
 
 def random_trace(seed: int) -> str:
-    """A trace of slices that come and go, whose tasks wait for memory, often at evaluations."""
+    """Returns a random trace of slices that are created and removed. Their tasks wait for memory,
+    and many events are at the times of evaluations.
+    """
     draw, moment, scanned, homes = random.Random(seed), 0, {"/": 0}, dict[int, str]()
     lines, runs, is_stalled, label = ["0 host 1000 1000 500", "0 mem / 500 0 0"], 0, False, 0
     for _ in range(200):

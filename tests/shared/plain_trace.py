@@ -1,9 +1,9 @@
-"""Which traces are rejected, at which line and for which cause, computed plainly: the reference for
+"""Computes which traces are rejected, at which line and for which cause: the reference for
 psi_oomd.
 
-It follows docs/TRACES.md alone: a line is spelled as defined there, or it is malformed; then it is
-checked against the state after the previous lines. If a line has several causes, the first in the
-order of that page's table is reported.
+It follows docs/TRACES.md alone: a line that isn't spelled as defined there is malformed. A line
+that is spelled correctly is checked against the state after the previous lines. If a line has
+several causes, the first in the order of that page's table is reported.
 """
 from __future__ import annotations
 
@@ -19,7 +19,7 @@ MOST_EVENTS, MOST_GROUPS, MOST_TASKS, MOST_TRIGGERS, MOST_PRESSURES = (
     4_000_000, 1024, 65_536, 256, 65_536,
 )
 MOST_INTERRUPTS = 10**9
-# The causes for a line that is spelled correctly, in their order.
+# The causes to reject a line that is spelled correctly, in their order of precedence.
 ORDER = (
     "TimeBack", "TimeTooLate", "TooManyEvents", "TooManyGroups", "TooManyTasks", "TooManyTriggers",
     "TooManyPressures",
@@ -35,7 +35,7 @@ Form = Callable[[str], bool]
 
 
 def number(least: int, most: int) -> Form:
-    """Returns a form: a decimal number in a range, without leading zeros."""
+    """Returns the parser of a decimal number in a range, without leading zeros."""
     return lambda text: bool(
         re.fullmatch("0|[1-9][0-9]{0,19}", text, re.ASCII)
     ) and least <= int(text) <= most
@@ -46,8 +46,8 @@ def word(*words: str) -> Form:
 
 
 def is_path(text: str) -> bool:
-    """Returns whether a text is the root, or 1 to 32 components, each after a slash, with at most
-    255 bytes in total.
+    """Returns whether a text is a path: the root, or 1 to 32 components, each after a slash, with
+    at most 255 bytes in total.
     """
     parts = text[1:].split("/")
     are_names = all(
@@ -82,7 +82,7 @@ LATER_VERBS = ("irq", "pressure")
 
 
 def fault_of_spelling(version: int, line: str) -> Optional[str]:
-    """Returns the first fault in the spelling of an event line, or None."""
+    """Returns the first cause to reject the spelling of an event line, or None."""
     moment, *rest = line.split(" ")
     if not TIME(moment):
         return "BadTime"
@@ -96,16 +96,16 @@ def fault_of_spelling(version: int, line: str) -> Optional[str]:
 
 
 def header_of(line: str) -> Optional[tuple[int, int]]:
-    """Returns the version and the number of processors in a header."""
+    """Returns the version and the number of processors in a header, or None if it is malformed."""
     found = re.fullmatch("psitrace ([12]) cpus=([1-9][0-9]?)", line, re.ASCII)
     return (int(found[1]), int(found[2])) if found and int(found[2]) <= 64 else None
 
 
-# ---------------------------------------------------------------- the world
+# ---------------------------------------------------------------- the state
 
 
 class World:
-    """The state after the lines so far."""
+    """The state after the lines so far: groups, tasks and processors."""
 
     def __init__(self, cpus: int) -> None:
         self.machine = Machine(cpus)
@@ -113,7 +113,7 @@ class World:
         self.interrupted: dict[int, int] = {}
 
     def take(self, moment: int, verb: str, fields: list[str]) -> None:
-        """Applies a valid event, at its time (ns)."""
+        """Applies a valid event at the time `moment` (ns)."""
         self.machine.take(verb, *fields)
         self.last, self.events = moment, self.events + 1
         self.triggers += verb == "trigger"
@@ -122,7 +122,9 @@ class World:
             self.interrupted[int(fields[0])] = moment
 
     def causes(self, moment: int, verb: str, fields: list[str], most: int) -> Iterator[str]:
-        """Yields all causes against the event, if times may be up to `most` ns."""
+        """Yields all causes to reject the event at the time `moment` (ns), if times may be up to
+        `most` ns.
+        """
         limits = (moment < self.last, "TimeBack"), (moment > most, "TimeTooLate"), (
             self.events >= MOST_EVENTS, "TooManyEvents"
         )
@@ -137,7 +139,7 @@ class World:
         return int(cpu) < self.machine.cpus
 
     def is_at(self, pid: str, *at: str) -> bool:
-        """Returns whether the task exists and has one of these states."""
+        """Returns whether the task exists and is in one of the states `at`."""
         return pid in self.machine.tasks and self.machine.tasks[pid].at in at
 
     def is_stalled(self, pid: str) -> bool:
@@ -217,8 +219,8 @@ class World:
         yield path == "/", "RootPressure"
 
     def against_irq(self, moment: int, cpu: str, length: str) -> Iterator[str]:
-        """Interrupts take at most a second, and at most the time since the processor's previous
-        `irq` line.
+        """Returns whether the interrupts of an `irq` line last more than a second, or more than the
+        time since the processor's previous `irq` line.
         """
         if not self.is_cpu(cpu):
             yield "BadCpu"
@@ -226,12 +228,13 @@ class World:
             yield "IrqTooLong"
 
 
-# ---------------------------------------------------------------- the whole
+# ---------------------------------------------------------------- a whole trace
 
 
 def lines_of(data: bytes) -> Iterator[tuple[int, bytes, Optional[str]]]:
-    """Yields the lines with their numbers from 1, each with its fault if it is too long or cut off;
-    such a line is the last. The last newline is followed by an empty line, which is cut off.
+    """Yields the lines with their numbers from 1, each with its fault if it is too long or has no
+    newline; such a line is the last. After the last newline there is an empty line without a
+    newline.
     """
     at, count = 0, 1
     while True:

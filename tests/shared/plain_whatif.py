@@ -1,4 +1,4 @@
-"""The trace that remains after the kills of its rules, by a plain walk: the reference for `psi_oomd
+"""Computes the trace that remains after the kills of its rules: the reference for `psi_oomd
 whatif`.
 
 It follows docs/COMMANDS.md alone, event by event over the tasks of tests/shared/machine.py. The
@@ -13,7 +13,7 @@ from typing import NamedTuple
 from shared.machine import Machine
 
 MOST_ROUNDS = 64
-# Events of a task, whose first field is its number.
+# Verbs of events whose first field is the number of a task.
 OF_A_TASK = ("wake", "stall", "unstall", "migrate", "move")
 
 
@@ -33,13 +33,13 @@ class Kill(NamedTuple):
 
 
 class Trace(NamedTuple):
-    """A trace: its header, and its events up to the end."""
+    """A trace: its header, and its events including the end."""
 
     header: str
     events: list[Event]
 
     def machine(self) -> Machine:
-        """Returns the trace's machine before any event."""
+        """Returns a new Machine with the trace's processors, before any event."""
         return Machine(int(self.header.partition("cpus=")[2]))
 
     def text(self) -> str:
@@ -48,7 +48,7 @@ class Trace(NamedTuple):
 
 
 def trace_of(text: str) -> Trace:
-    """Parses a text, which must be a trace."""
+    """Parses the text of a valid trace."""
     header, *lines = text.splitlines()
     parts = (line.split(" ") for line in lines)
     return Trace(header,
@@ -61,7 +61,7 @@ def kills_of(printed: str) -> list[Kill]:
     return [Kill(int(moment), path) for moment, path in found]
 
 
-# ---------------------------------------------------------------- without
+# ---------------------------------------------------------------- a trace without a victim
 
 
 def members(machine: Machine, path: str) -> list[str]:
@@ -72,9 +72,9 @@ def members(machine: Machine, path: str) -> list[str]:
 
 
 def exit_of(machine: Machine, pid: str, moment: int) -> list[Event]:
-    """Returns the events by which a task exits at a time (ns): it wakes if it sleeps, runs if it
-    doesn't, ends its stall, and exits. The task that ran there stops for it, and runs on after
-    it.
+    """Returns the events by which a task exits at the time `moment` (ns): the task wakes if it
+    sleeps, is switched to if it doesn't run, ends its memory stall, and exits. A task that ran
+    there is interrupted and continues afterwards.
     """
     task = machine.tasks[pid]
     cpu, others = str(task.cpu), [other for other in machine.running(task.cpu) if other != pid]
@@ -89,8 +89,8 @@ def exit_of(machine: Machine, pid: str, moment: int) -> list[Event]:
 
 
 def left_of(machine: Machine, dead: set[str], event: Event) -> list[Event]:
-    """Returns what remains of an event if these tasks are dead. `machine` is the trace's before the
-    event.
+    """Returns the part of an event that remains if the tasks `dead` are dead. `machine` is the
+    state of the recorded trace before the event.
     """
     if event.verb in OF_A_TASK:
         return [] if event.fields[0] in dead else [event]
@@ -104,8 +104,8 @@ def left_of(machine: Machine, dead: set[str], event: Event) -> list[Event]:
 
 
 def rest_of(machine: Machine, dead: set[str], events: list[Event]) -> Iterator[Event]:
-    """Yields the events without these tasks. Once a dead task has exited in the trace, its number
-    may be another task's.
+    """Yields the events without those of the dead tasks. When a dead task exits in the recorded
+    trace, its number is no longer counted as dead, since a new task may get it.
     """
     for event in events:
         yield from left_of(machine, dead, event)
@@ -115,8 +115,9 @@ def rest_of(machine: Machine, dead: set[str], events: list[Event]) -> Iterator[E
 
 
 def without(trace: Trace, kill: Kill) -> Trace:
-    """Returns the trace without the victim's tasks: it is unchanged up to the kill, they exit a
-    nanosecond later, and the rest follows. A kill at the end changes nothing.
+    """Returns the trace without the victim's tasks: the trace is unchanged up to the kill, the
+    tasks exit 1 ns later, and the remaining events follow without them. A kill at the end changes
+    nothing.
     """
     if kill.moment >= trace.events[-1].moment:
         return trace
@@ -139,8 +140,8 @@ def without(trace: Trace, kill: Kill) -> Trace:
 
 
 class Round(NamedTuple):
-    """One trace of the sequence, the output of its replay, and its kill that is applied next, if
-    there is one.
+    """A trace of the sequence, the output of its replay, and the kill to apply next (None if no
+    kill remains).
     """
 
     trace: Trace
@@ -149,8 +150,8 @@ class Round(NamedTuple):
 
 
 def rounds(trace: Trace, replay: Callable[[str], str]) -> Iterator[Round]:
-    """Yields the traces up to the one whose output `whatif` prints: in the trace after N kills, the
-    kill with index N is applied, up to 64 times.
+    """Yields the traces up to the final one, whose output `whatif` prints. In the trace after N
+    kills, the kill with index N is applied; at most 64 kills are applied.
     """
     for number in range(MOST_ROUNDS + 1):
         printed = replay(trace.text())

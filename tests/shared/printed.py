@@ -1,4 +1,4 @@
-"""Psi_oomd's output, parsed by its words alone."""
+"""Parses psi_oomd's output, without code of the tools."""
 from __future__ import annotations
 
 import collections
@@ -9,8 +9,8 @@ AVERAGES = ("avg10", "avg60", "avg300")
 
 
 class Printed:
-    """Shares in percent by group, resource, level and average; events by group, resource and level;
-    kills. Times in ns.
+    """The parts of an output: shares in percent by group, resource, level and average; events by
+    group, resource and level; kills. Times are in ns.
     """
 
     def __init__(self, printed: bytes) -> None:

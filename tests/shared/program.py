@@ -1,5 +1,6 @@
-"""The program that tests run: the one named by `--program PATH` or the variable PSI_OOMD, or else
-the one that the launcher builds, without the launcher itself. Another program has its own variable.
+"""Finds the program that a test runs: the one named by `--program PATH` or by the variable
+PSI_OOMD, or else the one that the launcher ./psi_oomd builds. The test runs the built program
+itself, not the launcher. Each other program has its own variable.
 """
 from __future__ import annotations
 
@@ -9,7 +10,8 @@ import subprocess
 import sys
 from typing import NoReturn
 
-# Whether the program was named by the caller: then nothing else is built unasked.
+# Whether the caller named psi_oomd. If so, a test fails if it needs another program that isn't
+# named.
 IS_NAMED = bool(os.environ.get("PSI_OOMD")) or "--program" in sys.argv[1:2]
 TOP = os.path.dirname(os.path.dirname(os.path.dirname(os.path.abspath(__file__))))
 sys.path.append(os.path.join(TOP, "tools"))
@@ -17,7 +19,8 @@ sys.path.append(os.path.join(TOP, "tools"))
 from psicli.fault import Fault  # noqa: E402
 from psireplay.program import built_program  # noqa: E402
 
-# What each program prints for a small input, so that another program isn't taken for it.
+# Arguments, and the output that each program must print for them. A test checks them, so that it
+# detects a wrong program.
 TRACE = os.path.join(TOP, "examples", "one-wait.trace")
 PAGES = [
     os.path.join(TOP, "crates", "psi_convert_main", "data", name) for name in ("table", "cpu0.raw")
@@ -29,18 +32,18 @@ PRINTED = {
 }
 
 
-# The programs that this test uses, by the variables that name them.
+# The paths of the programs that this test uses, by the variables that name programs.
 USED: dict[str, str] = {}
 
 
 def fail(message: str) -> NoReturn:
-    """Ends a test that can't run: status 2."""
+    """Prints the message and ends a test that can't run, with status 2."""
     print(message, file=sys.stderr)
     sys.exit(2)
 
 
 def must_be_program(path: str, name: str) -> None:
-    """Ends the test unless this is the program with this name."""
+    """Ends the test unless `path` is the program `name`, by its output for a small input."""
     words, expected = PRINTED[name]
     done = subprocess.run([path, *words], capture_output=True, check=False)
     if not done.stdout.endswith(expected):
@@ -50,9 +53,9 @@ def must_be_program(path: str, name: str) -> None:
 
 
 def program_of(words: list[str], name: str = "psi_oomd") -> tuple[str, list[str]]:
-    """Returns the program of this name, built if none is named, and the arguments after `--program
-    PATH`. Tools that a test runs use it too. `--help` prints the test's own docstring, and builds
-    nothing.
+    """Returns the path of the program `name`, which is built if none is named, and the arguments
+    after `--program PATH`. Tools that the test runs use the same program. `--help` prints the
+    test's own docstring, and builds nothing.
     """
     if words[:1] == ["--help"]:
         print((sys.modules["__main__"].__doc__ or "").strip())

@@ -1,4 +1,6 @@
-"""Rooms: the folders in which checks run the tools and psi_oomd, and the results of these runs."""
+"""Runs tools and psi_oomd for checks, each check in a folder of its own (a Room), and has the
+results of these runs.
+"""
 from __future__ import annotations
 
 import json
@@ -21,7 +23,7 @@ REFUSED = os.path.join(TOP, "examples", "refused.trace")
 
 @dataclass(frozen=True)
 class Done:
-    """The result of a run: its exit status and both its streams."""
+    """The result of a run: its exit status, its output and its standard error."""
 
     status: int
     output: str
@@ -35,14 +37,16 @@ class Done:
         return json.loads(read.stdout)
 
     def without_notes(self) -> "Done":
-        """Returns the run without the notes of lint. tests/oomd tests notes on oomd's
-        differences.
+        """Returns the result without lint's notes. tests/oomd checks the notes on differences from
+        oomd.
         """
         kept = [it for it in self.output.splitlines(True) if ": note: " not in it]
         return Done(self.status, "".join(kept), self.error)
 
     def must_print(self, what: str, status: int, output: str) -> None:
-        """Compares the status and the output. A failure shows standard error too."""
+        """Compares the status and the output with the expected ones. A failure also shows standard
+        error.
+        """
         said = f", with this on standard error:\n{self.error}" if self.error else ""
         must_be(f"{what}: the status{said}", self.status, status)
         must_be(f"{what}: the output{said}", self.output, output)
@@ -65,8 +69,8 @@ class Room:
     def run(
         self, *words: str, given: str | bytes = b"", program: str | None = None, **more: str
     ) -> Done:
-        """Runs a tool of the repository, or psi_oomd if that is the first word, with these
-        additional environment variables.
+        """Runs a tool of the repository, or psi_oomd if that is the first word, and returns the
+        result. `given` is its standard input, and `more` are additional environment variables.
         """
         first = self.program if words[0] == "psi_oomd" else os.path.join(TOP, words[0])
         environment: dict[str, str] = {**os.environ, "PSI_OOMD": program or self.program, **more}
@@ -78,8 +82,8 @@ class Room:
         return Done(done.returncode, done.stdout.decode(), done.stderr.decode())
 
     def kills(self, *words: str, given: str = "") -> list[tuple[int, int, int, str]]:
-        """Returns the kills that psi_oomd itself prints for this replay: time (ns), ruleset, action
-        and path.
+        """Returns the kills that psi_oomd itself prints for this replay: time (ns), index of the
+        ruleset, index of the action, and path.
         """
         done = self.run("psi_oomd", "replay", *words, given=given)
         must_be(f"the status of replay {words}, which said {done.error}", done.status, 0)
@@ -93,7 +97,7 @@ class Room:
 
 
 def run_in_rooms(*sources: Source) -> int:
-    """Runs all checks of the sources, or the named ones, each with a room of its own."""
+    """Runs all checks of the sources, or only the named ones; each check gets a Room of its own."""
     program, words = program_of(sys.argv[1:])
     return run_checks(
         checks_of(*sources), lambda check, folder: check(Room(program, folder)), words

@@ -1,7 +1,7 @@
-"""Shared by tests of the tools for recordings: running them, checking their results, and the stored
-recordings.
+"""Helpers for tests of the recording tools: running them, checking their results, and reading the
+stored recordings.
 
-The recordings are those of tests/data, whose README says where they come from.
+The recordings are in tests/data, whose README says where they come from.
 """
 from __future__ import annotations
 
@@ -27,7 +27,7 @@ PAGE = 4096
 
 
 class Done(NamedTuple):
-    """The result of a run: its exit status, and what it wrote."""
+    """The result of a run: its exit status, its output and its standard error."""
 
     status: int
     output: bytes
@@ -35,7 +35,7 @@ class Done(NamedTuple):
 
 
 def run(words: list[str], given: bytes = b"", program: str = "") -> Done:
-    """Runs a program; `program` is the psi_oomd that it uses."""
+    """Runs a command and returns its result. `program` is the psi_oomd that a tool uses."""
     environment = {**os.environ, "PYTHONDONTWRITEBYTECODE": "1", "PSI_OOMD": program}
     done = subprocess.run(words, input=given, capture_output=True, timeout=SECONDS, env=environment,
                           cwd=TOP)
@@ -43,12 +43,12 @@ def run(words: list[str], given: bytes = b"", program: str = "") -> Done:
 
 
 def tool(name: str, *words: str, given: bytes = b"", program: str = "") -> Done:
-    """Runs a tool."""
+    """Runs the tool `name` of the repository and returns the result."""
     return run([os.path.join(TOOLS, name), *words], given, program)
 
 
 def accepted(program: str, trace: bytes) -> str:
-    """Psi_oomd's message for a trace that it must accept."""
+    """Returns the output of psi_oomd's `check` for a trace, which must be accepted."""
     done = run([program, "check", "-"], trace)
     must_be(f"the status of check, which said {done.said}", done.status, 0)
     return done.output.decode()
@@ -56,7 +56,7 @@ def accepted(program: str, trace: bytes) -> str:
 
 @contextlib.contextmanager
 def recording(name: str) -> Iterator[str]:
-    """A copy of a stored recording, as a folder that may be changed."""
+    """Yields a temporary copy of a stored recording, as a folder that may be changed."""
     with tempfile.TemporaryDirectory() as place:
         with tarfile.open(os.path.join(STORED, f"{name}.tar.xz")) as archive:
             archive.extractall(place)
@@ -64,19 +64,19 @@ def recording(name: str) -> Iterator[str]:
 
 
 def text(name: str) -> bytes:
-    """Returns a stored text of ftrace."""
+    """Returns a stored ftrace text."""
     with gzip.open(os.path.join(STORED, f"{name}.ftrace.gz")) as file:
         return file.read()
 
 
 def stored(name: str) -> str:
-    """Returns a stored expected text."""
+    """Returns the stored expected text with this name."""
     with open(os.path.join(STORED, name), encoding="utf-8") as file:
         return file.read()
 
 
 def change(folder: str, name: str, edit: Callable[[bytes], bytes]) -> None:
-    """Changes a file of a recording."""
+    """Rewrites a file of a recording with the bytes that `edit` returns for it."""
     path = os.path.join(folder, name)
     with open(path, "rb") as file:
         before = file.read()
@@ -87,24 +87,24 @@ def change(folder: str, name: str, edit: Callable[[bytes], bytes]) -> None:
 
 
 def count_bytes(folder: str) -> None:
-    """Sets the byte counts in `meta` to the sizes of the files of pages."""
+    """Sets the byte count in `meta` to the total size of the files that hold pages."""
     names = [os.path.join(folder, name) for name in os.listdir(folder) if ".raw" in name]
     count = sum(os.path.getsize(name) for name in names)
     change(folder, "meta", lambda it: re.sub(rb"(?m)^bytes \d+$", b"bytes %d" % count, it))
 
 
 def end_of(trace: bytes) -> int:
-    """Returns the end of a trace, in ns."""
+    """Returns the end (ns) of a trace."""
     return int(trace.splitlines()[-1].split(b" ")[0])
 
 
 def digest_of(trace: bytes) -> str:
-    """Returns the sha256 of a trace."""
+    """Returns the sha256 of a trace, in hexadecimal."""
     return hashlib.sha256(trace).hexdigest()
 
 
 def digests() -> dict[str, str]:
-    """Returns the stored sha256 of each recording's trace."""
+    """Returns the stored sha256 of each recording's trace, by the recording's name."""
     return {
         name: digest
         for digest, name in (line.split() for line in stored("traces.sha256").splitlines())
@@ -112,7 +112,7 @@ def digests() -> dict[str, str]:
 
 
 def converted(folder: str, *words: str, status: int = 0) -> Done:
-    """Returns the result of psitrace for a recording."""
+    """Runs psitrace on a recording, which must exit with this status, and returns the result."""
     done = tool("psitrace", folder, *words)
     must_be(f"the status of psitrace {' '.join(words)}, which said {done.said}", done.status,
             status)
@@ -120,7 +120,7 @@ def converted(folder: str, *words: str, status: int = 0) -> Done:
 
 
 def compared(program: str, folder: str, trace: bytes, *words: str) -> Done:
-    """Returns the result of compare for a trace."""
+    """Runs `compare` on a recording and its trace, and returns the result."""
     with tempfile.NamedTemporaryFile(suffix=".trace") as file:
         file.write(trace)
         file.flush()
@@ -128,7 +128,7 @@ def compared(program: str, folder: str, trace: bytes, *words: str) -> Done:
 
 
 def must_agree(program: str, folder: str, trace: bytes, *words: str) -> None:
-    """Fails unless the trace agrees with the machine's files."""
+    """Fails unless the trace agrees with the machine's pressure files."""
     done = compared(program, folder, trace, *words)
     printed = f"compare prints\n{done.output.decode()}{done.said}"
     must(done.status == 0, f"expected status 0 of compare, actual {done.status}; {printed}")
@@ -136,5 +136,5 @@ def must_agree(program: str, folder: str, trace: bytes, *words: str) -> None:
 
 
 def hide(folder: str, event: bytes) -> None:
-    """Makes an event unknown in the recording."""
+    """Renames an event in the recording, so that psitrace doesn't know it."""
     change(folder, "formats", lambda it: it.replace(b"/" + event + b"\n", b"/not_" + event + b"\n"))

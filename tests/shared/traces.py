@@ -1,4 +1,6 @@
-"""Runs of fixed and random traces, for checks that compute the expected output."""
+"""Provides fixed and random traces with replay options, for checks that compute the expected
+output.
+"""
 from __future__ import annotations
 
 import dataclasses
@@ -17,7 +19,7 @@ TOP = os.path.dirname(os.path.dirname(os.path.dirname(os.path.abspath(__file__))
 MS = 10**6
 RANDOM_TRACES = 40
 RANDOM_TRACES_WITH_INTERRUPTS = 10
-# A verb and its fields.
+# An event without its time: a verb and its fields.
 Event = tuple[str, ...]
 Thing = TypeVar("Thing")
 
@@ -27,7 +29,7 @@ RUNAWAY = ("--rules", "examples/runaway.json")
 @dataclasses.dataclass(frozen=True)
 class Run:
     """A trace with a path, and the options of its replay: the length of ticks (ms), the period of
-    reports (s) and other arguments.
+    reports (s) and further arguments.
     """
 
     name: str
@@ -39,13 +41,14 @@ class Run:
 
 
 def text_of(name: str) -> str:
-    """A trace of the examples."""
+    """Returns the text of a trace in examples/."""
     with open(os.path.join(TOP, "examples", name), encoding="ascii") as file:
         return file.read()
 
 
 def fixed_runs() -> list[Run]:
-    """The traces above, and some of the examples, each with a path that is, was or never is live.
+    """Returns the traces of fixed_traces.py and some of the examples, each with the path of a group
+    that is live at the end, was live, or never was.
     """
     return [
         Run("one-wait", text_of("one-wait.trace"), "/", 2000, 10),
@@ -85,13 +88,14 @@ def fixed_runs() -> list[Run]:
 
 
 class Maker:
-    """Makes a valid random trace: in each turn time passes, or not, and a possible event happens.
+    """Makes a valid random trace. In each turn an event happens that is possible then, and time may
+    advance.
     """
 
     PATHS: tuple[str, ...] = ("/a", "/a/b", "/a/b/c", "/d", "/d/e")
-    # The least and the largest number of turns.
+    # The smallest and the largest number of turns.
     TURNS = (30, 120)
-    # How often each verb comes, by the version of the trace.
+    # The weight of each verb in the random choice, by the version of the trace.
     FIRST = dict(fork=2, switch=8, wake=4, stall=2, unstall=2, migrate=2, move=3, group=4,
                  rmgroup=2, side=1)
     OFTEN = {1: FIRST, 2: {**FIRST, "irq": 8, "pressure": 5}}
@@ -104,7 +108,7 @@ class Maker:
         self.last_interrupts = [0] * self.machine.cpus
 
     def trace(self) -> str:
-        """The complete trace, with its end."""
+        """Returns the complete trace, including its end."""
         for _ in range(self.draw.randint(*self.TURNS)):
             verb = self.draw.choices(list(self.often), list(self.often.values()))[0]
             for event in getattr(self, f"some_{verb}")():
@@ -114,7 +118,9 @@ class Maker:
         return "\n".join([*self.lines, f"{self.now} end\n"])
 
     def pass_time(self) -> None:
-        """Half of the turns take no time; some events are at a tick, some intervals are empty."""
+        """Advances the time by a random length. Half of the turns take no time, some end exactly at
+        a tick, and some contain ticks without events.
+        """
         way = self.draw.random()
         if way > 0.95:
             self.now += self.draw.randrange(4 * self.tick)
@@ -124,7 +130,7 @@ class Maker:
             self.now += self.draw.randrange(self.tick // 2)
 
     def path(self) -> str:
-        """The root, or a path that some group has had."""
+        """Returns the root, or a path that a group has or had."""
         return self.draw.choice(
             [
                 "/",
@@ -140,12 +146,14 @@ class Maker:
         return str(self.draw.randrange(self.machine.cpus))
 
     def some(self, them: Iterable[Thing]) -> list[Thing]:
-        """A list of one random thing, or an empty one if there is none."""
+        """Returns a list with one random item, or an empty list if there is no item."""
         listed = list(them)
         return [self.draw.choice(listed)] if listed else []
 
     def task(self, *at: str) -> list[str]:
-        """The number of a random task in one of these states, or none."""
+        """Returns the number of a random task in one of the states `at`, in a list; an empty list
+        if there is no such task.
+        """
         return self.some(pid for pid, task in self.machine.tasks.items() if task.at in at)
 
     def some_fork(self) -> list[Event]:
@@ -196,7 +204,8 @@ class Maker:
         ]
 
     def some_rmgroup(self) -> list[Event]:
-        """A group without children is removed, and perhaps created again at once, after its tasks.
+        """Removes a random group without children after moving its tasks to the parent; sometimes
+        creates the group again at once. Returns the events.
         """
         live = self.machine.live
         parents = {parent_of(path) for path in live if path != "/"}
@@ -207,8 +216,8 @@ class Maker:
         return []
 
     def some_irq(self) -> list[Event]:
-        """Interrupts take some or all of the time since the processor's previous `irq` line, but at
-        most a second.
+        """Returns an `irq` event: interrupts take none, some or all of the time since the
+        processor's previous `irq` line, but at most a second.
         """
         busy = [cpu for cpu in range(self.machine.cpus) if self.machine.running(cpu)]
         cpu = self.draw.choice(
@@ -219,8 +228,8 @@ class Maker:
         return [("irq", str(cpu), str(self.draw.choice((0, most, self.draw.randint(0, most)))))]
 
     def some_pressure(self) -> list[Event]:
-        """The account of a group is set on or off, perhaps to its present state, and sometimes back
-        at once.
+        """Switches the account of a random group on or off, perhaps to its present state, and
+        sometimes back at once. Returns the events.
         """
         switches = self.draw.choice((("on",), ("off",), ("off",), ("off", "on"), ("on", "off")))
         return [
@@ -230,7 +239,7 @@ class Maker:
         ]
 
     def some_side(self) -> list[Event]:
-        """An event that changes neither a processor nor a group."""
+        """Returns an event that changes neither a processor nor a group."""
         (path,) = self.some(self.machine.live)
         resource, level = (
             self.draw.choice(("io", "memory", "cpu")), self.draw.choice(("some", "full")),
@@ -242,18 +251,20 @@ class Maker:
 
 
 def random_run(number: int, version: int = 1, kind: type[Maker] = Maker) -> Run:
-    """A random trace of this version by this kind of maker; the same number gives the same trace.
+    """Returns a random trace of this version, made by a Maker of this kind. The same number gives
+    the same trace.
     """
     maker = kind(number, version)
     trace = maker.trace()
-    # Mostly with the ticks that it was made for.
+    # The replay mostly has the tick length for which the trace was made; else half of it or 3.5
+    # times.
     tick_ms = maker.tick // MS * maker.draw.choice((2, 2, 2, 1, 7)) // 2
     return Run(f"random-{number}" + "-with-interrupts" * (version - 1), trace, maker.path(),
                tick_ms, maker.draw.choice((0, 1, 10)))
 
 
 def all_runs() -> Iterator[Run]:
-    """The fixed traces, and random ones of both versions."""
+    """Yields the fixed traces, and random traces of both versions."""
     yield from fixed_runs()
     yield from (random_run(number) for number in range(RANDOM_TRACES))
     yield from (random_run(number, 2) for number in range(RANDOM_TRACES_WITH_INTERRUPTS))
