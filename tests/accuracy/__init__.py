@@ -1,3 +1,3 @@
-"""How closely a recording agrees with its machine, and what is reported if it is a guess: the
-checks of tests/accuracy.
+"""The checks of tests/accuracy: how closely the trace of a recording agrees with the recorded
+machine, and whether guesses are reported.
 """

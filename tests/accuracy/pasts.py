@@ -1,5 +1,5 @@
-"""Checks of lead-ins (warm-up periods): the shares of their generated tasks, and the averages with
-which recordings then begin.
+"""Checks of lead-ins (warm-up periods before a recording): the shares of their generated tasks, and
+the averages at the recording's start.
 """
 from __future__ import annotations
 
@@ -19,14 +19,15 @@ from psiworld.groups import Groups  # noqa: E402
 from psiworld.world import World  # noqa: E402
 
 LEAD = 720
-# How far averages may be off at the start (percentage points), by period: avg10 moves by that much
-# within a tick, and the machine's readings and the replay's reports are at different times in it.
+# How far averages may be off at the recording's start (percentage points), by period (s). avg10
+# changes by that much within a tick, and the machine's readings and the replay's reports are at
+# different times in the tick.
 NEAR = {10: 5.0, 60: 2.0, 300: 0.6}
 
 
 def check_stretches(_: str) -> None:
-    """Averages by the kernel's factors reach the wanted ones, if pressures from 0 to 100 % can do
-    it.
+    """Pressures between 0 and 100 % are found with which averages by the kernel's factors reach the
+    wanted averages.
     """
     for wanted in ((12.5, 30.0, 22.2), (50.0, 20.0, 10.0), (5.0, 5.0, 5.0), (0.0, 0.0, 0.0)):
         stretches = stretches_of(wanted, LEAD // 2)
@@ -42,8 +43,8 @@ def check_stretches(_: str) -> None:
 
 
 def check_what_a_stage_shows(_: str) -> None:
-    """The generated tasks of a group have its shares on their processor: waits, stalls and waits
-    for the processor, some and full, alone and combined, as the states of a trace define them.
+    """The generated tasks of a group have the wanted shares of time on their processor: waits for
+    IO, stalls and waits for the processor, some and full, alone and combined.
     """
     for shares in (
         Shares(0, 0, 0, 0, 0, 0), Shares(40, 10, 0, 0, 0, 0), Shares(30, 30, 0, 0, 20, 5),
@@ -67,7 +68,7 @@ def check_what_a_stage_shows(_: str) -> None:
 
 
 def check_groups_above(_: str) -> None:
-    """A parent group has its own shares, higher or lower than its children's."""
+    """A parent group has its own shares, whether lower or higher than its children's."""
     flat = {key: (30.0, 30.0, 30.0) for key in (("io", "some"), ("io", "full"))}
     for above in (10.0, 29.0, 45.0):
         world = World(2, Groups())
@@ -83,7 +84,7 @@ def check_groups_above(_: str) -> None:
 
 
 def printed_averages(program: str, trace: str) -> dict[tuple[str, str, str], tuple[float, ...]]:
-    """Returns the averages of all files at the recording's start, by path, resource and level."""
+    """Returns the averages in the report at the recording's start, by path, resource and level."""
     out = subprocess.run(
         [program, "replay", trace, "--report-s", "2"], capture_output=True, text=True, check=True
     ).stdout
@@ -99,8 +100,9 @@ def printed_averages(program: str, trace: str) -> dict[tuple[str, str, str], tup
 
 
 def check_how_recordings_begin(program: str) -> None:
-    """The averages at the recording's start are those of the machine's files then, instead of 0,
-    and the recording's totals don't change; the summary says when the recording begins.
+    """The averages at the recording's start are those of the machine's pressure files at that time,
+    instead of 0. The recording's totals don't change, and the summary says when the recording
+    begins.
     """
     for name in ("threads", "mem-2"):
         with recording(name) as folder, tempfile.NamedTemporaryFile(suffix=".trace") as file:
@@ -123,7 +125,7 @@ def check_how_recordings_begin(program: str) -> None:
             for path, averages in machine.items():
                 for (resource, level), wanted in averages.items():
                     if (path, resource, level) not in found:
-                        continue  # it was made between the first moment and the first reading
+                        continue  # The group was created between the start and the first reading.
                     for period, one, other in zip(NEAR, found[path, resource, level], wanted):
                         tried += 1
                         must(abs(one - other) <= NEAR[period],
@@ -134,7 +136,8 @@ def check_how_recordings_begin(program: str) -> None:
 
 
 def check_words_of_lead_ins(_: str) -> None:
-    """Invalid lengths are rejected, and so is a length about which nothing can be known."""
+    """Invalid lengths of a lead-in are rejected, and so is a lead-in whose averages aren't known.
+    """
     with recording("exec-2") as folder:
         for word in ("4min", "61min", "721", "12h", "-1", "0"):
             must("--lead-in" in converted(folder, f"--lead-in={word}", status=2).said, word)

@@ -1,5 +1,5 @@
-"""Recordings agree with their machines at the kernel's own sampling times, and faults of their
-conversion show there: one fitted number per group hides none.
+"""Checks that recordings agree with their machines at the kernel's own sampling times, and that
+faults in their conversion are found there: the one number that is fitted per group hides none.
 """
 from __future__ import annotations
 
@@ -10,16 +10,16 @@ from harness import must, must_be
 from shared.stored import PAGE, change, compared, converted, must_agree, recording
 
 HOUR = 3600 * 10**9
-# Psi counted wakeups up to 132 us before their events, for 99 of 100 on this kernel in this
-# emulator, with a median of 60. If the recording doesn't contain the lag, this option gives it. In
-# `exec-2`, whose machine was almost idle, no total is at least 0.5 s.
+# How far wakeups precede their events (us). On this kernel in this emulator, psi counts 99 of 100
+# wakeups up to 132 us before their events; the median is 60 us. The option states it for recordings
+# that don't contain the lag.
 LAG = ("--lag-us", "60")
 WORDS = {"mem-2": LAG, "threads": LAG, "exec-2": (*LAG, "--least-s", "0.1")}
 
 
 def check_each_recording(program: str) -> None:
     """Each recording agrees with its machine: `threads` at the recorded sampling times, the others
-    at fitted ones.
+    at fitted sampling times.
     """
     for name in ("mix-2", "mem-2", "cg-2", "exec-2", "threads"):
         with recording(name) as folder:
@@ -27,8 +27,8 @@ def check_each_recording(program: str) -> None:
 
 
 def check_fitted_moments(program: str) -> None:
-    """A recording with sampling times agrees with its machine without them too, and the output says
-    that they were fitted.
+    """A recording whose sampling times were removed still agrees with its machine, and the output
+    says that sampling times were fitted.
     """
     with recording("threads") as folder:
         trace = converted(folder).output
@@ -44,7 +44,7 @@ def check_fitted_moments(program: str) -> None:
 
 
 def check_causes_that_are_known(program: str) -> None:
-    """The output states the known causes of totals beyond their limits."""
+    """The output names the known causes of totals beyond their limits."""
     with recording("exec-2") as folder:
         trace = converted(folder).output
         done = compared(program, folder, trace, "--least-s", "0.1")
@@ -59,7 +59,7 @@ def check_causes_that_are_known(program: str) -> None:
 
 
 def marked(program: str, folder: str, trace: bytes, *words: str) -> str:
-    """Returns the files with totals beyond their limits; there must be some."""
+    """Returns the rows of files with totals beyond their limits; there must be some."""
     done = compared(program, folder, trace, *words)
     must_be(f"the status: {done.output.decode()}", done.status, 1)
     return "\n".join(
@@ -68,14 +68,15 @@ def marked(program: str, folder: str, trace: bytes, *words: str) -> str:
 
 
 def check_waits_by_state(program: str) -> None:
-    """If IO is derived from state D alone, its total is found to be too high."""
+    """If every sleep in state D counts as a wait for IO, the total of IO is reported as too high.
+    """
     with recording("mix-2") as folder:
         found = marked(program, folder, converted(folder, "--iowait", "D").output)
         must("| io  " in found and "cpu" not in found, found)
 
 
 def later(data: bytes) -> bytes:
-    """Pages of a ring buffer, with all events an hour later."""
+    """Returns pages of a ring buffer with all events an hour later."""
     after = bytearray(data)
     for at in range(0, len(data), PAGE):
         struct.pack_into("<Q", after, at, struct.unpack_from("<Q", after, at)[0] + HOUR)

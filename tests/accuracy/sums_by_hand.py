@@ -1,4 +1,4 @@
-"""Checks of the kernel's sums on synthetic recordings whose totals are computed by hand."""
+"""Checks of the kernel's sums on synthetic recordings, whose totals are computed by hand."""
 from __future__ import annotations
 
 from harness import must, must_be
@@ -14,12 +14,13 @@ from psiread.source import Source  # noqa: E402
 
 MS, SECOND = 10**6, 10**9
 RESOURCES = ("io", "memory", "cpu")
-# The addresses of the root's and the group's accounts, and the offset of the kernel's work in them.
+# The addresses of the root's and the group's psi accounts in the kernel, and the offset in an
+# account of the work item that computes averages.
 ROOT, GROUP, WORK = 0x1000, 0x9000, 0x78
-# The task that reads the files.
+# The number of the task that reads the pressure files.
 READER = 77
 
-# One task of the group waits for IO on processor 0 from 1 s on, and one runs on processor 1 from 2
+# One task of the group waits for IO on processor 0 from 1 s on; another runs on processor 1 from 2
 # s to 3 s.
 SPREAD = """\
 0 group /a
@@ -36,8 +37,8 @@ SPREAD = """\
 
 
 def probed(reads: list[int], averages: list[int]) -> Source:
-    """Returns a recording in which the files of the root and the group were read at `reads`, and
-    the kernel itself sampled the group at `averages` (ns).
+    """Returns a recording in which the files of the root and the group were read at the times
+    `reads`, and the kernel itself sampled both at the times `averages` (ns).
     """
     events: list[Event] = [Marker(0, 0, READER, b"psirec start")]
     for number, moment in enumerate(reads):
@@ -53,8 +54,8 @@ def probed(reads: list[int], averages: list[int]) -> Source:
 
 
 def readings_of(reads: list[int], totals: dict[File, list[int]]) -> Readings:
-    """Returns the machine's files at each reading (us), with some and full equal; files without
-    totals have 0.
+    """Returns the machine's pressure files at each reading. `totals` has the totals (us) of a file
+    for each reading, equal for some and full; other files have 0.
     """
     readings: Readings = {number: {} for number in range(len(reads))}
     for file in [File(path, resource) for path in ("/", "/a") for resource in RESOURCES]:
@@ -66,7 +67,7 @@ def readings_of(reads: list[int], totals: dict[File, list[int]]) -> Readings:
 def growth_in(
     trace: str, reads: list[int], averages: list[int], totals: dict[File, list[int]]
 ) -> dict[File, Growth]:
-    """Returns the computed growth of each file, by name."""
+    """Returns the computed growth of each file."""
     clocks, told = Clocks(trace.splitlines()), Moments(
         probed(reads, averages), readings_of(reads, totals)
     )
@@ -82,10 +83,10 @@ def growth_in(
 
 def check_shares_between_moments(_: str) -> None:
     """Each interval between two samplings has its own weights. From 0.5 s to 4 s processor 0 is
-    busy for 3.5 s, 3 s of them waiting, and processor 1 for 1 s: in one interval 3 * 3.5 / 4.5 s
-    are 2.333333. With another sampling at 2 s it is 1 s in the first interval, in which processor 1
-    does nothing, and 2 * 2 / 3 in the second: also 2.333333. With a sampling at 3 s the first has 2
-    * 2.5 / 3.5, which is 1.428571, and the second 1.
+    busy for 3.5 s, of which it waits 3 s, and processor 1 is busy for 1 s: as one interval, 3 * 3.5
+    / 4.5 = 2.333333 s. With another sampling at 2 s, the first interval has 1 s, since processor 1
+    is idle in it, and the second has 2 * 2 / 3 = 1.333333 s: also 2.333333 s. With a sampling at 3
+    s, the first interval has 2 * 2.5 / 3.5 = 1.428571 s and the second has 1 s.
     """
     file = File("/a", "io")
     growths: tuple[tuple[list[int], int], ...] = (
@@ -99,7 +100,7 @@ def check_shares_between_moments(_: str) -> None:
 
 
 def check_weights_are_ticks_of_the_timer(_: str) -> None:
-    """What a processor does in less than a tick, 4 ms, has no weight."""
+    """A processor that is busy for less than a timer tick (4 ms) has no weight."""
     lines = [
         "0 fork 1 / 0", "0 switch 0 1 idle", f"{SECOND} switch 0 0 iowait",
         f"{SECOND + 3 * MS} wake 1 0",
@@ -116,9 +117,9 @@ def check_weights_are_ticks_of_the_timer(_: str) -> None:
 
 
 def check_sums_of_32_bits(_: str) -> None:
-    """The machine's loss is reported. From 4 s to 11 s, 7 s, the group waits for IO on processor 0:
-    7,000,000,000 ns are 2,705,032,704 in 32 bits, and with samplings at 4 s and at 8 s none is
-    lost.
+    """A loss by the kernel's 32-bit sums is reported. From 4 s to 11 s the group waits for IO on
+    processor 0: 7,000,000,000 ns are 2,705,032,704 modulo 2^32. With samplings at 4 s and at 8 s
+    nothing is lost.
     """
     file = File("/a", "io")
     growths: tuple[tuple[list[int], int, int], ...] = (
@@ -136,7 +137,7 @@ def check_sums_of_32_bits(_: str) -> None:
 
 
 def check_a_group_of_two_lives(_: str) -> None:
-    """A group created between two readings counts from its creation, though another group had its
+    """A group created between two readings counts from its creation, even if another group had the
     path before.
     """
     lines = [
@@ -150,7 +151,7 @@ def check_a_group_of_two_lives(_: str) -> None:
 
 
 def check_readings_with_a_file_too_few(_: str) -> None:
-    """A reading in which a file was missing is still assigned file by file, by the addresses of the
+    """The files of a reading in which one was missing are still identified, by the addresses of the
     previous reading.
     """
     reads = [SECOND, 3 * SECOND, 5 * SECOND]
@@ -175,8 +176,8 @@ def check_readings_with_a_file_too_few(_: str) -> None:
 
 
 def check_groups_whose_moments_are_not_told(_: str) -> None:
-    """A group without a known address, because no reading showed as many files as it has, is
-    fitted.
+    """The sampling times of a group are fitted if the group has no known address, because each
+    reading shows fewer files than it has.
     """
     reads = [SECOND, 3 * SECOND, 5 * SECOND]
     source = probed(reads, [2 * SECOND, 4 * SECOND])

@@ -1,5 +1,5 @@
-"""Checks of single threads that are moved between groups, and of processes that are moved with all
-their threads.
+"""Checks of single threads that move between groups, and of processes that move with all their
+threads.
 """
 from __future__ import annotations
 
@@ -10,8 +10,8 @@ from shared.stored import (
     accepted, change, compared, converted, digest_of, digests, hide, recording, stored,
 )
 
-# The recording's groups whose tasks are threads of one process; and the message if the probe is
-# missing.
+# The recording's groups whose tasks are threads of one process; and the message that psitrace
+# prints if the probe for such moves is missing.
 THREADED = "/thr"
 GUESSED = "psitrace: mended: first thread of a process moved, the others taken to go with it: "
 
@@ -22,8 +22,9 @@ def rows_of(printed: bytes, group: str) -> list[str]:
 
 
 def check_threaded_groups(program: str) -> None:
-    """With the probe, single threads count in the group that they were moved to; without it more
-    than a third of a group's time is wrong, and the summary says that their groups are guessed.
+    """With the probe, a single thread counts in the group to which it was moved. Without the probe,
+    totals of these groups are beyond their limits, and the summary says that the threads' groups
+    are guessed.
     """
     with recording("threads") as folder:
         done = converted(folder)
@@ -40,9 +41,9 @@ def check_threaded_groups(program: str) -> None:
 
 
 def check_what_types_tell(_: str) -> None:
-    """A process of five threads is moved 48 times, alternately to two groups. Nothing is guessed if
-    the snapshot says that both are plain groups, which contain processes, and half of it is guessed
-    if one isn't.
+    """A process of five threads moves 48 times, alternately to two groups. Nothing is guessed if
+    the snapshot says that both groups contain whole processes; half of the moves are guessed if one
+    of the groups may contain single threads.
     """
     with recording("cg-2") as folder:
         must(f"{GUESSED}48\n" in converted(folder).said, "types aren't known")

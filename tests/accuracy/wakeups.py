@@ -1,5 +1,5 @@
-"""Checks of when wakeups are counted: what the probe shows, the converter's times, and bounds on
-the totals.
+"""Checks of the times at which wakeups are counted: what the probe shows, the converter's choice of
+times, and bounds on the totals.
 """
 from __future__ import annotations
 
@@ -13,11 +13,12 @@ from psiconvert.wakeups import (  # noqa: E402
 )
 from psiread.events import Event, ReadyProbe, Switch, Wakeup  # noqa: E402
 
-# The part of the stored recording that is used, in s.
+# The part of the stored recording that is used: its first 20 s.
 PART = ("--to", "20")
 US = 1000
-# Task 8 is counted at 100 us, and its wakeup is written at 160; then it runs, and is counted again
-# when it moves. Task 9 was counted long before a wakeup, so that count belongs to another one.
+# Psi counts task 8 at 100 us, and the wakeup event is at 160 us; then task 8 runs, and is counted
+# again when it moves. Psi counted task 9 long before its wakeup event, so that count belongs to
+# another wakeup.
 EVENTS: list[Event] = [
     ReadyProbe(100 * US, 0, 7, 8), Wakeup(160 * US, 0, 7, 8, 0), ReadyProbe(170 * US, 0, 7, 8),
     Switch(180 * US, 0, 7, 7, "S", 8),
@@ -26,8 +27,8 @@ EVENTS: list[Event] = [
 
 
 def check_what_the_probe_tells(_: str) -> None:
-    """Only a wakeup with its own probe event is paired, and it gets the wanted time, in the order
-    of time.
+    """Only a wakeup with its own probe event is paired. It gets the chosen time, and events stay in
+    the order of time.
     """
     must_be("what is counted", counted_at(EVENTS), {1: 100 * US})
     for counting, moment in ((Counting.PROBE, 100), (Counting.MIDDLE, 130), (Counting.EVENT, 160)):
@@ -38,8 +39,8 @@ def check_what_the_probe_tells(_: str) -> None:
 
 
 def check_bounds_of_a_trace(_: str) -> None:
-    """A wakeup of a trace gets its earliest and its latest possible time, wherever it is, and none
-    before its task slept.
+    """A wakeup of a trace gets its earliest or its latest possible time, whatever time it had, and
+    never a time before its task slept.
     """
     for place in (100, 130, 160):
         lines = [
@@ -62,15 +63,18 @@ def check_bounds_of_a_trace(_: str) -> None:
 
 
 def totals_of(printed: bytes) -> list[tuple[str, int, int]]:
-    """For each total of a table: its group, the machine's growth and the trace's, in us."""
+    """Returns, for each total in a table, its group, the machine's growth and the trace's growth
+    (us).
+    """
     rows = re.findall(r"^\| (/\S*) +\| \S+ +\| +(\d+) \| +(\d+) \|[^|]*\| +(\d+) \| +(\d+) \|",
                       printed.decode(), re.MULTILINE)
     return [(row[0], int(row[place]), int(row[place + 1])) for row in rows for place in (1, 3)]
 
 
 def check_the_bracket(program: str) -> None:
-    """Each total of the machine lies between that with wakeups at their events and that with
-    wakeups when psi counted them; the middle totals are within the limits themselves.
+    """Each total of the machine is between two totals of the trace: with wakeups at their events,
+    and with wakeups when psi counted them. With wakeups in the middle the totals are within the
+    limits.
     """
     with recording("wakeups") as folder:
         done = converted(folder, *PART)
@@ -96,7 +100,7 @@ def check_the_bracket(program: str) -> None:
 
 
 def check_a_recording_without_the_probe(_: str) -> None:
-    """Nothing is printed that only the probe could show."""
+    """Without the probe, nothing is printed that only the probe could show."""
     with recording("wakeups") as folder:
         hide(folder, b"pch")
         done = converted(folder, *PART)

@@ -12,10 +12,10 @@ from shared.program import TOP
 
 BLAME = "tools/blame"
 SECOND = 10**9
-# /a runs on processor 0 up to 1 s; /b waits there while it runs, and then with nothing running, up
-# to 2 s. On processor 1 two tasks of /b wait while /a runs, from 3 to 4 s, and one from 4 to 5 s.
-# Then /a waits for IO up to 7 s, when it runs again while a task of /b waits; from 5 s on another
-# task of /b waits for IO.
+# On processor 0, /a runs up to 1 s while /b waits; /b waits on up to 2 s while nothing runs. On
+# processor 1, two tasks of /b wait while /a runs from 3 to 4 s, and one of them from 4 to 5 s. Then
+# /a waits for IO up to 7 s, when it runs again while a task of /b waits. From 5 s on, another task
+# of /b waits for IO.
 BY_HAND = """psitrace 1 cpus=2
 0 group /a
 0 group /b
@@ -39,7 +39,7 @@ BY_HAND = """psitrace 1 cpus=2
 
 
 def figures(text: str) -> dict[str, Any]:
-    """The groups of a JSON output by name."""
+    """Returns the groups of a JSON output by name."""
     return {it["group"]: it for it in json.loads(text)["groups"]}
 
 
@@ -69,8 +69,8 @@ def check_made_twice(room: Room) -> None:
 
 
 def check_depth_and_top(room: Room) -> None:
-    """What runs below a group at the depth counts as that group; if there are more groups than are
-    shown, the rest is mentioned.
+    """With --depth, time in a group's descendants counts as the time of the group at that depth. If
+    there are more groups than --top shows, the output says how many are left out.
     """
     deep = figures(room.run(BLAME, RUNAWAY, "--depth", "1", "--json").output)
     must_be("the groups", sorted(deep), ["/", "/batch", "/web"])
@@ -106,7 +106,7 @@ def check_no_wait(room: Room) -> None:
 
 
 def fault(room: Room, status: int, *words: str, given: str = "", **more: str) -> str:
-    """The message of a run that must fail with this status and print nothing else."""
+    """Returns the message of a run that must fail with this status and print nothing else."""
     done: Done = room.run(BLAME, *words, given=given, **more)
     must_be(f"the status and the output of {words}, which said {done.error}",
             (done.status, done.output), (status, ""))
@@ -152,7 +152,7 @@ def check_faults(room: Room) -> None:
 
 
 def check_a_full_disk(room: Room) -> None:
-    """A failed write is reported."""
+    """A failed write is reported with its cause."""
     environment = {**os.environ, "PSI_OOMD": room.program}
     with open("/dev/full", "wb") as full:
         done = subprocess.run([os.path.join(TOP, BLAME), RUNAWAY], stdout=full,
@@ -174,8 +174,8 @@ GROWTH = """psitrace 1 cpus=1
 
 
 def check_growth(room: Room) -> None:
-    """Growth of memory is counted from the last sample before the interval, or else from the first
-    in it, and the manual page says so.
+    """Growth of memory is counted from the last sample before the interval or, if there is none,
+    from the first sample in it. The manual page says so.
     """
     room.file("a.trace", GROWTH)
     for start, grown in ((100, 100), (0, 100), (125, 50), (131, 0)):

@@ -1,5 +1,5 @@
-"""Runs a program and counts what the system reports of it: calls that read and write, threads that
-were started, and address space.
+"""Runs a program and counts what the kernel reports about the run: calls that read and write,
+threads that were started, and address space.
 """
 from __future__ import annotations
 
@@ -12,24 +12,24 @@ LIBC = ctypes.CDLL(None, use_errno=True)
 LIBC.ptrace.argtypes = [ctypes.c_long, ctypes.c_long, ctypes.c_void_p, ctypes.c_void_p]
 LIBC.ptrace.restype = ctypes.c_long
 
-# From <sys/ptrace.h> and <sys/wait.h>.
+# Values of constants from <sys/ptrace.h> and <sys/wait.h>.
 TRACEME, CONT, SETOPTIONS = 0, 7, 0x4200
 TRACE_CLONE, TRACE_EXIT, EXIT_KILL = 0x8, 0x40, 0x100000
 EVENT_CLONE, EVENT_EXIT = 3, 6
 WAIT_ALL = 0x40000000
-# The status of a child that may not be traced.
+# The exit status of a child if tracing it isn't permitted.
 NOT_TRACED = 126
 
 
 class NotTold(Exception):
-    """The system doesn't report this, with the reason."""
+    """Raised with the reason if the kernel doesn't report this."""
 
 
 @dataclass
 class Calls:
-    """The totals of all threads of a run: calls that read and that write, starts of threads, and
-    the peak address space in KB, whether or not memory was used for it. `status` is the exit
-    status.
+    """The totals of all threads of a run: calls that read, calls that write, started threads, and
+    the largest address space in KB, of which the run may have used only a part. `status` is the
+    exit status.
     """
 
     reads: int = 0
@@ -40,16 +40,18 @@ class Calls:
 
 
 def ask(request: int, who: int, data: int = 0) -> None:
-    """Makes a request about the thread with this number, which is stopped."""
+    """Makes the ptrace request for the stopped thread with the id `who`."""
     if LIBC.ptrace(request, who, None, data) < 0:
         error = ctypes.get_errno()
-        # If the thread was killed in the meantime, its exit reports that.
+        # If the thread was killed in the meantime, waiting for it reports its exit.
         if error != 3:
             raise NotTold(f"ptrace {request}: {os.strerror(error)}")
 
 
 def start(words: list[str]) -> int:
-    """Starts a program that stops once it is loaded, with empty input and discarded output."""
+    """Starts a program, which stops when it is loaded. Its input is empty and its output is
+    discarded. Returns the process id.
+    """
     child = os.fork()
     if child:
         return child
@@ -64,7 +66,7 @@ def start(words: list[str]) -> int:
 
 
 def told_in(child: int, name: str) -> dict[str, str]:
-    """Returns the lines of a file of /proc about a program, by name."""
+    """Returns the lines of a file in /proc/CHILD by name: the text before and after the colon."""
     try:
         with open(f"/proc/{child}/{name}", encoding="utf-8") as file:
             return dict(line.rstrip("\n").split(":", 1) for line in file)
@@ -73,15 +75,15 @@ def told_in(child: int, name: str) -> dict[str, str]:
 
 
 def take_down(child: int, calls: Calls) -> None:
-    """Stores the counts of all threads so far."""
+    """Stores the counts of all threads of the child so far."""
     told = told_in(child, "io")
     calls.reads, calls.writes = int(told["syscr"]), int(told["syscw"])
     calls.addresses = int(told_in(child, "status")["VmPeak"].split()[0])
 
 
 def go_on(child: int, who: int, status: int, calls: Calls) -> None:
-    """Counts why a thread is stopped, and continues it. A signal that isn't the tracer's own is
-    passed on.
+    """Counts the event for which the thread `who` stopped, and continues it. A signal that isn't
+    the tracer's own is passed on to the thread.
     """
     event, stop = status >> 16, os.WSTOPSIG(status)
     if event == EVENT_CLONE:
@@ -93,7 +95,8 @@ def go_on(child: int, who: int, status: int, calls: Calls) -> None:
 
 
 def calls_of(words: list[str]) -> Calls:
-    """Runs a program to its end, and counts. No other child of this process may end during the run.
+    """Runs a program to its end and returns its counts. No other child of this process may end
+    during the run.
     """
     calls = Calls()
     child = start(words)

@@ -1,5 +1,5 @@
-"""What the checks before a release import from elsewhere: the program that tests run, modules of
-tests/, generated traces of bench/.
+"""What the release checks use from other folders: the program that tests run, modules of tests/,
+and the traces that bench/ generates.
 """
 from __future__ import annotations
 
