@@ -136,7 +136,8 @@ def check_how_recordings_begin(program: str) -> None:
 
 
 def check_words_of_lead_ins(_: str) -> None:
-    """Invalid lengths of a lead-in are rejected, and so is a lead-in whose averages aren't known.
+    """Invalid lengths of a lead-in are rejected. With `--groups=0`, a recording still begins after
+    its lead-in.
     """
     with recording("exec-2") as folder:
         for word in ("4min", "61min", "721", "12h", "-1", "0"):

@@ -1,1 +1,1 @@
-"""The checks of tests/chart."""
+"""The checks of tests/chart: what tools/chart and tools/top draw and print."""

@@ -1,4 +1,5 @@
-"""Checks of charts that compare a supposed run with the recorded one."""
+"""Checks of charts that show a supposed run (without killed tasks) and the recorded run together.
+"""
 from __future__ import annotations
 
 import functools
@@ -29,7 +30,7 @@ def supposed(program: str) -> bytes:
 
 
 def drawn_beside(printed: bytes, recorded: bytes, *words: str) -> Drawn:
-    """Returns the chart of this output with the recorded one for comparison."""
+    """Returns the chart of `printed`, with the recorded output for comparison."""
     with tempfile.NamedTemporaryFile() as file:
         file.write(recorded)
         file.flush()
@@ -37,7 +38,9 @@ def drawn_beside(printed: bytes, recorded: bytes, *words: str) -> Drawn:
 
 
 def compare_recorded(drawn: Drawn, printed: Printed, group: str, number: int) -> None:
-    """The thin lines of the group with this number contain all recorded reports."""
+    """Fails unless the thin lines of a group show exactly the recorded reports; `number` is the
+    group's index among the panels of a resource.
+    """
     for resource in RESOURCES:
         panel, share = drawn.panel(resource, number), drawn.share_scale(resource, number)
         for level in LEVELS:
@@ -53,7 +56,7 @@ def compare_recorded(drawn: Drawn, printed: Printed, group: str, number: int) ->
 
 
 def must_be_shaded(drawn: Drawn, moment: int) -> None:
-    """Each panel is shaded from this time (ns) on, and nowhere else."""
+    """Fails unless each panel is shaded from this time (ns) to its right end, and nowhere else."""
     shades = list(drawn.one("g", "shade").iter(f"{SVG}rect"))
     panels = drawn.panels()
     must_be("shades, how many", len(shades), len(panels))
@@ -88,8 +91,8 @@ def check_beside_what_was(program: str) -> None:
 
 
 def check_scales_reach_up_to_both(program: str) -> None:
-    """The recorded values fit on the axis if they are higher than the supposed ones, and vice
-    versa.
+    """The axis reaches up to the recorded values even if they are higher than the supposed ones,
+    and vice versa.
     """
     for printed, recorded in (
         (supposed(program), story(program)), (story(program), supposed(program))
@@ -108,8 +111,8 @@ def check_scales_reach_up_to_both(program: str) -> None:
 
 
 def check_a_part_beside_what_was(program: str) -> None:
-    """The shade begins at the first kill, or at the chart's start if that is later, and nowhere
-    before it.
+    """The shade begins at the first kill, or at the chart's start if that is later. A chart that
+    ends before the first kill has no shade.
     """
     words = ["--group=/batch", "--resource=memory"]
     behind = drawn_beside(supposed(program), story(program), *words, "--from=200")

@@ -1,7 +1,7 @@
-"""The boxes of a picture's texts: none may be outside of the picture, overlap another one, or be
-crossed by a curve if it is a note.
+"""Finds texts of a picture that are outside of the picture, that overlap each other, or, if they
+are notes, that a curve crosses.
 
-Widths are those of a wide font, DejaVu Sans: a text that fits in it fits in others.
+Widths are those of DejaVu Sans, a wide font: a text that fits in this font fits in others.
 """
 from __future__ import annotations
 
@@ -13,7 +13,7 @@ from harness import must, must_have_none
 
 Element = ElementTree.Element
 SVG = "{http://www.w3.org/2000/svg}"
-# The widths of the characters from 32 to 126, in thousandths of the font's size.
+# The widths of the characters with codes 32 to 126, in thousandths of the font size.
 PLAIN = (
     318, 401, 460, 838, 636, 950, 780, 275, 390, 390, 500, 838, 318, 361, 318, 337, 636, 636,
     636, 636, 636, 636, 636, 636, 636, 636, 337, 337, 838, 838, 838, 531, 1000, 684, 686, 698,
@@ -30,19 +30,20 @@ BOLD = (
     712, 343, 343, 665, 343, 1042, 712, 687, 716, 716, 493, 595, 478, 712, 652, 924, 645, 652,
     582, 712, 365, 712, 838,
 )  # fmt: skip
-# Of a monospace font.
+# The width of each character of a monospace font, in thousandths of the font size.
 MONOSPACE = 602
-# The font sizes of texts by their class (pixels), and of others; and those of a phone.
+# Font sizes (pixels): by the class of a text, of other texts, and on a phone of texts and of the
+# numbers of the share axis.
 SIZES, SIZE = {"title": 16, "name": 13, "small": 11, "note": 11, "path": 11}, 12
 PHONE, PHONE_SHARE = 24, 20
-# What a phone hides: texts of these classes, and every second number of an axis.
+# What a phone doesn't show: texts of these classes, and every second number of these axes.
 HIDDEN, AXES = {"small", "note", "path"}, {"time", "share"}
-# The parts of a line's segment that are looked at.
+# The number of points at which a segment of a curve is tested against a box.
 PARTS = 16
 
 
 class Box(NamedTuple):
-    """A text, its class, and its left, right, top and bottom (pixels)."""
+    """A text, its class (`look`), and its left, right, top and bottom (pixels)."""
 
     text: str
     look: str
@@ -52,18 +53,18 @@ class Box(NamedTuple):
     bottom: float
 
     def overlaps(self, other: Box) -> bool:
-        """Returns whether both share more than a pixel in each direction."""
+        """Returns whether both boxes share more than a pixel in each direction."""
         width = min(self.right, other.right) - max(self.left, other.left)
         return width > 1 and min(self.bottom, other.bottom) - max(self.top, other.top) > 1
 
     def is_crossed(self, one: tuple[float, float], other: tuple[float, float]) -> bool:
-        """Returns whether the line between two points goes through it."""
+        """Returns whether the line between two points goes through the box."""
         steps = [[a + (b - a) * part / PARTS for a, b in zip(one, other)] for part in range(PARTS)]
         return any(self.left < x < self.right and self.top < y < self.bottom for x, y in steps)
 
 
 def width_of(text: str, look: str, size: float) -> float:
-    """Returns the width of a text (pixels)."""
+    """Returns the width (pixels) of a text of class `look` in a font of this size."""
     if look == "path":
         return len(text) * size * MONOSPACE / 1000
     widths = BOLD if look in ("title", "name") else PLAIN
@@ -72,7 +73,7 @@ def width_of(text: str, look: str, size: float) -> float:
 
 
 def box_of(text: str, look: str, element: Element, size: float) -> Box:
-    """Returns the box of a text at the position of an element."""
+    """Returns the box of a text at the position of an SVG element."""
     x, y, anchor = (element.get(it) or "" for it in ("x", "y", "text-anchor"))
     width, base = width_of(text, look, size), float(y)
     base += 0.35 * size if element.get("dy") == ".35em" else 0
@@ -81,8 +82,8 @@ def box_of(text: str, look: str, element: Element, size: float) -> Box:
 
 
 def boxes_in(element: Element, group: str, is_phone: bool) -> Iterator[Box]:
-    """Yields the boxes of the texts in an element, which is in a group of this class. Turned texts
-    are left out.
+    """Yields the boxes of the texts in an element; `group` is the class of the group that contains
+    it. Rotated texts are left out.
     """
     texts = 0
     for child in element:
@@ -106,7 +107,7 @@ def boxes_in(element: Element, group: str, is_phone: bool) -> Iterator[Box]:
 
 
 def curves_of(svg: Element) -> Iterator[tuple[tuple[float, float], tuple[float, float]]]:
-    """Yields the segments of all curves."""
+    """Yields the segments of all curves, each as two points."""
     for group in svg.iter(f"{SVG}g"):
         if (group.get("class") or "").startswith("series"):
             for line in group.iter(f"{SVG}polyline"):
@@ -116,7 +117,7 @@ def curves_of(svg: Element) -> Iterator[tuple[tuple[float, float], tuple[float, 
 
 
 def faults_of(svg: Element, is_phone: bool) -> Iterator[str]:
-    """Yields what is wrong with the texts of a picture."""
+    """Yields the faults of the texts of a picture, as lines."""
     left, top, width, height = map(float, (svg.get("viewBox") or "").split())
     boxes = [it for it in boxes_in(svg, "", is_phone) if it.text]
     must(bool(boxes), "the picture has texts")
@@ -131,5 +132,7 @@ def faults_of(svg: Element, is_phone: bool) -> Iterator[str]:
 
 
 def must_fit(what: str, svg: Element, is_phone: bool = False) -> None:
-    """Fails if a text of the picture is outside of it, or covers something."""
+    """Fails if a text is outside of the picture, overlaps another text, or is a note that a curve
+    crosses.
+    """
     must_have_none(f"{what}: {fault}" for fault in faults_of(svg, is_phone))

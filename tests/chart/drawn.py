@@ -1,4 +1,4 @@
-"""Reads a chart, and checks that it shows what was printed."""
+"""Parses a chart, and checks that it shows the printed reports, events and kills."""
 from __future__ import annotations
 
 import os
@@ -25,7 +25,9 @@ LEFT, RIGHT = 112, 936
 
 
 def piped(words: Sequence[str], chart_words: Sequence[str] = (), given: bytes = b"") -> bytes:
-    """Returns the chart of this replay, drawn through a pipe."""
+    """Returns the chart of the replay with these words; the replay writes into the chart's standard
+    input.
+    """
     with subprocess.Popen(words, cwd=TOP, stdin=subprocess.PIPE, stdout=subprocess.PIPE) as first:
         assert first.stdin and first.stdout
         with subprocess.Popen(
@@ -45,7 +47,9 @@ def drawn_of(printed: bytes, *words: str) -> bytes:
 
 
 def scale_of(marks: Sequence[tuple[float, float]]) -> Scale:
-    """Returns the position of a number, from the first and the last mark of an axis."""
+    """Returns a function from a number to its position on an axis, computed from the axis's first
+    and last mark.
+    """
     (first, first_place), (last, last_place) = marks[0], marks[-1]
     must(first != last, "an axis has two numbers")
     scale = (last_place - first_place) / (last - first)
@@ -56,7 +60,7 @@ def scale_of(marks: Sequence[tuple[float, float]]) -> Scale:
 
 
 def number_at(element: Element, name: str) -> float:
-    """Returns the number in an attribute."""
+    """Returns the number in the attribute `name` of an element."""
     value = element.get(name)
     must(value is not None, f"{element.tag} has {name}")
     return float(value or 0)
@@ -71,8 +75,8 @@ def inner(element: Element, tag: str) -> Element:
 
 
 class Drawn:
-    """A chart. `x` gives the position of a time in ns, if the axis shows time since the start of
-    the trace.
+    """A parsed chart. If its axis shows time since the start of the trace, `x` returns the position
+    of a time in ns.
     """
 
     def __init__(self, drawn: bytes) -> None:
@@ -127,7 +131,7 @@ class Drawn:
         return self.all("g", f"panel {resource}")[number]
 
     def numbers(self, panel: Element) -> list[tuple[str, float]]:
-        """Returns the texts at a panel's axis, and their positions."""
+        """Returns the texts at a panel's axis, each with its height (y)."""
         return [
             (it.text or "", number_at(it, "y"))
             for it in self.one("g", "share", panel).iter(f"{SVG}text")
@@ -144,7 +148,9 @@ class Drawn:
         return scale_of(marks)
 
     def lines(self, panel: Element, classes: str) -> list[list[tuple[float, float]]]:
-        """Returns the points of each line of a series. A doubled point is a single report."""
+        """Returns the points of each line of a series. A report without neighbours is drawn as two
+        equal points, and returned as one.
+        """
         found = []
         for line in self.one("g", f"series {classes}", panel).iter(f"{SVG}polyline"):
             points = [
@@ -159,26 +165,27 @@ class Drawn:
         return [(float(x), float(y)) for x, y in re.findall(r"M([0-9.]+) ([0-9.]+)v6", paths)]
 
     def marks(self, kind: str) -> list[Element]:
-        """Returns the vertical lines for kills, or for removals of groups."""
+        """Returns the vertical lines of this kind: kills, or removals of groups."""
         return self.all("g", kind, self.one("g", "marks"))
 
     def places(self, kind: str) -> list[float]:
-        """Returns the positions of the lines."""
+        """Returns the horizontal position of each vertical line of this kind."""
         for mark in self.marks(kind):
             must_be("a line is upright", inner(mark, "line").get("x1"),
                     inner(mark, "line").get("x2"))
         return [number_at(inner(mark, "line"), "x1") for mark in self.marks(kind)]
 
     def mark_texts(self, kind: str) -> list[list[str]]:
-        """Returns the text beside each of the lines, if it has one."""
+        """Returns the texts beside each vertical line of this kind; an empty list if it has none.
+        """
         return [self.texts(mark) for mark in self.marks(kind)]
 
     def hints(self, kind: str) -> list[list[str]]:
-        """Returns the tooltip of each of the lines."""
+        """Returns the lines of the tooltip of each vertical line of this kind."""
         return [(inner(mark, "title").text or "").split("\n") for mark in self.marks(kind)]
 
     def rules(self, panel: Element) -> Iterator[tuple[str, float, str]]:
-        """Yields the thresholds of a panel: the class, the height and the text of each."""
+        """Yields the class, the height (y) and the text of each threshold in a panel."""
         for group in self.all("g", "rule", panel):
             line = inner(group, "polyline")
             (left, y), (right, other) = (
@@ -191,10 +198,11 @@ class Drawn:
 
 
 def spans_of(drawn: Drawn) -> list[tuple[float, float, float, str]]:
-    """Returns the left end, the right end and the height of each text beside a vertical line.
+    """Returns the left end, the right end, the height and the text of each text beside a vertical
+    line.
 
-    The letters of usual monospaced fonts are up to 0.61 of their size wide, which is 11 pixels
-    here.
+    Letters of usual monospaced fonts are up to 0.61 of the font size wide; the font size is 11
+    pixels.
     """
     spans = []
     for text in drawn.all("text", "path"):
@@ -206,7 +214,8 @@ def spans_of(drawn: Drawn) -> list[tuple[float, float, float, str]]:
 
 
 def compare_paths(drawn: Drawn) -> None:
-    """No text of a vertical line overlaps another one, and no such line crosses a text."""
+    """Fails if the text of a vertical line overlaps another one, or if such a line crosses a text.
+    """
     lines = [inner(it, "line") for kind in ("kill", "gone") for it in drawn.marks(kind)]
     tops = [(number_at(it, "x1"), number_at(it, "y1")) for it in lines]
     spans = spans_of(drawn)
@@ -221,8 +230,8 @@ def compare_paths(drawn: Drawn) -> None:
 def compare_panel(
     drawn: Drawn, printed: Printed, group: str, resource: str, number: int, start: float, end: float
 ) -> None:
-    """Each report and event from start to end is drawn at its printed time and value, and nothing
-    else is.
+    """Fails unless a panel shows each printed report and event from `start` to `end` (ns) at its
+    time and value, and no others. `number` is the group's index among the panels of the resource.
     """
     panel, share = drawn.panel(resource, number), drawn.share_scale(resource, number)
     for level in LEVELS:
@@ -251,8 +260,8 @@ def compare(
     start: float = 0,
     end: float = float("inf"),
 ) -> None:
-    """Each report, event and kill from start to end is drawn at its printed time and value, and
-    nothing else is.
+    """Fails unless the chart shows each printed report, event and kill from `start` to `end` (ns)
+    at its time and value, and no others.
     """
     for resource in resources:
         must_be(f"panels of {resource}", len(drawn.all("g", f"panel {resource}")), len(groups))

@@ -1,5 +1,5 @@
-"""Checks of what a chart shows in addition to the replay: names and thresholds of rules, memory of
-groups, and interrupts.
+"""Checks of what a chart shows in addition to a replay's output: names and thresholds of rules,
+memory of groups, and interrupts.
 """
 from __future__ import annotations
 
@@ -23,7 +23,9 @@ NAME = "batch work is short of memory"
 
 
 def pressure(cgroup: str, threshold: Any, **others: Any) -> dict[str, Any]:
-    """Returns a detector of pressure; `rises` replaces the name."""
+    """Returns a detector of pressure, of the kind pressure_rising_beyond if `rises` is true. Other
+    named values replace or add arguments.
+    """
     name = "pressure_rising_beyond" if others.pop("rises", False) else "pressure_above"
     return {
         "name": name,
@@ -34,7 +36,7 @@ def pressure(cgroup: str, threshold: Any, **others: Any) -> dict[str, Any]:
 
 
 def drawn_with(printed: bytes, rules: dict[str, Any], *words: str) -> Drawn:
-    """Returns the chart drawn with this rules file."""
+    """Returns the chart of `printed` with a rules file that contains `rules`."""
     with tempfile.NamedTemporaryFile("w", suffix=".json") as file:
         json.dump(rules, file)
         file.flush()
@@ -42,14 +44,18 @@ def drawn_with(printed: bytes, rules: dict[str, Any], *words: str) -> Drawn:
 
 
 def without_kill(program: str) -> bytes:
-    """Returns the story's replay without the kill, whose ruleset other rules don't have."""
+    """Returns the story's replay without its kill line, for charts with other rules, which lack the
+    ruleset that killed.
+    """
     return b"".join(
         line for line in story(program).splitlines(keepends=True) if not line.startswith(b"kill")
     )
 
 
 def must_have_rules(drawn: Drawn, number: int, wanted: Sequence[tuple[str, float, str]]) -> None:
-    """The memory panel of a group has these thresholds: classes, percentages, texts."""
+    """Fails unless the memory panel of a group has these thresholds: each a class, a percentage and
+    a text.
+    """
     found = list(drawn.rules(drawn.panel("memory", number)))
     must_be("thresholds", [(look, text) for look, _, text in found],
             [(look, text) for look, _, text in wanted])
@@ -76,7 +82,9 @@ def check_names_of_rulesets(program: str) -> None:
 
 
 def check_names_of_several_rulesets(program: str) -> None:
-    """The title has their number, and each kill its own name as long as there is room."""
+    """The title has the number of rulesets, and each kill has its ruleset's name as long as there
+    is room.
+    """
     lines = [
         b"kill %d000000000 ruleset=%d action=0 /batch/import\n" % (100 + 50 * it, it)
         for it in range(2)
@@ -93,7 +101,9 @@ def check_names_of_several_rulesets(program: str) -> None:
 
 
 def check_names_that_a_picture_cannot_have(program: str) -> None:
-    """A name with control characters, with XML markup, and too long for the available room."""
+    """A ruleset's name with control characters or XML markup, longer than the available room, is
+    shown with replacement characters, and overlaps nothing.
+    """
     name = 'a\x00b\x1b<&"\ufffe' + "long " * 60
     rules = rules_of(pressure("*", "40"), name=name)
     drawn = drawn_with(story(program), rules, "--group=/batch")
@@ -104,8 +114,8 @@ def check_names_that_a_picture_cannot_have(program: str) -> None:
 
 
 def check_thresholds(program: str) -> None:
-    """They are in the panels of the groups and the resource that a detector looks at, and nowhere
-    else.
+    """Thresholds are in the panels of the groups and the resource that a detector watches, and in
+    no others.
     """
     detectors = (
         pressure("/web,batch/*", "90"), pressure("b*tch", 35, rises=True),
@@ -131,7 +141,7 @@ def check_thresholds(program: str) -> None:
 
 
 def check_thresholds_that_are_near(program: str) -> None:
-    """Two equal thresholds share a label, and labels of near thresholds don't overlap."""
+    """Equal thresholds share a label, and labels of near thresholds don't overlap."""
     detectors = [pressure("batch", str(it)) for it in (40, 40, 41, 42, 43, 44)]
     rules = rules_of(*detectors)
     rules["rulesets"] += rules_of(pressure("batch", 40), name="S")["rulesets"]
@@ -152,8 +162,8 @@ def check_thresholds_that_are_near(program: str) -> None:
 
 
 def boxes_of(panel: Element) -> list[tuple[str, float, float, float, float]]:
-    """Returns each label of a threshold: its text, and its left, right, top and bottom. Letters of
-    11 pixels are 6 wide on average.
+    """Returns the text, left, right, top and bottom of each label of a threshold. Letters of 11
+    pixels are 6 pixels wide on average.
     """
     found = []
     for it in panel.iter(f"{SVG}text"):
@@ -168,7 +178,9 @@ def boxes_of(panel: Element) -> list[tuple[str, float, float, float, float]]:
 
 
 def check_labels_cover_nothing(program: str) -> None:
-    """A threshold's label is inside its panel, below the title, and no curve crosses it."""
+    """The label of a threshold is inside its panel, below the panel's title, and no curve crosses
+    it.
+    """
     shown = 0
     for limit in range(0, 101, 20):
         for group in ("/batch", "/batch/import", "/web"):
@@ -204,7 +216,7 @@ def check_labels_cover_nothing(program: str) -> None:
     must(shown > 15, f"there are labels: {shown}")
 
 
-# Groups with long names, of which two differ only at their ends.
+# Groups with long names that differ only in the last character.
 CUSTOMER = "/customers.slice/a-long-name-of-a-customer-and-a-namespace.slice"
 LONG_NAMES = (f"{CUSTOMER}/kubepods-burstable-pod4fd3c2b1.slice",
               f"{CUSTOMER}/kubepods-burstable-pod4fd3c2b2.slice")
@@ -221,7 +233,8 @@ LONG_TRACE = "\n".join([
 
 
 def check_texts_fit(program: str) -> None:
-    """No text is outside of the picture, and none covers another one, however long names are."""
+    """No text is outside of the picture, and none covers another one, however long the names are.
+    """
     rules = rules_of(name="a ruleset whose name says all that it does, when, and why")
     action = {"name": "kill_by_memory_size_or_growth", "args": {"cgroup": "*/*/*"}}
     rules["rulesets"][0].update(detectors=[["stalls", pressure("*/*/*", "20")]], actions=[action])
@@ -245,7 +258,9 @@ def check_texts_fit(program: str) -> None:
 
 
 def check_interrupts_of_a_replay(program: str) -> None:
-    """The last panel shows what a replay of version 2 reports of each group's interrupts."""
+    """The last panel shows the interrupts that a replay of a version 2 trace reports for each
+    group.
+    """
     given = ["replay", "examples/kernel/42-v2-irq.trace", "--report-s=2"]
     printed = Printed(run([program, *given]))
     for group in ("/", "/a"):
@@ -263,8 +278,8 @@ def check_interrupts_of_a_replay(program: str) -> None:
 
 
 def check_interrupts(_: str) -> None:
-    """If reports of a drawn group have interrupts, there is another panel, with lines of `full`
-    only.
+    """If reports of a drawn group have interrupts, the chart has another panel, with lines of
+    `full` only.
     """
     file = "full avg10=9.05 avg60=1.63 avg300=0.34 total=1000000\n"
     none = "avg10=0.00 avg60=0.00 avg300=0.00 total=0\n"

@@ -1,4 +1,4 @@
-"""What can't be drawn is reported, with what to do about it."""
+"""Checks that input which can't be drawn is reported, and that the message says what to do."""
 from __future__ import annotations
 
 import functools
@@ -18,7 +18,7 @@ chart_fault = functools.partial(fault_of, CHART)
 
 
 def must_say(said: str, *parts: str) -> None:
-    """A fault is reported as one, and its message has these parts."""
+    """Fails unless `said` is a message of chart that contains these parts."""
     must(said.startswith("chart: ") and said.endswith("\n"), f"{said!r} is told by the chart")
     for part in parts:
         must(part in said, f"{said!r} has {part!r}")
@@ -48,7 +48,7 @@ def check_unknown_lines(program: str) -> None:
     ]  # fmt: skip
     for place, instead in edits:
         text = lines[:place] + instead + lines[place + 1 :]
-        # The first line that is misplaced: the edited one, the one that took its place, or the one
+        # The first line that is wrong: the edited line, the line that took its place, or the line
         # after it.
         number = place + (2 if len(instead) == 2 else 1)
         shown = text[number - 1].decode("latin-1")
@@ -88,7 +88,9 @@ def check_too_little(program: str) -> None:
 
 
 def check_a_group_by_its_last_component(program: str) -> None:
-    """It names the one group whose path ends with it, and none if there are several."""
+    """`--group` may be the last component of a path. It must match one group; if several groups
+    match, the message lists them.
+    """
     printed = story(program)
     by_path = run([CHART, "--group=/batch"], printed)
     must(run([CHART, "--group", "batch"], printed) == by_path, "both charts are the same")
@@ -158,9 +160,7 @@ def check_rules_that_cannot_be_read(program: str) -> None:
 
 
 def check_rules_of_another_replay(program: str) -> None:
-    """If a kill is impossible by the rules, they aren't those of the replay, and the kill gets no
-    label of theirs.
-    """
+    """If the rules can't have caused a kill, they aren't those of the replay: the fault says so."""
     printed = story(program)
     kill = {
         "name": "kill_by_memory_size_or_growth",
@@ -189,13 +189,14 @@ def check_rules_of_another_replay(program: str) -> None:
                 if recursive == "false":
                     said = fault_of(tool, printed, *words, "--rules", file.name)
                     must_be("other rules", said, f"{os.path.basename(tool)}: {told}\n")
-                else:  # then `*` reaches /batch/import through /batch
+                else:  # with recursive victims, `*` reaches /batch/import by way of /batch
                     must(b"the database" in run([tool, *words, "--rules", file.name], printed),
                          f"{tool}: the kill has its label")
 
 
 def check_a_summary_of_another_trace(program: str) -> None:
-    """Its time of day would be wrong, since the trace has another length."""
+    """A summary is rejected if its trace has another length, since its time of day would be wrong.
+    """
     printed = story(program)
     for length, is_same in (
         ("300.000", True), ("300.001", True), ("20.093", False), ("3000.000", False)
@@ -225,7 +226,7 @@ def check_a_summary_of_another_trace(program: str) -> None:
 
 
 def check_inputs_of_another_kind(program: str) -> None:
-    """The message says what the input is, and what to do with it."""
+    """For input of another kind, the message says what the input is and what to do with it."""
     printed = story(program)
     with open(os.path.join(TOP, "examples", "runaway.trace"), "rb") as file:
         trace = file.read()
@@ -256,7 +257,9 @@ def check_inputs_of_another_kind(program: str) -> None:
 
 
 def check_files_of_another_kind(program: str) -> None:
-    """A word of chart and of top is a trace: the message says what the file is."""
+    """The file argument of chart and of top is a trace. For another file, the message says what the
+    file is.
+    """
     printed, want = story(program), os.path.join(TOP, "examples", "runaway.want")
     with tempfile.NamedTemporaryFile() as file:
         file.write(printed)
@@ -283,7 +286,8 @@ def check_traces_that_cannot_be_read(program: str) -> None:
     other = "examples/one-wait.trace ends at 2000000000 ns, and the replay at 300000000000 ns"
     must_be("another trace", said, f"chart: {other}: give the trace of this replay\n")
     with tempfile.NamedTemporaryFile("wb") as file:
-        # It is rejected long before its end, while the chart is still passing lines on.
+        # The trace is rejected at its second line, while the chart still writes lines to the
+        # program.
         file.write(b"psitrace 1 cpus=1\n0 mem / 1 1\n" + b"x mem / y\n0 mem\n0 rmgroup\n" * 100000)
         file.flush()
         said = chart_fault(printed, f"--trace={file.name}")

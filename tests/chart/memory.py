@@ -1,4 +1,4 @@
-"""Checks of a chart's panel of memory in use, and of its thresholds."""
+"""Checks of the chart's panel of memory in use, and of its thresholds."""
 from __future__ import annotations
 
 import json
@@ -15,7 +15,7 @@ Steps = list[tuple[float, float]]
 SECOND = 10**9
 UNITS = {"bytes": 1, "KiB": 2**10, "MiB": 2**20, "GiB": 2**30, "TiB": 2**40}
 
-# Groups with and without samples; one is removed, and created again without a sample.
+# Groups with and without samples; one group is removed, and created again without a sample.
 MEMORY_TRACE = """psitrace 1 cpus=1
 0 host 8589934592 0 0
 0 group /a
@@ -38,14 +38,14 @@ def memory(cgroup: str, threshold: str) -> dict[str, Any]:
 
 
 def rules_of(*detectors: dict[str, Any], name: str = "R") -> dict[str, Any]:
-    """Rules of one ruleset with these detectors, each in a group of its own."""
+    """Returns rules with one ruleset `name`, whose detectors are each in a group of their own."""
     action = {"name": "kill_by_pressure", "args": {"cgroup": "*/*", "resource": "io"}}
     groups = [["group", {"name": "exists", "args": {"cgroup": "x"}}, it] for it in detectors]
     return {"rulesets": [{"name": name, "detectors": groups or [["none"]], "actions": [action]}]}
 
 
 def drawn_memory(program: str, *words: str, trace: str = MEMORY_TRACE) -> Drawn:
-    """Returns the chart of a replay of this trace, with its memory."""
+    """Returns the chart of a replay of this trace, including the panel of memory."""
     with tempfile.NamedTemporaryFile("w", suffix=".trace") as file:
         file.write(trace)
         file.flush()
@@ -54,7 +54,7 @@ def drawn_memory(program: str, *words: str, trace: str = MEMORY_TRACE) -> Drawn:
 
 
 def byte_marks(drawn: Drawn, number: int = 0) -> list[tuple[float, float]]:
-    """Returns the bytes at the axis of a group's memory, and their positions."""
+    """Returns the sizes (bytes) at the axis of a group's memory panel, each with its height (y)."""
     numbers = [
         (text.partition(" "), place) for text, place in drawn.numbers(drawn.panel("use", number))
     ]
@@ -62,7 +62,9 @@ def byte_marks(drawn: Drawn, number: int = 0) -> list[tuple[float, float]]:
 
 
 def steps_of(drawn: Drawn, what: str, number: int = 0) -> list[Steps]:
-    """Returns a group's memory line: seconds and bytes, by the numbers of its axes."""
+    """Returns the points of a group's line for memory or swap in seconds and GiB, computed from the
+    numbers at the axes.
+    """
     panel = drawn.panel("use", number)
     scale = scale_of(byte_marks(drawn, number))
     place, size = scale(0), scale(1) - scale(0)
@@ -85,8 +87,8 @@ def check_memory_of_groups(program: str) -> None:
     again: Steps = [(12, 0), (20, 0)]
     must_be_steps("memory", steps_of(drawn, "memory"),
                   [[(1, 1), (4, 1), (4, 3), (4, 2), (8, 2)], again])
-    # In a pixel's column only the least and the greatest value are drawn: here 1 MiB of swap is
-    # left out.
+    # A pixel column shows only its least and its greatest value, so the sample of 1 MiB of swap at
+    # 4 s is left out.
     must_be_steps("swap", steps_of(drawn, "swap"), [[(1, 0), (4, 0), (4, 0.5), (8, 0.5)], again])
     must_be("a group without a sample", drawn.texts(drawn.panel("use", 1))[-1],
             "no sample of its memory in this time")
@@ -99,7 +101,9 @@ def check_memory_of_groups(program: str) -> None:
 
 
 def check_thresholds_of_memory(program: str) -> None:
-    """A percentage is relative to the last host sample's memory, and a size is absolute."""
+    """A threshold in percent is relative to the machine's memory in the last host sample, and a
+    size is absolute.
+    """
     detectors = (
         [memory("a", it) for it in ("1.5G", "50%", "0.5g", "4", "3000000K")] + [memory("b", "1G")]
     )
@@ -120,8 +124,8 @@ def check_thresholds_of_memory(program: str) -> None:
 
 
 def check_many_samples(program: str) -> None:
-    """The line of a trace with a sample each millisecond is short, and has the extremes of each
-    pixel's column.
+    """The line of a trace with a sample each millisecond has few points, but shows the extremes of
+    each pixel column.
     """
     sizes = [(it * 7919) % 4096 * 2**20 for it in range(20000)]
     samples = "".join(f"{it * 10**6} mem / {size} 0 0\n" for it, size in enumerate(sizes))

@@ -1,18 +1,19 @@
-"""Coordinates and numbers compared with a tolerance."""
+"""Compares coordinates and numbers with a tolerance."""
 from __future__ import annotations
 
 from collections.abc import Sequence
 
 from harness import must, must_be
 
-# Coordinates in a chart have two decimals, and so have the axes from which the scales are read.
+# The tolerance in pixels. Coordinates in a chart, and the axes from which scales are computed, have
+# two decimals.
 NEAR = 0.02
 
 
 def must_be_near(
     what: str, found: Sequence[Sequence[float]], wanted: Sequence[Sequence[float]]
 ) -> None:
-    """Fails the check unless all numbers differ by at most NEAR."""
+    """Fails unless each number differs from the expected one by at most NEAR."""
     must_be(f"{what}, how many", len(found), len(wanted))
     for place, (one, other) in enumerate(zip(found, wanted)):
         is_near = all(abs(a - b) <= NEAR for a, b in zip(one, other))

@@ -1,4 +1,4 @@
-"""Charts show what was printed, each thing in its place."""
+"""Checks that charts show what was printed, each item in its place."""
 from __future__ import annotations
 
 import collections
@@ -82,7 +82,7 @@ def check_several_groups(program: str) -> None:
             tuple(text for text, _ in drawn.numbers(it))
             for it in drawn.all("g", f"panel {resource}")
         }
-        # The axis of a panel without pressure goes from 0 to 1 %.
+        # The axis of a panel without pressure reaches from 0 to 1 %.
         must_be(f"scales of {resource}, how many", len(scales - {("0 %", "1 %")}), 1)
     four = Drawn(
         drawn_of(
@@ -174,7 +174,7 @@ def check_axes_say_of_what(program: str) -> None:
 
 
 def day() -> bytes:
-    """Possible output of a replay of a day, with a report every ten seconds."""
+    """Returns an output that a replay of a day could print, with a report every ten seconds."""
     draw = random.Random(1)
     lines = []
     for moment in range(10**10, 864 * 10**11 + 1, 10**10):
@@ -202,7 +202,7 @@ def columns_of(drawn: Drawn, moments: list[int]) -> set[int]:
 
 
 def ends_of_columns(points: list[tuple[float, float]]) -> dict[int, tuple[float, float]]:
-    """Returns the least and the greatest height in each pixel's column."""
+    """Returns the smallest and the largest height (y) in each pixel column."""
     heights = collections.defaultdict(list)
     for x, y in points:
         heights[int(round(x, 2))].append(round(y, 2))
@@ -210,7 +210,8 @@ def ends_of_columns(points: list[tuple[float, float]]) -> dict[int, tuple[float,
 
 
 def compare_columns(printed: Printed, drawn: Drawn, resource: str, classes: str) -> None:
-    """A line has the least and the greatest share of each pixel's column, and no third point in it.
+    """Fails unless a line shows the least and the greatest share in each pixel column, with at most
+    two points per column.
     """
     level, average = classes.split(" ")
     share = drawn.share_scale(resource)
@@ -248,8 +249,8 @@ def check_a_day(_: str) -> None:
     must(0 < named < len(columns), "some kills have room for their paths, and not all")
     compare_paths(drawn)
     bare = [kill for kill in drawn.marks("kill") if not drawn.texts(kill)]
-    # Kills without a text are in the tooltip of two kills, or of four with the number of further
-    # ones.
+    # Kills without a text are listed in a tooltip: two kills, or four and the number of further
+    # kills.
     hints = [(inner(kill, "title").text or "").split("\n") for kill in bare]
     unnamed = sum(4 + int(it[4].split(" ")[1]) if len(it) > 4 else len(it) for it in hints)
     must(f">{unnamed} upright lines without a path, " in drawn.text,
@@ -279,9 +280,9 @@ def check_it_stands_alone(program: str) -> None:
 
 
 def check_what_takes_no_room(program: str) -> None:
-    """A panel without pressure is low, and the legend leaves out what isn't drawn: here there is
-    only one wait for IO. An average that only rises from 0 is thin, and a note says so: within 2 s
-    all that aren't 0 do.
+    """A panel without pressure is low, and the legend leaves out what isn't drawn: this trace has
+    one wait for IO and no event or kill. Averages that only rise from 0 are thin lines, and a note
+    says why.
     """
     drawn = Drawn(
         drawn_of(

@@ -1,4 +1,4 @@
-"""Checks of the time axis, of wall-clock times, and of the trace's length in the title."""
+"""Checks of the time axis, of the time of day, and of the trace's length in the title."""
 from __future__ import annotations
 
 import datetime
@@ -17,7 +17,7 @@ REPORT = "report {} / io\n" + "".join(
 )
 KILL = "kill {} ruleset=0 action=0 /a\n"
 
-# A length in ms, the unit and the step of its axis, and the title's text.
+# The length of a trace in ms, the unit and the step of its axis, and its length in the title.
 LENGTHS = (
     (1, "seconds", 0.0001, "0.001 s"), (700, "seconds", 0.1, "0.7 s"),
     (2000, "seconds", 0.2, "2 s"),
@@ -27,14 +27,15 @@ LENGTHS = (
     (3456000000, "days", 5, "40 d"),
     (60000000000, "days", 100, "694 d 11 h"),
 )  # fmt: skip
-# A length in ns, and the title's text.
+# The length of a trace in ns, and its length in the title.
 ROUNDED = (
     (1, "0.000000001 s"), (123456, "0.000123 s"), (12345678901, "12.3 s"), (59949999999, "59.9 s"),
     (59950000000, "1 min"), (299999123456, "5 min"), (3599500000000, "1 h"),
     (7230000000000, "2 h 1 min"),
     (86399999999999, "1 d"), (100000000000001, "1 d 4 h"),
 )  # fmt: skip
-# When the trace began, its length in s, the marks of the axis, and the text below them.
+# The time at which the trace began, its length in s, the marks of the axis, and the text below the
+# axis.
 WALLS = (
     ("2026-11-28T13:58:12Z", 300, ["13:58:30", "13:59:00", "13:59:30", "14:00:00", "14:00:30",
      "14:01:00", "14:01:30",
@@ -55,7 +56,7 @@ WALLS = (
 
 
 def short_replay(length: int) -> bytes:
-    """Possible output of a replay of `length` ns: two reports and a kill."""
+    """Returns an output that a replay of `length` ns could print: two reports and a kill."""
     half = length // 2
     lines = REPORT.format(half) + KILL.format(half) + (
         REPORT.format(length) if length > half else ""
@@ -64,8 +65,7 @@ def short_replay(length: int) -> bytes:
 
 
 def check_time_axes(_: str) -> None:
-    """The axis has a few round steps of time for any length of trace, and the title gives the
-    length.
+    """The axis has a few round steps of time for any length of trace, and the title has the length.
     """
     for length, unit, step, told in LENGTHS:
         text, whole = short_replay(length * MS), length * MS
@@ -93,7 +93,7 @@ def check_the_clock_on_the_wall(_: str) -> None:
 
 
 def check_marks_stand_where_the_clock_says(program: str) -> None:
-    """Each mark of the story's axis is at its wall-clock time, and the kill at its own."""
+    """Each mark of the story's axis, and the kill, is at its time of day."""
     start = "2026-11-28T13:58:12.5Z"
     drawn = Drawn(drawn_of(story(program), "--group=/batch", "--start", start))
     began = datetime.datetime.fromisoformat(start.replace("Z", "+00:00"))

@@ -1,5 +1,5 @@
-"""Checks of the groups that stalled most, of a recording's start time, and of patterns that match
-nothing.
+"""Checks of tools/top, of charts of the groups that stalled most, of a recording's start time, and
+of patterns that match no group.
 """
 from __future__ import annotations
 
@@ -16,8 +16,8 @@ from .drawn import CHART, Drawn, drawn_of
 from .faults import chart_fault
 
 STORY = "runaway.trace"
-# Totals of some and full in us; a group that was created again counts with the previous one; `/a`
-# has a child.
+# Reports with totals in us. /a has a child, and /a/b was created again: its totals before and after
+# that are added.
 PRINTED = b"".join(
     b"report %d000000000 %s %s\nsome avg10=0.00 avg60=0.00 avg300=0.00 total=%d\n"
     b"full avg10=0.00 avg60=0.00 avg300=0.00 total=%d\n"
@@ -38,8 +38,8 @@ io some  io full  memory some  memory full  cpu some  cpu full  group
 
 
 def check_the_top(_: str) -> None:
-    """Groups without children are sorted by their full stall time, summed over all groups with the
-    path.
+    """tools/top sorts groups without children by their full stall time, which is summed over all
+    groups that had the path.
     """
     tool = f"{TOP}/tools/top"
     must_be("the table", run([tool], PRINTED).decode(), TABLE)
@@ -55,7 +55,7 @@ def check_the_top(_: str) -> None:
 
 
 def check_a_chart_of_the_top(program: str) -> None:
-    """A chart has exactly these groups, the one that stalled most first."""
+    """A chart with --top shows exactly the groups that stalled most, in descending order."""
     drawn = Drawn(drawn_of(story(program), "--top", "2", "--resource", "memory"))
     must_be("panels", drawn.panel_names(),
             ["memory pressure of /batch/import", "memory pressure of /batch/index"])
@@ -65,7 +65,7 @@ def check_a_chart_of_the_top(program: str) -> None:
 
 @contextlib.contextmanager
 def summary(text: str) -> Iterator[str]:
-    """A file with psitrace's messages, by its name."""
+    """Yields the name of a file that contains psitrace's messages."""
     with tempfile.NamedTemporaryFile() as file:
         file.write(text.encode())
         file.flush()
@@ -73,8 +73,8 @@ def summary(text: str) -> Iterator[str]:
 
 
 def check_what_the_summary_tells(program: str) -> None:
-    """The time of day and the recording's start are the summary's; without a time of day the axis
-    has seconds.
+    """The chart takes the time of day and the recording's start from the summary. If the summary
+    has no time of day, nothing changes.
     """
     whole = (
         "psitrace: 0 is 2026-11-30 03:01:36.000 UTC\n"
@@ -102,7 +102,7 @@ def check_what_the_summary_tells(program: str) -> None:
 
 
 def check_patterns_that_match_nothing(program: str) -> None:
-    """They are reported, and the chart is still drawn."""
+    """Patterns that match no group are reported, and the chart is still drawn."""
     unmatched = (
         b"chart: note: no group of the replay matches 'system.slice/*' of ruleset 'a service"
     )

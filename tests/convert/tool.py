@@ -1,5 +1,5 @@
-"""`tools/events`: what it prints of a recording, also if its pages are in parts, and of a malformed
-one.
+"""Checks of `tools/events`: its output for a recording, also for one whose pages are in several
+files, and its fault for a malformed page.
 """
 from __future__ import annotations
 
@@ -21,13 +21,13 @@ RECORDING = "mixlost"
 
 
 def run(*words: str) -> tuple[int, bytes, str]:
-    """The status, the output and the message of the tool."""
+    """Runs the tool; returns its status, its output and its message."""
     done = subprocess.run([sys.executable, TOOL, *words], capture_output=True, check=False)
     return done.returncode, done.stdout, done.stderr.decode()
 
 
 def printed(program: str, folder: str, place: str) -> bytes:
-    """What the program itself prints for both processors of a recording."""
+    """Returns what the program psi_convert prints for both processors of a recording."""
     table = os.path.join(place, "table")
     with open(table, "w", encoding="utf-8") as file:
         file.write(table_of(folder))

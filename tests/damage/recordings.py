@@ -1,6 +1,6 @@
-"""Damages the stored recordings, in the same way for the same number, and converts them: `psitrace`
-may reject any of them, but never with a traceback, and `check` must accept each trace that it
-writes.
+"""Damages stored recordings at random and converts them. The same number gives the same damage.
+`psitrace` may reject any damaged recording, but never with a traceback, and `check` must accept
+each trace that `psitrace` writes.
 """
 from __future__ import annotations
 
@@ -28,8 +28,8 @@ from psiread.pages import page_at, records_of  # noqa: E402
 from psiread.recording import kernel_of  # noqa: E402
 
 BASES = ("exec-2", "cg-2", "mix-2", "threads", "wakeups")
-# The number of pages of each processor that are used, so that a conversion takes a fraction of a
-# second.
+# The number of pages that are used of each processor; with few pages, a conversion takes a fraction
+# of a second.
 PAGES = 6
 NUMBERS = (0, 1, 2, -1, -2, 3, 63, 64, 65, 255, 4096, 2**15, 2**31 - 1, -(2**31), 2**32, 2**53,
            2**62, 2**63 - 1, -(2**63), 10**18)
@@ -43,8 +43,8 @@ WORDS = ((), (), ("--force",), ("--fold=1",), ("--fold=1", "--force"), ("--force
 
 
 class Base(NamedTuple):
-    """A stored recording, cut to its first pages: the bytes of its files by name, and its formats
-    by number.
+    """A stored recording, cut to its first pages: the bytes of its files by name, and its event
+    formats by number.
     """
 
     files: dict[str, bytes]
@@ -53,7 +53,7 @@ class Base(NamedTuple):
 
 @functools.lru_cache(maxsize=None)
 def base_of(name: str) -> Base:
-    """A stored recording's first pages, with the matching byte counts."""
+    """Returns a stored recording's first pages, with the byte count in `meta` corrected."""
     with recording(name) as folder:
         files = {}
         for one in os.listdir(folder):
@@ -70,12 +70,12 @@ def base_of(name: str) -> Base:
 
 
 class Damage:
-    """Damages the files of a recording in one or more ways, chosen by a seed."""
+    """Damages the files of a recording in one or more random ways."""
 
     def __init__(self, base: Base, draw: random.Random) -> None:
         self.files, self.formats, self.draw = dict(base.files), base.formats, draw
         self.page = PAGE
-        # Replacements of files: a device, a FIFO or a folder.
+        # What replaces a file, by the file's name: a device, a FIFO, a folder, or nothing ("gone").
         self.odd: dict[str, str] = {}
 
     def raw(self) -> str:
@@ -83,7 +83,7 @@ class Damage:
         return self.draw.choice(sorted(name for name in self.files if name.endswith(".raw")))
 
     def put(self, name: str, at: int, data: bytes) -> None:
-        """Overwrites bytes of a file."""
+        """Overwrites bytes of a file from the offset `at`."""
         before = self.files[name]
         self.files[name] = before[:at] + data + before[at + len(data) :]
 
@@ -96,7 +96,7 @@ class Damage:
                 self.put(name, at, bytes([self.files[name][at] ^ 1 << self.draw.randrange(8)]))
 
     def fields(self) -> None:
-        """Puts other numbers into fields of some records."""
+        """Overwrites fields of some records with other numbers."""
         for _ in range(self.draw.choice((1, 3, 10))):
             name = self.raw()
             data, page = self.files[name], kernel_page()
@@ -107,13 +107,13 @@ class Damage:
                 records = [
                     it for it in records_of(data, page_at(data, at, page)) if it[2] - it[1] >= 8
                 ]
-            except Exception:  # the page was damaged before
+            except Exception:  # earlier damage can make the page unreadable
                 continue
             if records:
                 self.field(name, self.draw.choice(records)[1])
 
     def field(self, name: str, start: int) -> None:
-        """Puts another number into a field of the record that begins at `start`."""
+        """Overwrites a random field of the record that begins at the offset `start`."""
         form = self.formats.get(int.from_bytes(self.files[name][start : start + 2], "little"))
         fields = [it for it in form.fields.values() if it.size in (1, 2, 4, 8)] if form else []
         if fields:
@@ -122,7 +122,7 @@ class Damage:
             self.put(name, start + field.offset, value.to_bytes(field.size, "little"))
 
     def heads(self) -> None:
-        """Changes the time or the length in the head of a page."""
+        """Overwrites the time or the length in the header of a page."""
         name = self.raw()
         pages = len(self.files[name]) // PAGE
         if pages:
@@ -135,7 +135,7 @@ class Damage:
             self.put(name, at + self.draw.choice((0, 0, 8)), (value % 2**64).to_bytes(8, "little"))
 
     def order(self) -> None:
-        """Removes, doubles or reorders pages, or cuts the end."""
+        """Removes, doubles or reorders pages, and may cut bytes from the end."""
         name = self.raw()
         data = self.files[name]
         pages = [data[at : at + PAGE] for at in range(0, len(data), PAGE)]
@@ -153,7 +153,7 @@ class Damage:
         )[: -self.draw.choice((1, 100, 4095)) if self.draw.random() < 0.3 else None]
 
     def lines(self) -> None:
-        """Changes words of a text, and adds or removes lines."""
+        """Changes words of a text file, and adds or removes lines."""
         name = self.draw.choice(("snapshot", "snapshot", "meta", "formats", "pressure"))
         lines = self.files[name].split(b"\n")
         for _ in range(self.draw.choice((1, 2, 8))):
@@ -171,14 +171,16 @@ class Damage:
         self.files[name] = b"\n".join(lines)
 
     def cut(self) -> None:
-        """Cuts or empties a file."""
+        """Cuts a file at a random offset, or empties it."""
         name = self.draw.choice(sorted(self.files))
         self.files[name] = self.files[name][
             : self.draw.choice((0, self.draw.randrange(len(self.files[name]) + 1)))
         ]
 
     def packed(self) -> None:
-        """Compresses pages, perhaps followed by far more, or damages the compressed bytes."""
+        """Compresses a file of pages, in some cases with a MiB of zeros at its end, and may cut the
+        compressed bytes.
+        """
         name = self.raw()
         data = self.files.pop(name) + bytes(self.draw.choice((0, 0, 1 << 20)))
         data = gzip.compress(data, 1)
@@ -187,7 +189,7 @@ class Damage:
         self.files[name.replace(".raw", ".0.raw.gz")] = data
 
     def odd_file(self) -> None:
-        """Removes a file, or puts a device, a FIFO or a folder in its place."""
+        """Removes a file, or replaces it with a device, a FIFO or a folder."""
         name = self.draw.choice(sorted(self.files))
         self.odd[name] = self.draw.choice(("gone", "/dev/zero", "/dev/null", "fifo", "folder"))
 
@@ -196,7 +198,7 @@ class Damage:
         self.files[f"cpu{self.draw.choice((2, 4, 9, 70))}.raw"] = self.files[self.raw()]
 
     def apply(self) -> list[str]:
-        """Damages the recording, and returns the names of the ways."""
+        """Damages the recording in random ways, and returns the names of these ways."""
         often = {
             "bits": 6, "fields": 12, "heads": 6, "order": 4, "lines": 8, "cut": 2, "packed": 1,
             "odd_file": 1, "more": 1,
@@ -213,7 +215,7 @@ class Damage:
         return ways
 
     def write(self, folder: str) -> None:
-        """Writes the files."""
+        """Writes the recording's files into a folder."""
         for name, data in self.files.items():
             path, odd = os.path.join(folder, name), self.odd.get(name)
             if odd is None:
@@ -234,11 +236,11 @@ def kernel_page() -> Any:
         return kernel_of(folder).page
 
 
-# ---------------------------------------------------------------- what comes of them
+# ---------------------------------------------------------------- converting
 
 
 def converted_here(folder: str, output: str, words: tuple[str, ...]) -> tuple[int, str]:
-    """Runs psitrace in this process: its status, and its messages."""
+    """Runs psitrace in this process, and returns its status and its messages."""
     said = io.StringIO()
     with contextlib.redirect_stderr(said), mock.patch.object(sys, "argv", ["psitrace"]):
         status = command.main([folder, "-o", output, *words])
@@ -246,8 +248,8 @@ def converted_here(folder: str, output: str, words: tuple[str, ...]) -> tuple[in
 
 
 def convert(program: str, number: int) -> tuple[int, bool]:
-    """Damages and converts a recording: the status, and whether it wrote a trace, which `check`
-    accepted.
+    """Damages and converts the recording with this number. Returns psitrace's status, and whether
+    psitrace wrote a trace; `check` must accept the trace.
     """
     draw = random.Random(number)
     damage = Damage(base_of(draw.choice(BASES)), draw)
@@ -272,7 +274,7 @@ def convert(program: str, number: int) -> tuple[int, bool]:
 
 
 def must_convert(program: str, numbers: range) -> None:
-    """Converts damaged recordings with these numbers, and fails if a result is wrong."""
+    """Converts the damaged recordings with these numbers, and fails if a result is wrong."""
     found: Counter[tuple[int, bool]] = Counter()
     faults = []
     for number in numbers:

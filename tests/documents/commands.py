@@ -1,4 +1,6 @@
-"""The commands of a document, and whether they print what it says."""
+"""Finds the commands of a document, runs them, and reports each that doesn't print what the
+document shows.
+"""
 from __future__ import annotations
 
 import dataclasses
@@ -19,8 +21,8 @@ ELISION = "..."
 
 @dataclasses.dataclass
 class Block:
-    """A block of code: the line number in the document of its first line, from 1, its lines, and
-    whether it is marked as not run.
+    """A block of code: the document's line number of its first line (from 1), its lines, and
+    whether the document says not to run it.
     """
 
     number: int
@@ -39,7 +41,7 @@ class Command:
 
 
 def blocks_of(text: str) -> Iterator[Block]:
-    """The blocks of code of a document."""
+    """Yields the blocks of code of a document."""
     lines = text.splitlines()
     at = 0
     while at < len(lines):
@@ -64,7 +66,7 @@ def blocks_of(text: str) -> Iterator[Block]:
 
 
 def commands_of(block: Block) -> Iterator[Command]:
-    """The commands of a block, each with the output that it must print."""
+    """Yields the commands of a block, each with the output that it must print."""
     command = None
     lines = iter(enumerate(block.lines, block.number))
     for number, line in lines:
@@ -85,7 +87,8 @@ def commands_of(block: Block) -> Iterator[Command]:
 
 
 def is_as_wanted(wrote: list[str], wanted: list[str]) -> bool:
-    """Whether these lines match the wanted ones, in which a line of three dots matches any lines.
+    """Returns whether the lines equal the wanted ones. A wanted line of three dots matches any
+    number of lines.
     """
     if ELISION not in wanted:
         return wrote == wanted
@@ -96,7 +99,7 @@ def is_as_wanted(wrote: list[str], wanted: list[str]) -> bool:
 
 
 def fault_of(command: Command, folder: str) -> str:
-    """What is wrong with the command's result, or ''."""
+    """Runs a command, and returns how its result differs from the document, or '' if it doesn't."""
     if command.text.startswith("# "):
         return "a command of root's has no comment that says why it isn't run"
     try:
@@ -115,15 +118,15 @@ def fault_of(command: Command, folder: str) -> str:
 
 
 def make_folder(folder: str, programs: dict[str, str]) -> None:
-    """Links everything from the top of the repository into this folder, and each program in place
-    of its launcher.
+    """Links everything from the top of the repository into this folder. The programs are linked
+    under the names of their launchers.
     """
     for entry in TOP.iterdir():
         os.symlink(programs.get(entry.name, entry), os.path.join(folder, entry.name))
 
 
 def run_document(path: pathlib.Path, programs: dict[str, str]) -> tuple[int, list[str]]:
-    """The number of the document's commands that ran, and the faults."""
+    """Runs the document's commands; returns how many ran, and the faults as lines."""
     count, faults = 0, list[str]()
     with tempfile.TemporaryDirectory() as folder:
         make_folder(folder, programs)

@@ -1,1 +1,1 @@
-"""The independent computation of what `tools/rules explain` prints."""
+"""The checks of `tools/rules explain`, and an independent computation of its output."""

@@ -1,6 +1,6 @@
-"""What rules find in a trace, computed from the text of the trace and of a replay alone.
+"""Computes what rules find in a trace, from the text of the trace and of a replay's output alone.
 
-It follows docs/RULES.md and docs/TRACES.md, and uses nothing of the tools.
+It follows docs/RULES.md and docs/TRACES.md, and uses no code of the tools.
 """
 from __future__ import annotations
 
@@ -13,7 +13,7 @@ SECOND = 10**9
 
 
 def covers(patterns: str, path: str) -> bool:
-    """Whether one of the patterns of an argument `cgroup` matches a path."""
+    """Returns whether one of the patterns of an argument `cgroup` matches a path."""
     names = [it for it in path.split("/") if it]
     for pattern in patterns.split(","):
         parts = [it for it in pattern.split("/") if it]
@@ -24,8 +24,9 @@ def covers(patterns: str, path: str) -> bool:
 
 @dataclass
 class Group:
-    """A group from its creation: its last sample, its preference, the number of its own tasks, its
-    sizes at earlier evaluations, the newest first, and its scan count at the one before.
+    """A group since its creation: its last sample (bytes and pages), its preference, the number of
+    its own tasks, its memory at earlier evaluations (newest first), and its scanned pages at the
+    previous evaluation.
     """
 
     memory: int = 0
@@ -39,8 +40,9 @@ class Group:
 
 @dataclass
 class Look:
-    """An evaluation: its time (ns), the groups by path, the host's memory, swap and free swap, and
-    full averages in hundredths by path, resource and average.
+    """An evaluation of the rules: its time (ns), the groups by path, the host's memory, swap and
+    free swap (bytes), and the full averages in hundredths of a percent, by path, resource and
+    average.
     """
 
     moment: int
@@ -68,7 +70,7 @@ class Look:
 
 
 def reports_of(printed: str) -> dict[int, dict[tuple[str, str, str], int]]:
-    """The full averages of a replay's reports, by time (ns)."""
+    """Returns the full averages of a replay's reports, in hundredths of a percent, by time (ns)."""
     found: dict[int, dict[tuple[str, str, str], int]] = {}
     head: list[str] = []
     for line in printed.splitlines():
@@ -85,7 +87,7 @@ def reports_of(printed: str) -> dict[int, dict[tuple[str, str, str], int]]:
 
 
 class Replayed:
-    """Goes through a trace's lines, and stops at each evaluation."""
+    """Applies a trace's lines, and stops at each evaluation of the rules."""
 
     def __init__(self, trace: str) -> None:
         self.lines = [line.split() for line in trace.splitlines()[1:]]
@@ -120,7 +122,7 @@ class Replayed:
             self.groups[self.homes.pop(task)].tasks -= 1
 
     def looks(self, printed: str, tick: int, interval: int) -> Iterator[Look]:
-        """The evaluations, of ticks and intervals of this length (ns)."""
+        """Yields the evaluations, for ticks and intervals of these lengths (ns)."""
         place = 0
         for moment, full in sorted(reports_of(printed).items()):
             if moment // interval == (moment - tick) // interval:
@@ -135,15 +137,15 @@ class Replayed:
 
 
 class Detector:
-    """A detector's values at all evaluations."""
+    """A detector, and the values that it has at all evaluations."""
 
     def __init__(self, plugin: dict[str, Any]) -> None:
         self.name, self.args = plugin["name"], plugin["args"]
         self.rows: list[tuple[int, Optional[float], str, bool]] = []
 
     def take(self, look: Look) -> None:
-        """Adds the greatest value at an evaluation, whose it is, and whether it is above the limit.
-        Whether a group exists is no value.
+        """Adds the detector's greatest value at an evaluation, the group that has it, and whether
+        it is beyond the limit. The detector `exists` has no value.
         """
         if self.name == "exists":
             return
@@ -180,7 +182,9 @@ class Detector:
         return float(text)
 
     def extreme(self) -> Optional[tuple[float, int, str]]:
-        """The value nearest to the limit, when it was first reached, and whose it is."""
+        """Returns the value nearest to the limit or farthest beyond it, the time when it was first
+        reached, and the group that had it; None if there is no value.
+        """
         found = [
             (value, moment, whose) for moment, value, whose, _ in self.rows if value is not None
         ]
@@ -188,7 +192,8 @@ class Detector:
         return max(found, key=lambda it: (sign * it[0], -it[1])) if found else None
 
     def hold(self) -> int:
-        """The longest time (ns) from the first to the last of evaluations in a row above the limit.
+        """Returns the longest time (ns) from the first to the last of consecutive evaluations
+        beyond the limit.
         """
         longest, since = 0, None
         for moment, _, _, is_above in self.rows:
@@ -197,7 +202,9 @@ class Detector:
         return longest
 
     def is_close(self) -> bool:
-        """Whether some printed value is the limit itself, whose other digits decide."""
+        """Returns whether a printed value equals the limit. Its digits that aren't printed decide
+        then.
+        """
         return self.name.startswith("pressure") and any(
             value == float(self.args["threshold"]) for _, value, _, _ in self.rows
         )

@@ -1,5 +1,7 @@
 #!/usr/bin/env python3
-"""Checks that fail, each in another way, for the test in this folder. Their limit is short."""
+"""Checks that fail, each in a different way, for the test in this folder. They have a short time
+limit.
+"""
 from __future__ import annotations
 
 import subprocess
@@ -29,7 +31,7 @@ def check_works_without_end() -> None:
 def check_handles_exceptions() -> None:
     try:
         time.sleep(1000)
-    except Exception:  # an interrupted check must not get here
+    except Exception:  # An interrupted check must not be caught here.
         print("handled")
 
 
