@@ -1,1 +1,1 @@
-"""Folded traces and recordings, compared with the originals: the checks of tests/fold."""
+"""The checks of tests/fold: folded traces and recordings, compared with the originals."""

@@ -1,4 +1,6 @@
-"""Checks of windows whose times are known by hand, and of the number of joint states."""
+"""Checks of folding on traces whose times are computed by hand, and of the number of joint states.
+A joint state is a set of task states, by group, that hold on a processor at the same time.
+"""
 from __future__ import annotations
 
 import random
@@ -10,13 +12,13 @@ from psifold import processor
 from shared.traces import MS, Maker
 
 SECOND = 1000 * MS
-# Two tasks share a processor, and each runs for 1 ms while the other is ready: 500 times in a
-# second.
+# For a second, two tasks share a processor: they run in turn for 1 ms each, while the other task is
+# ready.
 IN_TURNS = "psitrace 1 cpus=1\n0 fork 1 / 0\n0 fork 2 / 0\n0 switch 0 1 idle\n" + "".join(
     f"{moment * MS} switch 0 {2 if moment % 2 else 1} preempt\n" for moment in range(1, 1000)
 ) + "1000000000 end\n"
-# A task of a group runs for 200 ms, while a task of another group is ready; then it waits for 300
-# ms, and the other task runs for 100 of them. Then the first group is removed.
+# A task of /a runs for 200 ms while a task of /b is ready. Then the task of /a waits for 300 ms,
+# and the other runs during the first 100 ms. Then /a is removed.
 GOES = """psitrace 1 cpus=1
 0 group /a
 0 group /b
@@ -41,8 +43,8 @@ STALL_OF_GOES = (
 
 
 def check_windows_by_hand(program: str) -> None:
-    """Two windows give what they must: one joint state for a thousand turns; and times, samples and
-    a removal in their places.
+    """Traces in windows of 1 and 2 s are folded as computed by hand. A second of tasks that run in
+    turn is one joint state; and times, samples and a removal stay in their windows.
     """
     other, fold = folded(IN_TURNS, SECOND)
     counts = fold.counts.states_before, fold.counts.states_after
@@ -62,7 +64,9 @@ def check_windows_by_hand(program: str) -> None:
 
 
 def check_long_quiet(program: str) -> None:
-    """Windows without events cost nothing, and states that continue through them count."""
+    """Windows without events add no lines, and the time of states that continue through them
+    counts.
+    """
     trace = (
         "psitrace 1 cpus=2\n0 fork 1 / 0\n0 switch 0 1 idle\n0 switch 0 0 iowait\n"
         "90000000000000 end\n"
@@ -73,8 +77,8 @@ def check_long_quiet(program: str) -> None:
 
 
 def check_as_many_groups_as_there_may_be(program: str) -> None:
-    """1,024 groups, in chains whose sums all depend on one another, are folded into no more joint
-    states than there are.
+    """A trace with 1,024 groups, in nested chains whose sums depend on one another, replays like
+    the original when it is folded.
     """
     paths = [f"/{one}" + "/x" * below for one in range(33) for below in range(31)]
     lines = [f"0 group {path}" for path in paths]
@@ -94,8 +98,8 @@ def check_as_many_groups_as_there_may_be(program: str) -> None:
 
 
 def check_how_many_joint_states_there_are(_: str) -> None:
-    """Each window of a processor has at most one joint state more than it has sums, and the
-    remainders of rounding stay small.
+    """Each window of a processor has at most one joint state more than it has sums, and rounding
+    leaves less than 10 ns of a sum.
     """
     few_of, most = processor.few_of, 0
 
@@ -117,7 +121,7 @@ def check_how_many_joint_states_there_are(_: str) -> None:
 
 
 class Busy(Maker):
-    """Makes traces of two processors with thousands of short events within a window."""
+    """Makes traces of up to 8 processors with thousands of events at short intervals."""
 
     TURNS = (2500, 2500)
     FIRST = {

@@ -1,5 +1,5 @@
-"""Checks of the tools that fold: slices of a recording, compressed pages, arguments and faults, and
-the limit of events.
+"""Checks of the tools that fold: reading a recording in slices, compressed pages, arguments and
+faults, and the limit on events.
 """
 from __future__ import annotations
 
@@ -25,8 +25,8 @@ EXAMPLES = os.path.join(TOP, "examples")
 
 def check_slices(program: str) -> None:
     """A recording that is read in many slices, and folded in another process, gives the same trace
-    as in one slice; also if its wakeups are put when psi counted them, which may be in the previous
-    slice, and the whole trace's summary says the same.
+    as in one slice, even if wakeups are put at the times when psi counted them, which may be in the
+    previous slice. The summary's line on wakeups is that of the unfolded trace.
     """
     for name in ("cg-2", "wakeups"):
         with recording(name) as folder:
@@ -49,8 +49,8 @@ def check_slices(program: str) -> None:
 
 
 def check_pages_that_are_none(_: str) -> None:
-    """A malformed page is reported with its processor, whether one process surveys all processors
-    or several do.
+    """A malformed page is reported with its processor's file, whether one process reads all
+    processors or several processes do.
     """
     with recording("exec-2") as folder:
         change(folder, "cpu1.raw", lambda pages: pages[:8192] + b"\xff" * 4096 + pages[8192:])
@@ -65,7 +65,7 @@ def check_pages_that_are_none(_: str) -> None:
 
 
 def here(words: list[str]) -> tuple[int, bytes, str]:
-    """Runs psitrace in this process: its status, its output, and its messages."""
+    """Runs psitrace in this process, and returns its status, its output and its messages."""
     said = StringIO()
     with tempfile.NamedTemporaryFile() as file, redirect_stderr(said):
         status = command.main([*words, "-o", file.name])
@@ -73,12 +73,12 @@ def here(words: list[str]) -> tuple[int, bytes, str]:
 
 
 def traces_of(there: str) -> list[bytes]:
-    """Returns the traces of a recording: whole, and folded."""
+    """Returns the traces that psitrace makes of a recording: unfolded, and folded."""
     return [tool("psitrace", there, *words).output for words in ((), ("--fold=1",))]
 
 
 def compress_pages(there: str) -> None:
-    """Compresses the pages of a recording of two processors in parts, as the recorder does."""
+    """Compresses the pages of a recording of two processors in parts, like the recorder does."""
     with tempfile.TemporaryDirectory() as place:
         made = folder.Folder(f"{place}/made", True)
         made.open_raw(2)
@@ -99,8 +99,8 @@ def compress_pages(there: str) -> None:
 
 
 def check_pages_that_are_compressed(_: str) -> None:
-    """A recording whose pages were compressed while recording gives the same trace, folded or not;
-    and so does a recording whose recorder was killed during that.
+    """A recording whose pages were compressed during recording gives the same trace, folded or not;
+    so does a recording whose recorder was killed while it compressed a part.
     """
     with recording("cg-2") as there:
         wanted = traces_of(there)
@@ -122,8 +122,7 @@ def check_pages_that_are_compressed(_: str) -> None:
 
 
 def check_words_and_faults(_: str) -> None:
-    """Usage errors, inputs that aren't traces, and outputs that can't be written have their
-    statuses and texts.
+    """Usage errors, inputs that aren't traces, and faulty lines each have their status and message.
     """
     good = text_of(os.path.join(EXAMPLES, "one-wait.trace")).encode()
     for words, given, status, told in (
@@ -158,7 +157,7 @@ def check_words_and_faults(_: str) -> None:
 
 
 def check_the_limit(_: str) -> None:
-    """A trace gets no more events than are allowed: it ends with the last window that fits."""
+    """A trace has at most the allowed number of events: it ends with the last window that fits."""
     for large in (command.LARGE, 0):
         lines = limited(large)
         must(600 < len(lines) <= 901 and re.fullmatch(rb"[1-9][0-9]?000000000 end", lines[-1]),
@@ -166,8 +165,8 @@ def check_the_limit(_: str) -> None:
 
 
 def limited(large: int) -> list[bytes]:
-    """Returns the lines of a trace that ends at a limit, if a recording of `large` bytes counts as
-    large.
+    """Returns the lines of a trace that is cut at a limit of events. Recordings of `large` bytes or
+    more are folded in another process.
     """
     limits = (
         mock.patch.object(folded, "MOST_EVENTS", 900), mock.patch.object(command, "LARGE", large),

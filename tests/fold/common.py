@@ -1,4 +1,4 @@
-"""Shared by checks of folding: folding a trace, replays that must be equal, and traces whose tasks
+"""Helpers for checks of folding: folding a trace, comparing replays, and making traces whose tasks
 exist from start to end.
 """
 from __future__ import annotations
@@ -17,7 +17,7 @@ from psifold.victims import Victim  # noqa: E402
 
 
 def folded(trace: str, window: int, victims: Sequence[Victim] = ()) -> tuple[str, Fold]:
-    """Returns the folded trace, with windows of `window` ns, and the fold that made it."""
+    """Folds a trace into windows of `window` ns. Returns the folded trace and its Fold."""
     header, *lines = trace.splitlines()
     found = [header]
     fold = Fold(int(header.partition("cpus=")[2]), window, found.extend, victims)
@@ -26,7 +26,7 @@ def folded(trace: str, window: int, victims: Sequence[Victim] = ()) -> tuple[str
 
 
 def printed(program: str, trace: str, *words: str) -> bytes:
-    """Returns the output of a command of psi_oomd on a trace."""
+    """Returns the output of a psi_oomd command on a trace; the command must succeed."""
     done = run([program, words[0], "-", *words[1:]], trace.encode())
     must_be(f"the status of {' '.join(words)}, which said {done.said}", done.status, 0)
     return done.output
@@ -35,7 +35,9 @@ def printed(program: str, trace: str, *words: str) -> bytes:
 def must_replay_alike(
     what: str, program: str, trace: str, other: str, window: int, words: Sequence[str] = ()
 ) -> None:
-    """Replays of both traces with ticks of the window and of two multiples print the same bytes."""
+    """Fails unless replays of both traces print the same bytes, with ticks of one, two and three
+    windows (ns).
+    """
     for times in (1, 2, 3):
         if window * times <= 60_000 * MS:
             given = ("replay", f"--tick-ms={window * times // MS}", "--report-s=1", *words)
@@ -44,7 +46,7 @@ def must_replay_alike(
 
 
 def must_print_alike(what: str, wanted: bytes, found: bytes) -> None:
-    """Fails if the outputs differ, and shows the first line that does."""
+    """Fails if the outputs differ, with the first line that differs."""
     for line, other in zip(wanted.splitlines(), found.splitlines()):
         must_be(what, other, line)
     must_be(f"{what}, how many lines", len(found.splitlines()), len(wanted.splitlines()))
@@ -52,7 +54,7 @@ def must_print_alike(what: str, wanted: bytes, found: bytes) -> None:
 
 class Settled(Maker):
     """Makes traces in which all groups and tasks exist from the start, so that a victim gets no
-    task later.
+    further task.
     """
 
     FIRST = {**Maker.FIRST, "fork": 0, "move": 0, "group": 0, "rmgroup": 0, "stall": 3, "side": 4}
@@ -68,7 +70,7 @@ class Settled(Maker):
                 self.begin(event)
 
     def begin(self, event: Event) -> None:
-        """Adds something that exists from the start."""
+        """Adds an event at time 0."""
         self.machine.take(*event)
         self.lines.append(f"0 {' '.join(event)}")
 
@@ -81,7 +83,7 @@ class Settled(Maker):
 
 
 class Wide(Maker):
-    """Makes traces of up to 64 processors and hundreds of groups, with few events."""
+    """Makes traces of 1, 16 or 64 processors and up to hundreds of groups."""
 
     PATHS = tuple(f"/g{one}{below}" for one in range(80) for below in ("", "/a", "/a/b", "/c"))
 
@@ -96,12 +98,12 @@ class Wide(Maker):
 
 
 def window_of(maker: Maker, number: int) -> int:
-    """Returns a window (ns) for a generated trace: mostly the tick that it was made for."""
+    """Returns a window (ns) for a generated trace: one, two or three of its ticks."""
     return random.Random(number).choice((1, 1, 2, 3)) * maker.tick
 
 
 def files_of(folder: str) -> list[str]:
-    """Returns the small traces of a folder of the repository."""
+    """Returns the paths of the valid traces in a folder."""
     names = (
         os.path.join(folder, name) for name in sorted(os.listdir(folder)) if name.endswith(".trace")
     )
@@ -115,7 +117,7 @@ def text_of(name: str) -> str:
 
 
 def lines_between(trace: str, start: int, end: int) -> list[str]:
-    """Returns the lines of a trace later than `start` and up to `end` (ns)."""
+    """Returns the lines of a trace after the time `start` and up to the time `end` (ns)."""
     found = [line for line in trace.splitlines()[1:] if start < int(line.split(" ")[0]) <= end]
     must(trace.endswith("\n"), "the trace ends with a newline")
     return found

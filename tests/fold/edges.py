@@ -1,5 +1,5 @@
-"""Checks of the edges of windows, of what `fold` says about them, and of limits: tasks, length, and
-wrong lines.
+"""Checks of folding at the edges of windows, of `fold`'s messages about the result, and of limits
+and faulty lines.
 """
 from __future__ import annotations
 
@@ -17,8 +17,8 @@ from psifold.victims import Victim
 from shared.traces import MS
 
 SECOND = 1000 * MS
-# Both groups have memory. /b gets its task 500 ms after the tick at 2 s, and has one in each joint
-# state of the second window.
+# Both groups have memory. /b gets its task at 2.5 s, which is 500 ms after a window begins. The
+# task is part of each later joint state of that window.
 LATE = """psitrace 1 cpus=1
 0 group /a
 0 group /b
@@ -42,8 +42,8 @@ LATE = """psitrace 1 cpus=1
 2500000000 fork 2 /b 0
 4000000000 end
 """
-# The whole second window is one joint state in which both tasks are ready: one came 1 ns after the
-# edge.
+# The second window has one joint state, in which both tasks are ready. One task was created 1 ns
+# after the window begins.
 SOON = """psitrace 1 cpus=1
 0 group /b
 0 fork 1 / 0
@@ -60,8 +60,8 @@ LARGEST = {
 
 
 def check_no_task_before_its_window(program: str) -> None:
-    """A group without a task at a tick has none there in the folded trace: the kills, whose largest
-    group is /b, and all other lines are the same.
+    """A group without a task at a tick has none at that tick in the folded trace. Kills of the
+    largest group, and all other lines, stay the same.
     """
     with tempfile.NamedTemporaryFile("w", suffix=".json") as file:
         json.dump({"rulesets": [LARGEST]}, file)
@@ -88,8 +88,8 @@ def check_no_task_before_its_window(program: str) -> None:
 
 
 def check_processors_that_fall_silent(_: str) -> None:
-    """Psitrace folds a recording in which some processors fall silent early as fold does its trace:
-    whole, and in part.
+    """psitrace folds a recording in which some processors have no events after an early time like
+    `fold` folds its trace: all of it, and a part.
     """
     for name, pages in (("threads", (1, 2, 4)), ("threads", (30, 60, 1)), ("cg-2", (2,))):
         with recording(name) as folder:
@@ -104,7 +104,7 @@ def check_processors_that_fall_silent(_: str) -> None:
                      f"{name} {pages} {words}: both tools give the same")
 
 
-# A task of /v moves at 3 s to /w, or in the other trace to the child of /v.
+# A task of /v moves at 3 s: to /w, or to /v's child.
 MOVES = """psitrace 1 cpus=1
 0 group /v
 0 group /v/x
@@ -118,13 +118,14 @@ MOVES = """psitrace 1 cpus=1
 
 
 def check_when_whatif_is_exact(program: str) -> None:
-    """The last line says so only if no task of a victim moves out of it or within it after a kill.
+    """The last line states from when on `whatif` is exact: after the last time at which a victim's
+    task moves out of the victim or within it.
     """
     for path in ("/w", "/v/x"):
         trace = MOVES.format(path)
         _, made = folded(trace, 2 * SECOND, [Victim("/v", True)])
         changes = made.outcome().changes
-        # A descendant of a victim may be killed by itself.
+        # A descendant of a victim may be killed by itself, so a move to it counts.
         wanted = (int(path == "/v/x"), 1, 3 * SECOND)
         must_be(f"tasks that came to /v, or moved, and when, with {path}",
                 (changes.came, changes.moved, changes.last), wanted)
@@ -137,7 +138,9 @@ def check_when_whatif_is_exact(program: str) -> None:
 
 
 def check_victims_that_are_no_groups(_: str) -> None:
-    """A pattern that matches no group is reported, and promises nothing."""
+    """A pattern for victims that matches no group is reported, and `fold` doesn't claim that
+    `whatif` is exact.
+    """
     trace = MOVES.format("/w").replace("3000000000 move", "0 move").encode()
     asked: tuple[tuple[str, list[str], bool], ...] = (
         ("/nosuch", ["/nosuch"], False), ("v,x/*", ["x/*"], True), ("/,w", [], True),
@@ -154,8 +157,8 @@ def check_victims_that_are_no_groups(_: str) -> None:
 
 
 def check_limits_of_folding(program: str) -> None:
-    """Too many tasks for a trace, and a folded trace that is longer than the original, are reported
-    by their status.
+    """More tasks than a trace may have are rejected. A folded trace that is longer than the
+    original has status 3 and a message.
     """
     lines = [f"0 group /g{it}\n0 fork {it + 1} /g{it} 0" for it in range(4)]
     with mock.patch.object(fold, "MOST_TASKS", 3):
@@ -173,7 +176,7 @@ def check_limits_of_folding(program: str) -> None:
 
 
 def check_lines_that_are_wrong(_: str) -> None:
-    """Lines that psi_oomd rejects are reported with their number, also those that fold doesn't
+    """Lines that psi_oomd rejects are reported with their number, also lines that folding doesn't
     change.
     """
     good = LATE.splitlines()
@@ -202,7 +205,7 @@ def check_lines_that_are_wrong(_: str) -> None:
 
 
 def check_files_that_are_no_trace(_: str) -> None:
-    """The message says what they are."""
+    """For a file that isn't a trace, the message says what the file is."""
     for data, told in (
         (b"\x1f\x8b\x08\0", "gunzip"), (b"\xfd7zXZ\0", "by xz"), (b"\x17\x08Dtracing", "trace-cmd"),
         (b"", "empty"),
@@ -221,7 +224,7 @@ def check_files_that_are_no_trace(_: str) -> None:
 
 
 def check_bytes_that_are_no_page(_: str) -> None:
-    """Trailing bytes that aren't a whole page are reported with --fold, too."""
+    """Trailing bytes that aren't a whole page are reported, with and without --fold."""
     with recording("exec-2") as folder:
         change(folder, "cpu1.raw", lambda it: it + b"abc")
         count_bytes(folder)

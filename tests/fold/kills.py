@@ -1,5 +1,5 @@
-"""Compares the kills of replays of folded traces with those of the originals by brute force: over
-random traces and recordings, with random rules.
+"""Compares kills in replays of folded traces with kills in replays of the originals, over random
+traces and recordings, with random rules.
 """
 from __future__ import annotations
 
@@ -23,18 +23,19 @@ from shared.traces import MS, Maker
 
 from .replays import FOLDERS, TEXTS, both_of, both_of_folder, names_of
 
-# The number of random traces that the gate compares, and of random rules for each.
+# The number of random traces that the merge gate compares, and the number of random rules files for
+# each.
 TRACES, RULES = 40, 3
-# The most rulesets of a file. Rulesets don't affect each other in a replay, so one replay compares
-# many.
+# The largest number of rulesets in a rules file. Rulesets don't affect each other in a replay, so
+# one replay compares many of them.
 MOST_RULESETS = 64
 SECOND = 1000 * MS
 KILL = re.compile("kill [0-9]+ ruleset=([0-9]+) ")
 
 
 class Found(NamedTuple):
-    """The numbers of random rulesets, of compared replays and of their kill lines, and each
-    difference: its replay, and both lines.
+    """The numbers of random rulesets, of compared replays and of their kill lines; and a line for
+    each difference.
     """
 
     rulesets: int
@@ -44,7 +45,7 @@ class Found(NamedTuple):
 
 
 def whatif() -> ModuleType:
-    """Returns the random rules of tests/whatif."""
+    """Returns the module tests/whatif/test, which makes random rules."""
     if "whatif" not in sys.modules:
         loader = SourceFileLoader("whatif", os.path.join(TOP, "tests", "whatif", "test"))
         spec = spec_from_loader("whatif", loader)
@@ -55,7 +56,7 @@ def whatif() -> ModuleType:
 
 
 def kills_of(program: str, trace: str, rules: str, tick: int) -> list[str]:
-    """Returns the kill lines of a replay at a tick (ns)."""
+    """Returns the kill lines of a replay with ticks of `tick` ns."""
     words = ("replay", f"--rules={rules}", f"--tick-ms={tick // MS}", "--report-s=0",
              "--interval-s=1")
     return [
@@ -66,14 +67,14 @@ def kills_of(program: str, trace: str, rules: str, tick: int) -> list[str]:
 
 
 def packed(rules: list[list[Any]]) -> Iterator[list[Any]]:
-    """Yields all rulesets, in as few lists as a rules file may have."""
+    """Yields all rulesets in lists of at most MOST_RULESETS."""
     rulesets = [ruleset for one in rules for ruleset in one]
     for start in range(0, len(rulesets), MOST_RULESETS):
         yield rulesets[start : start + MOST_RULESETS]
 
 
 def difference(rules: list[Any], wanted: list[str], found: list[str]) -> str:
-    """Returns the first kill line that is in one list only, and its ruleset."""
+    """Returns the first kill line that is only in one of the lists, with its ruleset."""
     lines = sorted({*wanted} ^ {*found})
     kill = KILL.match(lines[0]) if lines else None
     return f"{lines[0]}; ruleset {json.dumps(rules[int(kill[1])])}" if kill else "in another order"
@@ -82,8 +83,8 @@ def difference(rules: list[Any], wanted: list[str], found: list[str]) -> str:
 def compare(
     program: str, what: str, traces: tuple[str, str], rules: list[list[Any]], ticks: list[int]
 ) -> Found:
-    """Compares the kills of a trace and of the folded one, with these rules and at these ticks
-    (ns).
+    """Compares the kills of a trace with those of the folded trace, with these rules and with ticks
+    of these lengths (ns).
     """
     replays, kills, differing = 0, 0, []
     for rulesets in packed(rules):
@@ -101,7 +102,7 @@ def compare(
 
 
 def total(parts: Iterator[Found]) -> Found:
-    """Returns the sums of all parts."""
+    """Returns the sums over all parts."""
     found = list(parts)
     rulesets, replays = sum(it.rulesets for it in found), sum(it.replays for it in found)
     differing = [line for it in found for line in it.differing]
@@ -109,8 +110,8 @@ def total(parts: Iterator[Found]) -> Found:
 
 
 def random_traces(program: str, numbers: range, count: int) -> Iterator[Found]:
-    """Compares random traces with these numbers, each with `count` random rules, at its window and
-    at two windows.
+    """Compares the random traces with these numbers, each with `count` random rules files, with
+    ticks of one and of two windows.
     """
     makers: tuple[Callable[[int, int], Maker], ...] = (whatif().Load, Maker, Settled)
     for number in numbers:
@@ -127,7 +128,7 @@ def random_traces(program: str, numbers: range, count: int) -> Iterator[Found]:
 
 
 def patterns_of(trace: str, draw: random.Random) -> str:
-    """Patterns that match some of a trace's groups."""
+    """Returns a random argument `cgroup` with patterns for some of the trace's groups."""
     groups = [line.split(" ")[2] for line in trace.splitlines() if " group " in line] or ["/"]
     some = draw.sample(groups, min(len(groups), draw.randint(1, 3)))
     return draw.choice(
@@ -137,7 +138,7 @@ def patterns_of(trace: str, draw: random.Random) -> str:
 
 
 def rules_of(trace: str, draw: random.Random) -> list[Any]:
-    """Random rules for the groups of a recording."""
+    """Returns random rules for the groups of a recording's trace."""
     rules = whatif().some_rules(draw)
     for ruleset in rules:
         for group in ruleset["detectors"]:
@@ -152,8 +153,8 @@ def rules_of(trace: str, draw: random.Random) -> list[Any]:
 
 
 def pair_of(name: str) -> tuple[bytes, bytes]:
-    """Returns the trace of a stored recording, of a recording's folder or of a file, and the trace
-    folded into windows of a second.
+    """Returns the trace of a stored recording, of a recording's folder or of a file, and the same
+    trace folded into windows of a second.
     """
     if os.path.isdir(name):
         return both_of_folder(name)
@@ -167,8 +168,8 @@ def pair_of(name: str) -> tuple[bytes, bytes]:
 def recordings(
     program: str, names: list[str], count: int, windows: tuple[int, ...] = (1,)
 ) -> Iterator[Found]:
-    """Compares stored recordings, or those in other folders and files, folded into windows of these
-    lengths (s), with `count` random rules each, at ticks of one window and of two.
+    """Compares recordings (stored ones, folders or files) that are folded into windows of these
+    lengths (s), each with `count` random rules files, with ticks of one and of two windows.
     """
     for name in names:
         plain, made = pair_of(name)
@@ -184,11 +185,11 @@ def recordings(
 
 
 def stored() -> list[str]:
-    """Returns the names of all stored recordings and texts."""
+    """Returns the names of all stored recordings and ftrace texts."""
     return [*names_of(FOLDERS), *names_of(TEXTS)]
 
 
-# ---------------------------------------------------------------- the gate's part
+# ---------------------------------------------------------------- checks of the merge gate
 
 
 def check_kills_by_random_rules(program: str) -> None:

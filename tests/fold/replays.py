@@ -1,5 +1,5 @@
-"""A folded trace replays like the original: for stored recordings, the examples, the kernel's cases
-and generated traces.
+"""Checks that a folded trace replays like the original: for stored recordings, the examples, the
+kernel's cases and generated traces.
 """
 from __future__ import annotations
 
@@ -25,12 +25,13 @@ from psifold.fold import Fold
 from psifold.victims import victims_in
 from shared.traces import MS, RUNAWAY, Maker
 
-# The number of generated traces; the test's arguments may give another one.
+# The numbers of generated traces for replays and for `whatif`. The test's arguments may give
+# another number.
 TRACES, WHATIFS = 300, 30
 SECOND = 1000 * MS
 EXAMPLES = os.path.join(TOP, "examples")
 FOLDERS, TEXTS = ".tar.xz", ".ftrace.gz"
-# Recordings with lost events: the longest interval without loss is folded.
+# Recordings with lost events: only the longest interval without loss is converted.
 LOSSY = ("mixlost", "lost-2cpu")
 TRIGGERS = ("--trigger=/ io some 100000 1000000", "--trigger=/ memory full 50000 500000",
             "--trigger=/ cpu some 200000 2000000")
@@ -38,7 +39,7 @@ GROUPS = "*,*/*,*/*/*"
 
 
 def ruleset(resource: str, action: str, args: dict[str, str]) -> dict[str, object]:
-    """Returns a ruleset that acts on any group that stalls for the resource at all."""
+    """Returns a ruleset that runs this action whenever a group stalls for the resource."""
     stalls = {
         "name": "pressure_above",
         "args": {"cgroup": "/," + GROUPS, "resource": resource, "threshold": "0", "duration": "1"},
@@ -59,7 +60,7 @@ RULESETS = (
 
 @contextlib.contextmanager
 def watching() -> Iterator[tuple[str, ...]]:
-    """The arguments for rules that kill whenever something stalls."""
+    """Yields the arguments of a replay with rules that kill whenever a group stalls."""
     with tempfile.NamedTemporaryFile("w", suffix=".json") as file:
         json.dump({"rulesets": RULESETS}, file)
         file.flush()
@@ -67,12 +68,12 @@ def watching() -> Iterator[tuple[str, ...]]:
 
 
 def names_of(suffix: str) -> list[str]:
-    """Returns the stored recordings with this suffix."""
+    """Returns the names of the stored recordings whose files have this suffix."""
     return sorted(name[: -len(suffix)] for name in os.listdir(STORED) if name.endswith(suffix))
 
 
 def both_of(name: str) -> tuple[bytes, bytes]:
-    """Returns the trace of a stored recording, and the folded one, with triggers."""
+    """Returns the trace of a stored recording and the folded trace, both with triggers."""
     if name in names_of(FOLDERS):
         with recording(name) as folder:
             return both_of_folder(folder, name in LOSSY)
@@ -80,12 +81,13 @@ def both_of(name: str) -> tuple[bytes, bytes]:
 
 
 def both_of_folder(folder: str, is_lossy: bool = False) -> tuple[bytes, bytes]:
-    """Returns the trace of a recording's folder, and the folded one, with triggers."""
+    """Returns the trace of a recording's folder and the folded trace, both with triggers."""
     return both_by([folder], is_lossy)
 
 
 def both_by(source: list[str], is_lossy: bool, given: bytes = b"") -> tuple[bytes, bytes]:
-    """Returns the trace that psitrace makes of a source, and the folded one, with triggers."""
+    """Returns the trace that psitrace makes of a source and the folded trace, both with triggers.
+    """
     words = [*source, *TRIGGERS, *(["--force"] if is_lossy else [])]
     plain, made = (tool("psitrace", *words, *more, given=given) for more in ((), ("--fold=1",)))
     status = 3 if is_lossy else 0
@@ -95,8 +97,8 @@ def both_by(source: list[str], is_lossy: bool, given: bytes = b"") -> tuple[byte
 
 
 def check_recordings(program: str) -> None:
-    """Psitrace folds each stored recording as fold does its trace, and both replay like the trace,
-    with triggers and with rules.
+    """psitrace folds each stored recording like `fold` folds its trace, and both traces replay
+    alike, with triggers and with rules.
     """
     signals = kills = 0
     for name in names_of(FOLDERS) + names_of(TEXTS):
@@ -113,8 +115,8 @@ def check_recordings(program: str) -> None:
 
 
 def check_examples_and_kernel_cases(program: str) -> None:
-    """Each folded trace replays like the original, at the tick of its options or of two seconds;
-    the runaway's with its rules, too.
+    """Each folded trace replays like the original, at the tick length in its options file or else
+    at two seconds. The runaway is replayed with its rules.
     """
     for name in [*files_of(EXAMPLES), *files_of(os.path.join(EXAMPLES, "kernel"))]:
         options = text_of(name.replace(".trace", ".opts")) if os.path.exists(
@@ -131,15 +133,15 @@ def check_examples_and_kernel_cases(program: str) -> None:
 
 
 def is_near_whole(fold: Fold) -> bool:
-    """Returns whether a sum has a remainder of rounding, so that a total might round to another
+    """Returns whether rounding left a remainder of a sum, so that a total may be rounded to another
     whole us.
     """
     return any(fold.check.shortfalls.values())
 
 
 def check_generated_traces(program: str) -> None:
-    """Generated traces replay alike with rules. If rounding left no remainder, the times up to the
-    end are equal, too.
+    """Generated traces replay like their folded traces, with rules. If rounding left no remainder,
+    the times at the end are equal too.
     """
     for number in range(TRACES):
         version = 1 + number % 2
@@ -156,7 +158,9 @@ def check_generated_traces(program: str) -> None:
 
 
 def check_kills_that_happen(program: str) -> None:
-    """`whatif` prints the same if the possible victims are named, by the actions of the rules."""
+    """`whatif` prints the same for a trace and for the folded trace, if folding is given the
+    possible victims: the groups that the actions of the rules match.
+    """
     loader = SourceFileLoader("whatif", os.path.join(TOP, "tests", "whatif", "test"))
     spec = spec_from_loader("whatif", loader)
     assert spec

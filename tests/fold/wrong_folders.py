@@ -1,5 +1,5 @@
-"""The check that plays each window before it is written detects wrong folders: each is wrong in one
-way.
+"""Checks that wrong code for folding is detected: each window is replayed before it is written, and
+each wrong version here differs from the right code in one way.
 """
 from __future__ import annotations
 
@@ -20,7 +20,9 @@ SECOND = 1000 * MS
 
 
 def wrong_lines(change: Callable[[list[Line]], list[Line]]) -> Callable[[Any], Any]:
-    """Returns a folder whose lines of states are changed by `change`."""
+    """Returns a function that wraps `Writer.write`, and applies `change` to the lines that it
+    returns.
+    """
 
     def wrap(write: Any) -> Any:
         return lambda self, *given: change(write(self, *given))
@@ -29,7 +31,7 @@ def wrong_lines(change: Callable[[list[Line]], list[Line]]) -> Callable[[Any], A
 
 
 def without_first(verb: str) -> Callable[[list[Line]], list[Line]]:
-    """Leaves out the first line with this verb."""
+    """Returns a change that leaves out the first line with this verb."""
 
     def change(lines: list[Line]) -> list[Line]:
         place = next((place for place, (_, words) in enumerate(lines) if words.startswith(verb)),
@@ -40,7 +42,8 @@ def without_first(verb: str) -> Callable[[list[Line]], list[Line]]:
 
 
 def us_later(lines: list[Line]) -> list[Line]:
-    """Makes the lines of the second half of the times 1 us later."""
+    """Moves lines in the later half of the window 1 us later, except lines at the edge of a window.
+    """
     middle = lines[len(lines) // 2][0] if lines else 0
     return [
         (moment + 1000 if moment >= middle and moment % SECOND else moment, words)
@@ -49,7 +52,7 @@ def us_later(lines: list[Line]) -> list[Line]:
 
 
 def elsewhere(lines: list[Line]) -> list[Line]:
-    """Moves what is on processor 0 to processor 1."""
+    """Moves the tasks and interrupts of processor 0 to processor 1."""
     return [
         (moment,
          re.sub(r"^(switch|irq) 0 ", r"\1 1 ", re.sub(r"^((?:wake|fork) .*) 0$", r"\1 1", words)))
@@ -58,7 +61,9 @@ def elsewhere(lines: list[Line]) -> list[Line]:
 
 
 def state_lost(few: Any) -> Any:
-    """Folds without the shortest joint state; the longest gets its time."""
+    """Wraps the function that chooses joint states: the shortest state is dropped, and the longest
+    gets its time.
+    """
 
     def change(*given: Any) -> Any:
         found = few(*given)
@@ -73,7 +78,7 @@ def state_lost(few: Any) -> Any:
 
 
 def other_kind(joint_state: Any) -> Any:
-    """Treats tasks that wait for IO as ready."""
+    """Wraps `joint_state`, so that tasks that wait for IO count as ready."""
     swap = {Kind.WAITING: Kind.READY}
     return lambda self, state: frozenset(
         Element(it.path, swap.get(it.kind, it.kind)) for it in joint_state(self, state)
@@ -81,7 +86,9 @@ def other_kind(joint_state: Any) -> Any:
 
 
 def early(write: Any) -> Any:
-    """Begins with any joint state, and writes the first lines of a window 1 ns early."""
+    """Wraps `Writer.write`, so that it begins with any joint state, and writes lines that belong 1
+    ns after a window's start at the start.
+    """
 
     def change(
         self: Any, start: int, durations: Any, interrupts: Any = (), present: Any = None
@@ -137,7 +144,7 @@ WRONGED = """psitrace 2 cpus=2
 
 
 def moved(lines_of: Any) -> Any:
-    """Puts samples at the end of their window's lines, a second later."""
+    """Wraps `lines_of`, so that samples are at the end of the window's lines and a second later."""
 
     def change(*given: Any) -> list[str]:
         lines: list[str] = lines_of(*given)
@@ -151,13 +158,12 @@ def moved(lines_of: Any) -> Any:
 
 
 def lost(lines_of: Any) -> Any:
-    """Drops the samples."""
+    """Wraps `lines_of`, so that it drops the samples."""
     return lambda *given: [line for line in lines_of(*given) if " mem " not in line]
 
 
 def check_wrong_folders(program: str) -> None:
-    """A folder that is wrong in one way is detected before its window is written, and a correct one
-    isn't.
+    """Each wrong version is detected before its window is written, and the right code is accepted.
     """
     must_replay_alike("a right folder", program, WRONGED, folded(WRONGED, SECOND)[0], SECOND)
     for what, place, name, wrong in WRONG:
