@@ -1,1 +1,1 @@
-"""The checks of tests/launcher."""
+"""Checks of the launcher ./psi_oomd, with its copies and the stubs that replace rt."""

@@ -1,4 +1,4 @@
-"""Copies of the launcher, with stubs for rt and for the programs."""
+"""Makes copies of the launcher, with stubs in place of rt and of the programs."""
 from __future__ import annotations
 
 import os
@@ -10,7 +10,7 @@ from collections.abc import Iterator
 from harness import must, must_be
 from shared.program import TOP
 
-# Each program, and the page of docs/ that shows its arguments.
+# Each program, with the page of docs/ that lists its arguments.
 PAGES = {"psi_oomd": "COMMANDS.md", "psi_observe": "OBSERVERS.md", "psi_convert": "CONVERT.md"}
 PROGRAMS = tuple(PAGES)
 TOOLS = (
@@ -20,7 +20,7 @@ TOOLS = (
     ),
     *("rm", "sed", "sh", "sha256sum", "sleep", "sort", "tail", "touch", "wc", "xargs"),
 )
-# The program's stub prints its arguments, one a line, and exits with status 7.
+# The stub of a program prints its arguments, one per line, and exits with status 7.
 PROGRAM = "#!/bin/sh\nprintf '<%s>\\n' \"$@\"\nexit 7\n"
 # The stub of rt: `rt try` writes its folder and its arguments, with each file's content in place of
 # its path, then SAID, and exits with STATUS; `rt ci` writes the files that it finds to SEEN, makes
@@ -76,7 +76,7 @@ BUILDS = "what is proved is built by ./{0} without --try"
 
 
 class Copy:
-    """The launcher of a program in its own folder, with its own PATH: git only if requested, and
+    """A launcher's copy in its own folder, with its own PATH, which has git only on request and
     never rt.
     """
 
@@ -98,8 +98,8 @@ class Copy:
     def run(
         self, *words: str, place: str = "/", given: str = "", **more: str
     ) -> tuple[int, str, str]:
-        """Returns the status and both streams of a run; in this folder, with this input and these
-        variables.
+        """Runs the launcher in the folder `place`, with the input `given` and the variables `more`.
+        Returns the exit status, standard output and standard error.
         """
         words = (os.path.join(self.top, self.name), *words)
         environment = {"PATH": self.path, **more}
@@ -108,8 +108,8 @@ class Copy:
         return done.returncode, done.stdout, done.stderr
 
     def give_rt(self) -> str:
-        """Puts the stub of rt into PATH, and a crate at the launcher's path for it. Returns a
-        folder to run in.
+        """Puts the stub of rt into PATH, and a crate at the path that the launcher expects. Returns
+        a folder to run in.
         """
         with open(os.path.join(self.path, "rt"), "w", encoding="utf-8") as file:
             file.write(RT)
@@ -139,7 +139,9 @@ class Copy:
         return place
 
     def other(self, room: str) -> str:
-        """Returns a program like that of `give_program`, at another path."""
+        """Writes a stub of the program, as `give_program` does, to another path, and returns the
+        path.
+        """
         place = os.path.join(room, f"a {self.name}")
         with open(place, "w", encoding="utf-8") as file:
             file.write(PROGRAM)
@@ -162,7 +164,7 @@ class Copy:
         return [line[1:-1] for line in lines[2:end:2]], [line[1:-1] for line in lines[end + 1 :]]
 
     def git(self, *words: str) -> str:
-        """Returns the output of git in this folder, with an author of its own."""
+        """Returns the output of git in the copy's folder, with a fixed author."""
         author = [
             word for name in ("user.name=a", "user.email=a@example.org") for word in ("-c", name)
         ]
@@ -171,8 +173,8 @@ class Copy:
         ).stdout.strip()
 
     def give_program(self, more: str = ":") -> None:
-        """Puts a program at the launcher's path for it, newer than its sources. It runs `more`
-        before it ends.
+        """Writes a stub of the program, newer than its sources, to the path that the launcher
+        expects. The stub runs the shell commands `more` before it ends.
         """
         with open(os.path.join(self.top, "crates.txt"), "w", encoding="utf-8") as file:
             file.write(f"{self.name}_main:\n")
@@ -183,12 +185,12 @@ class Copy:
         os.utime(os.path.join(self.top, "crates.txt"), (0, 0))
 
     def program(self) -> str:
-        """Returns the launcher's path for the program."""
+        """Returns the path at which the launcher expects its program."""
         return os.path.join(self.top, "crates", f"{self.name}_main", "out", f"{self.name}_main")
 
 
 def must_match(what: str, lines: list[str], patterns: list[str]) -> None:
-    """Each line matches its pattern."""
+    """Raises unless each line matches the pattern at its position."""
     is_right = len(lines) == len(patterns) and all(
         re.fullmatch(pattern, line) for pattern, line in zip(patterns, lines)
     )
@@ -196,14 +198,14 @@ def must_match(what: str, lines: list[str], patterns: list[str]) -> None:
 
 
 def copies(room: str, has_git: bool = True) -> Iterator[Copy]:
-    """Yields the launcher of each program."""
+    """Yields a copy of the launcher for each program."""
     for name in PROGRAMS:
         yield Copy(room, name, has_git)
 
 
-# Valid arguments of each program, with standard input.
+# Valid arguments of each program. The trace comes from standard input.
 RIGHT = {
     "psi_oomd": ("check", "-"), "psi_observe": ("-", "1", "/"), "psi_convert": ("events", "-", "-")
 }
-# All arguments of `gen` but one.
+# All required arguments of `gen` except `--events`.
 GEN = "--seed 1 --cpus 1 --groups 1".split()

@@ -1,4 +1,4 @@
-"""Usage errors, and files that aren't traces, are reported at once."""
+"""Checks that usage errors, and files that aren't traces, are reported at once, without a build."""
 from __future__ import annotations
 
 import os
@@ -6,8 +6,8 @@ import os
 from harness import must_be
 from launcher.copies import GEN, Copy
 
-# Faulty arguments of psi_oomd in a folder with a trace `t` and a folder `d`, the program's status,
-# and the message.
+# Faulty arguments of psi_oomd, its exit status, and its message. They run in a folder with a trace
+# `t`, a recording `r` and a folder `d`.
 FAULTY = (
     ((), 1, "which command? ./psi_oomd --help has all of them"),
     (("repaly", "t"), 1, "unknown command repaly: did you mean replay?"),
@@ -48,7 +48,7 @@ FAULTLESS = (
     ("import", "t", "--cpus", "0"), ("rules", "t"),
     ("replay", "--live", "none", "t"), ("rules", "-", "--drop-in", "t"),
 )  # fmt: skip
-# Values that the program judges: what is said after its own message.
+# Invalid values of options, with the hint that the launcher adds to the program's own message.
 VALUES = (
     (("replay", "-", "--rules", "t", "--tick-ms=x"),
      "--tick-ms takes a whole number such as 2, not 'x'"),
@@ -74,8 +74,8 @@ def make_files(place: str) -> None:
 
 
 def check_faulty_words(room: str) -> None:
-    """They are reported at once without a program, with its status; if there is a program, its own
-    message comes first.
+    """Usage errors are reported at once, with the program's status. If the program is built, the
+    program's own message comes first.
     """
     copy, place = Copy(room, "psi_oomd"), os.path.join(room, "files")
     make_files(place)
@@ -105,7 +105,9 @@ def check_faulty_words(room: str) -> None:
 
 
 def must_judge_pages(copy: Copy, place: str) -> None:
-    """The words of psi_convert: a command, a table and files of pages."""
+    """Usage errors of psi_convert (the command, the table, the files of pages) are reported at
+    once.
+    """
     words = "psi_convert takes the word events and names: TABLE PAGES.."
     folder = "names count from the folder in which the command runs"
     option = "psi_convert has no option --raw: a name that begins with - is written as ./--raw"
@@ -121,7 +123,7 @@ def must_judge_pages(copy: Copy, place: str) -> None:
     must_be("right words", copy.run("events", "t", "-", place=place)[0], 70)
 
 
-# Files that aren't traces, and the messages about them.
+# Files that aren't traces, and the message about each.
 NO_TRACES = {
     "t.gz": (b"\x1f\x8b\x08\0\0\0", "compressed by gzip: gunzip -c t.gz > FILE"),
     "t.xz": (b"\xfd7zXZ\0\0", "compressed by xz: xz -dc t.xz > FILE"),
@@ -147,8 +149,8 @@ NO_TRACES = {
 
 
 def check_what_is_no_trace(room: str) -> None:
-    """Once the program has rejected a file, the launcher says what it is; before the program is
-    built it says nothing.
+    """Once the program has rejected a file, the launcher says what kind of file it is; without a
+    built program the launcher says nothing.
     """
     copy, place = Copy(room, "psi_oomd"), os.path.join(room, "files")
     os.makedirs(place)

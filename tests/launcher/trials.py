@@ -1,4 +1,4 @@
-"""Checks of --try: what a trial gets, and what is stored from it."""
+"""Checks of --try: which files rt gets, and which program is stored."""
 from __future__ import annotations
 
 import os
@@ -12,8 +12,8 @@ from launcher.faulty import make_files
 
 
 def check_what_a_trial_is_handed(room: str) -> None:
-    """A trial gets the files that the program would read, and no other argument that happens to be
-    a file.
+    """`--try` passes to rt the files that the program would read, and no other argument that
+    happens to be a file.
     """
     copy = Copy(room, "psi_oomd")
     place = copy.give_rt()
@@ -105,8 +105,8 @@ def check_a_trial_without_an_answer(room: str) -> None:
         must_be("--try --version", copy.run("--try", "--version")[0], 0)
 
 
-# The stub of the program that a trial links: for usage errors and for a trace it behaves like
-# psi_oomd.
+# The stub of the program that rt links: like psi_oomd, it rejects a run without arguments and
+# accepts a trace.
 LINKED = """#!/bin/sh
 case $# in 0) echo 'usage: psi_oomd stall or check' >&2; exit 1 ;; esac
 [ "$1 $2" != 'check -' ] || exit 0
@@ -116,13 +116,15 @@ exit 7
 
 
 def run_kept(copy: Copy, cache: str, *words: str, **more: str) -> tuple[int, str, str]:
-    """Returns a trial with its own cache."""
+    """Runs `--try` with this cache folder. Returns the exit status, standard output and standard
+    error.
+    """
     return copy.run("--try", *words, XDG_CACHE_HOME=cache, **more)
 
 
 def check_a_trial_that_is_kept(room: str) -> None:
-    """The program that rt links for a trial is stored under the sums of the sources, and later runs
-    need no rt.
+    """The program that rt links for `--try` is stored under a checksum of its sources, and later
+    runs need no rt.
     """
     copy = Copy(room, "psi_oomd")
     place = copy.give_sources()

@@ -1,4 +1,6 @@
-"""Checks of lint on randomly changed files: what it corrects and what the program says."""
+"""Checks of lint on randomly changed rules files: its corrections, and whether psi_oomd accepts
+them.
+"""
 from __future__ import annotations
 
 import json
@@ -31,12 +33,12 @@ VALUES: tuple[object, ...] = (
 
 
 def check_agreement_with_the_program(room: Room) -> None:
-    """For values of all forms, lint reports an error exactly if psi_oomd rejects the file, and what
-    --fix writes is accepted.
+    """For argument values of all forms, lint reports an error exactly if psi_oomd rejects the file,
+    and psi_oomd accepts what --fix writes.
     """
     for plugin, args in DEFAULTS.items():
         if plugin in ("memory_reclaim", "kill_by_pg_scan", "pressure_above"):
-            continue  # the forms of their arguments are those of others
+            continue  # other plugins' arguments have the same forms
         names = {
             **args,
             **({"recursive": "", "min_growth_ratio": ""} if plugin.endswith("growth") else {}),
@@ -54,8 +56,8 @@ def check_agreement_with_the_program(room: Room) -> None:
 
 
 def check_any_edit(room: Room) -> None:
-    """Whatever is cut from a file or doubled, lint is silent only if the file is accepted, and
-    --fix twice equals --fix once.
+    """If parts of a file are cut out or doubled, lint is silent only if psi_oomd accepts the file.
+    Running --fix twice gives the result of running it once.
     """
     drawn = random.Random(43)
     with open(RUNAWAY_RULES, "rb") as file:

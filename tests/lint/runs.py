@@ -1,4 +1,4 @@
-"""Runs of tools/rules lint, and the rules files that they read."""
+"""Runs tools/rules lint, and makes the rules files that lint reads."""
 from __future__ import annotations
 
 import json
@@ -27,7 +27,7 @@ DEFAULTS: dict[str, dict[str, str]] = {
 
 
 def rules_of(plugin: str, args: Mapping[str, object], **more: object) -> str:
-    """Rules with only this plugin, and more keys of the ruleset."""
+    """Returns a rules file with this plugin alone. `more` adds keys to the ruleset."""
     it = {"name": plugin, "args": args}
     is_action = plugin.startswith("kill_")
     detectors = ["g", {"name": "exists", "args": {"cgroup": "a"}} if is_action else it]
@@ -43,7 +43,7 @@ def lint(room: Room, text: str | bytes, *words: str) -> Done:
 
 
 def is_taken(room: Room, text: str | bytes) -> bool:
-    """Whether psi_oomd accepts these rules."""
+    """Returns whether psi_oomd accepts this rules file."""
     return room.run(
         "psi_oomd", "replay", "-", "--rules", room.file("taken.json", text), given=EMPTY
     ).status == 0
