@@ -1,1 +1,1 @@
-"""The checks of `names`, by subject."""
+"""Checks of names of processes, names of containers and times of day."""

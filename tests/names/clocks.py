@@ -1,4 +1,4 @@
-"""Cases of times of day, and of names of containers."""
+"""Checks of times of day and of container names."""
 from __future__ import annotations
 
 import json
@@ -12,7 +12,8 @@ from psinames.clock import in_zone, trace_time, time_in, wall_text, zone_name
 from psinames.groups import GroupNames
 from psirec.containers import names_in
 
-# The start of a trace of an hour, a time in it, and that in s from the start.
+# For a trace of an hour: its start, a time of day within it, and that time in seconds from the
+# start.
 TIMES = (
     ("2026-11-28T13:58:12.5Z", "14:03", 287.5),
     ("2026-11-28T13:58:12.5Z", "14:03:10.25", 297.75),
@@ -31,7 +32,7 @@ MALFORMED = ("24:00", "14:60", "14:03:60", "14", "1e3", "14:3", "2026-11-28T14:0
 
 
 def said_by(call: object, *words: object) -> str:
-    """Returns the message of the fault that a call raises; empty if it raises none."""
+    """Returns the message of the error that a call raises; empty if it raises none."""
     try:
         call(*words)  # type: ignore[operator]
     except Fault as fault:
@@ -40,7 +41,7 @@ def said_by(call: object, *words: object) -> str:
 
 
 def check_times_of_day(_: Room) -> None:
-    """A time of day is the first one after the trace's start, in its zone."""
+    """A time of day means the first such time after the trace's start, in the trace's time zone."""
     for start, word, wanted in TIMES:
         must_be(f"{word} in a trace from {start}",
                 time_in(trace_time(word), wall_time(start), 3600 * SECOND, "--at"), wanted * SECOND)
@@ -60,7 +61,7 @@ def check_times_of_day(_: Room) -> None:
 
 
 def check_zones(_: Room) -> None:
-    """Times of day are in another zone, with its summer time."""
+    """Times of day may be in another time zone, with its daylight saving time."""
     for start, zone, wanted in (
         ("2026-11-28T13:58:12Z", "+01:00", "2026-11-28T14:58:12+01:00"),
         ("2026-11-28T13:58:12.5Z", "Europe/Berlin", "2026-11-28T14:58:12.5+01:00"),
@@ -106,7 +107,9 @@ PATHS = (
 
 
 def check_formats_of_containers(_: Room) -> None:
-    """Names are found in the outputs of crictl, docker and podman, and in lines of a person."""
+    """Container names are read from the outputs of crictl, docker and podman, and from lines typed
+    by hand.
+    """
     for text, wanted in FORMATS:
         must_be(f"the names in {text!r}", names_in(text), wanted)
     for text in ("web\n", "4fd3 web\n", f"{NUMBER}\n", '{"ID":'):
@@ -117,7 +120,8 @@ def check_formats_of_containers(_: Room) -> None:
 
 
 def check_paths_of_containers(_: Room) -> None:
-    """Paths are shown with names, and found by paths, units and names."""
+    """Group paths are printed with container names, and are found by path, unit or container name.
+    """
     names = GroupNames({NUMBER: "web", UID: "prod/web-7"})
     for path, wanted in PATHS:
         must_be(f"how {path} is shown", names.shown(path), wanted)

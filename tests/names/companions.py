@@ -1,4 +1,6 @@
-"""Companion files for traces that no recording made, computed from the lines of the trace alone."""
+"""Makes companion files (process names, container names, times of day) for traces that come from no
+recording, from the trace's lines alone.
+"""
 from __future__ import annotations
 
 from shared.rooms import Room
@@ -13,15 +15,15 @@ WINDOW = 10**9
 
 
 def first_process(label: int) -> int:
-    """Each task is a process of its own."""
+    """Returns the process number of a task that is a process of its own."""
     return 1000 + label
 
 
 def companion(  # noqa: B006
     trace: str, names: dict[int, str], begins: str = BEGAN, processes: dict[int, int] = {}
 ) -> Companion:
-    """Returns the companion of a trace: `names` by label, and `processes` of labels that are
-    threads.
+    """Returns the companion of a trace: `names` by task label, and `processes` for the labels of
+    tasks that are threads.
     """
     size, digest = digest_of([trace.encode()])
     lives: dict[int, Life] = {}
@@ -57,7 +59,7 @@ def companion(  # noqa: B006
 
 
 def with_companion(room: Room, name: str, trace: str, found: Companion) -> str:
-    """Writes a trace and its companion."""
+    """Writes a trace and its companion file, and returns the trace's name in the room."""
     room.file(name, trace)
     write(f"{room.path}/{companion_of(name)}", found)
     return name

@@ -1,4 +1,4 @@
-"""Cases of the companion file."""
+"""Checks of the companion file."""
 from __future__ import annotations
 
 import os
@@ -24,13 +24,13 @@ ESCAPED = ("<script>alert(1)</script>", r"a\x1b[31mb", r"\xff\xfe", r"\xe2\x80\x
 
 
 def runaway() -> str:
-    """Returns the trace of the example."""
+    """Returns the text of the example trace `runaway`."""
     with open(RUNAWAY, encoding="ascii") as file:
         return file.read()
 
 
 def check_names_are_escaped(_: Room) -> None:
-    """No name can write to a terminal."""
+    """Control characters in names are escaped, so no name can control a terminal."""
     for name, wanted in zip(HOSTILE, ESCAPED):
         must_be(f"{name!r}", escaped(name), wanted)
         must(is_escaped(wanted), f"{wanted} is escaped")
@@ -41,7 +41,7 @@ def check_names_are_escaped(_: Room) -> None:
 
 
 def check_a_file_is_read_as_it_was_written(room: Room) -> None:
-    """Random names in a companion survive a round trip."""
+    """A companion with random names, once written, is read back unchanged."""
     draw = random.Random(2)
     trace = runaway()
     processes: tuple[dict[int, int], ...] = ({}, {2: 1001})
@@ -61,7 +61,9 @@ def check_a_file_is_read_as_it_was_written(room: Room) -> None:
 
 
 def check_damaged_files(room: Room) -> None:
-    """A damaged companion is rejected with its line, and that of another trace too."""
+    """A damaged companion is rejected with the number of its line, and a companion of another trace
+    is rejected too.
+    """
     trace = runaway()
     with_companion(room, "r.trace", trace, companion(trace, {}))
     name = f"{room.path}/r.trace.names"
@@ -101,7 +103,7 @@ def check_damaged_files(room: Room) -> None:
 
 
 def check_windows_add_up(room: Room) -> None:
-    """The times of all windows are those for which groups ran."""
+    """For each group the run times (ns) of all windows add up to the group's whole run time."""
     trace = runaway()
     found = companion(trace, {})
     with_companion(room, "r.trace", trace, Companion(found.size, found.digest, found.length))
@@ -113,7 +115,7 @@ def check_windows_add_up(room: Room) -> None:
 
 
 def check_anonymous_traces(room: Room) -> None:
-    """Groups and tasks are numbers, and everything else is as it was."""
+    """In an anonymous trace groups and tasks are numbers, and everything else is unchanged."""
     trace, anonymous = runaway(), Anonymous()
     names = {1: "httpd", 2: "indexer", 3: "import"}
     parts = [trace[start : start + 1000].encode() for start in range(0, len(trace), 1000)]

@@ -1,5 +1,5 @@
-"""Cases of processes in blame: each part of a wait, by process, is what blame without names says if
-each process had a group of its own.
+"""Checks of blame by process: the times for each process are those that blame without names reports
+if each process has its own group.
 """
 from __future__ import annotations
 
@@ -14,24 +14,24 @@ from shared.traces import Maker
 
 BLAME = "tools/blame"
 TRACES = 12
-# Labels whose task is a thread of the process of another label.
+# The label of each thread, with the process number of the task whose thread it is.
 THREADS = {3: first_process(1), 5: first_process(2)}
 
 
 class Load(Maker):
-    """Makes traces in which groups wait a lot."""
+    """Makes random traces in which groups wait often."""
 
     FIRST = {**Maker.FIRST, "fork": 5, "stall": 1, "move": 2}
     OFTEN = {1: FIRST, 2: FIRST}
 
 
 def process_of(label: int) -> int:
-    """Returns the process of a label."""
+    """Returns the number of the process to which the task with this label belongs."""
     return THREADS.get(label, first_process(label))
 
 
 def with_groups_of_processes(trace: str) -> str:
-    """Returns the trace with each process in a group of its own, inside its group."""
+    """Returns the trace with each process in its own group, a child of the process's group."""
     lines, live = [], set[str]()
 
     def group_of(now: str, path: str, label: str) -> str:
@@ -59,7 +59,7 @@ def with_groups_of_processes(trace: str) -> str:
 
 
 def groups_in(room: Room, *words: str) -> list[dict[str, Any]]:
-    """Returns what blame says of all groups."""
+    """Returns blame's JSON entries for all groups."""
     done = room.run(BLAME, *words, "--json")
     must_be(f"the status of blame {words}, which said {done.error}", done.status, 0)
     found: list[dict[str, Any]] = json.loads(done.output)["groups"]
@@ -67,12 +67,15 @@ def groups_in(room: Room, *words: str) -> list[dict[str, Any]]:
 
 
 def base(name: str) -> str:
-    """Returns the group above a process's group, without the number of its life."""
+    """Returns the parent of a process's group, without the number that marks a later group at the
+    same path.
+    """
     return name.partition("#")[0].rpartition("/")[0] or "/"
 
 
 def check_parts_by_process(room: Room) -> None:
-    """In random traces, with threads and moves, times by process are those of groups of processes.
+    """In random traces with threads and moves, the times of each process are those of a group that
+    holds the process alone.
     """
     for seed in range(TRACES):
         trace = Load(seed, 1).trace()
@@ -105,7 +108,9 @@ TEXT = """/batch/index waited 12.120 s for a processor between 100 s and 220 s \
 
 
 def check_names_in_the_text(room: Room) -> None:
-    """A group's processes are named after its times, and left out with --no-names."""
+    """The text output lists a group's processes after the group's times, and leaves them out with
+    --no-names.
+    """
     with open(RUNAWAY, encoding="ascii") as file:
         trace = file.read()
     with_companion(room, "r.trace", trace,

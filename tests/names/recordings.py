@@ -1,4 +1,4 @@
-"""Cases of companions that psitrace makes from stored recordings."""
+"""Checks of companion files that psitrace makes from stored recordings."""
 from __future__ import annotations
 
 import re
@@ -17,7 +17,7 @@ START = "2026-11-28T14:00:00+01:00"
 
 
 def made(room: Room, folder: str, *words: str) -> tuple[str, Companion, str]:
-    """Returns the trace of a recording, its companion and its summary."""
+    """Converts a recording, and returns its trace, its companion and its summary."""
     done = room.run(PSITRACE, folder, "-o", "x.trace", *words)
     must_be(f"the status of psitrace, which said {done.error}", done.status, 0)
     found = find(f"{room.path}/x.trace")
@@ -27,8 +27,8 @@ def made(room: Room, folder: str, *words: str) -> tuple[str, Companion, str]:
 
 
 def check_tasks_of_a_recording(room: Room) -> None:
-    """Each task of the trace is in the companion, with its names before and after exec; a part of
-    the recording knows them too.
+    """Each task of the trace is in the companion, with its names before and after exec, also if
+    only a part of the recording is converted.
     """
     with recording("exec-2") as folder:
         trace, found, said = made(room, folder, "--start", START)
@@ -53,7 +53,7 @@ def check_tasks_of_a_recording(room: Room) -> None:
 
 
 def check_a_folded_recording(room: Room) -> None:
-    """Folding changes the tasks, and not who ran most in each window."""
+    """Folding groups changes the tasks, but not which process ran most in each window."""
     with recording("exec-2") as folder:
         _, whole, _ = made(room, folder)
         _, folded, _ = made(room, folder, "--fold", "1", "--force")
@@ -64,7 +64,7 @@ def check_a_folded_recording(room: Room) -> None:
 
 
 def check_an_anonymous_recording(room: Room) -> None:
-    """No name and no path of the recording is left."""
+    """An anonymous trace and its companion contain no name and no path of the recording."""
     with recording("exec-2") as folder:
         trace, found, said = made(room, folder)
         hidden, anonymous, _ = made(room, folder, "--anonymize")
@@ -82,7 +82,7 @@ def check_an_anonymous_recording(room: Room) -> None:
 
 
 def check_the_clock_of_a_recording(room: Room) -> None:
-    """The companion has the time of day that the summary has, in the requested zone."""
+    """The companion has the summary's time of day, in the requested time zone."""
     with recording("wakeups") as folder:
         _, found, said = made(room, folder, "--from", "3", "--to", "4", "--tz", "+05:45")
     assert found.start

@@ -1,1 +1,1 @@
-"""Checks of tools/oomd."""
+"""Checks of tools/oomd, which emulates the daemon oomd on a trace."""

@@ -1,5 +1,5 @@
-"""Compares the emulation with stored answers, and with oomd itself: every kill is the same, except
-among equal ranks.
+"""Compares the kills of the emulation with stored kills and with oomd itself. The kills must be
+equal, except among groups of equal rank.
 """
 from __future__ import annotations
 
@@ -35,7 +35,9 @@ def check_the_stored_answers(room: Room) -> None:
 
 
 def check_that_rules_differ_where_stored(room: Room) -> None:
-    """psi_oomd's own kills with the same files: 39 experiments differ."""
+    """psi_oomd's own kills for the same files are the stored ones; they differ from oomd's in 39
+    experiments.
+    """
     for it in FOUND:
         run = run_of(room, it)
         words = (run.trace, "--rules", run.config, "--tick-ms", "1000", "--interval-s",
@@ -70,7 +72,7 @@ def check_oomd_on_the_experiments(room: Room) -> None:
 
 
 def watching(action: str, cgroup: str, **more: object) -> Config:
-    """Rules that act soon in any recording."""
+    """Returns a configuration that kills early in any recording."""
     resource = {"resource": "memory"} if action == "kill_by_pressure" else {}
     detectors = [
         plugin("pressure_above", "*,*/*", resource="memory", threshold=1, duration=2),
@@ -80,7 +82,7 @@ def watching(action: str, cgroup: str, **more: object) -> Config:
 
 
 def some_rules() -> dict[str, str]:
-    """Debian's own file, and usual rules."""
+    """Returns configurations by name: Debian's default file, and others in common use."""
     actions = (GROWTH, SWAP, "kill_by_pressure", "kill_by_pg_scan")
     found = {it: written(watching(it, "*/*,*/*/*")) for it in actions}
     found["down"] = written(watching(GROWTH, "*", recursive="true"))
@@ -97,7 +99,9 @@ def some_rules() -> dict[str, str]:
 
 
 def must_agree_on(what: str, trace: str, config: str, warm: int = 0) -> int:
-    """Runs both at each interval. Returns the number of kills."""
+    """Runs the emulation and oomd itself at each interval, and raises if their kills differ.
+    Returns the number of kills.
+    """
     count = 0
     for interval in INTERVALS:
         run = Run(trace, config, (), interval, warm=warm)
@@ -122,7 +126,7 @@ def check_examples(room: Room) -> None:
 
 
 def traces(room: Room) -> Iterator[tuple[str, str]]:
-    """Yields the stored recordings as traces."""
+    """Yields the name and the trace of each stored recording."""
     for name in RECORDINGS:
         with recording(name) as folder:
             done = tool("psitrace", folder, program=room.program)
@@ -149,7 +153,7 @@ def check_recordings(room: Room) -> None:
 
 
 def random_run(folder: str, seed: int) -> Run:
-    """Writes the files of a random case."""
+    """Writes the trace and the configuration of a random case."""
     draw = random.Random(seed)
     texts = (
         random_cases.Load(draw, draw.choice((15, 30, 60))).text(),
@@ -164,7 +168,9 @@ def random_run(folder: str, seed: int) -> Run:
 
 
 def random_share(share: int) -> None:
-    """A share of the random cases. Those of oomd run in parallel."""
+    """On the random cases of this share the emulation agrees with oomd, if oomd is installed. The
+    cases of oomd run in parallel.
+    """
     if not has_oomd():
         return
     kills = 0

@@ -1,4 +1,4 @@
-"""Shared by checks of tools/oomd: the emulation and oomd itself on one trace."""
+"""Runs the emulation and oomd itself on one trace, for the checks of tools/oomd."""
 from __future__ import annotations
 
 import functools
@@ -36,7 +36,9 @@ def has_oomd() -> bool:
 
 
 def alone(check: Callable[[Room], None]) -> Callable[[Room], None]:
-    """Runs a check in its own process: it replaces functions that other checks call."""
+    """Returns a check that runs in its own process, since it replaces functions that other checks
+    call.
+    """
 
     @functools.wraps(check)
     def run(room: Room) -> None:
@@ -55,7 +57,9 @@ def alone(check: Callable[[Room], None]) -> Callable[[Room], None]:
 
 @functools.lru_cache(maxsize=None)
 def sandbox() -> str:
-    """Returns the sandbox in which oomd runs here; none in a container that allows neither kind."""
+    """Returns the name of the program that isolates oomd here: bwrap, unshare, or `none` if neither
+    works.
+    """
     for kind in ("bwrap", "unshare"):
         if shutil.which(kind) and not Sandbox(kind, "/tmp", "/usr/bin/true").fault():
             return kind
@@ -63,7 +67,7 @@ def sandbox() -> str:
 
 
 def run_of(room: Room, it: Experiment) -> Run:
-    """Writes the files of an experiment."""
+    """Writes the files of an experiment, and returns the run of them."""
     stem = f"{abs(hash(it.name)):x}"
     trace = room.file(f"{stem}.trace", it.story.text(it.end))
     config = room.file(f"{stem}.json", written(it.config))
@@ -90,7 +94,9 @@ def emulated(run: Run) -> Engine:
 
 
 def must_agree(what: str, it: Engine, kills: list[Kill]) -> None:
-    """Every kill is allowed by the emulation: the same, or one of equal rank."""
+    """Raises unless each of oomd's kills is one that the emulation allows: the same victim, or one
+    of equal rank.
+    """
     for own, other in zip(it.decisions, kills):
         found = own.kill()
         same = (found.time_ns, found.ruleset, found.action) == (
@@ -101,7 +107,8 @@ def must_agree(what: str, it: Engine, kills: list[Kill]) -> None:
 
 
 def must_be_stored(what: str, it: Engine, wanted: str) -> None:
-    """The emulation has the stored kills, except among equal ranks."""
+    """Raises unless the emulation's kills are the stored ones, except among groups of equal rank.
+    """
     if wanted == CRASH:
         must(it.crash, f"{what}: oomd crashes, and the emulation doesn't say so")
         return
@@ -118,5 +125,5 @@ def must_be_stored(what: str, it: Engine, wanted: str) -> None:
 
 
 def ran(run: Run, kind: str | None = None) -> binary.BinaryRun:
-    """Runs oomd itself on a trace."""
+    """Runs oomd itself on a trace, in this kind of sandbox."""
     return binary.run_binary(Program(), run, "oomd", kind or sandbox())

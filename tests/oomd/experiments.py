@@ -1,5 +1,5 @@
-"""Fifty-eight small experiments, each about one rule of oomd, with the kills of Debian's oomd
-0.5.0, and those of psi_oomd with the same file and ticks of a second.
+"""Defines 58 small experiments, each about one rule of oomd, with the kills of Debian's oomd 0.5.0,
+and with psi_oomd's kills for the same file and ticks of 1 s.
 """
 from __future__ import annotations
 
@@ -24,9 +24,9 @@ CRASH = "crash"
 
 @dataclass(frozen=True)
 class Experiment:
-    """A trace of some seconds and a configuration. `oomd` and `rules` are the kills of both
-    programs, such as `4s:/a`, followed by `r1a0` unless ruleset and action are 0; `refused` if
-    psi_oomd rejects the file.
+    """A trace of some seconds, and a configuration. `oomd` and `rules` are the kills of oomd and of
+    psi_oomd, such as `4s:/a`, followed by `r1a0` unless ruleset and action are both 0, or `refused`
+    if psi_oomd rejects the file.
     """
 
     name: str
@@ -46,7 +46,8 @@ FOUND: list[Experiment] = []
 
 def add(name: str, story: Story, end: float, config: Config, oomd: str, rules: str | None = None,
         **more: Any) -> None:
-    """Adds an experiment. Without `rules`, psi_oomd's kills are oomd's."""
+    """Adds an experiment that lasts `end` s. Without `rules`, psi_oomd's kills are those of oomd.
+    """
     wanted = oomd if rules is None else rules
     FOUND.append(Experiment(name, story, end, config, oomd, wanted, **more))
 
@@ -56,7 +57,9 @@ def grow(cgroup: str, delay: int = 600, **more: object) -> Config:
 
 
 def above(cgroup: str, threshold: object, duration: object = 0) -> list[Config]:
-    """Returns the detector of memory pressure."""
+    """Returns a detector group that is true if memory pressure is above `threshold` percent for
+    `duration` s.
+    """
     return [
         plugin("pressure_above", cgroup, resource="memory", threshold=threshold, duration=duration)
     ]
@@ -71,12 +74,12 @@ def scans(cgroup: str, duration: int) -> list[Config]:
 
 
 def one(group: str = "/a", host: str = "0 0 0") -> Story:
-    """Returns a group with a task."""
+    """Returns a trace with one group, which has one task."""
     return Story(group, host=host).task(group)
 
 
 def several(*sizes: tuple[str, int, int], host: str = "0 0 0") -> Story:
-    """Groups with one task each, and their memory and swap in bytes."""
+    """Returns a trace of groups with one task each, with their memory and swap (bytes)."""
     story = Story(*(path for path, _, _ in sizes), host=host)
     for path, memory, swap in sizes:
         story.task(path).mem(0, path, memory, swap)

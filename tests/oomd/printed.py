@@ -23,13 +23,15 @@ OOMD = "tools/oomd"
 
 
 def put(room: Room, story: Story, end: float, config: object) -> tuple[str, str, str]:
-    """Writes a trace and a configuration, and returns the arguments that name them."""
+    """Writes a trace of `end` s and a configuration, and returns the arguments that name these
+    files.
+    """
     trace = room.file("t.trace", story.text(end))
     return trace, "--config", room.file("c.json", json.dumps(config))
 
 
 def kills(room: Room, *words: str) -> list[tuple[int, str]]:
-    """Returns the kills in the JSON output: seconds and victims."""
+    """Returns the time (s) and the victim of each kill in the JSON output."""
     done = room.run(OOMD, *words, "--interval-s", "1", "--json")
     must_be(f"the status, where standard error was {done.error!r}", done.status, 0)
     found = json.loads(done.output)["decisions"]
@@ -54,8 +56,8 @@ oomd 0.5.0: 2 looks, one each 1 s
 
 
 def check_the_story(room: Room) -> None:
-    """oomd's own interval is 5 s, so it kills at 150 s; so does psi_oomd with ticks of a second,
-    but without them it kills at 146 s.
+    """oomd's own interval is 5 s, so it kills at 150 s. psi_oomd kills at that time with ticks of 1
+    s, and at 146 s with its default ticks.
     """
     done = room.run(OOMD, RUNAWAY, "--config", RUNAWAY_RULES, "--compare", RUNAWAY_RULES)
     lines = done.output.splitlines()
@@ -131,7 +133,8 @@ def check_given_numbers(room: Room) -> None:
         f"--given=/s{it}/memory.low={size * MIB}" for it, size in (("", 30), ("/a", 60), ("/b", 0))
     ]
     must_be("the largest", kills(room, *words), [(1, "/s/a")])
-    # 30 MiB of its 60 are protected, since its parent has no more: 30 remain, and /s/b has 40.
+    # /s protects 30 MiB, so no more than 30 of /s/a's 60 MiB are protected: /s/a counts with 30
+    # MiB, and /s/b with 40.
     must_be("with protection", kills(room, *words, *low), [(1, "/s/b")])
     must_be("without the parent's", kills(room, *words, *low[1:]), [(1, "/s/a")])
     dying = rules([plugin("nr_dying_descendants", "s", count=3, lte="false")],
@@ -147,7 +150,9 @@ def check_given_numbers(room: Room) -> None:
 
 
 def check_warm(room: Room) -> None:
-    """A condition that holds at the start kills before it, and growth has a past."""
+    """With --warm, a condition that holds at the start leads to an earlier kill, and growth is
+    computed from earlier samples.
+    """
     words = put(room, Story("/a").task("/a").mem(0, "/a", 5), 2,
                 rules(ALWAYS, plugin(GROWTH, "a", post_action_delay=2)))
     must_be("without a past", kills(room, *words), [(1, "/a")])
@@ -185,7 +190,7 @@ def check_drop_ins(room: Room) -> None:
 
 
 def check_left_out_plugins(room: Room) -> None:
-    """Plugins that a trace can't serve are named, with what they might change."""
+    """Plugins that need what a trace lacks are reported, with what they might have changed."""
     actions = [
         plugin("kill_by_io_cost", "*"), plugin("systemd_restart", service="x"), plugin(GROWTH, "a")
     ]
@@ -200,8 +205,8 @@ def check_left_out_plugins(room: Room) -> None:
 
 
 def check_plugins_in_any_place(room: Room) -> None:
-    """A detector among the actions ends the chain if it is false, and `stop` always does; both
-    begin the pause.
+    """A false detector among the actions ends the chain, and `stop` always ends it. Both begin the
+    pause.
     """
     story = Story("/a").task("/a").mem(0, "/a", 5)
     go, end = plugin("exists", "a"), plugin("exists", "nope")
@@ -225,7 +230,7 @@ def check_plugins_in_any_place(room: Room) -> None:
 
 
 def check_accounts_that_are_off(room: Room) -> None:
-    """A group whose account is off has no pressure."""
+    """A group whose pressure accounting is off has no pressure."""
     above = plugin("pressure_above", "a", resource="memory", threshold=10, duration=0)
     trace = Story(
         "/a"
@@ -237,7 +242,7 @@ def check_accounts_that_are_off(room: Room) -> None:
 
 
 def check_oomd_itself(room: Room) -> None:
-    """The output with --binary, and its log with the trace's times."""
+    """With --binary the output is that of oomd itself, and its log has the trace's times."""
     if not both.has_oomd():
         return
     words = (RUNAWAY, "--config", RUNAWAY_RULES, "--binary", "--sandbox", both.sandbox(), "--log",
@@ -254,7 +259,8 @@ def check_oomd_itself(room: Room) -> None:
 
 
 def check_a_page(room: Room) -> None:
-    """tools/report shows the kills, and rejects what tools/oomd rejects."""
+    """The page of tools/report shows the kills, and tools/report rejects what tools/oomd rejects.
+    """
     done = room.run("tools/report", RUNAWAY, "--oomd", RUNAWAY_RULES, "-o", "page.html")
     must_be("the status, where standard error was " + done.error, done.status, 0)
     with open(f"{room.path}/page.html", encoding="utf-8") as file:

@@ -1,4 +1,4 @@
-"""Random traces and configurations of oomd."""
+"""Makes random traces and random configurations of oomd."""
 from __future__ import annotations
 
 import random
@@ -12,7 +12,7 @@ KINDS = ("sleep", "run", "stall", "iowait")
 
 
 class Load:
-    """A machine that changes each half second. Each task has its own processor."""
+    """Makes the trace of a machine that changes every 0.5 s. Each task has its own processor."""
 
     def __init__(self, draw: random.Random, length: int) -> None:
         self.draw, self.length, self.now = draw, length, 0
@@ -42,7 +42,7 @@ class Load:
             self.put(f"group {path}")
 
     def remove(self) -> None:
-        """Removes a group, if there is one without tasks and children."""
+        """Removes a group that has no task and no child, if any exists."""
         used = {*self.homes.values(), *(it.rpartition("/")[0] for it in self.groups)}
         free = [it for it in self.groups if it not in used]
         if free:
@@ -74,7 +74,7 @@ class Load:
         self.states[task] = state
 
     def sample(self, path: str) -> None:
-        """Writes a sample that may grow, shrink, swap and scan."""
+        """Writes a memory sample of a group, which may grow, shrink, swap and scan."""
         size = self.sizes[path]
         factor = self.draw.choice((0.5, 0.9, 1.0, 1.0, 1.05, 1.3, 2.0))
         size[0] = int(size[0] * factor) + self.draw.choice((0, 0, 4096, MIB, 20 * MIB))
@@ -178,7 +178,7 @@ def some_action(draw: random.Random) -> Config:
 
 
 def some_config(draw: random.Random) -> Config:
-    """One to three rulesets, perhaps with the same name."""
+    """Returns one to three rulesets, perhaps with equal names."""
     found = []
     for number in range(draw.choice((1, 1, 2, 3))):
         groups = [

@@ -1,4 +1,5 @@
-"""How a configuration is read: errors in oomd's words, numbers as in C++, patterns as in glob(3).
+"""Checks how tools/oomd reads a configuration: errors in oomd's words, numbers as in C++, patterns
+as in glob(3).
 """
 from __future__ import annotations
 
@@ -29,18 +30,18 @@ ABORTS = "(it aborts)"
 
 
 def act(name: str, **args: object) -> Any:
-    """Rules with this action, whose arguments are JSON values."""
+    """Returns a configuration with this action, whose arguments are JSON values."""
     return rules(ALWAYS, {"name": name, "args": args})
 
 
 def see(name: str, **args: object) -> Any:
-    """Rules with this detector."""
+    """Returns a configuration with this detector."""
     return rules([{"name": name, "args": args}], KILL)
 
 
 PRESSURE: dict[str, Any] = {"cgroup": "a", "resource": "io", "threshold": 1, "duration": 1}
 MEMORY: dict[str, Any] = {"cgroup": "a", "threshold": "1G", "duration": 1}
-# A configuration, and words of the reason why oomd rejects it; None if oomd accepts it.
+# Each configuration with words of oomd's reason for its rejection, or None if oomd accepts it.
 CONFIGURATIONS: tuple[tuple[Any, str | None], ...] = (
     ({}, None), ({"rulesets": {}}, None), ({"rulesets": []}, None), (None, None),
     ([], ABORTS), ({"rulesets": [3]}, ABORTS), ({"rulesets": [None]}, "Ruleset is missing name"),
@@ -107,7 +108,7 @@ CONFIGURATIONS: tuple[tuple[Any, str | None], ...] = (
     (act("kill_by_pressure", cgroup="a"), 'Required arg "resource"'),
     (act("kill_by_pg_scan", cgroup="a", recursive="True", debug=0), None),
 )  # fmt: skip
-# Texts, not all of them JSON, and whether oomd accepts them.
+# Texts, some of them not JSON, with whether oomd accepts each.
 TEXTS = (
     ("// a comment\n{}", True), ("{/* another */}", True), ('{"rulesets":[],}', True),
     ("{} more", True),
@@ -132,7 +133,7 @@ def check_each_configuration(_: Room) -> None:
 
 
 def check_places(_: Room) -> None:
-    """An error names the file, the ruleset, the group and the plugin."""
+    """An error names the file, the ruleset, the detector group and the plugin."""
     found = reason(json.dumps(see("exists")).encode()) or ""
     must(
         found.startswith(
@@ -150,7 +151,7 @@ def check_texts(_: Room) -> None:
 
 
 def check_configurations_by_oomd(room: Room) -> None:
-    """oomd itself accepts and rejects the same configurations, with the same words."""
+    """oomd itself accepts and rejects the same configurations, with the same reasons."""
     if not has_oomd():
         return
     path = os.path.join(room.path, "c.json")
@@ -224,7 +225,7 @@ GLOB_ERR, GLOB_NOSORT, GLOB_BRACE, GLOB_ONLYDIR = 1, 4, 1 << 10, 1 << 13
 
 
 def by_glob(folder: str, pattern: str) -> list[str]:
-    """Returns the folders that glob(3) itself finds, called as oomd does."""
+    """Returns the folders that the C function glob(3) finds, called as oomd calls it."""
     libc, found = ctypes.CDLL(None), Glob()
     names: set[str] = set()
     for one in filter(None, pattern.split(",")):
@@ -233,7 +234,7 @@ def by_glob(folder: str, pattern: str) -> list[str]:
         if libc.glob(path.encode(), flags, None, ctypes.byref(found)) == 0:
             names |= {os.fsdecode(found.pathv[at] or b"") for at in range(found.pathc)}
             libc.globfree(ctypes.byref(found))
-    # oomd treats `.` and `..` as groups with these names, which no trace has.
+    # oomd treats `.` and `..` as groups with these names. No trace has such groups.
     paths = [it[len(folder) :] or "/" for it in names if os.path.isdir(it)]
     return sorted(it for it in paths if not {".", ".."} & set(it.split("/")))
 

@@ -1,4 +1,4 @@
-"""Bad input: the tool's messages, with status 2."""
+"""Checks that bad input is rejected with the tool's message and status 2."""
 from __future__ import annotations
 
 import os
@@ -21,7 +21,9 @@ NOT_RUN = 2
 
 
 def must_refuse(what: str, done: Done, *words: str) -> None:
-    """Nothing is printed, the status is 2, and the message contains each of the words."""
+    """Raises unless nothing is printed, the status is 2, and the message contains each of the
+    words.
+    """
     must_be(f"{what}: status and output, where standard error was {done.error!r}",
             (done.status, done.output), (NOT_RUN, ""))
     for word in words:
@@ -29,7 +31,7 @@ def must_refuse(what: str, done: Done, *words: str) -> None:
 
 
 def files(room: Room) -> tuple[str, str]:
-    """Writes a trace and a configuration."""
+    """Writes a trace and a configuration, and returns their paths."""
     story = Story("/a").task("/a").mem(0, "/a", 5)
     config = written(rules(ALWAYS, plugin(GROWTH, "a", post_action_delay=60)))
     return room.file("t.trace", story.text(4)), room.file("c.json", config)
@@ -48,7 +50,7 @@ def check_refused_configurations(room: Room) -> None:
 
 
 def check_refused_traces(room: Room) -> None:
-    """The message is psi_oomd's own line."""
+    """For an invalid trace the message is the line that psi_oomd prints."""
     _, config = files(room)
     line = room.run("psi_oomd", "check", REFUSED).error.strip()
     must(line, "psi_oomd refuses it")
@@ -73,7 +75,9 @@ def check_bad_words(room: Room) -> None:
 
 @both.alone
 def check_programs_that_arent_oomd(room: Room) -> None:
-    """A missing file, a program with other output, a static one, and one that never ends."""
+    """A missing file, a program with other output, a statically linked program, and a program that
+    never ends are each rejected as oomd.
+    """
     trace, config = files(room)
     spin = room.file("spin", "#!/bin/sh\nwhile :; do :; done\n", 0o755)
     words = [OOMD, trace, "--config", config, "--sandbox", both.sandbox(), "--binary"]
@@ -107,7 +111,7 @@ def static(room: Room) -> str:
 
 @both.alone
 def check_without_a_compiler(room: Room) -> None:
-    """The message says what is missing."""
+    """Without a compiler the message says that the compiler is missing."""
     daemon.clock_library.cache_clear()
     with mock.patch.object(
         subprocess, "run", side_effect=FileNotFoundError(2, "No such file or directory")
@@ -142,7 +146,7 @@ def check_without_a_sandbox(_: Room) -> None:
 
 
 def check_oomds_own_refusal(room: Room) -> None:
-    """oomd's message, if it rejects what the emulation rejects too."""
+    """If oomd rejects a configuration that the emulation rejects too, oomd's message is printed."""
     if not both.has_oomd():
         return
     trace, _ = files(room)
@@ -154,7 +158,8 @@ def check_oomds_own_refusal(room: Room) -> None:
 
 
 def check_a_crash(room: Room) -> None:
-    """Both report the time of the crash, and the tool continues to its end."""
+    """Both the emulation and oomd itself report the time of a crash, and the tool runs to its end.
+    """
     trace, _ = files(room)
     bad = room.file("bad.json",
                     written(rules(ALWAYS, plugin(GROWTH, "a", growing_size_percentile=100))))
@@ -173,7 +178,7 @@ def check_a_crash(room: Room) -> None:
 
 
 def check_nothing_is_left(room: Room) -> None:
-    """No folder remains, and no file but the requested log."""
+    """A run leaves no folder, and no file except the requested log."""
     files(room)
     before = set(os.listdir(room.path))
     temporary = os.path.join(room.path, "tmp")

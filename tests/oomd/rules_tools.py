@@ -1,4 +1,6 @@
-"""What tools/rules does for oomd: expect --by oomd, notes of lint, to-oomd and from-oomd."""
+"""Checks of tools/rules with oomd's configurations: expect --by oomd, lint's notes, to-oomd and
+from-oomd.
+"""
 from __future__ import annotations
 
 import json
@@ -28,8 +30,8 @@ FULL = {"always_continue": "false", "cgroup": "a", "post_action_delay": "15", "r
 
 
 def check_expect(room: Room) -> None:
-    """At oomd's own interval the kill is at 150 s, and at 146 s if it looks each second or uses
-    psi_oomd's defaults.
+    """At oomd's own interval (5 s) the kill is at 150 s. It is at 146 s if oomd evaluates each
+    second, and with psi_oomd's defaults.
     """
     wants = {
         at: room.file(f"{at}.txt", f"first /batch/import from {at} to {at}\n") for at in (146, 150)
@@ -56,7 +58,7 @@ def check_expect(room: Room) -> None:
 
 
 def check_expect_of_an_own_file(room: Room) -> None:
-    """A file that psi_oomd rejects, and standard input as the trace."""
+    """expect --by oomd accepts a file that psi_oomd rejects, and a trace from standard input."""
     config = room.file("c.json", "// a comment\n" + open(RUNAWAY_RULES, encoding="utf-8").read())
     want = room.file("w.txt",
                      "kill /batch/import by batch work is short of memory\nat most 1 kill\n")
@@ -84,7 +86,7 @@ def check_words_of_expect(room: Room) -> None:
 
 
 def noted(config: Any) -> list[str]:
-    """Lint's notes on where oomd behaves differently."""
+    """Returns lint's notes about cases in which oomd behaves differently."""
     return [it.told() for it in oomd_notes.notes(config)]
 
 
@@ -124,7 +126,7 @@ def check_notes_of_lint(room: Room) -> None:
 
 
 def check_notes_of_ticks(room: Room) -> None:
-    """Ticks that don't divide the interval."""
+    """Lint notes ticks that don't divide the interval."""
     for pace, found in (
         ((None, None), ""),
         (
@@ -152,7 +154,8 @@ def check_notes_of_ticks(room: Room) -> None:
 
 
 def check_examples_go_both_ways(room: Room) -> None:
-    """Rules converted to a configuration and back are the same, and oomd accepts the configuration.
+    """The example rules, converted to a configuration of oomd and back, are unchanged, and oomd
+    accepts the configuration.
     """
     for name in EXAMPLES:
         file = os.path.join(TOP, "examples", f"{name}.json")
@@ -166,7 +169,7 @@ def check_examples_go_both_ways(room: Room) -> None:
 
 
 def must_be_taken(room: Room, what: str, text: str) -> None:
-    """oomd itself accepts a configuration, if it is installed."""
+    """Raises if oomd itself is installed and rejects a configuration."""
     if not has_oomd():
         return
     path = os.path.join(room.path, room.file("taken.json", text))
@@ -178,7 +181,8 @@ def must_be_taken(room: Room, what: str, text: str) -> None:
 
 
 def converted(room: Room, command: str, config: Any) -> tuple[Any, int]:
-    """Returns a command's output for a file, and its status."""
+    """Returns the JSON output of a `tools/rules` command for a configuration, and its exit status.
+    """
     if command == "from-oomd":
         nearest = Nearest(configuration("in.json", json.dumps(config).encode()))
         return nearest.data, int(any(is_lost for _, is_lost in nearest.told))
@@ -188,7 +192,7 @@ def converted(room: Room, command: str, config: Any) -> tuple[Any, int]:
 
 
 def check_to_oomd(room: Room) -> None:
-    """Values by hand."""
+    """to-oomd converts each kind of rule to the configuration that was written by hand."""
     for args, wanted, is_lost in (
         ({"size_threshold": "40", "min_growth_ratio": "1.25"}, {"size_threshold": "40"}, False),
         ({"min_growth_ratio": "2"}, {"min_growth_ratio": "2"}, False),
@@ -223,7 +227,7 @@ def check_to_oomd(room: Room) -> None:
 
 
 def check_from_oomd(room: Room) -> None:
-    """Values by hand."""
+    """from-oomd converts each kind of plugin to the rules that were written by hand."""
     for args, wanted, is_lost in (
         ({"min_growth_ratio": "1.25"}, {"min_growth_ratio": "1"}, False),
         ({"size_threshold": " 40 percent"}, {"size_threshold": "40"}, False),
@@ -277,7 +281,7 @@ def check_plugins_that_rules_lack(room: Room) -> None:
 
 
 def check_refused_files(room: Room) -> None:
-    """Each command rejects what its program rejects."""
+    """Each command rejects the files that its program rejects."""
     bad = room.file("bad.json", written(rules(ALWAYS, plugin(GROWTH, "a", other=1))))
     done = room.run(RULES, "from-oomd", bad)
     must(done.status == 2 and not done.output and "bad.json: ruleset 0 'r', action 0" in done.error,
@@ -288,8 +292,8 @@ def check_refused_files(room: Room) -> None:
 
 
 def check_random_files(room: Room) -> None:
-    """What oomd accepts becomes rules that psi_oomd accepts, and oomd accepts their conversion
-    back.
+    """A configuration that oomd accepts becomes rules that psi_oomd accepts, and oomd accepts these
+    rules after conversion back.
     """
     for seed in range(20):
         config = random_cases.some_config(random.Random(f"rules{seed}"))

@@ -1,4 +1,6 @@
-"""Nothing real is touched, even by a configuration without `dry` next to a real process."""
+"""Checks that no real process or service is affected, even by a configuration without `dry` and a
+real process in a group's list.
+"""
 from __future__ import annotations
 
 import json
@@ -25,7 +27,7 @@ RESTART = "systemd_restart"
 
 
 def sandboxes() -> list[str]:
-    """Returns the sandboxes that work here."""
+    """Returns the kinds of sandbox that work here."""
     return [
         it
         for it in SANDBOXES
@@ -34,7 +36,7 @@ def sandboxes() -> list[str]:
 
 
 def check_that_kills_become_dry(_: Room) -> None:
-    """Every plugin that isn't known to be harmless gets `dry`, in each place."""
+    """Every plugin that isn't known to be harmless gets the argument `dry`, in each place."""
     for name in (GROWTH, RESTART, "own_plugin", "kill_by_io_cost"):
         made = dry.make_dry({"name": name, "args": {"cgroup": "a", "dry": "false"}})
         must_be(f"dry of {name}", made["args"], {"cgroup": "a", "dry": "true"})
@@ -46,7 +48,7 @@ def check_that_kills_become_dry(_: Room) -> None:
 
 
 def check_the_files_name_no_process(room: Room) -> None:
-    """All lists of processes are empty."""
+    """All lists of processes in the files made for oomd are empty."""
     found = files_of(room)
     names = [name for name in found if name.endswith("cgroup.procs")]
     must_be("lists of processes", [found[it] for it in names], ["", ""])
@@ -60,7 +62,7 @@ def files_of(room: Room) -> dict[str, str]:
 
 @contextmanager
 def real_process() -> Iterator[subprocess.Popen[bytes]]:
-    """A process that oomd would kill if it could."""
+    """Yields a running process that oomd would kill if it could."""
     child = subprocess.Popen(["sleep", "600"])
     try:
         yield child
@@ -70,7 +72,8 @@ def real_process() -> Iterator[subprocess.Popen[bytes]]:
 
 
 def without_dry(room: Room, action: str, pid: int, kind: str) -> str:
-    """Runs oomd without `dry` on a group whose list of processes has a real one. Returns its log.
+    """Runs oomd without `dry` on a group whose list of processes contains a real process. Returns
+    oomd's log.
     """
     story = Story("/a").task("/a").mem(0, "/a", 5 * MIB)
     own = {"service": "ssh.service"} if action == RESTART else {"cgroup": "a"}
@@ -97,7 +100,7 @@ def without_dry(room: Room, action: str, pid: int, kind: str) -> str:
 
 @alone
 def check_that_nobody_is_killed(room: Room) -> None:
-    """No process is killed in any sandbox that works here."""
+    """No real process is killed in any sandbox that works here."""
     for kind in sandboxes() if has_oomd() else ():
         with real_process() as child:
             said = without_dry(room, GROWTH, child.pid, kind)
@@ -108,7 +111,7 @@ def check_that_nobody_is_killed(room: Room) -> None:
 
 @alone
 def check_that_nothing_is_restarted(room: Room) -> None:
-    """systemd_restart without `dry` reaches no bus."""
+    """The plugin systemd_restart without `dry` can't connect to a D-Bus."""
     for kind in sandboxes() if has_oomd() else ():
         with real_process() as child:
             said = without_dry(room, RESTART, child.pid, kind)
@@ -117,7 +120,7 @@ def check_that_nothing_is_restarted(room: Room) -> None:
 
 
 def check_that_the_folder_alone_is_written(room: Room) -> None:
-    """What another program than oomd could reach in each sandbox."""
+    """In each sandbox another program in place of oomd can write nothing outside of its folder."""
     for kind in sandboxes():
         if kind == "none":
             continue
@@ -139,7 +142,9 @@ def check_that_the_folder_alone_is_written(room: Room) -> None:
 
 
 def check_that_a_copy_is_what_runs(room: Room) -> None:
-    """The user's file isn't changed, and a kill in a detector's place gets `dry` too."""
+    """oomd gets a copy of the user's file in which each kill plugin has `dry`, even in a detector's
+    place. The user's file is unchanged.
+    """
     text = json.dumps(rules([plugin(GROWTH, "a")], plugin(GROWTH, "a")))
     name = room.file("c.json", text)
     copy = json.loads(dry.copy(read_configuration(os.path.join(room.path, name))))

@@ -1,4 +1,4 @@
-"""Small traces and configurations, written by hand."""
+"""Builds small traces and configurations for checks."""
 from __future__ import annotations
 
 import json
@@ -23,19 +23,21 @@ class Story:
             self.put(0, f"group {group}")
 
     def put(self, at: float, text: str) -> Story:
-        """Adds a line at a time in seconds."""
+        """Adds a trace line at time `at` (s)."""
         self.lines.append((int(at * SECOND), len(self.lines), text))
         return self
 
     def task(self, group: str, at: float = 0) -> Story:
-        """Adds a sleeping task."""
+        """Adds a sleeping task to the group at time `at` (s)."""
         processor, self.tasks = self.tasks, self.tasks + 1
         self.put(at, f"fork {self.tasks} {group} {processor}")
         self.put(at, f"switch {processor} {self.tasks} idle")
         return self.put(at, f"switch {processor} 0 sleep")
 
     def stalls(self, group: str, begin: float, end: float, share: float = 1.0) -> Story:
-        """Adds a task that waits for memory for this share of each two seconds."""
+        """Adds a task that, from `begin` to `end` (s), waits for memory for this share of every 2
+        s.
+        """
         self.task(group)
         task, processor, at = self.tasks, self.tasks - 1, begin
         while at < end:
