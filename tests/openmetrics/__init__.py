@@ -1,1 +1,1 @@
-"""The checks of tests/openmetrics."""
+"""Checks of tools/openmetrics."""

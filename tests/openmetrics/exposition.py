@@ -1,5 +1,5 @@
-"""A strict parser of OpenMetrics text, for the part that tools/openmetrics writes: counters with
-timestamps.
+"""Parses OpenMetrics text strictly: the part of the format that tools/openmetrics writes, counters
+with timestamps.
 """
 from __future__ import annotations
 
@@ -22,7 +22,8 @@ ESCAPES = {r"\\": "\\", r"\"": '"', r"\n": "\n"}
 
 
 class Family:
-    """The metadata of a family, and the points of its metrics: times in s since 1970, and values.
+    """The metadata of a metric family, and the points of its metrics: times (s since 1970) with
+    values.
     """
 
     def __init__(self, name: str) -> None:
@@ -32,7 +33,7 @@ class Family:
 
 
 class Sample(NamedTuple):
-    """A line with a point."""
+    """A line of the text that holds one point."""
 
     name: str
     labels: Labels
@@ -45,7 +46,7 @@ def unescaped(found: re.Match[str]) -> str:
 
 
 def labels_of(text: Optional[str]) -> Labels:
-    """Returns the labels between braces. No name may be repeated."""
+    """Returns the labels between braces, and raises if a name is repeated."""
     found = re.findall(rf"({NAME})={TEXT}", text or "")
     must_be(f"names of {text}, how many", len({name for name, _ in found}), len(found))
     return frozenset((name, ESCAPED.sub(unescaped, value)) for name, value in found)
@@ -59,7 +60,7 @@ def sample_of(line: str) -> Sample:
 
 
 class Exposition:
-    """The families of a text, by name. Violations of the format are reported."""
+    """The families of a text, by name. It raises if the text violates the format."""
 
     def __init__(self, text: str) -> None:
         self.families: dict[str, Family] = {}
@@ -75,7 +76,8 @@ class Exposition:
                 self.take_sample(sample_of(line))
 
     def take_about(self, what: str, name: str, text: str) -> None:
-        """Adds a family's metadata, which must be together, and before its samples."""
+        """Adds a line of metadata. The metadata of a family must be together, before its samples.
+        """
         if not self.open or self.open.name != name:
             must(name not in self.families, f"the family {name} stands together")
             self.open = self.families[name] = Family(name)
@@ -87,8 +89,8 @@ class Exposition:
         must(what != "UNIT" or name.endswith(f"_{text}"), f"the name {name} ends with its unit")
 
     def take_sample(self, sample: Sample) -> None:
-        """Adds a point: those of a metric are together, in the order of time, and a counter isn't
-        below zero.
+        """Adds a point, and raises unless the points of each metric are together, in the order of
+        time, and not below zero.
         """
         family = self.open
         if not family:
@@ -103,6 +105,6 @@ class Exposition:
         points.append((sample.moment, sample.value))
 
     def points(self, name: str, **labels: str) -> list[Point]:
-        """Returns the points of a metric, by the name of its samples and all of its labels."""
+        """Returns the points of the metric with this sample name and exactly these labels."""
         family = self.families.get(name[: -len("_total")], Family(name))
         return family.metrics.get(frozenset(labels.items()), [])

@@ -1,4 +1,4 @@
-"""What can't be written as metrics is reported, with what to do about it."""
+"""Checks that output which can't be written as metrics is reported, with advice."""
 from __future__ import annotations
 
 import functools

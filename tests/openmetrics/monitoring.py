@@ -1,5 +1,5 @@
-"""Checks with standard programs, if installed: promtool's check of the text, and a Prometheus that
-loads it.
+"""Checks the metrics with standard programs, if installed: with promtool, and with a Prometheus
+that loads them.
 """
 from __future__ import annotations
 
@@ -28,7 +28,7 @@ PATIENCE = 60
 
 
 def is_there(program: str, what: str) -> bool:
-    """Returns whether a program is installed; if not, prints what is skipped."""
+    """Returns whether a program is installed; if not, prints which check is skipped."""
     if shutil.which(program):
         return True
     print(f"{program} isn't installed ({PACKAGE}): {what} is skipped")
@@ -36,7 +36,7 @@ def is_there(program: str, what: str) -> bool:
 
 
 def check_promtool_finds_nothing(program: str) -> None:
-    """`promtool check metrics` reads only the older text."""
+    """promtool check metrics reports nothing. It reads only the older text format."""
     if not is_there("promtool", "its view of the metrics"):
         return
     text = run(
@@ -54,7 +54,7 @@ def free_port() -> int:
 
 
 def answer_of(url: str) -> Any:
-    """Returns a server's answer, or None if there is none yet."""
+    """Returns a server's answer, or None if the server doesn't answer yet."""
     try:
         with urllib.request.urlopen(url, timeout=PATIENCE) as answer:
             return json.load(answer) if "/api/" in url else answer.read()
@@ -64,7 +64,7 @@ def answer_of(url: str) -> Any:
 
 @contextlib.contextmanager
 def prometheus(data: str) -> Iterator[str]:
-    """The address of a Prometheus with this data folder that collects nothing."""
+    """Yields the address of a Prometheus server that uses this data folder and collects nothing."""
     with open(f"{data}/empty.yml", "wb"):
         pass
     address = f"127.0.0.1:{free_port()}"
@@ -94,7 +94,7 @@ def tail_of(data: str) -> str:
 
 
 def asked(address: str, query: str, moment: Decimal) -> Any:
-    """Returns the result of a query at a time."""
+    """Returns the result of a query for the time `moment` (s)."""
     words = urllib.parse.urlencode({"query": query, "time": str(moment)})
     answer = answer_of(f"{address}/api/v1/query?{words}")
     must(bool(answer) and answer["status"] == "success", f"{query} is answered: {answer}")
@@ -102,7 +102,7 @@ def asked(address: str, query: str, moment: Decimal) -> Any:
 
 
 def compare(address: str, name: str, wanted: Exposition, end: Decimal) -> None:
-    """Prometheus has each point of the family, to a ms, and no other."""
+    """Raises unless Prometheus has exactly the points of this family, with times to 1 ms."""
     metrics = wanted.families[name].metrics
     found = asked(address, f"{name}_total[1h]", end + 1)
     must_be(f"metrics of {name}", len(found), len(metrics))
@@ -118,7 +118,7 @@ def compare(address: str, name: str, wanted: Exposition, end: Decimal) -> None:
 
 
 def loaded(text: bytes, data: str) -> Exposition:
-    """Makes blocks of the text in the folder, and returns the parsed text."""
+    """Imports the text into Prometheus's data folder, and returns the parsed text."""
     with open(f"{data}/text", "wb") as file:
         file.write(text)
     os.mkdir(f"{data}/blocks")

@@ -1,4 +1,4 @@
-"""Metrics contain what was printed: each total, kill and signal, at its time."""
+"""Checks that the metrics contain each printed total, kill and signal, at its time."""
 from __future__ import annotations
 
 import collections
@@ -35,7 +35,7 @@ def metrics_of(printed: bytes, *words: str) -> Exposition:
 
 
 def totals_of(printed: bytes) -> dict[tuple[str, str, str], list[Point]]:
-    """Returns the printed totals, in s, by group, resource and level."""
+    """Returns the printed totals (s) with their times, by group, resource and level."""
     totals = collections.defaultdict(list)
     head: list[str] = []
     for words in (line.split(" ") for line in printed.decode().splitlines()):
@@ -48,7 +48,7 @@ def totals_of(printed: bytes) -> dict[tuple[str, str, str], list[Point]]:
 
 
 def moments_of(printed: bytes, verb: str, *words: str) -> list[Decimal]:
-    """Returns the times of lines with this verb and these words."""
+    """Returns the times (s) of the lines that begin with this verb and contain these words."""
     lines = [
         line.split(" ") for line in printed.decode().splitlines() if line.startswith(f"{verb} ")
     ]
@@ -56,7 +56,9 @@ def moments_of(printed: bytes, verb: str, *words: str) -> list[Decimal]:
 
 
 def compare_totals(printed: bytes, metrics: Exposition, **labels: str) -> None:
-    """Each total is under the names that other tools use, and no other pressure is."""
+    """Raises unless the metrics contain each printed total, under the names that other tools use,
+    and no other pressure.
+    """
     wanted: dict[str, int] = collections.defaultdict(int)
     for (path, resource, level), points in totals_of(printed).items():
         name = f"pressure_{resource}_{WORDS[level]}_seconds_total"
@@ -74,8 +76,8 @@ def compare_totals(printed: bytes, metrics: Exposition, **labels: str) -> None:
 
 
 def must_count(points: list[Point], moments: list[Decimal], rounds: list[Decimal]) -> None:
-    """A counter has a point at the start, at each of these times and at each round, with the count
-    up to then.
+    """Raises unless a counter has a point at the start, at each event (`moments`) and at each
+    report (`rounds`), whose value is the number of events up to then.
     """
     at = sorted({EPOCH, *moments, *rounds})
     must_be("a counter", points,
@@ -93,7 +95,9 @@ def check_totals_of_the_story(program: str) -> None:
 
 
 def check_the_names_are_those_of_the_field(program: str) -> None:
-    """The names are those of `prometheus-node-exporter --collector.pressure` and cAdvisor."""
+    """The names of metrics are those of `prometheus-node-exporter --collector.pressure` and of
+    cAdvisor.
+    """
     names = set(metrics_of(story(program)).families)
     node = {"node_pressure_cpu_waiting_seconds"}
     node |= {
@@ -140,8 +144,8 @@ def check_names_of_rulesets(program: str) -> None:
 
 
 def check_labels(program: str) -> None:
-    """Labels for all metrics, with characters that need escapes, and a path with a backslash that
-    is removed and created again.
+    """Labels given for all metrics are written, also with characters that need escapes, and so is a
+    path with a backslash whose group is removed and created again.
     """
     words = [program, "replay", "-", "--report-s", "1"]
     printed = run(words, ODD_TRACE.encode())
@@ -190,8 +194,8 @@ def check_interrupts_of_a_replay(program: str) -> None:
 
 
 def check_points_that_are_near(_: str) -> None:
-    """Of two points within 2 ms the later one stays: Prometheus truncates times to ms, and rejects
-    two points in one ms.
+    """If two points are within 2 ms, the later one is kept: Prometheus truncates times to ms, and
+    rejects two points in one ms.
     """
     file = "".join(f"{level} avg10=0.00 avg60=0.00 avg300=0.00 total={{0}}\n" for level in WORDS)
     lines = [
@@ -211,8 +215,8 @@ def check_points_that_are_near(_: str) -> None:
 
 
 def check_the_older_text(program: str) -> None:
-    """The older text has the same points, with the names and timestamps that Prometheus used
-    before.
+    """The older text format has the same points, with the names and timestamps of earlier
+    Prometheus versions.
     """
     old = run(
         [OPENMETRICS, "--start", START, "--format=prometheus"], story(program)

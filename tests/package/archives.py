@@ -1,5 +1,5 @@
-"""A package that is built for a test: the contents of its archives, and its commands, run from the
-unpacked folder.
+"""Builds the package for a test, and gives access to the contents of its archives and to the
+commands in the unpacked folder.
 """
 from __future__ import annotations
 
@@ -26,8 +26,8 @@ COMPLETIONS = "share/bash-completion/completions"
 
 @dataclass(frozen=True)
 class Made:
-    """Built packages: both archives by suffix, from two builds; the unpacked folders; and the
-    programs in them.
+    """The package, built twice: the two archives of each build by suffix, their unpacked folders,
+    and the programs in them.
     """
 
     first: dict[str, bytes]
@@ -48,8 +48,8 @@ class Made:
     def run(
         self, name: str, *words: str, given: str = "", path_first: str = ""
     ) -> subprocess.CompletedProcess[str]:
-        """Runs an installed command from another folder, with its own PATH, and no variable that
-        names a program.
+        """Runs an installed command from the root folder, with its own PATH, and without variables
+        that name a program.
         """
         path = self.path("bin", name)
         # The tools require Debian's own Python; sh starts the programs.
@@ -65,13 +65,15 @@ class Made:
 
 
 def is_built(name: str, path: str) -> bool:
-    """Whether a program is the one that the gate built."""
+    """Returns whether a program is identical to the one that the gate built."""
     built = os.path.join(TOP, "crates", f"{name}_main", "out", f"{name}_main")
     return os.path.exists(built) and filecmp.cmp(path, built, shallow=False)
 
 
 def make(into: str, programs: dict[str, str], **more: str) -> dict[str, bytes]:
-    """Builds both archives in this folder. The printed lines have the archives' sums."""
+    """Builds both archives into this folder, raises unless their printed checksums are right, and
+    returns them by suffix.
+    """
     words = [
         os.path.join(TOP, "tools", "package"), "--program", programs["psi_oomd"], "--observer",
         programs["psi_observe"],
@@ -94,7 +96,7 @@ def make(into: str, programs: dict[str, str], **more: str) -> dict[str, bytes]:
 
 
 def parts_of(package: bytes) -> dict[str, bytes]:
-    """The members of an ar archive (ar(5))."""
+    """Returns the members of an ar archive (ar(5)), by name."""
     must(package.startswith(b"!<arch>\n"), "the package is an ar archive")
     at, found = 8, {}
     while at < len(package):
@@ -112,7 +114,9 @@ def members_of(data: bytes) -> dict[str, tarfile.TarInfo]:
 
 
 def files_of(data: bytes, top: str) -> dict[str, tuple[int, str, bytes]]:
-    """The mode, the link's target and the bytes of each file below a folder of a tar archive."""
+    """Returns the mode, the link target and the bytes of each file below the folder `top` of a tar
+    archive.
+    """
     found = {}
     with tarfile.open(fileobj=io.BytesIO(data)) as archive:
         for it in archive.getmembers():
@@ -125,7 +129,7 @@ def files_of(data: bytes, top: str) -> dict[str, tuple[int, str, bytes]]:
 
 
 def skipped(name: str, what: str) -> bool:
-    """Whether a command isn't installed here; prints what is skipped."""
+    """Returns whether a command isn't installed here; if so, prints which check is skipped."""
     if not shutil.which(name):
         print(f"{name} isn't installed, so this is passed over: {what}")
     return not shutil.which(name)
@@ -141,7 +145,7 @@ def data_of(made: Made) -> bytes:
 
 
 def commands_of_definition() -> list[str]:
-    """The commands in the usage line, from its definition."""
+    """Returns the commands in the usage line of psi_oomd's definition."""
     with open(
         os.path.join(TOP, "crates", "run_spec", "specs", "Status.antt"), encoding="utf-8"
     ) as file:
@@ -151,7 +155,7 @@ def commands_of_definition() -> list[str]:
 
 
 def offered_by_bash(made: Made, *words: str) -> list[str]:
-    """Bash's completions of the last word, in the folder of the examples."""
+    """Returns bash's completions of the last word, in the folder of the examples."""
     script = (
         '. "$0"; COMP_WORDS=("$@"); COMP_CWORD=$(($# - 1)); _psi_oomd "$1"; printf "%s\\n" '
         '"${COMPREPLY[@]}"'
@@ -164,8 +168,8 @@ def offered_by_bash(made: Made, *words: str) -> list[str]:
 
 
 def offered_by_zsh(made: Made, *words: str) -> list[str]:
-    """Zsh's completions of the last word: replacements of its own functions print what
-    matches the word.
+    """Returns zsh's completions of the last word. Replacements of zsh's own functions print the
+    matches.
     """
     script = """offer() {
         local -a found; found=(${(M)@:#${word}*}); print -rl -- $found; (( $#found ))

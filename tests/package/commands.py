@@ -1,4 +1,4 @@
-"""Checks of the package's commands: their pages, documents, and completions."""
+"""Checks the package's commands, and the manual pages, documents and completions for them."""
 from __future__ import annotations
 
 import gzip
@@ -14,7 +14,8 @@ from package.archives import (
 )
 from shared.program import TOP
 
-# Tools that only checkouts have: psi_convert, which `events` runs, isn't packed yet.
+# Tools that aren't packaged: they are for checkouts. psi_convert, which `events` runs, isn't in the
+# package yet.
 OWN_TOOLS = ("launch", "package", "events")
 
 
@@ -47,7 +48,8 @@ def check_each_command_has_a_page(made: Made, _room: str) -> None:
 
 
 def check_what_documents_name(made: Made, _room: str) -> None:
-    """The commands, examples and other documents that documents name are packed, under these names.
+    """The package contains the commands, examples and documents that its documents name, under
+    these names.
     """
     count = 0
     for folder, _, names in os.walk(made.path(DOCUMENTS)):
@@ -111,7 +113,7 @@ def check_completions(made: Made, _room: str) -> None:
 
 
 def check_messages_name_the_installed_command(made: Made, _room: str) -> None:
-    """A usage error is reported with the command name that was typed."""
+    """A usage error begins with the name of the command that was typed."""
     for name in (it for it in made.commands() if "_" not in it):
         said = made.run(name, "--no-such-word").stderr
         must(re.search(rf"^{name}: ", said, re.MULTILINE) and f"usage: {name}" in said,

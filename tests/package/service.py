@@ -1,4 +1,4 @@
-"""Checks of the package's systemd services."""
+"""Checks the package's systemd services."""
 from __future__ import annotations
 
 import os
@@ -10,7 +10,7 @@ from package.archives import Made, skipped
 
 
 def words_of_service(unit: str, room: str) -> list[str]:
-    """Returns the arguments that the service gives to psi-record."""
+    """Returns the arguments with which the service runs psi-record."""
     line = re.findall(r"^ExecStart=/bin/sh -c '(.*)'$", unit, re.MULTILINE)[0]
     line = line.replace("$$", "$").replace("%%", "%")
     said = os.path.join(room, "psi-record")
@@ -30,8 +30,8 @@ def words_of_service(unit: str, room: str) -> list[str]:
 
 
 def check_the_service(made: Made, room: str) -> None:
-    """The service calls psi-record with arguments that it accepts. In systemd's syntax `$$` stands
-    for `$` and `%%` for `%`.
+    """The service runs psi-record with arguments that psi-record accepts. In systemd's syntax `$$`
+    means `$` and `%%` means `%`.
     """
     unit = made.text("lib/systemd/system/psi-record.service")
     words = words_of_service(unit, room)
@@ -75,7 +75,7 @@ def check_what_systemd_says_of_the_service(made: Made, room: str) -> None:
 
 
 def check_the_service_of_samples(made: Made, room: str) -> None:
-    """It calls psi-sample with words that this takes."""
+    """The service runs psi-sample with arguments that psi-sample accepts."""
     unit = made.text("lib/systemd/system/psi-sample.service")
     line = re.findall(
         r"^ExecStart=/bin/sh -c 'exec /usr/bin/psi-sample (.*)'$", unit, re.MULTILINE

@@ -1,4 +1,4 @@
-"""Checks of recordings with lost events, and of damaged ones."""
+"""Checks recordings with lost events, and damaged recordings."""
 from __future__ import annotations
 
 import functools
@@ -14,13 +14,13 @@ from shared.stored import (
 )
 
 MISSED = 1 << 31
-# Replays with a tick each second.
+# The options of replays with a tick every second.
 TICKS = ("--tick-ms", "1000")
 
 
 def check_lost_events(program: str) -> None:
-    """Nothing is written for a recording with losses; --force writes the longest interval without
-    one.
+    """Nothing is written for a recording with losses; --force writes the longest interval without a
+    loss.
     """
     with recording("mixlost") as folder, tempfile.TemporaryDirectory() as place:
         output = os.path.join(place, "x.trace")
@@ -41,8 +41,8 @@ def check_lost_events(program: str) -> None:
 
 
 def flag_first_page(data: bytes, pages: int) -> bytes:
-    """A ring whose first pages were overwritten: the rest begins with a page that says that events
-    were lost before it.
+    """Returns pages of a ring buffer whose first pages were overwritten: the next page's header
+    says that events before the page were lost.
     """
     rest = bytearray(data[pages * PAGE :])
     struct.pack_into("<Q", rest, 8, struct.unpack_from("<Q", rest, 8)[0] | MISSED)
@@ -50,8 +50,8 @@ def flag_first_page(data: bytes, pages: int) -> bytes:
 
 
 def check_a_ring(program: str) -> None:
-    """The trace of a flight recorder's ring begins when all processors have events, has no loss,
-    and agrees with the machine.
+    """The trace of a flight recorder's ring buffer begins when all processors have events, has no
+    loss, and agrees with the machine's pressure files.
     """
     with recording("mix-2") as folder:
         for processor, pages in ((0, 150), (1, 60)):
@@ -73,13 +73,13 @@ def check_a_ring(program: str) -> None:
 
 
 def replaced(old: bytes, new: bytes, data: bytes) -> bytes:
-    """Returns the data of a file with `new` in place of `old`."""
+    """Returns `data` with `new` in place of `old`, which must occur exactly once."""
     return data.replace(old, new)
 
 
 def check_losses_without_pages(_: str) -> None:
-    """Losses that only `meta` lists are reported: a processor's last events, losses at an unknown
-    time, and a full disk.
+    """Losses that only the file `meta` lists are reported: a processor's last events, losses at an
+    unknown time, and a full disk.
     """
     edits = (
         (b"cpu1 overrun: 0", b"cpu1 overrun: 7", "lost: cpu 1: 7 events, between 10.0"),
@@ -102,8 +102,8 @@ def check_losses_without_pages(_: str) -> None:
 
 
 def check_a_killed_recorder(program: str) -> None:
-    """A folder without an end is read only with --force, up to the last time at which all
-    processors have events.
+    """The recording of a killed recorder is read only with --force, up to the last time at which
+    all processors have events.
     """
     with recording("exec-2") as folder:
         change(folder, "meta", lambda it: b"recording 1\n" + it[: it.index(b"stats")])
@@ -118,7 +118,7 @@ def check_a_killed_recorder(program: str) -> None:
 
 
 def check_unreadable_folders(_: str) -> None:
-    """What can't be read is reported with its file."""
+    """A file that can't be read is reported by name."""
     edits = (
         ("meta", lambda it: it.replace(b"cpus 2", b"cpus x"), "meta: "),
         ("meta", lambda it: b"recording 3\n" + it, "version 3"),

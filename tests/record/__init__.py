@@ -1,1 +1,1 @@
-"""The cases of tests/record."""
+"""Checks of tools/record, the recorder, each with a folder in place of the machine."""

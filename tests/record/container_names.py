@@ -1,4 +1,4 @@
-"""Cases of names of containers in a recording."""
+"""Checks of container names in a recording."""
 from __future__ import annotations
 
 import json
@@ -18,7 +18,7 @@ LABELS = {
 PS = {"containers": [{"id": CONTAINER, "metadata": {"name": "nginx"}, "labels": LABELS}]}
 PS_LATER = {"containers": [{"id": LATE, "metadata": {"name": "late"}}]}
 PODS = {"items": [{"id": SANDBOX, "metadata": {"name": "web-7", "namespace": "prod", "uid": UID}}]}
-# A stub of crictl: it logs its arguments, and lists one more container when it is asked again.
+# A stub of crictl: it logs its arguments, and lists one more container on its second call.
 CRICTL = f"""#!/bin/sh
 echo "$@" >>"$(readlink -f "$0").words"
 case "$1 $(grep -c . "$(readlink -f "$0").words")" in
@@ -34,7 +34,9 @@ WANTED = [
 
 
 def make_machine(top: str, group: str, command: str, script: str) -> None:
-    """Makes a machine with this group, and a command that prints names."""
+    """Makes a machine with this group, and installs a stub script under the name of a command that
+    lists containers.
+    """
     folder.make_machine(top)
     if group:
         folder.write(f"{top}/cgroup{group}/cgroup.threads", "")
@@ -44,7 +46,7 @@ def make_machine(top: str, group: str, command: str, script: str) -> None:
 
 
 def asked(top: str, command: str) -> list[str]:
-    """Returns the arguments with which the command was called."""
+    """Returns the arguments of each call of the command."""
     name = f"{top}.bin/{command}.words"
     if not os.path.exists(name):
         return []

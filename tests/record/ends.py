@@ -1,4 +1,4 @@
-"""Cases of how a recording ends, and what remains."""
+"""Checks how a recording ends, and which files remain."""
 from __future__ import annotations
 
 import contextlib

@@ -1,4 +1,4 @@
-"""Cases of the flight recorder."""
+"""Checks of the flight recorder, which keeps only the latest events until pressure is signalled."""
 from __future__ import annotations
 
 import os
@@ -15,7 +15,7 @@ UNTIL = ("--ring", "--until", "memory full 100000 1000000")
 
 
 def fire(top: str) -> None:
-    """Signals pressure."""
+    """Makes the machine signal pressure."""
     with open(f"{top}/trigger", "wb", buffering=0) as trigger:
         trigger.write(b"x")
 
@@ -58,8 +58,8 @@ def check_ring_that_is_stopped(top: str) -> None:
 
 
 def check_ring_where_the_buffers_begin(top: str) -> None:
-    """Processor 1's events were overwritten until just after the first snapshot, so a later
-    snapshot must be taken.
+    """The events of processor 1 were overwritten until just after the first snapshot, so the
+    recorder must keep a later snapshot.
     """
     folder.make_machine(top)
     run = Run(top, *UNTIL)
@@ -80,7 +80,7 @@ def check_ring_where_the_buffers_begin(top: str) -> None:
 
 
 def check_ring_that_was_too_small(top: str) -> None:
-    """The signal comes, and is overwritten before the recording ends."""
+    """A signal whose events are overwritten before the recording ends is reported."""
     start = time.monotonic()
     folder.make_machine(top, overrun=7, oldest=f"{start + 60:.6f}")
     run = Run(top, *UNTIL, "--after-s", "0.3")
@@ -91,7 +91,9 @@ def check_ring_that_was_too_small(top: str) -> None:
 
 
 def check_ring_that_was_not_overwritten(top: str) -> None:
-    """If nothing was overwritten, an idle processor's oldest event means nothing."""
+    """If nothing was overwritten, the oldest event of an idle processor doesn't limit the
+    recording.
+    """
     start = time.monotonic()
     folder.make_machine(top, oldest=f"{start + 60:.6f}")
     run = Run(top, *UNTIL, "--seconds", "1").ended(0)

@@ -47,30 +47,33 @@ SwapTotal:       500 kB
 SwapFree:        200 kB
 """
 GROUPS = ("", "/system.slice", "/system.slice/web.service", "/user slice")
-# Each thread: its number, its process, its state, its processor, its name and its group.
+# For each thread its number, its process number, its state, its processor, its name and its group.
 THREADS = (
     (1, 1, "S", 0, "init", ""),
     (101, 101, "R", 1, "web) S 9 (x", "/system.slice/web.service"),
     (102, 101, "D", 0, "two\nlines", "/system.slice/web.service"),
 )
-# The bit offsets of in_iowait and pid in this machine's task_struct, and how a probe fetches them.
+# The bit offsets of in_iowait and pid in this machine's task_struct. A probe reads the fields at
+# these offsets.
 WAIT_BIT, PID_BIT = 9544, 10112
 FETCHED = "pid=+1264($arg1):s32 io=+1192($arg1):b1@8/32"
-# The kernel's functions that get probes; the number of their parameters is checked first.
+# The kernel functions that get probes, with the numbers of their parameters, which the recorder
+# checks first.
 FUNCTIONS = {"cgroup_attach_task": 3, "psi_show": 3, "psi_avgs_work": 1, "psi_task_change": 3}
 
 
 def write(path: str, text: str | bytes) -> None:
-    """Writes a file, and creates the folders above it."""
+    """Writes a file, and creates its parent folders."""
     os.makedirs(os.path.dirname(path), exist_ok=True)
     with open(path, "wb") as file:
         file.write(text if isinstance(text, bytes) else text.encode())
 
 
 def kernel_types(wait_name: str = "in_iowait", functions: dict[str, int] = FUNCTIONS) -> bytes:
-    """Returns the kernel's types in the format of Documentation/bpf/btf.rst: a structure that only
-    has the name's number somewhere, a structure with the right name but without the members, and
-    the right one; then functions with these numbers of parameters, each before its prototype.
+    """Returns type information of a kernel in the format of Documentation/bpf/btf.rst: a structure
+    that contains the number of the name only elsewhere, a structure of the right name without the
+    members, and the right structure; then functions with these numbers of parameters, each before
+    its prototype.
     """
     names, text = {}, b"\0"
     for name in ("int", "task_struct", "other", "pid", wait_name, *functions):
@@ -99,7 +102,9 @@ def kernel_types(wait_name: str = "in_iowait", functions: dict[str, int] = FUNCT
 
 
 def make_pages(top: str, processor: int, pages: bytes) -> None:
-    """Keeps many pages outside, so that a new instance has no copy of them."""
+    """Writes the pages of a processor's events. Many pages are written outside of tracefs, so that
+    a new tracing instance has no copy of them.
+    """
     buffer = f"{top}/tracing/per_cpu/cpu{processor}/trace_pipe_raw"
     if len(pages) < MANY_BYTES:
         write(buffer, pages)
@@ -109,7 +114,9 @@ def make_pages(top: str, processor: int, pages: bytes) -> None:
 
 
 def make_tracing(top: str, overrun: int, oldest: str, pages: int) -> None:
-    """Writes the files of tracefs."""
+    """Writes the files of tracefs for two processors. `oldest` is the time (s) of the oldest event,
+    `overrun` the number of overwritten events.
+    """
     tracing = f"{top}/tracing"
     os.makedirs(f"{tracing}/instances")
     for file, text in (
@@ -130,13 +137,13 @@ def make_tracing(top: str, overrun: int, oldest: str, pages: int) -> None:
         write(f"{tracing}/per_cpu/cpu{processor}/stats",
               STATS.format(overrun=overrun if processor else 0, oldest=oldest))
         make_pages(top, processor, bytes([processor + 1]) * (PAGE_BYTES * pages))
-    # The text written to the marker must outlive the instance.
+    # The markers must outlive the tracing instance, so they are written to another file.
     write(f"{top}.markers", "")
     os.symlink(f"{top}.markers", f"{tracing}/trace_marker")
 
 
 def make_groups(top: str) -> None:
-    """Writes the control groups."""
+    """Writes the folders and files of the control groups."""
     for group in GROUPS:
         threads = "".join(f"{it[0]}\n" for it in THREADS if it[5] == group)
         write(f"{top}/cgroup{group}/cgroup.threads", threads)
@@ -158,7 +165,7 @@ def make_groups(top: str) -> None:
 
 
 def make_processes(top: str) -> None:
-    """Writes the files of /proc."""
+    """Writes the files of /proc for each thread."""
     for number, process, state, processor, name, _ in THREADS:
         fields = [str(it) for it in range(4, 39)]
         write(f"{top}/proc/{number}/stat",
@@ -171,8 +178,8 @@ def make_processes(top: str) -> None:
 
 
 def make_machine(top: str, overrun: int = 0, oldest: str = "1.000000", pages: int = 1) -> None:
-    """Writes a whole machine into this folder; each processor has `pages` pages of events, and the
-    second has lost some.
+    """Writes a whole machine into the folder `top`. Each processor has `pages` pages of events, and
+    the second one has lost `overrun` events.
     """
     make_tracing(top, overrun, oldest, pages)
     make_groups(top)
@@ -182,7 +189,9 @@ def make_machine(top: str, overrun: int = 0, oldest: str = "1.000000", pages: in
 
 
 def listing(top: str) -> dict[str, tuple[int, str | bytes | None]]:
-    """Returns the contents of the folder: the mode of each path, and what it contains."""
+    """Returns the contents of the folder: the mode of each path, and the file's bytes or the link's
+    target.
+    """
     found: dict[str, tuple[int, str | bytes | None]] = {}
     for folder, folders, files in os.walk(top):
         for name in folders + files:

@@ -1,4 +1,4 @@
-"""Cases of systemd-oomd's settings in a recording."""
+"""Checks of systemd-oomd's settings in a recording."""
 from __future__ import annotations
 
 import os
@@ -13,7 +13,7 @@ SHOWN = (
     "Id=web.service\nControlGroup=/system.slice/web.service\nManagedOOMSwap=auto\n"
     "ManagedOOMMemoryPressure=kill\n"
 )
-# A stub of systemctl: it logs its arguments, and prints this.
+# A stub of systemctl: it logs its arguments, and prints the version or the settings.
 SYSTEMCTL = f"""#!/bin/sh
 echo "$@" >>"$(readlink -f "$0").words"
 case "$1" in
@@ -46,7 +46,7 @@ LEFT = {
 
 
 def make_booted(top: str) -> None:
-    """Makes a machine on which systemd runs."""
+    """Makes a machine that was booted with systemd."""
     folder.make_machine(top)
     for name, text in {**STORED, DATABASE: SECRET, **LEFT}.items():
         folder.write(f"{top}/{name}", text)
@@ -58,7 +58,7 @@ def make_booted(top: str) -> None:
 
 
 def stored_files(run: Run) -> dict[str, str]:
-    """Returns all files of the recording's folder `systemd`."""
+    """Returns all files of the recording's folder `systemd`, by path."""
     top = f"{run.out}/systemd"
     names = [os.path.relpath(f"{at}/{it}", top) for at, _, files in os.walk(top) for it in files]
     return {it: run.file(f"systemd/{it}").decode() for it in names}

@@ -1,4 +1,4 @@
-"""Cases of probes, and of what replaces them if they aren't available."""
+"""Checks of kernel probes, and of the fallback if they aren't available."""
 from __future__ import annotations
 
 import os
@@ -18,8 +18,8 @@ PROBES = (
     "psh psi_show group=$arg2:x64 res=$arg3:u32",
     "pav psi_avgs_work work=$arg1:x64",
 )
-# The messages about functions that differ from the expected ones, and the probes that are then left
-# out.
+# Messages about functions whose parameters aren't as expected, and the probes that are omitted for
+# that reason.
 BOTH = "psi_show, psi_avgs_work"
 MISSING = {
     "cgroup_attach_task": ("cgroup_attach_task", 1), "psi_show": (BOTH, 2),
@@ -28,7 +28,9 @@ MISSING = {
 
 
 def by_statistics(run: Run, told: list[str], old: bytes = b"0\n") -> None:
-    """Waits for IO come from the kernel's statistics, which are on only during the recording."""
+    """Raises unless waits for IO come from the kernel's delay statistics, which are on only during
+    the recording.
+    """
     instance = run.instance()
     must_be("the sysctl meanwhile", read(f"{run.top}/proc/sys/kernel/sched_schedstats"), "1\n")
     must_be("the event", read(f"{instance}/events/sched/sched_stat_iowait/enable"), "1\n")
@@ -145,7 +147,8 @@ def check_wakeups_without_probes(top: str) -> None:
 
 
 def by_state(run: Run, reason: str) -> None:
-    """Waits for IO come from the state alone, and a message says why."""
+    """Raises unless waits for IO come from the task's state alone, and a message gives this reason.
+    """
     run.ended(0).says(STATE_TOLD, "up to 3.5 times too many")
     must("sched/sched_stat_iowait" not in run.values("event"), "the event isn't on")
     must_be("the reason", run.values("no-event"), [f"sched/sched_stat_iowait: {reason}"])

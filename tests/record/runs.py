@@ -1,4 +1,4 @@
-"""A run of tools/record with its own folder as the machine, and the checks of it."""
+"""Runs tools/record on a folder in place of the machine, and checks the results."""
 from __future__ import annotations
 
 import contextlib
@@ -20,20 +20,21 @@ RECORD = os.path.join(os.environ.get("RECORD_TOOLS", os.path.join(TOP, "tools"))
 # ---------------------------------------------------------------- runs
 
 
-# Under nohup, tests would inherit that a hangup is ignored, and a recorder keeps that; nohup has
-# its own case.
+# A process started by nohup ignores SIGHUP, and a recorder inherits that. So the signal is reset
+# here; nohup has its own check.
 signal.signal(signal.SIGHUP, signal.SIG_DFL)
 
-# How long (s) a recorder may take to begin, to print a line or to end: long, since other programs
-# may use the machine.
+# The longest time (s) that a recorder may take to begin, to print a line or to end. It is long,
+# since other programs may use the machine.
 WAIT_S = 120
 
-# The recorders that were started, by folder of the recording.
+# The running recorders, by the folder of the recording.
 STARTED: dict[str, subprocess.Popen[str]] = {}
 
 
 def end_all(scratch: str) -> None:
-    """Ends the recorders of a failed case: those whose recordings are below this folder."""
+    """Ends the recorders of a failed check: those whose recordings are below the folder `scratch`.
+    """
     for out in [it for it in STARTED if it.startswith(f"{scratch}/")]:
         child = STARTED.pop(out)
         if child.poll() is None:
@@ -42,7 +43,7 @@ def end_all(scratch: str) -> None:
 
 
 class Run:
-    """A recorder with its own folder as the machine, and the results of both."""
+    """A recorder that runs on a folder in place of the machine, with the results of its run."""
 
     def __init__(
         self, top: str, *words: str, name: str = "out", prefix: tuple[str, ...] = ()
@@ -56,8 +57,8 @@ class Run:
         STARTED[self.out] = self.child
 
     def ended(self, status: int, is_same: bool = True) -> Run:
-        """Waits for the end with this status; the folder must be unchanged, unless the case itself
-        has changed it.
+        """Waits until the recorder ends, and raises unless its status is `status` and, if
+        `is_same`, the machine's folder is unchanged.
         """
         try:
             printed, self.said = self.child.communicate(timeout=WAIT_S)
@@ -74,31 +75,33 @@ class Run:
         return self
 
     def killed(self, fault: str) -> Wrong:
-        """Ends the recorder: the failure with its command, this fault and what it printed."""
+        """Kills the recorder, and returns an error with its command, this fault and its output."""
         self.child.kill()
         _, said = self.child.communicate()
         return Wrong(f"`{shlex.join(self.command)}` {fault}; it printed {said!r}")
 
     def says(self, *words: str) -> Run:
-        """Standard error contains these words."""
+        """Raises unless standard error contains these words."""
         for word in words:
             must(word in self.said, f"standard error says {word!r}: {self.said!r}")
         return self
 
     def file(self, name: str) -> bytes:
-        """The content of a file of the recording."""
+        """Returns the content of a file of the recording."""
         with open(f"{self.out}/{name}", "rb") as file:
             return file.read()
 
     def values(self, key: str) -> list[str]:
-        """The values of a key of `meta`."""
+        """Returns the values of a key of the file `meta`."""
         lines = self.file("meta").decode().splitlines()
         must(lines[0] == "recording 2" and lines[-1].startswith("end "),
              f"the first and the last line of meta: {lines}")
         return [it.partition(" ")[2] for it in lines if it.partition(" ")[0] == key]
 
     def instance(self) -> str:
-        """The folder of its tracing instance, as soon as it records."""
+        """Waits until the recorder has made its tracing instance, and returns the instance's
+        folder.
+        """
         waited = time.monotonic() + WAIT_S
         while time.monotonic() < waited and self.child.poll() is None:
             for name in os.listdir(f"{self.top}/tracing/instances"):
@@ -112,7 +115,7 @@ class Run:
 
 @contextlib.contextmanager
 def awaited(child: subprocess.Popen[str]) -> Iterator[None]:
-    """Kills a recorder that prints too late, so that reading what it prints ends."""
+    """Kills a recorder that doesn't print in time, so that a read of its output ends."""
     timer = threading.Timer(WAIT_S, child.kill)
     timer.start()
     try:
@@ -122,7 +125,7 @@ def awaited(child: subprocess.Popen[str]) -> Iterator[None]:
 
 
 def read(path: str) -> str:
-    """The text of a file; empty if it doesn't exist."""
+    """Returns the text of a file; empty if the file doesn't exist."""
     with contextlib.suppress(OSError), open(
         path, encoding="utf-8", errors="surrogateescape"
     ) as file:
@@ -131,6 +134,6 @@ def read(path: str) -> str:
 
 
 def whole(top: str, *words: str, overrun: int = 0, pages: int = 1) -> Run:
-    """A run over a whole machine."""
+    """Starts a recorder on a machine with `pages` pages per processor and `overrun` lost events."""
     folder.make_machine(top, overrun=overrun, pages=pages)
     return Run(top, *(words or ("--seconds", "0.4")))

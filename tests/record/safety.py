@@ -1,5 +1,5 @@
-"""Cases of who may read a recording, of a folder that is swapped while recording, and of how many
-recordings a service makes.
+"""Checks who may read a recording, what happens if its folder is replaced during the recording, and
+what a killed recorder leaves.
 """
 from __future__ import annotations
 
@@ -51,8 +51,8 @@ def check_only_its_owner_reads_it(top: str) -> None:
 
 
 def swapped(top: str, is_swapped: Callable[[str], None]) -> tuple[Any, str]:
-    """Returns a recorder's folder, moved to the returned path; `is_swapped` puts something at its
-    old path.
+    """Moves a recorder's folder to another path, and lets `is_swapped` put something at the old
+    path. Returns the recorder's folder object and the new path.
     """
     os.makedirs(top)
     made = module("folder").Folder(f"{top}/out")
@@ -93,7 +93,7 @@ def check_a_swapped_folder_is_not_written(top: str) -> None:
 
 
 def check_links_are_not_compressed(top: str) -> None:
-    """No link is read or written."""
+    """A link in place of a file of the recording is neither read nor written."""
     folder.write(f"{top}/shadow", "secret\n")
     folder.write(f"{top}/victim", "to be kept\n")
     compressing = module("compressing")
@@ -118,7 +118,9 @@ def check_links_are_not_compressed(top: str) -> None:
 
 
 def left_of(top: str, number: int, start: str) -> list[str]:
-    """Creates an instance and a probe of a recorder with this process number and start time."""
+    """Creates a tracing instance and a probe of a recorder with this process number and start time.
+    Returns their names.
+    """
     name = f"psirec{number}_{start}"
     os.mkdir(f"{top}/tracing/instances/{name}")
     with open(f"{top}/tracing/kprobe_events", "a", encoding="ascii") as events:
@@ -128,7 +130,9 @@ def left_of(top: str, number: int, start: str) -> list[str]:
 
 
 def check_a_number_that_is_used_again(top: str) -> None:
-    """A killed recorder's number is now another process's, or its parent hasn't waited for it."""
+    """What a killed recorder left is removed though its process number is used again, or its parent
+    hasn't waited for it.
+    """
     folder.make_machine(top)
     before = folder.listing(top)
     fields = (*range(4, 22), 777, *range(23, 39))
@@ -165,12 +169,12 @@ def check_a_ring_without_markers(top: str) -> None:
 
 
 def check_a_ring_whose_markers_end(top: str) -> None:
-    """Only the first marker is written: what was recorded up to then is kept."""
+    """If only the first marker is written, what was recorded up to then is kept."""
     folder.make_machine(top)
     reader, terminal = os.openpty()
     os.unlink(f"{top}.markers")
     os.symlink(os.ttyname(terminal), f"{top}.markers")
-    # The first reading of pressure waits until the markers have ended.
+    # The first read of the pressure file blocks until the markers have ended.
     pressure = f"{top}/proc/pressure/io"
     os.unlink(pressure)
     os.mkfifo(pressure)
@@ -195,7 +199,7 @@ def run_has_begun(reader: int) -> bool:
 
 
 def make_recordings(top: str, ages: tuple[float, ...]) -> None:
-    """Makes recordings with these ages (s) beside the next one."""
+    """Makes recordings of these ages (s) in the folder of the next recording."""
     os.makedirs(f"{top}.state")
     for number, age in enumerate(ages):
         folder.write(f"{top}.state/{number}/meta", "recording 1\n")
@@ -204,7 +208,7 @@ def make_recordings(top: str, ages: tuple[float, ...]) -> None:
 
 
 def limited(top: str, limit: int) -> tuple[subprocess.Popen[str], str]:
-    """Returns a recorder that may make `limit` recordings a day."""
+    """Starts a recorder that may make `limit` recordings a day, and returns it with its folder."""
     out = f"{top}.state/new"
     words = [RECORD, "--root", top, out, "--seconds", "0.2", "--daily-limit", str(limit)]
     STARTED[out] = subprocess.Popen(
@@ -214,7 +218,7 @@ def limited(top: str, limit: int) -> tuple[subprocess.Popen[str], str]:
 
 
 def ended(child: subprocess.Popen[str]) -> str:
-    """Returns its messages up to its end."""
+    """Waits until the recorder ends, and returns its messages."""
     try:
         return child.communicate(timeout=WAIT_S)[1]
     except subprocess.TimeoutExpired:
@@ -222,7 +226,8 @@ def ended(child: subprocess.Popen[str]) -> str:
 
 
 def check_recordings_of_a_day(top: str) -> None:
-    """It waits until the fifth youngest recording is a day old, and then records, again and again.
+    """The recorder waits until the fifth youngest recording is a day old, then records again,
+    repeatedly.
     """
     folder.make_machine(top)
     make_recordings(top, (9 * DAY, DAY - 8, 50, 40, 30, 20, -9 * DAY))

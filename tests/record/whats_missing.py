@@ -1,4 +1,6 @@
-"""Cases in which nothing is recorded, because something is missing or the arguments are wrong."""
+"""Checks cases in which nothing is recorded, because something is missing or the arguments are
+wrong.
+"""
 from __future__ import annotations
 
 import os

@@ -1,5 +1,5 @@
-"""Wrong recorders: each edit of tools/psirecord makes one, and a case of tests/record must detect
-it.
+"""Lists wrong recorders: each edit of tools/psirecord makes one, and a check of tests/record must
+detect it.
 """
 from __future__ import annotations
 
@@ -12,7 +12,8 @@ import tempfile
 
 Edit = tuple[str, str, str, str]
 
-# The file, its text, the wrong recorder's text, and the case that must fail.
+# For each edit: the file, the original text, the wrong recorder's text, and the check that must
+# fail.
 EDITS: tuple[Edit, ...] = (
     ("command.py", "    if missing:", "    if False:", "nothing_is_there"),
     ("machine.py", 'elif os.path.exists(f"{self.groups}/cgroup.events"):', "elif False:",
@@ -142,14 +143,16 @@ EDITS: tuple[Edit, ...] = (
 
 
 def edited(top: str, edit: Edit) -> str | None:
-    """Returns the file with this edit, or None if the text isn't in it exactly once."""
+    """Returns the file's text after this edit, or None if the original text doesn't occur exactly
+    once.
+    """
     with open(f"{top}/tools/psirecord/{edit[0]}", encoding="utf-8") as file:
         text = file.read()
     return text.replace(edit[1], edit[2]) if text.count(edit[1]) == 1 else None
 
 
 def is_found(top: str, edit: Edit) -> bool:
-    """Returns whether the case fails on the wrong recorder."""
+    """Returns whether the check fails on the wrong recorder."""
     with tempfile.TemporaryDirectory(prefix="wrong") as scratch:
         shutil.copytree(f"{top}/tools", f"{scratch}/tools")
         with open(f"{scratch}/tools/psirecord/{edit[0]}", "w", encoding="utf-8") as file:
