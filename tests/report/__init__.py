@@ -1,1 +1,1 @@
-"""Checks of pages of incidents."""
+"""Checks of tools/report, which makes a page about an incident."""

@@ -1,4 +1,4 @@
-"""Drives headless Chromium through its debugging protocol over a socket: for tests of pages."""
+"""Drives headless Chromium through its debugging protocol, for checks of pages."""
 from __future__ import annotations
 
 import base64
@@ -17,7 +17,7 @@ from typing import Any, Optional
 
 from harness import Wrong, must
 
-# The timeout (s) of an answer on a busy machine.
+# The timeout (s) for an answer, long enough for a busy machine.
 SECONDS = 120
 NAMES = ("chromium", "chromium-browser", "google-chrome")
 
@@ -28,7 +28,9 @@ def browser_path() -> Optional[str]:
 
 
 class Socket:
-    """A WebSocket client (RFC 6455): sent texts are masked, received ones aren't."""
+    """A WebSocket client (RFC 6455). It masks the texts that it sends; the browser doesn't mask its
+    texts.
+    """
 
     def __init__(self, port: int, path: str) -> None:
         self.stream = socket.create_connection(("127.0.0.1", port), SECONDS)
@@ -57,7 +59,7 @@ class Socket:
         )
 
     def receive(self) -> str:
-        """Returns the next text, from one frame or several."""
+        """Returns the next text, which may come in several frames."""
         whole = b""
         while True:
             first, second = self.file.read(2)
@@ -76,7 +78,7 @@ class Socket:
 
 
 class Page:
-    """An open page. `faults` has what it wrote on its console, and what it threw."""
+    """An open page. `faults` has the messages on its console and its uncaught exceptions."""
 
     def __init__(self, stream: Socket) -> None:
         self.stream, self.number = stream, 0
@@ -87,8 +89,8 @@ class Page:
         self.asked: list[str] = []
 
     def ask(self, method: str, **params: Any) -> dict[str, Any]:
-        """Calls a method of the browser and returns its result; stores the events that arrive
-        before it.
+        """Calls a method of the browser and returns its result. Events that arrive before the
+        result are stored.
         """
         self.number += 1
         self.stream.send(json.dumps({"id": self.number, "method": method, "params": params}))
@@ -115,7 +117,7 @@ class Page:
             self.asked.append(params["request"]["url"])
 
     def open(self, path: str) -> None:
-        """Opens a file, and waits until it has loaded."""
+        """Opens a file in the page, and waits until it has loaded."""
         before = self.loads
         self.ask("Page.navigate", url=f"file://{path}")
         self.wait_for_load(before)
@@ -129,7 +131,7 @@ class Page:
             time.sleep(0.02)
 
     def value(self, script: str) -> Any:
-        """Returns the value of an expression on the page."""
+        """Returns the value of a JavaScript expression on the page."""
         found = self.ask("Runtime.evaluate", expression=script, returnByValue=True)
         must("exceptionDetails" not in found, f"{script}: {found.get('exceptionDetails')}")
         return found["result"].get("value")
@@ -142,7 +144,7 @@ class Page:
                  features=[{"name": "prefers-color-scheme", "value": scheme}])
 
     def picture(self, clip: Optional[dict[str, float]] = None) -> bytes:
-        """Returns a PNG of the window, or of a part of the page."""
+        """Returns a PNG image of the window, or of the part `clip` of the page."""
         more: dict[str, Any] = (
             {"clip": {**clip, "scale": 1}, "captureBeyondViewport": True} if clip else {}
         )
@@ -155,14 +157,16 @@ class Page:
         self.drag(x, x, y)
 
     def drag(self, left: float, right: float, y: float) -> None:
-        """Presses the mouse button at x `left`, and releases it at `right`."""
+        """Presses the mouse button at x = `left`, moves to x = `right` at height `y`, and releases
+        it (pixels).
+        """
         self.mouse("mousePressed", left, y, button="left", clickCount=1)
         self.mouse("mouseMoved", (left + right) / 2, y, button="left", buttons=1)
         self.mouse("mouseMoved", right, y, button="left", buttons=1)
         self.mouse("mouseReleased", right, y, button="left", clickCount=1)
 
     def key(self, name: str, code: int, text: str = "", modifiers: int = 0) -> None:
-        """Presses a key, with its name and its code."""
+        """Presses and releases a key, given by its name and its key code."""
         for kind in ("keyDown", "keyUp"):
             more = {"text": text} if text and kind == "keyDown" else {}
             self.ask("Input.dispatchKeyEvent", type=kind, key=name, windowsVirtualKeyCode=code,
@@ -170,8 +174,8 @@ class Page:
 
 
 def flags(folder: str) -> list[str]:
-    """Returns the browser's arguments: no requests to the network, and no sandbox if run as root,
-    since Chromium would refuse.
+    """Returns the browser's arguments: no requests to the network, and no sandbox for root, since
+    Chromium refuses a sandbox as root.
     """
     found = [
         "--headless", "--disable-gpu", "--hide-scrollbars", "--no-first-run",
@@ -185,7 +189,7 @@ def flags(folder: str) -> list[str]:
 
 
 def port_of(folder: str, process: subprocess.Popen[bytes]) -> int:
-    """The port of the debugging protocol, once the browser has written it."""
+    """Returns the port of the debugging protocol, as soon as the browser has written it."""
     path = os.path.join(folder, "DevToolsActivePort")
     end = time.monotonic() + SECONDS
     while time.monotonic() < end and process.poll() is None:
@@ -199,7 +203,7 @@ def port_of(folder: str, process: subprocess.Popen[bytes]) -> int:
 
 @contextlib.contextmanager
 def opened_browser(path: str) -> Iterator[Page]:
-    """A browser with an empty page."""
+    """Yields an empty page in a new browser."""
     with tempfile.TemporaryDirectory(ignore_cleanup_errors=True) as folder:
         words = [path, *flags(folder), "--remote-debugging-port=0", "about:blank"]
         process = subprocess.Popen(words, stdout=subprocess.DEVNULL, stderr=subprocess.DEVNULL)

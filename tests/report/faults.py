@@ -1,4 +1,6 @@
-"""Checks of usage errors and faults: each has a status, and one line says what to do."""
+"""Checks that each usage error and each fault has a status and a one-line message that says what to
+do.
+"""
 from __future__ import annotations
 
 import os
@@ -47,7 +49,7 @@ def check_faults(program: str) -> None:
 
 
 def check_a_write_that_fails(program: str) -> None:
-    """If the page can't be written completely, there is no page."""
+    """If the page can't be written completely, no page remains."""
     with tempfile.TemporaryDirectory() as folder:
         name = os.path.join(folder, "none", "page.html")
         must_be("what is said", fault(program, 2, TRACE, "-o", name),
@@ -60,7 +62,7 @@ def check_a_write_that_fails(program: str) -> None:
 
 
 def check_tools_that_stand_alone(program: str) -> None:
-    """Without a launcher above the tools, a page is made with the program that the variable names.
+    """Without a launcher above the tools, the page is made by the program that the variable names.
     """
     with tempfile.TemporaryDirectory() as folder:
         shutil.copytree(os.path.join(TOP, "tools"), os.path.join(folder, "tools"))
@@ -81,8 +83,8 @@ def check_a_trace_without_ticks(program: str) -> None:
 
 
 def check_a_recording(program: str) -> None:
-    """The page has the messages of compare and psitrace about a recording, and says so if the trace
-    is another one. A trace that can't belong to the recording is rejected.
+    """The page contains the messages of compare and psitrace about a recording, and says so if the
+    trace differs from the recording's. A trace that can't belong to the recording is rejected.
     """
     with recording("exec-2") as folder, tempfile.TemporaryDirectory() as room:
         name = os.path.join(room, "exec-2.trace")

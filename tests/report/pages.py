@@ -1,4 +1,4 @@
-"""Shared by checks of pages: pages of the story and of others, and their contents."""
+"""Makes and parses pages for the checks of tools/report."""
 from __future__ import annotations
 
 import functools
@@ -15,7 +15,7 @@ from harness import must, must_be
 from shared.program import TOP
 
 REPORT = "tools/report"
-# What differs from run to run, and from build to build: the time, the commit and the program's sum.
+# Elements that differ between runs or builds: the time, the commit and the program's checksum.
 CHANGING = re.compile(r'(<(?:time|code) class="(?:made|commit|program)">)[^<]*')
 VOID = {"meta", "input", "br"}
 
@@ -28,8 +28,8 @@ class Node:
         self.children: list[Node | str] = []
 
     def find(self, tag: str, **wanted: str) -> list[Node]:
-        """Returns all descendants with this name and these attributes (one class among several
-        suffices).
+        """Returns all descendants with this tag and these attributes. For `class`, one of the
+        element's classes suffices.
         """
         found = []
         for it in self.children:
@@ -47,7 +47,7 @@ class Node:
 
 
 class Reader(html.parser.HTMLParser):
-    """Reads a page, whose elements must be closed in order."""
+    """Parses a page, and raises unless its elements are closed in order."""
 
     def __init__(self) -> None:
         super().__init__()
@@ -80,7 +80,7 @@ def run(program: str, *words: str, folder: str = TOP) -> subprocess.CompletedPro
 
 
 def page_of(program: str, *words: str, folder: str = TOP) -> bytes:
-    """Returns a page; the run must succeed."""
+    """Returns the page for these arguments, and raises unless the run succeeds."""
     done = run(program, *words, folder=folder)
     must_be(f"the status of report {words}, which said {done.stderr!r}", done.returncode, 0)
     return done.stdout
@@ -88,7 +88,7 @@ def page_of(program: str, *words: str, folder: str = TOP) -> bytes:
 
 @functools.lru_cache(maxsize=None)
 def story(program: str) -> bytes:
-    """Returns the page of the story, made as in README."""
+    """Returns the page of the example `runaway`, made by the command in README."""
     with tempfile.TemporaryDirectory() as folder:
         os.symlink(os.path.join(TOP, "examples"), os.path.join(folder, "examples"))
         page_of(program, "examples/runaway.trace", "--rules", "examples/runaway.json", "-o",
@@ -98,7 +98,7 @@ def story(program: str) -> bytes:
 
 
 def data_of(page: Node) -> dict[str, Any]:
-    """Returns the data for the script."""
+    """Returns the data that the page contains for its script."""
     (found,) = page.find("script", id="data")
     told: dict[str, Any] = json.loads(found.text())
     must(told["panels"], "there are panels")
@@ -106,7 +106,7 @@ def data_of(page: Node) -> dict[str, Any]:
 
 
 def same(page: bytes) -> str:
-    """The page without what differs from run to run."""
+    """Returns the page without the elements that differ between runs or builds."""
     text = CHANGING.sub(r"\1", page.decode())
     must(
         text.count('class="made"') == text.count('class="commit"') == text.count(

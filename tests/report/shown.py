@@ -1,5 +1,5 @@
-"""Checks in a browser: what a reader sees with a pointer, with keys, without scripts, in dark mode
-and on paper.
+"""Checks in a browser what a reader sees: with a pointer, by keyboard, without scripts, in dark
+mode and on paper.
 """
 from __future__ import annotations
 
@@ -29,7 +29,7 @@ BOX = f"""(() => {{ {PICTURE}.scrollIntoView({{block: "center"}});
   const box = {PICTURE}.getBoundingClientRect();
   return [box.x, box.y, box.width, box.height]; }})()"""
 REACHED = "input, button, summary, a[href], figure:not([hidden]) > .scroll > svg[tabindex], .wide"
-# Not reachable: inside closed or hidden elements.
+# Elements that the keyboard can't reach: they are inside closed or hidden elements.
 CLOSED = "details .wide, figure[hidden] summary"
 VALUES = 'document.querySelector("figure[data-panel]:not([hidden]) .values").textContent'
 SHOWN = (
@@ -41,8 +41,8 @@ TIME = 'document.getElementById("time").textContent'
 
 @contextmanager
 def shown(program: str) -> Iterator[Page]:
-    """The page of the story in a browser, if one is installed; the console must stay empty, and
-    nothing else may be fetched.
+    """Yields the example's page in a browser, if a browser is installed. Raises unless the console
+    stays empty and nothing else is fetched.
     """
     path = browser_path()
     assert path
@@ -66,15 +66,17 @@ def is_skipped() -> bool:
 
 
 def place_of(page: Page, seconds: float) -> tuple[float, float]:
-    """Returns the position in the window of a time (s) in the first picture, if it shows all 300
-    s.
+    """Returns the position (pixels) in the window of a time (s) in the first picture, which must
+    show all 300 s.
     """
     x, y, width, height = page.value(BOX)
     return x + (112 + seconds / 300 * (936 - 112)) * width / 960, y + height * 0.6
 
 
 def values_of(program: str, seconds: int) -> str:
-    """Returns the values below the first picture at a time (s), from psi_oomd's output."""
+    """Returns the values that the page should show below the first picture at a time (s), from
+    psi_oomd's output.
+    """
     printed = Printed(run([program, "replay", "examples/runaway.trace", "--report-s", "2"]))
     looks = [
         (level, average) for level in ("some", "full") for average in ("avg10", "avg60", "avg300")
@@ -88,8 +90,8 @@ def values_of(program: str, seconds: int) -> str:
 
 
 def check_pointer_and_zoom(program: str) -> None:
-    """The pointer shows the values of the latest report; a drag zooms into a part of the time, and
-    Escape shows all of it.
+    """The pointer shows the values of the latest report. A drag zooms into an interval, and Escape
+    shows the whole time again.
     """
     if is_skipped():
         return
@@ -121,8 +123,7 @@ def check_pointer_and_zoom(program: str) -> None:
 
 
 def check_pictures_are_redrawn_alike(program: str) -> None:
-    """If all of the time is shown, the script draws the lines exactly as the charts' modules did.
-    """
+    """For the whole time, the script draws the same lines as the modules that made the charts."""
     if is_skipped():
         return
     still = [
@@ -146,7 +147,7 @@ def check_pictures_are_redrawn_alike(program: str) -> None:
 
 
 def check_groups_and_resources(program: str) -> None:
-    """A click on a checkbox shows or hides a group."""
+    """A click on a checkbox shows or hides its group."""
     if is_skipped():
         return
     figures = [
@@ -180,8 +181,8 @@ def check_groups_and_resources(program: str) -> None:
 
 
 def check_keys_alone(program: str) -> None:
-    """The Tab key reaches every checkbox, picture, link and table; a picture has keys for times and
-    for zoom.
+    """The Tab key reaches each checkbox, picture, link and table. A picture has keys for moving in
+    time and for zooming.
     """
     if is_skipped():
         return
@@ -212,7 +213,7 @@ def check_keys_alone(program: str) -> None:
 
 
 def check_without_a_script(program: str) -> None:
-    """All pictures are static, and no control is shown that does nothing."""
+    """Without a script all pictures are static, and no control without effect is shown."""
     if is_skipped():
         return
     count = len(data_of(read(story(program)))["panels"])
@@ -226,8 +227,8 @@ def check_without_a_script(program: str) -> None:
 
 
 def check_looks(program: str) -> None:
-    """Light and dark by the reader's setting, no overflow on a narrow screen, and two pages of
-    paper.
+    """The page follows the reader's light or dark setting, fits a narrow screen, and takes two
+    pages on paper.
     """
     if is_skipped():
         return
@@ -269,8 +270,8 @@ def check_breaks_on_paper(program: str) -> None:
 
 
 def check_texts_of_pictures_fit(program: str) -> None:
-    """No text of a picture is outside of it or covers another one, on a large screen, on paper and
-    on a phone, also with long names.
+    """No text of a picture lies outside of it or covers another text, on a large screen, on paper
+    and on a phone, even with long names.
     """
     with tempfile.TemporaryDirectory() as folder:
         with open(os.path.join(folder, "long.trace"), "w", encoding="ascii") as file:
@@ -290,7 +291,9 @@ def check_texts_of_pictures_fit(program: str) -> None:
 
 
 def check_scales_that_differ(program: str) -> None:
-    """A picture says if its scale ends below 100 percent; the one beside it may end elsewhere."""
+    """A picture says if its scale ends below 100 percent; the picture beside it may end at another
+    value.
+    """
     page = read(story(program))
     figures = [it for it in page.find("figure") if "data-panel" in it.attributes]
     marks = [
@@ -308,7 +311,7 @@ def check_scales_that_differ(program: str) -> None:
 
 
 def check_a_phone(program: str) -> None:
-    """Each picture is as wide as the screen, and no label is cut: there are none."""
+    """On a phone each picture is as wide as the screen. It has no labels, so no label is cut."""
     if is_skipped():
         return
     with shown(program) as page:
@@ -332,7 +335,9 @@ def check_a_phone(program: str) -> None:
 
 
 def check_one_label_for_each_kill(program: str) -> None:
-    """The first picture has them; vertical lines cross all pictures."""
+    """Only the first picture has a label for each kill; a vertical line marks each kill in all
+    pictures.
+    """
     figures = [it for it in read(story(program)).find("figure") if "data-panel" in it.attributes]
     labels = [
         len([text for mark in it.find("g", class_="kill") for text in mark.find("text")])
@@ -347,7 +352,9 @@ def check_one_label_for_each_kill(program: str) -> None:
 
 
 def check_by_the_browsers_own_words(program: str) -> None:
-    """`--dump-dom` prints the page after the script ran, and `--screenshot` makes a picture."""
+    """Chromium's `--dump-dom` prints the page after its script ran, and its `--screenshot` makes an
+    image.
+    """
     path = browser_path()
     if is_skipped():
         return
@@ -367,7 +374,7 @@ def check_by_the_browsers_own_words(program: str) -> None:
 
 
 def check_by_tidy(program: str) -> None:
-    """tidy reports nothing."""
+    """The program tidy reports no fault in the page."""
     if not shutil.which("tidy"):
         print("tidy isn't installed: its view of the page is skipped")
         return

@@ -1,4 +1,4 @@
-"""Checks of what a page says: its numbers are those of psi_oomd and of the tools."""
+"""Checks that the numbers on a page are those of psi_oomd and of the tools."""
 from __future__ import annotations
 
 import json
@@ -30,12 +30,12 @@ def lead_of(page: Node) -> str:
 
 
 def rows_of(section: Node) -> list[list[str]]:
-    """Returns the rows of a section's tables."""
+    """Returns the rows of the tables in a section."""
     return [[cell.text() for cell in row.find("th") + row.find("td")] for row in section.find("tr")]
 
 
 def check_the_first_sentence(program: str) -> None:
-    """Its numbers are those that the commands print."""
+    """The numbers in the page's first sentence are those that the commands print."""
     page = read(story(program))
     was = Printed(
         run(
@@ -71,8 +71,8 @@ def check_the_first_sentence(program: str) -> None:
 
 
 def check_the_commands(program: str) -> None:
-    """Each number with a command on the page refers to a command below, and these run and print
-    what the page has.
+    """Each number that refers to a command has that command in the page's list, and the command
+    prints that number.
     """
     page = read(story(program))
     (made,) = page.find("section", id="made")
@@ -99,7 +99,9 @@ def check_the_commands(program: str) -> None:
 
 
 def check_values_for_the_script(program: str) -> None:
-    """The pointer shows what the replay printed, and events and kills are at their times."""
+    """The pointer shows the values that the replay printed, and events and kills are at their
+    times.
+    """
     page = read(story(program))
     printed = Printed(
         run(
@@ -134,13 +136,14 @@ def check_values_for_the_script(program: str) -> None:
 
 
 def some_pressure(draw: random.Random, total: int) -> Pressure:
-    """Returns random averages, mostly 7, with this total (us)."""
+    """Returns random averages, most of them 7, with this total (us)."""
     averages = [draw.randrange(10**4) if draw.random() < 0.01 else 7 for _ in range(3)]
     return Pressure(averages[0], averages[1], averages[2], total)
 
 
 def highest_of(moments: Sequence[int], values: Sequence[int], end: int) -> dict[int, int]:
-    """Returns the highest value of each of the STRETCHES intervals up to `end` (ns)."""
+    """Returns the highest value in each of STRETCHES equal intervals up to `end` (ns), by interval.
+    """
     highest: dict[int, int] = {}
     for moment, value in zip(moments, values):
         stretch = moment * STRETCHES // end
@@ -180,8 +183,8 @@ def check_thinned_values(program: str) -> None:
 
 
 def check_detectors(program: str) -> None:
-    """When detectors were true: for the plugins' stories as in docs/RULES.md, for the import from
-    the output.
+    """The times at which detectors were true agree with docs/RULES.md for the plugins' examples,
+    and with psi_oomd's output for the example `runaway`.
     """
     before, os.environ["PSI_OOMD"] = os.environ.get("PSI_OOMD", ""), program
     try:
@@ -209,8 +212,8 @@ def check_detectors(program: str) -> None:
 
 
 def check_how_near(program: str) -> None:
-    """The page states the highest value that a detector looks at, and how long it held; also for a
-    ruleset that never fires.
+    """The page states the highest value that a detector evaluated, and how long the condition held,
+    also for a ruleset that never fires.
     """
     printed = Printed(run([program, "replay", "examples/runaway.trace", "--report-s", "1"]))
     shares = printed.shares["/batch", "memory", "full", "avg10"]
@@ -240,7 +243,7 @@ def check_how_near(program: str) -> None:
 
 
 def check_names_are_shown(program: str) -> None:
-    """A name that looks like an element is shown as text, and so is a file's."""
+    """A group's or file's name that looks like an HTML element is shown as text."""
     with tempfile.TemporaryDirectory() as folder:
         with open(os.path.join(TOP, "examples", "runaway.json"), encoding="utf-8") as file:
             text = file.read().replace(
@@ -259,7 +262,7 @@ def check_names_are_shown(program: str) -> None:
 
 
 def check_an_hour(program: str) -> None:
-    """A page of an hour of many groups is below 2 MB."""
+    """The page of a trace of an hour with many groups is smaller than 2 MB."""
     draw = random.Random(1)
     groups = [f"/g{number}" for number in range(12)]
     lines = ["psitrace 1 cpus=4", *(f"0 group {path}" for path in groups)]
@@ -284,7 +287,7 @@ def check_an_hour(program: str) -> None:
 
 
 def check_stored_pages(program: str) -> None:
-    """The stored pages of the examples equal what the command makes now."""
+    """The stored pages of the examples equal the pages that the command makes now."""
     with open(os.path.join(TOP, "examples", "runaway.html"), "rb") as file:
         must(same(file.read()) == same(story(program)),
              "examples/runaway.html is what its command makes: make it anew")
@@ -299,7 +302,7 @@ def check_stored_pages(program: str) -> None:
 
 
 def check_nothing_from_elsewhere(program: str) -> None:
-    """The page names nothing that a browser would fetch, and its script is short."""
+    """The page refers to nothing that a browser would fetch, and its script is short."""
     page = read(story(program))
     for node in [
         it for tag in ("script", "img", "link", "iframe", "image", "use") for it in page.find(tag)

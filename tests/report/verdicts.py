@@ -1,5 +1,5 @@
-"""Checks of the page's verdict: what stalled most, which ruleset came nearest, what a kill would
-have changed, and its caveats.
+"""Checks the page's summary: what stalled most, which ruleset came nearest to firing, what a kill
+would have changed, and the caveats.
 """
 from __future__ import annotations
 
@@ -24,20 +24,20 @@ from .told import lead_of
 SECOND = 10**9
 RUNAWAY = os.path.join(TOP, "examples", "runaway.trace")
 
-# A task of the root always waits for IO, and the only group is empty.
+# A trace in which a task of the root always waits for IO, and the only group is empty.
 ROOT = (
     "psitrace 1 cpus=1\n0 group /idle\n0 fork 1 / 0\n0 switch 0 1 idle\n0 switch 0 0 iowait\n"
     "60000000000 end\n"
 )
-# Half of the time goes to interrupts, and nothing else happens.
+# A trace in which interrupts take half of the time, and nothing else happens.
 INTERRUPTS = "psitrace 2 cpus=1\n0 group /a\n0 fork 1 /a 0\n0 switch 0 1 idle\n" + "".join(
     f"{second}000000000 irq 0 500000000\n" for second in range(1, 41)
 ) + "40000000000 end\n"  # fmt: skip
 
 
 def stalled(task: int, start: int, end: int) -> list[tuple[int, str]]:
-    """Returns a task that stalls for memory on processor `task` - 1 from `start` to `end` (s), and
-    sleeps during the stall and after it.
+    """Returns the trace lines of a task that stalls for memory on processor `task` - 1 from `start`
+    to `end` (s), and sleeps otherwise.
     """
     cpu = task - 1
     begin = [
@@ -52,7 +52,7 @@ def stalled(task: int, start: int, end: int) -> list[tuple[int, str]]:
 
 
 def two_stalls(end: int, other: int = 14, first: int = 10, host: str = "host 1000000 0 0") -> str:
-    """Returns a trace in which /a/b stalls from 2 s to `first`, and /x from 2 s to `other` (s)."""
+    """Returns a trace in which /a/b stalls from 2 s to `first` s, and /x from 2 s to `other` s."""
     made = [(0, host)] if host else []
     made += [
         (0, it) for it in ("group /a", "group /a/b", "group /x", "fork 1 /a/b 0", "fork 2 /x 1")
@@ -88,7 +88,7 @@ def ruleset(name: str, cgroup: str, *detectors: dict[str, Any]) -> dict[str, Any
 def page(
     program: str, trace: str, rulesets: Optional[list[dict[str, Any]]] = None, *words: str
 ) -> Node:
-    """Returns the page of a trace, passed as text or as a path, with rules."""
+    """Returns the parsed page of a trace, given as text or as a path, with these rules."""
     with tempfile.TemporaryDirectory() as folder:
         if trace.startswith("psitrace"):
             with open(os.path.join(folder, "a.trace"), "w", encoding="ascii") as file:
@@ -108,14 +108,16 @@ def title_of(found: Node) -> str:
 
 
 def highest(program: str, trace: str, *key: str) -> float:
-    """Returns the highest printed share, in percent."""
+    """Returns the highest share (percent) that the program prints for a group, a resource, a level
+    and an average.
+    """
     printed = Printed(run([program, "replay", "-", "--report-s", "1"], trace.encode()))
     path, resource, level, average = key
     return max(share for _, share in printed.shares[path, resource, level, average])
 
 
 def check_the_root_alone(program: str) -> None:
-    """If only the root stalled, and no group, the page says so."""
+    """If only the root stalled, the page says so."""
     found = page(program, ROOT)
     most = highest(program, ROOT, "/", "io", "some", "avg10")
     must(most > 99, f"the root waits: {most}")
@@ -128,7 +130,7 @@ def check_the_root_alone(program: str) -> None:
 
 
 def check_interrupts_alone(program: str) -> None:
-    """Interrupts count as a stall if there is no other."""
+    """Interrupts count as a stall if nothing else stalled."""
     found = page(program, INTERRUPTS)
     must(lead_of(found).startswith("The machine was held up by interrupts, at its worst from "),
          lead_of(found))
@@ -136,8 +138,8 @@ def check_interrupts_alone(program: str) -> None:
 
 
 def check_the_nearest_ruleset(program: str) -> None:
-    """The nearest ruleset is the one closest to a threshold. A detector for a group's existence
-    doesn't count.
+    """The nearest ruleset is the one whose value came closest to a threshold. A detector that only
+    checks that a group exists doesn't count.
     """
     full = Printed(
         run([program, "replay", "examples/runaway.trace", "--report-s", "1"])
@@ -176,8 +178,8 @@ def check_the_nearest_ruleset(program: str) -> None:
 
 
 def check_a_kill_after_the_stall(program: str) -> None:
-    """The kill would have changed nothing, and the page says that instead of printing the same
-    number twice.
+    """If a kill would have changed nothing, the page says that instead of printing the same number
+    twice.
     """
     found = page(program, OVER, [ruleset("late", "a/*", pressure("a", "5", "10"))])
     must(
@@ -192,7 +194,9 @@ def check_a_kill_after_the_stall(program: str) -> None:
 
 
 def check_the_worst_group(program: str) -> None:
-    """The title and the first sentence name the worst group, though the rules watch another one."""
+    """The title and the first sentence name the group that stalled most, even if the rules watch
+    another group.
+    """
     found = page(program, OVER, [ruleset("late", "a/*", pressure("a", "5", "10"))])
     must_be("the title", title_of(found), "Incident: memory pressure of /x and /a")
     shares = [highest(program, OVER, path, "memory", "some", "avg10") for path in ("/x", "/a")]
@@ -215,7 +219,7 @@ def check_the_worst_group(program: str) -> None:
 
 
 def check_short_traces(program: str) -> None:
-    """The first sentence says what the averages can't show."""
+    """For a trace shorter than 180 s, the first sentence says which averages mean little."""
     little, less = (
         "averages mean little before 30 s, those over 60 and 300 s before 3 min",
         "averages over 60 and 300 s mean little before 3 min",
@@ -238,7 +242,7 @@ def check_a_machine_without_swap(program: str) -> None:
 
 
 def check_control_characters(program: str) -> None:
-    """No name brings a control character onto the page."""
+    """No control character in a name reaches the page."""
     rules = [ruleset("a\0b\x1b[31mred\x7f", "a/*", pressure("a", "5", "10"))]
     rules[0]["detectors"][0][0] = "g\0\x1b[2J"
     text = page(program, OVER, rules).text()
@@ -265,7 +269,9 @@ def check_rules_on_other_groups(program: str) -> None:
 
 
 def check_a_group_by_its_last_component(program: str) -> None:
-    """It names the group as its path does. Only the page's own command differs."""
+    """With --group, the last component of a path selects the group as the whole path does. Only the
+    command shown on the page differs.
+    """
     by_name, by_path = (
         same(page_of(program, RUNAWAY, "--group", it)) for it in ("import", "/batch/import")
     )
@@ -274,7 +280,9 @@ def check_a_group_by_its_last_component(program: str) -> None:
 
 
 def check_words_that_name_nothing(program: str) -> None:
-    """A missing group, a folder as the page, and each file by its purpose."""
+    """A missing group, a folder in place of the page, and each missing file are reported, with the
+    purpose of the file.
+    """
     every = "/, /batch, /batch/import, /batch/index, /web"
     for word, near in (("bacth", "/batch, .."), ("/bathc", "/batch, .."), ("/nosuch", every)):
         must_be(word, fault(program, 11, RUNAWAY, "--group", word),
@@ -299,7 +307,9 @@ def check_words_that_name_nothing(program: str) -> None:
 
 
 def trust_text(compared: str, said: str) -> str:
-    """Returns the page's part on a recording, for these messages of compare and psitrace."""
+    """Returns the page's section about a recording's reliability, for these messages of compare and
+    psitrace.
+    """
     run_ = SimpleNamespace(number=1, text=lambda: compared, said=said)
     element = ElementTree.Element("body")
     recorded = SimpleNamespace(compared=run_, summary=run_, is_same=True)
@@ -312,8 +322,8 @@ def trust_text(compared: str, said: str) -> str:
 
 
 def check_repairs_and_causes(program: str) -> None:
-    """Harmless repairs cause no distrust, and totals beyond their limits have their cause beside
-    them.
+    """Harmless repairs of a recording cause no warning. A total beyond its limit has the cause next
+    to it.
     """
     del program
     verdict, cause = (

@@ -1,4 +1,6 @@
-"""Checks of how results are printed: several traces, two rules files, JSON, TAP."""
+"""Checks how tools/rules expect prints results: for several traces, for two rules files, as JSON,
+and as TAP.
+"""
 from __future__ import annotations
 
 import os
@@ -34,8 +36,8 @@ def check_several_traces(room: Room) -> None:
 
 
 def check_side_by_side(room: Room) -> None:
-    """The program waits until as many copies of it run as there are processors, so it ends well
-    only if they do.
+    """expect runs one replay per processor at a time. A stub of psi_oomd waits until that number of
+    its copies run, and fails otherwise.
     """
     count = len(os.sched_getaffinity(0))
     room.file("rules.json", rules_text())

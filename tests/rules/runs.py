@@ -1,4 +1,4 @@
-"""Runs of tools/rules expect, and the rules files that they read."""
+"""Runs tools/rules expect, and makes the rules files for these runs."""
 from __future__ import annotations
 
 import json
@@ -10,8 +10,8 @@ KILLER = "ruleset 0 'memory', action 0 'kill_by_memory_size_or_growth'"
 
 
 def rules_text(**changes: object) -> str:
-    """The rules of the stored story, with the ruleset name `memory`, and other arguments of its
-    detector or of the ruleset.
+    """Returns the rules of the example `runaway`, with the ruleset name `memory`. `changes`
+    replaces arguments of the detector or keys of the ruleset.
     """
     with open(RUNAWAY_RULES, encoding="utf-8") as file:
         rules = json.load(file)
@@ -23,7 +23,9 @@ def rules_text(**changes: object) -> str:
 
 
 def memory_rules(name: str, pattern: str, delay: int) -> str:
-    """Rules that kill the largest of these groups at each evaluation after the delay."""
+    """Returns a ruleset that kills the largest of the groups that match `pattern`, `delay` s after
+    it fires, at every evaluation.
+    """
     action = {
         "name": "kill_by_memory_size_or_growth",
         "args": {"cgroup": pattern, "post_action_delay": delay},

@@ -1,5 +1,5 @@
-"""The checks of tests/samples, and what they share: samples by hand, runs of the tool, and totals
-as psi_oomd prints them.
+"""Checks of tools/samples, with helpers for them: samples written by hand, runs of the tool, and
+the totals that psi_oomd prints.
 """
 from __future__ import annotations
 
@@ -19,12 +19,12 @@ SECOND = 10**9
 REPORT = re.compile(
     r"report (\d+) (\S+) (io|memory|cpu)\nsome [^\n]*total=(\d+)\nfull [^\n]*total=(\d+)\n"
 )
-# Totals (us) by time (s), group and resource: some and full.
+# The totals (us) of `some` and of `full`, by time (s), group and resource.
 Totals = dict[tuple[int, str, str], tuple[int, int]]
 
 
 class Done(NamedTuple):
-    """What a run left."""
+    """The results of a run: its exit status, standard output and standard error."""
 
     status: int
     output: str
@@ -32,7 +32,7 @@ class Done(NamedTuple):
 
 
 class Room:
-    """A folder of a check's own."""
+    """A folder in which a check writes its files and runs tools."""
 
     def __init__(self, program: str, path: str) -> None:
         self.program, self.path = program, path
@@ -56,7 +56,7 @@ class Room:
         self, *words: str, program: str = "", status: int | None = None, text: str = ""
     ) -> Done:
         """Runs a tool, or the program if the first word is psi_oomd, with a text as standard input.
-        If a status is named, it must come.
+        Raises unless the exit status is `status`, if one is given.
         """
         first = self.program if words[0] == "psi_oomd" else os.path.join(TOP, "tools", words[0])
         environment = {
@@ -71,11 +71,11 @@ class Room:
         return found
 
     def make(self, *words: str, status: int = 0) -> Done:
-        """Makes it.trace of samples."""
+        """Converts samples to the trace it.trace."""
         return self.run("samples", *words, "-o", "it.trace", status=status)
 
     def totals(self, trace: str = "it.trace") -> Totals:
-        """Returns what a replay at ticks of 2 s prints."""
+        """Returns the totals that a replay of a trace prints at ticks of 2 s."""
         printed = self.run("psi_oomd", "replay", trace, "--report-s=2", status=0).output
         return {
             (int(it[1]) // SECOND, it[2], it[3]): (int(it[4]), int(it[5]))
@@ -90,7 +90,9 @@ def room_of(program: str) -> Iterator[Room]:
 
 
 class Row(NamedTuple):
-    """Some and full (us) of a resource of a group, at s after START."""
+    """A sample: the totals (us) of `some` and `full` of a group and a resource, `at` seconds after
+    START.
+    """
 
     at: float
     group: str
@@ -100,7 +102,7 @@ class Row(NamedTuple):
 
 
 def csv(rows: Iterable[Row], more: Iterable[str] = ()) -> str:
-    """Returns the rows as CSV, in the order of time, and more lines after them."""
+    """Returns the rows as CSV, ordered by time, followed by the lines `more`."""
     lines = [
         f"{START + it.at:.3f},{it.group},{it.resource},{it.some},{it.full}\n"
         for it in sorted(rows, key=lambda it: it.at)
@@ -112,8 +114,8 @@ def steady(
     group: str, resource: str, times: Iterable[float], some: float, full: float, start: float = 0.0,
     base: int = 0,
 ) -> list[Row]:
-    """Returns a total that grows by a share (0 to 1) of the time from `start` on, from `base`
-    us.
+    """Returns samples of a total that starts at `base` us and grows, from `start` (s) on, by a
+    share (0 to 1) of the time.
     """
     return [
         Row(
@@ -124,7 +126,7 @@ def steady(
 
 
 def exact(_path: str, _resource: str) -> int:
-    """Returns how far totals may be off, us."""
+    """Returns the largest error (us) that rounding may cause in any total."""
     return 2
 
 
@@ -132,8 +134,9 @@ def must_match(
     found: Totals, rows: Iterable[Row], near: Callable[[str, str], int] = exact,
     made: dict[str, float] | None = None
 ) -> int:
-    """Each sample at an even second is in the replay, as its growth since the group's first sample,
-    or in full if `made` says that the group was made; how many were compared.
+    """Raises unless the replay has each sample at an even second, counted from the group's first
+    sample, or from 0 if the group was created later (in `made`). Returns the number of compared
+    samples.
     """
     first: dict[tuple[str, str], Row] = {}
     count = 0

@@ -1,4 +1,4 @@
-"""All formats give the same trace, byte for byte."""
+"""Checks that samples in all formats give the same trace, byte for byte."""
 from __future__ import annotations
 
 import gzip
@@ -14,7 +14,9 @@ KINDS = {"some": "waiting", "full": "stalled"}
 
 
 def rows() -> list[Row]:
-    """Returns a machine with a slice and two services. cAdvisor's label id is a group's path."""
+    """Returns samples of a machine with a slice and two services. A group's path is the label `id`
+    in cAdvisor's format.
+    """
     found = steady(
         "/", "io", TIMES, 0.2, 0.05, base=1000
     ) + steady("/", "cpu", TIMES, 0.3, 0.0) + steady("/", "memory", TIMES, 0.1, 0.02)
@@ -29,9 +31,7 @@ def rows() -> list[Row]:
 
 
 def series() -> dict[tuple[str, str], list[tuple[float, str]]]:
-    """By the name of a metric and the group its values at times, in seconds as exporters write
-    them.
-    """
+    """Returns the values of each metric and group with their times (s), as exporters write them."""
     found: dict[tuple[str, str], list[tuple[float, str]]] = {}
     for row in rows():
         for level, total in (("some", row.some), ("full", row.full)):
@@ -83,7 +83,9 @@ def dump() -> str:
 
 
 def stale_dump() -> str:
-    """The dump after a scrape without any series, which Prometheus marks in each of them by NaN."""
+    """Returns a dump after a scrape that found no series: Prometheus marks the end of each series
+    by a NaN.
+    """
     heads = dict.fromkeys(line.rpartition("} ")[0] for line in dump().splitlines())
     return dump() + "".join(f"{it}}} NaN {(START + TIMES[-1] + 5) * 1000}\n" for it in heads)
 
@@ -101,7 +103,7 @@ def json_lines() -> str:
 
 
 def loop() -> str:
-    """Returns what a loop of date and grep prints."""
+    """Returns the output of a shell loop of date and grep over pressure files."""
     lines = []
     for at in TIMES:
         lines.append(f"{START + at}.000000000")
@@ -117,7 +119,7 @@ def loop() -> str:
 
 
 def traces(room: Room, texts: Iterable[tuple[str, str | bytes]]) -> dict[str, str]:
-    """Returns the traces that come of texts."""
+    """Returns the trace of each of these texts, by name."""
     found = {}
     for name, text in texts:
         room.file("samples", text)
@@ -142,7 +144,9 @@ def check_all_formats_give_the_same_trace(program: str) -> None:
 
 
 def check_several_files_are_one(program: str) -> None:
-    """The root by one query and groups by another, and two times that overlap."""
+    """Several files are read as one: the root from one query, groups from another, and times that
+    overlap.
+    """
     with room_of(program) as room:
         room.file("all", csv(rows()))
         room.file("root", csv(it for it in rows() if it.group == "/"))
@@ -155,7 +159,7 @@ def check_several_files_are_one(program: str) -> None:
 
 
 def check_names_of_groups(program: str) -> None:
-    """--rename, --groups and --labels."""
+    """The options --rename, --groups and --labels change or select groups."""
     with room_of(program) as room:
         room.file("samples", csv(rows()))
         room.make("samples", "--rename", "/a.slice=/system.slice/web", "--groups", "2")
@@ -175,7 +179,7 @@ def check_names_of_groups(program: str) -> None:
 
 
 def check_the_root_by_two_exporters(program: str) -> None:
-    """node_exporter's series of the root count; cAdvisor's do if there are no others."""
+    """The root's totals come from node_exporter's series; only without these, from cAdvisor's."""
     answer = json.loads(prometheus())
     ours = [it for it in answer["data"]["result"] if it["metric"]["__name__"].startswith("node")]
     for it in ours:

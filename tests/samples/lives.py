@@ -1,4 +1,6 @@
-"""Groups that come, go, return and begin anew; gaps; and memory."""
+"""Checks of groups that are created, removed, or created again, of gaps between samples, and of
+memory samples.
+"""
 from __future__ import annotations
 
 import json
@@ -14,7 +16,7 @@ EVENT = re.compile(r"^([0-9]+) (group|rmgroup) (/[^p].*)$", re.MULTILINE)
 
 
 def events(trace: str) -> list[tuple[float, str, str]]:
-    """Returns when groups were made and removed (s)."""
+    """Returns the time (s) and the path of each creation and removal of a group in a trace."""
     return [(int(at) / 1e9, verb, path) for at, verb, path in EVENT.findall(trace)]
 
 
@@ -25,7 +27,9 @@ def root() -> list[Row]:
 
 
 def check_groups_come_and_go(program: str) -> None:
-    """/new comes between 35 and 40 s, /old goes after 60 s; /stays is there."""
+    """In the trace, /new is created between 35 and 40 s, /old is removed after 60 s, and /stays
+    exists throughout.
+    """
     new = steady("/new", "io", range(40, 121, 5), 0.5, 0.1, start=37.0)
     old, stays = steady("/old", "io", range(0, 61, 5), 0.3, 0.0), steady(
         "/stays", "io", TIMES, 0.4, 0.2, base=5000
@@ -48,7 +52,7 @@ def check_groups_come_and_go(program: str) -> None:
 
 
 def check_a_group_that_begins_anew(program: str) -> None:
-    """A total that falls, and a group that is away for more than two readings."""
+    """A group whose total falls, or that is missing from more than two readings, is a new group."""
     first = steady("/again", "io", range(0, 41, 5), 0.5, 0.0, base=10_000_000)
     second = steady("/again", "io", range(45, 81, 5), 0.2, 0.0, start=42.0)
     third = steady("/again", "io", range(105, 121, 5), 0.3, 0.0, start=104.0)
@@ -66,7 +70,7 @@ def check_a_group_that_begins_anew(program: str) -> None:
 
 
 def check_a_group_above_that_begins_anew(program: str) -> None:
-    """What is below it goes on as a new group."""
+    """If a parent group's total falls, its children continue as new groups."""
     above = steady("/s", "io", range(0, 61, 5), 0.3, 0.1) + steady(
         "/s", "io", range(65, 121, 5), 0.3, 0.1, start=62.0
     )
@@ -91,8 +95,8 @@ def check_a_group_above_that_begins_anew(program: str) -> None:
 
 
 def check_gaps(program: str) -> None:
-    """Nothing was read for two minutes: groups stay, and totals lie on the line between. A root
-    whose totals fall began anew.
+    """In a gap of two minutes without samples, groups continue to exist, and totals grow evenly. A
+    root whose totals fall starts again.
     """
     times = [*range(0, 61, 5), *range(180, 241, 5)]
     found = [
@@ -121,8 +125,8 @@ def check_gaps(program: str) -> None:
 
 
 def check_memory(program: str) -> None:
-    """Samples of memory come at their times, and between two of them where they change much; rules
-    see them.
+    """Memory samples are in the trace at their times, and more are interpolated if memory changes
+    much between two samples. Rules use these values.
     """
     sizes = [
         f"{START + at}.000,/a,mem,{100_000_000 + at * 10_000_000},0,{at * 100}" for at in TIMES
@@ -161,7 +165,7 @@ def check_memory(program: str) -> None:
 
 
 def check_rules_see_idle_groups(program: str) -> None:
-    """A group without pressure has a task too, so a rule can choose it."""
+    """A group without pressure has a task too, so a rule can select it."""
     sizes = [
         f"{START + at}.000,{path},mem,{size},0,0" for at in TIMES for path, size in (
             ("/a", 1000), ("/idle", 900_000)
@@ -192,7 +196,7 @@ def check_rules_see_idle_groups(program: str) -> None:
 
 
 def check_a_past(program: str) -> None:
-    """--lead-in begins averages as the samples had them."""
+    """With --lead-in, averages begin with the values that the samples had."""
     lines = []
     for at in TIMES:
         for path in ("/", "/a"):
@@ -218,8 +222,8 @@ def check_a_past(program: str) -> None:
 
 
 def check_averages_say_when_a_total_grew(program: str) -> None:
-    """A stall of 10 s at the end of an interval of 30 s: with avg10 of the samples the trace comes
-    nearer to it than without.
+    """For a stall of 10 s at the end of an interval of 30 s, the trace is more accurate if the
+    samples include avg10.
     """
 
     def total(at: float) -> float:

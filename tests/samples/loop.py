@@ -1,4 +1,6 @@
-"""tools/sample on a folder in place of a machine."""
+"""Checks of tools/sample, which samples pressure files in a loop, on a folder in place of a
+machine.
+"""
 from __future__ import annotations
 
 import gzip
@@ -19,8 +21,8 @@ MEMINFO = (
 
 
 def machine(room: Room) -> None:
-    """The files of a machine with a slice, a service whose name has a blank, and a group that can't
-    be read.
+    """Writes the files of a machine with a slice, a service whose name has a blank, and a group
+    that can't be read.
     """
     for resource in ("io", "memory", "cpu"):
         room.file(f"top/proc/pressure/{resource}", PRESSURE.format(some=1000, full=10))
@@ -55,7 +57,7 @@ def check_one_round(program: str) -> None:
 
 
 def check_samples_of_rounds(program: str) -> None:
-    """What the loop writes is what tools/samples reads."""
+    """tools/samples reads the files that tools/sample writes."""
     with room_of(program) as room:
         machine(room)
         room.run("sample", "--root", "top", "--every", "1", "--seconds", "4", "--into", "out.csv",
@@ -67,7 +69,9 @@ def check_samples_of_rounds(program: str) -> None:
 
 
 def check_full_files_are_put_aside(program: str) -> None:
-    """The newest older file has number 1, and there are at most as many as --files says."""
+    """Full files are renamed: the newest of them has the number 1, and at most as many are kept as
+    --files allows.
+    """
     with room_of(program) as room:
         machine(room)
         full = "time,group,what,values\n" + "x" * 999_990
@@ -101,7 +105,7 @@ def check_what_it_says_of_faults(program: str) -> None:
 
 
 def check_it_stands_alone(program: str) -> None:
-    """The loop is one file that runs without the others."""
+    """tools/sample is a single file that runs without the rest of the repository."""
     with room_of(program) as room:
         machine(room)
         with open(os.path.join(TOP, "tools/psisamples/loop.py"), encoding="utf-8") as file:

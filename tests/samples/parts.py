@@ -1,4 +1,6 @@
-"""A long time becomes several traces that overlap, and tools for rules take them as one."""
+"""Checks that samples of a long time become several overlapping traces, which the tools for rules
+treat as one trace.
+"""
 from __future__ import annotations
 
 import argparse
@@ -17,14 +19,14 @@ from . import SECOND, START, Room, Row, csv, room_of, steady
 
 LENGTH = 5400
 TIMES = range(0, LENGTH + 1, 5)
-# When /late begins, s: only the last parts have it.
+# The time (s) at which the group /late is created: only the last parts contain it.
 LATE = 4800
-# When /a stalls for memory, s.
+# The intervals (s) in which /a stalls for memory.
 STALLS = [(600 * it, 600 * it + 60) for it in range(1, 9)]
 
 
 def stalled(at: float) -> float:
-    """For how long /a stalled until then."""
+    """Returns for how long (s) /a has stalled up to the time `at` (s)."""
     return sum(min(max(at - begin, 0), end - begin) for begin, end in STALLS)
 
 
@@ -63,7 +65,9 @@ def rules() -> str:
 
 
 def make(room: Room) -> list[str]:
-    """Returns the names of several traces, of which it.trace is the first."""
+    """Converts the samples to several traces, and returns their names, of which it.trace is the
+    first.
+    """
     room.file("rules.json", rules())
     room.file("samples", csv(rows()))
     done = room.make("samples", "--lines", "100000")
@@ -77,7 +81,7 @@ def make(room: Room) -> list[str]:
 
 
 def check_parts_are_one(program: str) -> None:
-    """Kills of all parts are those of one whole trace, each once, also those in overlaps."""
+    """The kills in all parts are those in one whole trace, each reported once, even in overlaps."""
     with room_of(program) as room:
         names = make(room)
         room.run("samples", "samples", "-o", "whole.trace", status=0)
@@ -102,7 +106,7 @@ def check_parts_are_one(program: str) -> None:
 
 
 def check_fleet_takes_parts_as_one(program: str) -> None:
-    """tools/fleet counts parts as one trace, and a kill in their overlap once."""
+    """tools/fleet counts the parts as one trace, and a kill in an overlap once."""
     parts = (Sampled(5 * SECOND, 5 * SECOND, False, 7, 1, 0, 0),
              Sampled(5 * SECOND, 5 * SECOND, False, 7, 2, 2700 * SECOND, 900 * SECOND))
     kills = ((1000, 3000), (300, 1200))
@@ -127,7 +131,7 @@ def check_fleet_takes_parts_as_one(program: str) -> None:
 
 
 def check_totals_of_parts(program: str) -> None:
-    """Each part's totals grow as the samples do from where it begins."""
+    """In each part, totals grow like those of the samples from the part's start on."""
     with room_of(program) as room:
         for name in make(room):
             found = re.search(r"start-ms:(\d+):skip-ms:(\d+)$", room.text(name).splitlines()[1])
@@ -143,7 +147,7 @@ def check_totals_of_parts(program: str) -> None:
 
 
 def check_from_and_to(program: str) -> None:
-    """A window of the samples, by seconds and by the clock."""
+    """A window of the samples may be given in seconds or by times of day."""
     with room_of(program) as room:
         room.file("samples", csv(rows()))
         room.make("samples", "--from", "590", "--to", "690")
@@ -159,7 +163,8 @@ def check_from_and_to(program: str) -> None:
 
 
 def check_rows_beyond_memory(_program: str) -> None:
-    """Rows that don't fit in memory come in the same order, from any time on."""
+    """Rows that don't fit in memory are sorted in the same order, and may be read from any time on.
+    """
     rng, store = random.Random(5), Store()
     rows = [
         (rng.randrange(10**6), f"/g{rng.randrange(9)}", 2 * rng.randrange(3), (number, number),

@@ -1,5 +1,5 @@
-"""Bad input is refused with its file and line, and nothing is written; and tools refuse what a
-trace of samples can't answer.
+"""Checks that bad input is rejected with its file and line and that nothing is written then; and
+that tools reject a trace of samples if it lacks what they need.
 """
 from __future__ import annotations
 
@@ -35,7 +35,7 @@ def answer(result: object, kind: str = "matrix") -> str:
 
 METRIC: dict[str, object] = {"__name__": "container_pressure_io_waiting_seconds_total", "id": "/a"}
 AT_40 = f"{START + 40}.000,/a,io,24000000,12000000\n"
-# By name: a text, and what is said of it.
+# By name: a bad text, and words of its error message.
 BAD: dict[str, tuple[str, str]] = {
     "a time that goes back": (
         csv(rows()) + f"{START + 1}.000,/,io,1,1\n", "bad line 80: the time goes back"
@@ -156,7 +156,7 @@ def check_bad_words(program: str) -> None:
 
 
 def made(room: Room) -> None:
-    """it.trace, of samples without memory."""
+    """Makes it.trace from samples without memory."""
     room.file("samples", csv(rows()))
     room.make("samples", "--trigger", "/a io some 5000000 10000000")
 
@@ -178,7 +178,7 @@ def check_tools_refuse_what_it_cant_answer(program: str) -> None:
 
 
 def check_triggers(program: str) -> None:
-    """A trigger signals: /a waits for 6 of 10 s."""
+    """A trigger signals on a trace of samples in which /a waits for 6 of 10 s."""
     with room_of(program) as room:
         made(room)
         printed = room.run("psi_oomd", "replay", "it.trace", "--report-s=0", status=0).output
@@ -186,7 +186,9 @@ def check_triggers(program: str) -> None:
 
 
 def check_rules_on_samples(program: str) -> None:
-    """Rules about scans are refused without scans; answers name the interval."""
+    """Rules about scans are rejected without samples of scans, and answers state the sampling
+    interval.
+    """
     above = {
         "name": "pressure_above",
         "args": {"cgroup": "a", "resource": "io", "threshold": "10", "duration": "10"},
@@ -218,8 +220,8 @@ def check_rules_on_samples(program: str) -> None:
 
 
 def check_the_mark_is_no_group(program: str) -> None:
-    """Neither expectations nor patterns of rules match the group of the mark. The standard input
-    has a mark too, if it is a file.
+    """The group that marks a trace as made from samples matches neither expectations nor patterns
+    of rules, even if the trace is a file on standard input.
     """
     above = {
         "name": "pressure_above",

@@ -1,4 +1,4 @@
-"""Totals of stored recordings and of simulated trees come out as they were sampled."""
+"""Checks that a replay prints the sampled totals of stored recordings and of simulated trees."""
 from __future__ import annotations
 
 import os
@@ -21,7 +21,8 @@ STORED = os.path.join(TOP, "tests", "data")
 RECORDINGS = sorted(
     it.removesuffix(".tar.xz") for it in os.listdir(STORED) if it.endswith(".tar.xz")
 )
-# Of a hundred totals of a recording at most this many may be off, and must be reported.
+# The largest percentage of a recording's totals that may be wrong. Each wrong total must be
+# reported.
 MOST_OFF = 1.5
 OFF = re.compile(
     r"samples: (\S+) (io|memory|cpu) (some|full): (\d+) totals are off, by (\d+) us at most"
@@ -35,8 +36,8 @@ READING = re.compile(
 
 
 class Summary(NamedTuple):
-    """What the tool says of a trace: how many totals it compared, how many it reports to be off,
-    and by how much (us) at most by group and resource.
+    """The summary that tools/samples prints for a trace: how many totals it compared, how many are
+    wrong, and the largest error (us) by group and resource.
     """
 
     compared: int
@@ -44,7 +45,7 @@ class Summary(NamedTuple):
     most: dict[tuple[str, str], int]
 
     def near(self, path: str, resource: str) -> int:
-        """Returns how far a total may be off, us."""
+        """Returns the largest allowed error (us) of a group's total of a resource."""
         return max(2, self.most.get((path, resource), 0))
 
 
@@ -60,8 +61,8 @@ def summary_of(said: str) -> Summary:
 
 
 def growths(text: str) -> dict[tuple[str, str], tuple[int, int]]:
-    """By how much the totals of each file grew from the first reading to the last one, for groups
-    that are in all readings.
+    """Returns by how much (us) the totals of each pressure file grew from the first reading to the
+    last, for groups that are in all readings.
     """
     found: dict[tuple[str, str], list[tuple[int, int]]] = {}
     numbers = set()
@@ -76,7 +77,7 @@ def growths(text: str) -> dict[tuple[str, str], tuple[int, int]]:
 
 
 def recordings(room: Room) -> Iterator[tuple[str, str]]:
-    """Yields each stored recording, and its folder."""
+    """Yields the name and the folder of each stored recording."""
     for name in RECORDINGS:
         with tarfile.open(os.path.join(STORED, f"{name}.tar.xz")) as archive:
             archive.extractall(room.path)
@@ -84,8 +85,8 @@ def recordings(room: Room) -> Iterator[tuple[str, str]]:
 
 
 def check_stored_recordings(program: str) -> None:
-    """The last totals lie between what the machine had at its last two readings, since the last
-    tick is at or after the last one.
+    """The last printed totals lie between the machine's last two readings, since the last tick is
+    at the last reading or later.
     """
     with room_of(program) as room:
         for name, folder in recordings(room):
@@ -108,7 +109,9 @@ def check_stored_recordings(program: str) -> None:
 
 
 def simulated(room: Room, machine: Machine, every: int) -> list[Row]:
-    """Writes the samples of a simulated machine to it.csv; the rows of pressure."""
+    """Writes the samples of a simulated machine, taken every `every` s, to it.csv, and returns the
+    rows of pressure.
+    """
     trace = os.path.join(room.path, "machine.trace")
     with open(trace, "w", encoding="ascii") as file:
         file.writelines(f"{it}\n" for it in machine.lines())
@@ -123,7 +126,9 @@ def simulated(room: Room, machine: Machine, every: int) -> list[Row]:
 
 
 def must_reproduce(program: str, machine: Machine, every: int, most_off: float) -> None:
-    """All totals of a machine come out, but for some that are reported, of a hundred."""
+    """Raises unless all totals of a machine are printed as sampled, except `most_off` percent, each
+    of which is reported.
+    """
     with room_of(program) as room:
         rows = simulated(room, machine, every)
         done = room.make("it.csv")
@@ -150,7 +155,7 @@ def check_tree_of_1000_groups(program: str) -> None:
 
 
 def check_a_wrong_program_is_seen(program: str) -> None:
-    """A replay that isn't what the samples say: the status is 4, and nothing is written."""
+    """If the replay contradicts the samples, the status is 4, and nothing is written."""
     with room_of(program) as room:
         simulated(room, Machine(15, 20, 4, small_tree(3), 3), 2)
         script = (
@@ -166,7 +171,7 @@ def check_a_wrong_program_is_seen(program: str) -> None:
 
 
 def check_totals_of_wakeups_by_the_program(program: str) -> None:
-    """The trace is one that psi_oomd accepts, with its tasks beyond the numbers of kernels."""
+    """psi_oomd accepts the trace, whose additional tasks have numbers that no kernel assigns."""
     with room_of(program) as room:
         simulated(room, Machine(16, 20, 4, small_tree(3), 3), 2)
         room.make("it.csv")

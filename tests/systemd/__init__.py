@@ -1,1 +1,1 @@
-"""The checks of tests/systemd."""
+"""Checks of tools/systemd-oomd, which emulates systemd-oomd on a trace."""

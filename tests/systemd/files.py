@@ -1,4 +1,4 @@
-"""Checks of settings in files, and of how systemd merges them."""
+"""Checks how settings in files are read and merged, as systemd does."""
 from __future__ import annotations
 
 import os
@@ -13,7 +13,9 @@ from systemd.slices import (
 
 
 def files_by_folder() -> dict[str, tuple[dict[str, str], int]]:
-    """Returns settings of s.slice by what they show, and the time (s) of the kill by them."""
+    """Returns, for each property to show, the settings files of s.slice and the time (s) of the
+    resulting kill.
+    """
     low, high = (f"[Slice]\nManagedOOMMemoryPressureLimit={it}%\n" for it in (40, 60))
     kill = WATCHED[f"{UNITS}/s.slice"]
     lib, run = "usr/lib/systemd/system", "run/systemd/system"
@@ -54,8 +56,8 @@ def files_by_folder() -> dict[str, tuple[dict[str, str], int]]:
 
 
 def check_which_file_counts(room: Room) -> None:
-    """Each folder of files gives s.slice a limit: 40 percent, which kills at 36 s, or only the
-    default of 60, which kills at 40 s.
+    """In each case the settings that systemd would use decide: a limit of 40 percent for s.slice
+    kills at 36 s, the default of 60 percent at 40 s.
     """
     for number, (what, (files, moment)) in enumerate(files_by_folder().items()):
         put(room, files, f"case{number}")
@@ -63,7 +65,9 @@ def check_which_file_counts(room: Room) -> None:
 
 
 def check_which_unit_a_group_is(room: Room) -> None:
-    """Templates, names cut at their dashes, and a user's own units."""
+    """The settings of a group come from its unit, its template, names cut at dashes, and, for a
+    user's units, from the user's folders.
+    """
     kill = "[{}]\nManagedOOMMemoryPressure=kill\n"
     manager = "/user.slice/user-1000.slice/user@1000.service"
     app = f"{manager}/app.slice/x.scope"
@@ -87,8 +91,8 @@ def check_which_unit_a_group_is(room: Room) -> None:
 
 
 def check_oomd_conf(room: Room) -> None:
-    """Its drop-in files come after it, by name, and /etc before /run before /usr. From systemd 256
-    on it may also be in /usr.
+    """The drop-in files of oomd.conf are read after it, sorted by name, and /etc has priority over
+    /run, and /run over /usr. From systemd 256 on, oomd.conf itself may be in /usr too.
     """
     head = "[OOM]\nDefaultMemoryPressureLimit="
     cases = {
@@ -125,7 +129,9 @@ def check_oomd_conf(room: Room) -> None:
 
 
 def check_what_systemd_said(room: Room) -> None:
-    """`systemctl show` has priority over files; a limit there is a fraction of 4294967295."""
+    """The output of `systemctl show` has priority over files. A limit in it is a fraction of
+    4294967295.
+    """
     shown = (
         f"Id=s.slice\nControlGroup={SLICE}\nManagedOOMSwap=auto\nManagedOOMMemoryPressure=kill\n"
     )
@@ -148,7 +154,7 @@ def check_what_systemd_said(room: Room) -> None:
 
 
 def bad_settings() -> tuple[tuple[str, str, str], ...]:
-    """Returns the file, the text and what must be said, for each bad setting."""
+    """Returns each bad setting: its file, its text, and the expected message."""
     unit, conf = f"{UNITS}/s.slice", "etc/systemd/oomd.conf"
     share = "it has to be a percentage such as 60%, from 0% to 100%, with at most two decimals"
     length = "it has to be a time of at least 1 s, such as 20s or 1min 30s"
@@ -188,7 +194,7 @@ def bad_settings() -> tuple[tuple[str, str, str], ...]:
 
 
 def check_bad_settings(room: Room) -> None:
-    """Each is reported with its file and line, and nothing else is printed."""
+    """Each bad setting is reported with its file and line, and nothing else is printed."""
     for number, (name, text, wanted) in enumerate(bad_settings()):
         put(room, {name: text}, f"case{number}")
         must_be(f"{name}: {text!r}", fault_of(room, f"case{number}"),
@@ -200,7 +206,7 @@ def check_bad_settings(room: Room) -> None:
 
 
 def fault_of(room: Room, folder: str) -> str:
-    """Returns the message about a faulty folder of settings."""
+    """Returns the error message for a faulty folder of settings."""
     try:
         settings = Settings(os.path.join(room.path, folder))
         settings.watched(SLICE)
@@ -222,7 +228,7 @@ def check_a_trace_without_samples(room: Room) -> None:
 
 
 def check_an_empty_preference(room: Room) -> None:
-    """systemd ignores it, and the previous setting stays."""
+    """systemd ignores an empty preference: the previous setting is kept."""
     note = (
         f"settings/{UNITS}/b.service.d/y.conf line 2: ManagedOOMPreference is empty: systemd "
         "ignores that, and keeps what was set before"

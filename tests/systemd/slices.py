@@ -1,4 +1,4 @@
-"""Traces written by hand, settings, and the decisions for both.
+"""Builds traces and settings for checks of tools/systemd-oomd, and computes the decisions for them.
 
 A task that only waits for memory makes its group fully stalled, so after n seconds avg10 is 100 (1
 - e^(-n/10)), at each even second, since averages are updated every 2 s: above 40 percent from 6 s
@@ -32,8 +32,8 @@ Decisions = list[tuple[float, str | None]]
 
 @dataclass
 class Leaf:
-    """A group with a task: bytes of memory and swap, pages that it scans per second, and the
-    interval (s) in which it waits for memory.
+    """A group with one task: its memory and swap (bytes), the pages that it scans per second, and
+    the intervals (s) in which it waits for memory.
     """
 
     memory: int = 1000
@@ -45,7 +45,7 @@ class Leaf:
 @dataclass
 class Trace:
     """A trace of some seconds. Each leaf has its own processor, on which its task waits for memory
-    or sleeps; memory is sampled each second, as tools/record does.
+    or sleeps. Memory is sampled each second, as tools/record does.
     """
 
     seconds: int
@@ -100,7 +100,7 @@ def told(room: Room, trace: Trace, *words: str) -> Done:
 def decided(
     room: Room, trace: Trace, folder: str, version: int | None = None
 ) -> tuple[Decisions, list[str]]:
-    """Returns the times (s) and victims for a folder of settings, and the messages."""
+    """Returns the times (s) and victims of the kills for a folder of settings, and the messages."""
     file = os.path.join(room.path, room.file(f"{folder}.trace", trace.text()))
     settings = Settings(os.path.join(room.path, folder), version)
     program = Program()
@@ -115,7 +115,9 @@ def decided(
 def decisions(
     room: Room, trace: Trace, files: dict[str, str], version: int | None = None, said: str = ""
 ) -> Decisions:
-    """Returns the times (s) and victims; there must be no other message than `said`."""
+    """Returns the times (s) and victims of the kills for these settings files. Raises if there is a
+    message other than `said`.
+    """
     put(room, files)
     found, notes = decided(room, trace, "settings", version)
     must_be("what is said", "\n".join(notes), said)
@@ -123,8 +125,8 @@ def decisions(
 
 
 def stalled(seconds: int = 45, **more: Leaf) -> Trace:
-    """One of three services always waits for memory, and scans less than the second and more than
-    the third.
+    """Returns a trace with three services: one always waits for memory, and scans less than the
+    second and more than the third.
     """
     leaves = {
         "a": Leaf(3000, 0, 10, ((0, seconds),)), "b": Leaf(1000, 0, 20), "c": Leaf(9000, 0, 5),
@@ -134,8 +136,8 @@ def stalled(seconds: int = 45, **more: Leaf) -> Trace:
 
 
 def swap_trace(memory: int, free: int, *leaves: tuple[str, int]) -> Trace:
-    """Returns a machine with 1000 bytes of memory and of swap; at 2.1 s `memory` bytes are used and
-    `free` bytes of swap are free.
+    """Returns a trace of a machine with 1000 bytes of memory and 1000 bytes of swap. At 2.1 s,
+    `memory` bytes are used and `free` bytes of swap are free.
     """
     extra = [
         (0.0, "host 1000 1000 1000"), (0.0, "mem / 100 0 0"), (2.1, f"host 1000 1000 {free}"),

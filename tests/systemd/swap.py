@@ -1,4 +1,4 @@
-"""Checks of the rule of swap, and of both rules against a plain version."""
+"""Checks the rule of systemd-oomd for swap, and compares both rules with a plain implementation."""
 from __future__ import annotations
 
 import os
@@ -28,7 +28,7 @@ def check_swap(room: Room) -> None:
 
 
 def check_who_has_swap(room: Room) -> None:
-    """Candidates have more than 5 percent of all swap."""
+    """Candidates use more than 5 percent of all swap."""
     put(room, SWAPPED)
     must_be("50 of 1000 are too few", decisions(room, swap_trace(999, 0, (A, 50), (B, 40)), {}),
             [(2.1, None)])
@@ -41,8 +41,8 @@ def check_who_has_swap(room: Room) -> None:
 
 
 def check_swap_that_stays_used(room: Room) -> None:
-    """A look without a new sample finds nothing new; looks that kill the same group again are
-    counted.
+    """An evaluation without a new sample changes nothing. Evaluations that would kill the same
+    group again are counted.
     """
     put(room, SWAPPED)
     leaves = {A: Leaf(100, 300), B: Leaf(100, 500)}
@@ -73,8 +73,8 @@ def check_no_swap(room: Room) -> None:
 
 
 def check_a_plain_reading(room: Room) -> None:
-    """For random traces a plain version, which reads the whole trace again at each look, gives the
-    same result.
+    """For random traces a plain implementation, which reads the whole trace at each evaluation,
+    makes the same decisions.
     """
     kill = (
         "[Slice]\nManagedOOMSwap=kill\nManagedOOMMemoryPressure=kill\n"

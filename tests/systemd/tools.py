@@ -1,4 +1,4 @@
-"""Checks of the output, and of tools/rules."""
+"""Checks the output of tools/systemd-oomd, and the commands of tools/rules for its settings."""
 from __future__ import annotations
 
 import json
@@ -58,7 +58,9 @@ def check_many_others(room: Room) -> None:
 
 
 def check_the_story(room: Room) -> None:
-    """With 50 percent for 20 s: psi_oomd's equivalent rules kill at the same times."""
+    """With a limit of 50 percent for 20 s, systemd-oomd and the equivalent rules of psi_oomd kill
+    at the same times.
+    """
     kills = [
         moment for moment, _, _, _ in room.kills(
             RUNAWAY, "--rules", room.file("r.json", story_rules()), *EACH_SECOND
@@ -71,7 +73,8 @@ def check_the_story(room: Room) -> None:
 
 
 def story_rules() -> str:
-    """Rules with a delay of 15 s that kill the largest of the groups that are watched in the story.
+    """Returns rules with a delay of 15 s that kill the largest of the watched groups of the
+    example.
     """
     detectors = [
         {
@@ -142,7 +145,9 @@ def check_expectations(room: Room) -> None:
 
 
 def check_rules_of_settings(room: Room) -> None:
-    """psi_oomd accepts them, and kills the groups that systemd-oomd would have killed."""
+    """psi_oomd accepts the rules that from-systemd makes, and they kill the groups that
+    systemd-oomd would have killed.
+    """
     done = room.run(RULES, "from-systemd", STORY)
     must_be("nothing is lost", (done.status, done.error), (0, ""))
     kills = room.kills(RUNAWAY, "--rules", room.file("r.json", done.output), *EACH_SECOND)
@@ -158,7 +163,7 @@ def check_rules_of_settings(room: Room) -> None:
     must_be("of swap", [(moment // SECOND, path) for moment, _, _, path in kills], [(3, B)])
 
 
-# What rules can't say: how the lines of such notes end.
+# The last words of each note about a setting that psi_oomd's rules can't express.
 LOST = (
     "etc/systemd/oomd.conf line 2: a limit of 89.5 %: thresholds are whole, so it is "
     "written 90 % (LOST)",
@@ -182,7 +187,9 @@ LOST = (
 
 
 def check_what_rules_cant_say(room: Room) -> None:
-    """A line for each, and a status."""
+    """from-systemd prints a line for each setting that rules can't express, and its status says
+    that some were lost.
+    """
     conf = "[OOM]\nSwapUsedLimit=89.5%\nDefaultMemoryPressureDurationSec=1500ms\n"
     put(room, {
         **SWAPPED, "etc/systemd/oomd.conf": conf,

@@ -1,4 +1,4 @@
-"""Checks of groups whose accounting is switched off and on."""
+"""Checks of groups whose pressure accounting is switched off and on."""
 from __future__ import annotations
 
 from unittest import mock
@@ -25,21 +25,25 @@ def check_too_many_switches(program: str) -> None:
 
 
 def accounting(moment: int, path: str, is_on: bool) -> Event:
-    """An event: a sample found that a group's accounting has changed."""
+    """Returns a recorder's marker: at `moment` (ns) a sample found that a group's accounting is on
+    or off.
+    """
     return kinds.Marker(moment, 0, 1,
                         f"psirec accounting {path} {'on' if is_on else 'off'}\n".encode())
 
 
 def switches_of(found: Converted) -> list[str]:
-    """The lines that switch accounting. The header shows whether there are some."""
+    """Returns the trace lines that switch accounting. Raises unless the header has version 2
+    exactly if there are such lines.
+    """
     lines = [line for line in found.lines if " pressure " in line]
     must_be("the header", found.lines[0].split(" ")[:2], ["psitrace", "2" if lines else "1"])
     return lines
 
 
 def check_accounting(program: str) -> None:
-    """A group that isn't accounted at the start is off after its line, and each change is at the
-    time when it was seen.
+    """A group that isn't accounted at the start is switched off right after its creation, and each
+    later change is at the time at which a sample saw it.
     """
     events = [
         accounting(5 * MS, "/a", True),
@@ -93,8 +97,8 @@ def check_accounting_of_groups_that_come(program: str) -> None:
 
 
 def check_accounting_before_the_snapshot(program: str) -> None:
-    """A flight recorder's snapshot is later than the start: changes of accounting before it are
-    distinguished from what it shows.
+    """A flight recorder's snapshot is later than the recording's start: a group's state at the
+    start is computed from the snapshot and the changes of accounting before it.
     """
     paths, end = ("/a", "/b", "/c", "/d"), kinds.Marker(9 * MS, 0, 1, b"psirec snapshot end\n")
     events: list[Event] = [

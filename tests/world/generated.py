@@ -1,4 +1,4 @@
-"""Recordings made of generated events, and the traces that they give."""
+"""Makes recordings from generated events, and converts them to traces."""
 from __future__ import annotations
 
 from collections.abc import Iterator, Sequence
@@ -16,7 +16,7 @@ MS = 10**6
 def source_of(
     events: Sequence[Event], snapshot: Snapshot | None = None, processors: int = 2
 ) -> Source:
-    """A recording with these events."""
+    """Returns a recording with these events."""
     return Source(list(events), processors, events[0].time_ns, events[-1].time_ns,
                   snapshot=snapshot or Snapshot())
 
@@ -24,8 +24,8 @@ def source_of(
 def played(
     program: str, source: Source | Sequence[Event], wanted: Wanted | None = None
 ) -> Converted:
-    """The trace of a recording, which must be accepted; of the whole recording if nothing else is
-    wanted.
+    """Converts a recording, or the part `wanted` of it, and raises unless psi_oomd accepts the
+    trace.
     """
     source = source if isinstance(source, Source) else source_of(source)
     found = convert(source,
@@ -35,10 +35,10 @@ def played(
 
 
 def words_of(found: Converted) -> list[str]:
-    """The lines of a trace without their times."""
+    """Returns the lines of a trace without their times."""
     return [line.split(" ", 1)[1] for line in found.lines[1:]]
 
 
 def moments() -> Iterator[int]:
-    """Times (ns) 1 ms apart."""
+    """Yields times (ns) 1 ms apart."""
     return (place * MS for place in range(1, 10**6))
