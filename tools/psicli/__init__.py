@@ -1,4 +1,5 @@
-"""The command line of all tools but `record` and `sample`, which stand alone on a recorded host.
+"""The command line of all tools except `record` and `sample`, which run without the other packages
+on a recorded host.
 
 A tool is a file of `tools/` that calls `entry.start` with its package's module `command`. There
 `main() -> int` hands the work to `running.run`, which reports a `Fault` with the tool's name, ends

@@ -13,8 +13,8 @@ if hasattr(sys, "set_int_max_str_digits"):
 
 
 def start(module: str) -> None:
-    """Runs `main` of a module, and exits with its status. An interrupt during the imports ends the
-    tool quietly too.
+    """Runs `main` of a module, and exits with its status. An interrupt during the imports also ends
+    the tool without a message.
     """
     try:
         status = importlib.import_module(module).main()

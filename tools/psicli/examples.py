@@ -1,5 +1,5 @@
-"""The three most common uses of each tool, and where to read on: for --help and the manual pages
-made from it.
+"""The three most common uses of each tool, and the page of docs/ about it, for --help and the
+manual pages made from --help.
 """
 from __future__ import annotations
 
@@ -15,7 +15,8 @@ class Example(NamedTuple):
     command: str
 
 
-# By the tool's file in `tools`; tests/manual checks that each has three, with options that exist.
+# By the tool's file in `tools`. tests/manual checks that each tool has three examples, with options
+# that exist.
 EXAMPLES = {
     "blame": (
         Example("who ran while each group waited for a processor", "tools/blame incident.trace"),
@@ -182,7 +183,7 @@ EXAMPLES = {
         ),
     ),
 }
-# The page on each tool; the others are in OPERATING.
+# The page of docs/ about each tool. Tools that aren't listed are described in OPERATING.
 READ_ON = {
     "compare": "docs/RECORDING.md",
     "events": "docs/CONVERT.md",
@@ -203,14 +204,14 @@ def tool_file() -> str:
 
 
 def read_on_text() -> str:
-    """Returns where to read on about the tool that runs."""
+    """Returns the sentence of --help that names the page about the running tool."""
     page = READ_ON.get(tool_file(), "docs/OPERATING.md")
     return f"Read on: {page}\n"
 
 
 def examples_text(prog: str) -> str:
-    """Returns the examples of the tool that runs, or of its command if `prog` names one, as in
-    `rules expect`.
+    """Returns the examples of the running tool, or of one of its commands if `prog` names a
+    command, as in `rules expect`.
     """
     tool, command = tool_file(), prog.partition(" ")[2]
     shown = [it for it in EXAMPLES.get(tool, ()) if not command or f" {command} " in it.command]

@@ -1,4 +1,4 @@
-"""Why a tool ends without its output."""
+"""The error that ends a tool without its output."""
 from __future__ import annotations
 
 import argparse
@@ -7,7 +7,7 @@ from .status import Status
 
 
 class Fault(Exception):
-    """What is wrong, and what to do about it; and the exit status."""
+    """An error message, which says what is wrong and what to do about it, with the exit status."""
 
     def __init__(self, message: str, status: int = Status.FAILED) -> None:
         super().__init__(message)
@@ -15,4 +15,5 @@ class Fault(Exception):
 
 
 class Malformed(Fault, argparse.ArgumentTypeError):
-    """A word that doesn't have the required form. A parser adds the argument's name."""
+    """The error that an argument doesn't have the required form. A parser adds the argument's name.
+    """

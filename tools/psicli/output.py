@@ -1,4 +1,4 @@
-"""Checks of the file that a tool writes."""
+"""Checks the file that a tool will write."""
 from __future__ import annotations
 
 import os
@@ -7,8 +7,8 @@ from .fault import Fault
 
 
 def must_be_writable(path: str) -> None:
-    """Rejects a path at which no file can be written, so that a tool fails before its work and not
-    after it.
+    """Raises a Fault if no file can be written at this path, so that a tool fails before its work
+    and not after it.
     """
     if os.path.isdir(path):
         raise Fault(f"{path} is a folder: name a file in it")

@@ -11,19 +11,20 @@ from .examples import examples_text, read_on_text
 from .fault import Fault
 
 OPTIONS = "[OPTION ..]"
-# How a short usage has a positional argument, by its number of words; `A...` is that of a command.
+# The notation of a positional argument in a short usage, by its `nargs`; `A...` is the `nargs` of a
+# command.
 FORMS = {"?": "[{}]", "*": "[{} ..]", "+": "{} ..", "A...": "{} .."}
 
 
 def tool_name() -> str:
-    """Returns the name by which the tool was called. Installed tools have other names than their
-    files.
+    """Returns the name by which the tool was called, which may differ from its file's name, since
+    installed tools are links.
     """
     return os.path.basename(sys.argv[0])
 
 
 class Parser(argparse.ArgumentParser):
-    """Parses the arguments. A usage error is a Fault, whose second line is a short usage.
+    """Parses the arguments of a tool. A usage error is a Fault, whose second line is a short usage.
 
     A description or epilog of several lines keeps its layout. With `reads_input`, a file name in
     place of standard input is explained.
@@ -51,8 +52,8 @@ class Parser(argparse.ArgumentParser):
         self.reads_input = reads_input
 
     def format_help(self) -> str:
-        """Returns the help, with the tool's examples before the arguments, and a page at the
-        end.
+        """Returns the help, with the tool's examples before the arguments, and the name of a page
+        at the end.
         """
         text, examples = super().format_help(), examples_text(self.prog)
         first = next(group.title for group in self._action_groups if group._group_actions)
@@ -61,14 +62,14 @@ class Parser(argparse.ArgumentParser):
         return f"{text}\n{read_on_text()}"
 
     def error(self, message: str) -> NoReturn:
-        """Raises the usage error."""
+        """Raises a Fault with the message and a short usage."""
         word = message.rpartition(" ")[2]
         if self.reads_input and "unrecognized arguments" in message and os.path.isfile(word):
             message += f": the input is standard input: {self.prog} < {word}"
         raise Fault(f"{message}\nusage: {self.short_usage()}; --help has the options")
 
     def short_usage(self) -> str:
-        """One line: the required options and the positional arguments."""
+        """Returns one line with the required options and the positional arguments."""
         if self.usage:
             return self.usage % {"prog": self.prog}
         required = [it for it in self._actions if it.option_strings and it.required]
@@ -78,7 +79,7 @@ class Parser(argparse.ArgumentParser):
         return " ".join([self.prog, OPTIONS, *words])
 
     def values(self, words: Sequence[str] | None = None) -> dict[str, Any]:
-        """Returns the parsed values by name. `words` are the arguments; None stands for those of
-        the process.
+        """Returns the parsed values by name. `words` are the arguments; if None, those of the
+        process.
         """
         return vars(self.parse_args(words))

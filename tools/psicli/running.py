@@ -1,4 +1,5 @@
-"""Runs a tool's work: reports a fault, and ends quietly if nobody reads the output."""
+"""Runs a tool's work: reports a Fault, and ends without a message if the reader closes the output.
+"""
 from __future__ import annotations
 
 import contextlib
@@ -13,7 +14,9 @@ from .status import Status
 
 
 def complain(message: str) -> None:
-    """Prints a line on standard error, with the tool's name. Nothing fails if nobody reads it."""
+    """Prints a line on standard error, with the tool's name. A closed standard error isn't an
+    error.
+    """
     if sys.stderr is not None:
         with contextlib.suppress(OSError, ValueError):
             print(f"{tool_name()}: {message}", file=sys.stderr, flush=True)
@@ -49,8 +52,8 @@ def run(work: Callable[[], int]) -> int:
 
 
 def ended(work: Callable[[], int]) -> int:
-    """Returns the status of the work, after flushing its output. --help, which raises SystemExit,
-    is flushed too.
+    """Returns the status of the work, after flushing its output. The output of --help, which raises
+    SystemExit, is flushed too.
     """
     try:
         return work()

@@ -1,11 +1,11 @@
-"""The exit statuses: the tools' own, and those of the program, which some tools pass on."""
+"""The exit statuses of the tools, and those of psi_oomd, which some tools pass on."""
 from __future__ import annotations
 
 import enum
 
 
 class Status(enum.IntEnum):
-    """How a tool ended. docs/OPERATING.md has the same table."""
+    """The exit statuses of the tools. docs/OPERATING.md has the same table."""
 
     DONE = 0
     FOUND = 1
@@ -19,7 +19,7 @@ class Status(enum.IntEnum):
 
 
 class ProgramStatus(enum.IntEnum):
-    """How psi_oomd or its launcher ended, as in docs/COMMANDS.md."""
+    """The exit statuses of psi_oomd and its launcher, as in docs/COMMANDS.md."""
 
     WRONG_WORDS = 1
     TRACE_REFUSED = 2

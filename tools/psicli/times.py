@@ -1,4 +1,4 @@
-"""Times and lengths of time, all in whole ns, and how people write them."""
+"""Parses and formats times and lengths of time. All are whole ns."""
 from __future__ import annotations
 
 import calendar
@@ -34,7 +34,7 @@ def seconds_to_ms(ns: int) -> str:
 
 
 def duration(ns: int) -> str:
-    """Formats a length of time (ns) as people say it: `1 h 2 min 3.5 s`."""
+    """Formats a length of time (ns) in hours, minutes and seconds: `1 h 2 min 3.5 s`."""
     parts = []
     for unit, length in (("d", DAY), ("h", HOUR), ("min", MINUTE)):
         count, ns = divmod(ns, length)
@@ -60,8 +60,8 @@ def rounded(ns: int) -> str:
 
 
 class WallTime(NamedTuple):
-    """A time of day with its zone: ns since 1970 in UTC, and the ns by which local clocks are ahead
-    of UTC.
+    """A time of day with its time zone: ns since 1970 in UTC, and the ns by which local clocks are
+    ahead of UTC.
     """
 
     epoch: int
@@ -69,7 +69,7 @@ class WallTime(NamedTuple):
 
 
 class ClockTime(NamedTuple):
-    """The date and the time that a clock shows."""
+    """The date and the time of day that a clock shows."""
 
     date: time.struct_time
     clock: str
@@ -80,7 +80,9 @@ class ClockTime(NamedTuple):
 
 
 def clock_time(local: int) -> ClockTime:
-    """Returns the date and time that a clock shows `local` ns after its 1970 began."""
+    """Returns the date and the time of day that a clock shows `local` ns after 1970-01-01 00:00 of
+    its time zone.
+    """
     whole, part = divmod(local, SECOND)
     date = time.gmtime(whole)
     decimals = f".{part:09}".rstrip("0") if part else ""
@@ -88,7 +90,7 @@ def clock_time(local: int) -> ClockTime:
 
 
 def zone(ahead: int) -> str:
-    """Returns the name of a zone whose clocks are `ahead` ns ahead of UTC."""
+    """Returns the name of a time zone whose clocks are `ahead` ns ahead of UTC."""
     minutes = abs(ahead) // MINUTE
     return f"UTC{'-' if ahead < 0 else '+'}{minutes // 60:02}:{minutes % 60:02}" if ahead else "UTC"
 
@@ -114,7 +116,7 @@ WALL_TIME = re.compile(
 
 
 def wall_time(word: str) -> WallTime:
-    """Parses a time with its zone in the format of ISO 8601: `2026-11-28T13:58:12Z`,
+    """Parses a time with its time zone in the format of ISO 8601: `2026-11-28T13:58:12Z`,
     `2026-11-28T14:58:12.5+01:00`.
     """
     found = WALL_TIME.fullmatch(word)

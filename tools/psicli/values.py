@@ -1,4 +1,6 @@
-"""Readers of arguments: each takes a word, and raises what a parser reports if it is malformed."""
+"""Parsers of single arguments. Each takes the argument's text, and raises Malformed if the text
+doesn't have the required form.
+"""
 from __future__ import annotations
 
 import re
@@ -9,7 +11,7 @@ from .times import MINUTE, SECOND, WallTime, ns_of, wall_time
 
 
 def whole_number(least: int, most: int) -> Callable[[str], int]:
-    """Returns a reader of whole numbers from `least` to `most`."""
+    """Returns a parser of whole numbers from `least` to `most`."""
 
     def read(word: str) -> int:
         if not re.fullmatch("0|[1-9][0-9]{0,8}", word) or not least <= int(word) <= most:
@@ -43,7 +45,7 @@ def length(word: str) -> int:
 
 def point(word: str) -> int | WallTime:
     """Parses a time: seconds since the start of a trace (returned in ns), or a time of day with its
-    zone.
+    time zone.
     """
     if "T" in word:
         return wall_time(word)

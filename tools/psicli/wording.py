@@ -1,9 +1,9 @@
-"""Counts, names and lists as messages have them."""
+"""Formats counts, names and lists for messages."""
 from __future__ import annotations
 
 import difflib
 
-# The number of groups that a message names.
+# The largest number of groups that a message names.
 NAMED = 8
 
 

@@ -1,1 +1,3 @@
-"""The command tools/incident: from a machine or a recording to a page, in steps that are shown."""
+"""The command tools/incident: makes a page from a machine or a recording, and shows each step as a
+command.
+"""

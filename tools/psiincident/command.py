@@ -45,14 +45,14 @@ DONE = (RecordStatus.RECORDED, RecordStatus.NOT_WHOLE, RecordStatus.LEFT_BEHIND)
 
 
 def host_name(word: str) -> str:
-    """Returns a host's name for ssh, which isn't an option of it."""
+    """Returns a host's name for ssh, and rejects a name that ssh would read as an option."""
     if word.startswith("-") or not word.strip():
         raise Malformed(f"'{word}' isn't a host's name")
     return word
 
 
 def page_name(word: str) -> str:
-    """Returns a page's file, whose name without .html is that of the other files."""
+    """Returns the name of the page's file. Without .html it is the name of the other files."""
     if not word.endswith(".html") or os.path.basename(word) == ".html":
         raise Malformed(f"{word} isn't a name such as incident.html")
     return word
@@ -67,7 +67,7 @@ def recorder_words(words: str) -> str:
 
 
 def add_shared(words: Parser) -> None:
-    """The options of both ways to a page."""
+    """Adds the options that recording and `open` share."""
     add = words.add_argument
     add(
         "-o",
@@ -107,7 +107,7 @@ def add_shared(words: Parser) -> None:
 
 
 def parser() -> Parser:
-    """Returns the parser of the way that records."""
+    """Returns the parser of the command that records."""
     words = Parser(ABOUT, AFTER)
     words.add_argument(
         "host",
@@ -143,13 +143,13 @@ def open_parser() -> Parser:
 
 
 def report_words(options: argparse.Namespace) -> list[str]:
-    """Returns the words for tools/report."""
+    """Returns the arguments for tools/report."""
     named = (("--rules", options.rules), ("--oomd", options.oomd))
     return [f"{name}={value}" for name, value in named if value is not None]
 
 
 def check(options: argparse.Namespace) -> None:
-    """Files that the last step needs are there before the first one is run."""
+    """Raises a Fault, before the first step, if a file that the last step needs doesn't exist."""
     for path in (it for it in (options.rules, options.oomd) if it is not None):
         if not os.path.isfile(path):
             raise Fault(f"no file: {path}")
@@ -157,7 +157,7 @@ def check(options: argparse.Namespace) -> None:
 
 
 def record_here(steps: Steps, options: argparse.Namespace, folder: str, words: str) -> int:
-    """Records this machine into a new folder."""
+    """Records this machine into a new folder, and returns the recorder's status."""
     sudo = "sudo -n " if options.sudo else ""
     status = steps.run(
         f"{sudo}{tools_path('record')} {shlex.quote(folder)} {words}", DONE, "recording"
@@ -168,7 +168,9 @@ def record_here(steps: Steps, options: argparse.Namespace, folder: str, words: s
 
 
 def record_there(steps: Steps, options: argparse.Namespace, folder: str, words: str) -> int:
-    """Records another machine, and fetches the recording into a new folder."""
+    """Records another machine, fetches the recording into a new folder, and returns the recorder's
+    status.
+    """
     with Host(steps, options.host, options.ssh, options.sudo) as host:
         host.copy_recorder()
         status = host.record(words, DONE)
@@ -177,7 +179,7 @@ def record_there(steps: Steps, options: argparse.Namespace, folder: str, words: 
 
 
 def record(options: argparse.Namespace) -> int:
-    """Records, and writes the page."""
+    """Records, writes the page, and returns the exit status."""
     steps, output = Steps(), Output(options.output)
     output.must_be_new(output.base)
     words = f"--seconds {options.seconds} {options.record}".rstrip()
@@ -189,7 +191,7 @@ def record(options: argparse.Namespace) -> int:
 
 
 def open_recording(options: argparse.Namespace) -> int:
-    """Writes the page of an existing recording."""
+    """Writes the page of an existing recording, and returns the exit status."""
     steps, output = Steps(), Output(options.output)
     remote = remote_of(options.source)
     output.must_be_new(output.base if remote else None)
@@ -207,7 +209,7 @@ def open_recording(options: argparse.Namespace) -> int:
 
 
 def incident() -> int:
-    """Runs one of the two ways."""
+    """Runs the command that the arguments name, and returns the exit status."""
     is_open = sys.argv[1:2] == [OPEN]
     options = open_parser().parse_args(sys.argv[2:]) if is_open else parser().parse_args()
     check(options)
@@ -215,7 +217,7 @@ def incident() -> int:
 
 
 def interrupt(number: int, frame: FrameType | None) -> NoReturn:
-    """Ends the command as Ctrl-C does, so that everything is removed."""
+    """Ends the command like Ctrl-C, so that all that was copied to a host is removed."""
     raise KeyboardInterrupt
 
 

@@ -1,4 +1,4 @@
-"""A machine that is reached over ssh. What is put there is removed again, whatever happens."""
+"""A machine that is reached over ssh. The files that are put there are always removed again."""
 from __future__ import annotations
 
 import secrets
@@ -10,16 +10,16 @@ from psicli.running import complain
 
 from .steps import Steps, tools_path
 
-# What the recorder consists of; nothing else of this repository is copied to a host.
+# The files of the recorder. Nothing else of this repository is copied to a host.
 RECORDER = ("record", "psirecord", "psirec")
 NAME = "recording"
-# How long (s) the removal waits for a recorder that was interrupted: it undoes its changes first.
+# How long (s) the removal waits for an interrupted recorder, which first undoes its changes.
 MOST_WAIT_S = 60
 
 
 class Host:
-    """A host by its ssh name, how ssh and sudo are called, and its own new folder there. Between
-    `with` and its end the folder may exist; afterwards it doesn't.
+    """A host: its ssh name, the commands for ssh and sudo, and the path of a new folder on it. The
+    folder exists only inside a `with` statement.
     """
 
     def __init__(self, steps: Steps, name: str, ssh: str, has_sudo: bool) -> None:
@@ -37,7 +37,7 @@ class Host:
         error: BaseException | None,
         trace: TracebackType | None,
     ) -> None:
-        """Removes the folder, once no recorder writes into it any more."""
+        """Removes the folder, as soon as no recorder writes into it."""
         if not self.is_made:
             return
         wait = f"flock -w {MOST_WAIT_S} {self.folder}/{NAME}/meta true"
@@ -46,7 +46,7 @@ class Host:
             complain(f"{self.folder} may be left on {self.name}; this removes it: {line}")
 
     def line(self, command: str, options: str = "") -> str:
-        """Returns the line that runs a command there."""
+        """Returns the shell command that runs a command on the host."""
         return f"{self.ssh} {options}{shlex.quote(self.name)} {shlex.quote(command)}"
 
     def copy_recorder(self) -> None:
@@ -57,15 +57,15 @@ class Host:
         self.steps.run(f"{pack} | {unpack}", what=f"copying the recorder to {self.name}")
 
     def record(self, words: str, taken: tuple[int, ...]) -> int:
-        """Records there. With a terminal of its own the recorder gets a hangup if the connection
-        ends, so that it ends too and undoes its changes.
+        """Runs the recorder on the host, and returns its status. With its own terminal the recorder
+        gets a hangup if the connection ends, and then also ends and undoes its changes.
         """
         command = f"{self.sudo}python3 {self.folder}/record {self.folder}/{NAME} {words}"
         return self.steps.run(self.line(command, "-tt "), taken, f"recording on {self.name}")
 
     def fetch(self, path: str, into: str) -> None:
-        """Fetches a folder under another name, which is new here: whole or not at all. Nothing
-        changes on the host.
+        """Fetches a folder under another name, which must be new here, as a whole or not at all.
+        Nothing changes on the host.
         """
         above, _, last = path.rstrip("/").rpartition("/")
         start = f"{above}/" if above or path.startswith("/") else "."

@@ -1,4 +1,4 @@
-"""An existing recording: a folder, an archive, or a folder on another machine."""
+"""Opens an existing recording: a folder, an archive, or a folder on another machine."""
 from __future__ import annotations
 
 import os
@@ -14,18 +14,22 @@ from .steps import Steps
 
 ARCHIVE = re.compile(r"\.(tar(\.(gz|xz|bz2|zst))?|tgz|txz)$")
 REMOTE = re.compile(r"([^/:]+):(.+)")
-# A recording is at most this many folders below the top of its archive.
+# The largest depth of a recording's folder in its archive.
 DEEPEST = 2
 
 
 def remote_of(source: str) -> tuple[str, str] | None:
-    """Returns the host and the folder of HOST:FOLDER, unless there is a file of that name."""
+    """Returns the host and the folder of HOST:FOLDER, or None if the text has another form or a
+    file with this name exists.
+    """
     found = REMOTE.fullmatch(source)
     return (found[1], found[2]) if found and not os.path.exists(source) else None
 
 
 def recordings_in(folder: str, depth: int = 0) -> Iterator[str]:
-    """Yields the recordings in a folder, which may be one itself. Links aren't followed."""
+    """Yields the recordings in a folder, or the folder itself if it is a recording. Links aren't
+    followed.
+    """
     if is_recording(folder):
         yield folder
         return
@@ -40,7 +44,9 @@ def recordings_in(folder: str, depth: int = 0) -> Iterator[str]:
 
 
 def only_recording(folder: str, name: str) -> str:
-    """Returns the one recording in a folder; `name` is for messages."""
+    """Returns the recording in a folder, and raises a Fault unless there is exactly one. `name` is
+    for messages.
+    """
     found = list(recordings_in(folder))
     if not found:
         raise Fault(
@@ -68,7 +74,7 @@ def is_archive(source: str) -> bool:
 
 
 def folder_of(source: str) -> str:
-    """Returns a folder that is a recording."""
+    """Returns the folder `source`, which must be a recording."""
     if os.path.isdir(source):
         return only_recording(source, source)
     if os.path.isfile(source):

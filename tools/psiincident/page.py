@@ -1,4 +1,4 @@
-"""From a recording's folder to its page: the trace, and the report with its comparison."""
+"""Makes the trace and the page of a recording, with its comparison."""
 from __future__ import annotations
 
 import os
@@ -12,7 +12,7 @@ from psicli.status import Status
 
 from .steps import Steps, tools_path
 
-# What psitrace writes if only a part of the recording is in the trace.
+# The line that psitrace prints if the trace has only a part of the recording.
 PART = re.compile(r"^psitrace: of \S+ s: --from (\S+) --to \S+$", re.MULTILINE)
 LIMIT = re.compile(r"^psitrace: limit: more than .*$", re.MULTILINE)
 FOLD_S = 2
@@ -20,7 +20,9 @@ FOLD_S = 2
 
 @dataclass(frozen=True)
 class Output:
-    """The page's file, and the files beside it with the same name."""
+    """The file of the page, and the other output files, which have the same name and other
+    suffixes.
+    """
 
     page: str
 
@@ -37,8 +39,8 @@ class Output:
         return f"{self.base}.summary"
 
     def must_be_new(self, recording: str | None) -> None:
-        """Refuses to overwrite what isn't a page."""
-        names = f"{self.trace}.names"  # what psitrace writes beside a trace
+        """Raises a Fault if a file exists that would be overwritten and isn't a page."""
+        names = f"{self.trace}.names"  # psitrace writes this file next to a trace
         for path in filter(None, (self.trace, names, self.summary, recording)):
             if os.path.lexists(path):
                 raise Fault(f"{path} exists: name another page by -o, or move it away")
@@ -53,8 +55,8 @@ def text_of(path: str) -> str:
 
 
 def convert(steps: Steps, recording: str, output: Output, fold: str | None) -> str:
-    """Makes the trace; what was lost is left out, and a trace that would be too long is folded.
-    Returns the summary.
+    """Makes the trace. Lost parts are omitted, and the groups of a trace that would be too long are
+    folded. Returns the summary.
     """
 
     def psitrace(*options: str) -> int:
@@ -90,7 +92,7 @@ def write_page(
     report = f"{tools_path('report')} {shlex.quote(output.trace)}"
     ending = " ".join([*map(shlex.quote, words), f"-o {shlex.quote(output.page)}"])
     compared = " ".join([report, f"--recording {shlex.quote(recording)}", *begin, ending])
-    # A part may be too short to be compared with the machine's own files.
+    # A part may be too short for a comparison with the machine's own files.
     if steps.run(
         compared, (Status.DONE, Status.FAILED) if part else (Status.DONE,), "writing the page"
     ):

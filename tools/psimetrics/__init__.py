@@ -1,1 +1,1 @@
-"""Writes what `psi_oomd replay` printed as metrics with timestamps."""
+"""Converts the output of `psi_oomd replay` to metrics with timestamps."""

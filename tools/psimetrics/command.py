@@ -1,4 +1,4 @@
-"""The command line, and the text that it prints."""
+"""The command line of tools/openmetrics, and its output."""
 from __future__ import annotations
 
 import re
@@ -33,7 +33,7 @@ Label = tuple[str, str]
 
 
 def label(word: str) -> Label:
-    """Returns a name and a value, with `=` between them."""
+    """Parses NAME=VALUE, a label of all metrics."""
     name, _, value = word.partition("=")
     if (
         not re.fullmatch("(?!__)[a-zA-Z_][a-zA-Z0-9_]*", name)
@@ -65,7 +65,7 @@ def parser() -> Parser:
 
 
 def work() -> int:
-    """Prints the metrics."""
+    """Prints the metrics, and returns the exit status."""
     given = parser().parse_args()
     names: list[Union[Label, str]] = [name for name, _ in given.label]
     if len(set(names)) < len(names):

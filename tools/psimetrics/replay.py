@@ -1,4 +1,4 @@
-"""The output of a replay as families of counters.
+"""Converts the output of a replay to families of counters.
 
 Pressure has the names under which a machine's own is collected: those of node_exporter's collector
 `pressure` for the machine, and those of cAdvisor, with the label `id`, for each group including the
@@ -32,10 +32,10 @@ def pressure_family(prefix: str, whose: str, resource: str, word: str) -> Counte
 
 
 class Metrics:
-    """Takes the output of a replay, line by line."""
+    """The metrics of a replay, whose output is added line by line."""
 
     def __init__(self, rules: Optional[Rules], labels: Labels) -> None:
-        """Each metric has these labels in addition to its own."""
+        """`labels` are added to each metric's own labels."""
         self.rules, self.labels = rules, labels
         self.families: Families = {}
         self.rounds = array("Q")
@@ -94,8 +94,8 @@ class Metrics:
 
 
 def counted(moments: list[int], rounds: Iterable[int]) -> list[tuple[int, int]]:
-    """Returns the number of events up to the start, up to each of their times (ns) and up to each
-    round.
+    """Returns points (time in ns, number of events up to then): at the start, at each event
+    (`moments`), and at each report (`rounds`).
     """
     value_at = {0: 0}
     done = 0
@@ -107,7 +107,7 @@ def counted(moments: list[int], rounds: Iterable[int]) -> list[tuple[int, int]]:
 
 
 def metrics_of(printed: Iterable[bytes], rules: Optional[Rules], labels: Labels) -> Families:
-    """Returns the families of a replay's output. If it has no report, that is an error."""
+    """Returns the families of a replay's output. Raises a Fault if the output has no report."""
     metrics = Metrics(rules, labels)
     for line in read(printed):
         if isinstance(line, Report):

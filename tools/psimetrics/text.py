@@ -1,4 +1,4 @@
-"""Families of metrics, and the two texts in which monitoring systems read them.
+"""Formats families of metrics as OpenMetrics, and in the older format of Prometheus.
 
 OpenMetrics 1.0 (https://prometheus.io/docs/specs/om/open_metrics_spec/) has timestamps in seconds;
 the older text of Prometheus (https://prometheus.io/docs/instrumenting/exposition_formats/) has them
@@ -12,8 +12,8 @@ from typing import Callable, Iterator, NamedTuple
 from psicli.times import SECOND, WallTime, seconds
 
 MILLISECOND = SECOND // 1000
-# Prometheus truncates times to whole ms, which may bring two of them closer by one ms. It rejects
-# two points in one ms.
+# The least distance (ns) of two points. Prometheus truncates times to whole ms, which may bring two
+# points closer by 1 ms, and rejects two points in one ms.
 NEAREST = 2 * MILLISECOND
 Labels = tuple[tuple[str, str], ...]
 
@@ -25,7 +25,7 @@ class Points:
         self.moments, self.values = array("Q"), array("Q")
 
     def add(self, moment: int, value: int) -> None:
-        """Takes the next point. It replaces the last one if that is too near."""
+        """Adds the next point. If the last point is too near in time, the new one replaces it."""
         if self.moments and moment - self.moments[-1] < NEAREST:
             self.moments.pop()
             self.values.pop()
@@ -34,8 +34,8 @@ class Points:
 
 
 class Counter(NamedTuple):
-    """A family of counters: its name without `_total`, a description of what is counted, and the
-    number of counted units in its unit.
+    """A family of counters: its name without `_total`, a description, and the number of counted
+    units (such as us) in its own unit (such as s).
     """
 
     name: str
@@ -43,7 +43,7 @@ class Counter(NamedTuple):
     per_unit: int
 
     def text(self, value: int) -> str:
-        """Returns the value in the family's unit, exactly."""
+        """Returns the text of a value in the family's unit, without rounding."""
         return seconds(value * (SECOND // self.per_unit))
 
 
@@ -51,7 +51,7 @@ Families = dict[Counter, dict[Labels, Points]]
 
 
 def escaped(value: str) -> str:
-    """Returns a label's value, escaped for quotes."""
+    """Returns a label's value with escaped quotes, backslashes and newlines."""
     return value.replace("\\", "\\\\").replace('"', '\\"').replace("\n", "\\n")
 
 
@@ -88,7 +88,7 @@ def openmetrics(families: Families, start: WallTime) -> Iterator[str]:
 
 
 def prometheus(families: Families, start: WallTime) -> Iterator[str]:
-    """Yields the lines of the older text."""
+    """Yields the lines of the older text format."""
     for family in sorted(families):
         yield f"# HELP {family.name}_total {family.help}"
         yield f"# TYPE {family.name}_total counter"

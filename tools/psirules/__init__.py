@@ -1,3 +1,3 @@
-"""The parts of tools/rules and tools/fleet. None of these modules computes pressure or kills
-itself.
+"""The parts of tools/rules and tools/fleet. No module of this package computes pressure or kills:
+psi_oomd and the packages psioomd and psisystemd do.
 """

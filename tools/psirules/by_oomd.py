@@ -1,4 +1,6 @@
-"""Finds the kills that oomd 0.5.0 would make, in place of psi_oomd's kills by a rules file."""
+"""Finds the kills that oomd 0.5.0 would make with a configuration, for commands that usually ask
+psi_oomd.
+"""
 import functools
 import json
 
@@ -16,7 +18,7 @@ INTERVAL = 5
 
 
 def names_of(read: Configuration) -> bytes:
-    """Returns a configuration's names of rulesets and actions in the form of a rules file."""
+    """Returns the names of a configuration's rulesets and actions in the form of a rules file."""
     rulesets = [
         {
             "name": it.name,
@@ -29,7 +31,9 @@ def names_of(read: Configuration) -> bytes:
 
 
 class ByOomd(RulesFile):
-    """A configuration of oomd, in place of a rules file: its names of rulesets and actions."""
+    """A configuration of oomd with the interface of a rules file: the names of its rulesets and
+    actions.
+    """
 
     def __init__(self, name: str) -> None:
         super().__init__(name, names_of(read_configuration(name)))
@@ -47,6 +51,6 @@ def replay(program: Program, run: Run, trace: str, threads: int) -> list[Kill]:
 def replays(
     program: Program, name: str, interval: int | None, traces: Traces
 ) -> list[list[Kill] | Fault]:
-    """Returns the kills in each trace, or why it couldn't be replayed."""
+    """Returns the kills in each trace, or a Fault if the trace couldn't be replayed."""
     run = Run("", name, interval=interval or INTERVAL)
     return traces.each(functools.partial(replay, program, run))

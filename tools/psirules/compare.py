@@ -1,4 +1,4 @@
-"""tools/rules compare: reports the kills that change with other rules, trace by trace."""
+"""tools/rules compare: reports, for each trace, the kills that differ between two rules files."""
 import argparse
 import contextlib
 import itertools
@@ -33,8 +33,8 @@ STATUS = (
 
 @dataclass(frozen=True)
 class Difference:
-    """How the kills of a trace differ between OLD and NEW: a word for the kind of difference,
-    the first kill that differs by each of the two, and the difference in a sentence.
+    """How the kills of a trace differ between OLD and NEW: a word for the kind of difference, the
+    first kill of each that differs, and a sentence.
     """
 
     word: str
@@ -75,7 +75,7 @@ def difference(
 
 
 def told_old(old: Kill, new: Kill, old_rules: RulesFile, new_rules: RulesFile) -> str:
-    """Describes the kill by OLD, without what it has in common with the kill by NEW."""
+    """Describes the kill by OLD, without the values that it shares with the kill by NEW."""
     path = "" if old.path == new.path else f"{old.path} "
     killer = "" if old_rules.killer(old) == new_rules.killer(new) else f", {old_rules.killer(old)}"
     return f"{path}at {time_text(old.time_ns)}{killer}"
@@ -83,7 +83,7 @@ def told_old(old: Kill, new: Kill, old_rules: RulesFile, new_rules: RulesFile) -
 
 @dataclass(frozen=True)
 class Compared:
-    """A trace, and how its kills differ or why it couldn't be replayed."""
+    """A trace, and how its kills differ, or why it couldn't be replayed."""
 
     trace: str
     found: Difference | Fault
@@ -140,7 +140,9 @@ def run(given: argparse.Namespace) -> int:
 
 
 def tell_lines(outcomes: list[Outcome]) -> None:
-    """Prints a line for each trace. What couldn't be run is reported on standard error."""
+    """Prints a line for each trace. Traces that couldn't be replayed are reported on standard
+    error.
+    """
     for outcome in outcomes:
         if outcome.is_ok is None:
             complain(outcome.told)

@@ -44,7 +44,7 @@ STATUS = (
 
 
 class Judged:
-    """A trace with its kills, or the fault why it has none, and the outcome of each expectation."""
+    """A trace with its kills, or the Fault if it has none, and the outcome of each expectation."""
 
     def __init__(
         self,
@@ -97,7 +97,7 @@ def tell_lines(judged: Iterable[Judged], is_named: bool) -> None:
 
 
 def check_words(given: argparse.Namespace) -> None:
-    """Raises a Fault if the arguments don't fit together."""
+    """Raises a Fault if the arguments contradict each other."""
     if given.traces.count(STANDARD_INPUT) > 1:
         raise Fault("- is given twice, and the standard input is read once")
     if given.by == by_systemd.NAME:

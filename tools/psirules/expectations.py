@@ -1,4 +1,6 @@
-"""The lines of a WANT file: what is expected of the kills in a replay, and whether it holds."""
+"""Parses the lines of a WANT file, each an expectation about the kills in a replay, and checks
+them.
+"""
 import difflib
 import re
 from abc import ABC, abstractmethod
@@ -26,7 +28,7 @@ MOST_MOMENTS = 10
 
 @dataclass(frozen=True)
 class Verdict:
-    """Whether an expectation holds, and the kills that decide it."""
+    """Whether an expectation holds, and the kills that decide this."""
 
     holds: bool
     told: str
@@ -47,7 +49,7 @@ def victims(kills: list[Kill]) -> str:
 
 
 def killed(kills: list[Kill], rules: RulesFile) -> str:
-    """Describes the first of these kills, and says how many more there are."""
+    """Describes the first of these kills, and states the number of the others."""
     return rules.killed(kills[0]) + (f", and {len(kills) - 1} more" if kills[1:] else "")
 
 
@@ -68,14 +70,14 @@ class Expectation(ABC):
         """Raises a Fault if the expectation can't be checked with these rules."""
 
     def pattern_needed(self) -> str | None:
-        """Returns the path or pattern that some group of each trace must match, None if there is
-        none. If no group matches, the expectation can't be checked on that trace.
+        """Returns the path or pattern that some group of each trace must match, or None if the
+        expectation has none. If no group matches, the expectation can't be checked on that trace.
         """
         return None
 
     def missing(self, groups: set[str]) -> str | None:
-        """Says that no group of a trace matches the pattern, with the groups that were probably
-        meant. None if one matches.
+        """Returns a message if no group of a trace matches the pattern, with the groups that were
+        probably meant. None if a group matches.
         """
         pattern = self.pattern_needed()
         if pattern is None or any(matches(pattern, path) for path in groups):
@@ -85,8 +87,8 @@ class Expectation(ABC):
 
 @dataclass(frozen=True)
 class First(Expectation):
-    """The first kill, or another at the same time, is of this path, and between two times (ns),
-    both inclusive.
+    """The expectation that the first kill, or another at the same time, is of this path, and
+    between two times (ns), both inclusive.
     """
 
     path: str
@@ -114,7 +116,7 @@ class First(Expectation):
 
 @dataclass(frozen=True)
 class KilledBy(Expectation):
-    """Some kill of the path is by a ruleset of this name."""
+    """The expectation that some kill of the path is by a ruleset of this name."""
 
     path: str
     ruleset: str
@@ -142,8 +144,8 @@ class KilledBy(Expectation):
 
 @dataclass(frozen=True)
 class NoKillOf(Expectation):
-    """No kill is of a group that the pattern matches. `may_be_absent` says that a trace may have
-    no such group.
+    """The expectation that no killed group matches the pattern. `may_be_absent` says that a trace
+    may have no matching group.
     """
 
     pattern: str
@@ -169,7 +171,7 @@ class NoKillOf(Expectation):
 
 @dataclass(frozen=True)
 class AtMost(Expectation):
-    """There are at most `most` kills."""
+    """The expectation that there are at most `most` kills."""
 
     most: int
 
@@ -179,7 +181,7 @@ class AtMost(Expectation):
 
 @dataclass(frozen=True)
 class NoKillBefore(Expectation):
-    """No kill is before the time `start` (ns)."""
+    """The expectation that no kill is before the time `start` (ns)."""
 
     start: int
 
@@ -191,7 +193,9 @@ class NoKillBefore(Expectation):
 
 
 def nearest(word: str, names: list[str]) -> str:
-    """Suggests the name that was probably meant, or else all names, as the end of a message."""
+    """Returns the end of a message that suggests the name that was probably meant, or lists all
+    names.
+    """
     found = difflib.get_close_matches(word, names, 1)
     if found:
         return f": did you mean {quoted(found[0])}?"
@@ -205,7 +209,7 @@ def pattern(word: str) -> str:
 
 
 def read_line(line: int, text: str) -> Expectation:
-    """Parses a line, which must be neither empty nor have a comment."""
+    """Parses a line, which must not be empty, and must have no comment."""
     if found := re.fullmatch(r"first (\S+) from (\S+) to (\S+)", text):
         start, end = nanoseconds(found[2]), nanoseconds(found[3])
         if start > end:

@@ -1,4 +1,4 @@
-"""tools/rules explain: prints why rules fired on a trace or didn't, and which groups they chose."""
+"""tools/rules explain: prints why rules fired on a trace or not, and which groups they chose."""
 import argparse
 import contextlib
 
@@ -39,7 +39,7 @@ KILLERS = (PSI_OOMD, by_oomd.NAME, by_systemd.NAME)
 
 
 def check_words(given: argparse.Namespace) -> None:
-    """Raises a Fault if the arguments don't fit together."""
+    """Raises a Fault if the arguments contradict each other."""
     no_input([given.trace])
     if given.by == by_systemd.NAME and (given.tick_ms or given.interval_s):
         raise Fault(
@@ -54,7 +54,7 @@ def check_words(given: argparse.Namespace) -> None:
 
 
 def by_rules(given: argparse.Namespace) -> list[Part]:
-    """Explains rulesets that psi_oomd evaluates."""
+    """Returns explanations of rulesets that psi_oomd evaluates."""
     program = Program()
     program.prepare()
     with contextlib.ExitStack() as files:
@@ -76,7 +76,7 @@ def by_rules(given: argparse.Namespace) -> list[Part]:
 
 
 def parts_of(given: argparse.Namespace) -> list[Part]:
-    """Explains the rulesets, whichever program evaluates them."""
+    """Returns explanations of the rulesets, for the program that the arguments name."""
     if given.by == PSI_OOMD:
         return by_rules(given)
     program = Program()

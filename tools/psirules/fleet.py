@@ -37,8 +37,8 @@ STATUS = """The status is 0 if each trace was replayed, and 2 if something could
 host needs psi_oomd at the same path as here (or at the path in PSI_OOMD), and reads
 traces and rules by their paths, except with --copy."""
 
-# A line that parallel writes for a job, to standard output or standard error: the job's number, a
-# tab, and a line. A \r also ends the line.
+# A line that parallel writes for a job to standard output or standard error: the job's number, a
+# tab, and the job's own line, which ends at a \n or \r.
 TAGGED = re.compile(r"([0-9]+)\t([^\r\n]*)(?s:.*)")
 # A line of parallel's log: the job's number, its host, two times, two byte counts, and the exit
 # status.
@@ -47,7 +47,7 @@ LOGGED = re.compile(r"^([0-9]+)\t([^\t]*)(?:\t[0-9. ]*){4}\t(-?[0-9]+)\t", re.MU
 
 @dataclass
 class Answer:
-    """The result for a trace: the lines of its replay, other output of its host, and how the job
+    """The result for a trace: the lines of its replay, other output from its host, and how the job
     ended.
     """
 
@@ -56,7 +56,7 @@ class Answer:
     end: str = "gave no answer"
 
     def fault(self) -> str:
-        """Returns the error that is reported for a trace that wasn't replayed."""
+        """Returns the error message for a trace that wasn't replayed."""
         told = "; ".join(filter(None, self.lines + self.said))
         return told if self.lines else ": ".join(filter(None, [f"its host {self.end}", told]))
 
@@ -108,8 +108,8 @@ def names_of(given: argparse.Namespace, traces: list[str]) -> bytes:
 
 
 def overhear(end: int, found: list[Answer]) -> None:
-    """Reads parallel's standard error from the file descriptor `end`, and stores lines about
-    jobs. Other text is printed at once, even without a newline, since `--eta` writes none.
+    """Reads parallel's standard error from the file descriptor `end`, and stores the lines about
+    jobs. Other text is printed at once, even without a newline, since `--eta` writes no newlines.
     """
     held = ""
     with os.fdopen(end, "rb", 0) as pipe:

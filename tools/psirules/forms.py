@@ -1,5 +1,5 @@
-"""The values of arguments: which ones psi_oomd accepts, and how oomd 0.5.0 reads others that it
-accepts.
+"""The forms of argument values: which values psi_oomd accepts, and how oomd 0.5.0 reads values that
+only it accepts.
 """
 import re
 from dataclasses import dataclass
@@ -42,12 +42,12 @@ def spelled(value: object) -> str | None:
 
 
 def is_text(value: object) -> bool:
-    """Whether psi_oomd accepts a value of this JSON kind."""
+    """Returns whether psi_oomd accepts this JSON value as an argument's text."""
     return isinstance(value, (str, bool)) or isinstance(value, int) and 0 <= value < 1 << 64
 
 
 def is_valid(form: Form, text: str) -> bool:
-    """Whether psi_oomd accepts `text` as an argument of this form."""
+    """Returns whether psi_oomd accepts `text` as an argument of this form."""
     if form in MOST:
         return bool(re.fullmatch(WHOLE, text)) and int(text) <= MOST[form]
     if form is Form.RATIO:
@@ -104,7 +104,7 @@ def oomd_size(text: str) -> int | None:
 
 def repair(form: Form, text: str) -> Repair | None:
     """Returns the replacement for a text that psi_oomd rejects, or reads differently from oomd.
-    None if none is needed or possible.
+    None if no replacement is needed or possible.
     """
     if form is Form.SIZE:
         return repair_size(text)
@@ -153,8 +153,8 @@ def repair_ratio(text: str) -> Repair | None:
 
 
 def repair_patterns(text: str) -> Repair | None:
-    """Returns the replacement for patterns: oomd ignores empty patterns and empty components,
-    and accepts a shell's wildcards.
+    """Returns the replacement for patterns: oomd ignores empty patterns and empty components, and
+    accepts the wildcards of a shell.
     """
     patterns = []
     for pattern in text.split(","):

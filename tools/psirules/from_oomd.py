@@ -31,8 +31,8 @@ STATUS = (
     " FILE."
 )
 MOST_SECONDS, MOST_PERCENT, MOST_RATIO = 1000000, 100, 1000
-# The host that a percentage is parsed with. Its sizes don't matter, since the percentage is written
-# as one again.
+# The host for parsing a percentage. Its sizes don't matter, since the result is written as a
+# percentage again.
 TOTALS = Host(0, 0, 0)
 NOTHING = ("continue", "dump_cgroup_overview")
 SECONDS = ("duration", "post_action_delay")
@@ -41,7 +41,7 @@ TRUTHS = ("negate", "recursive", "always_continue")
 
 
 class Gone(Exception):
-    """Raised for a plugin that rules can't express."""
+    """The error that psi_oomd's rules can't express a plugin."""
 
 
 class Nearest:
@@ -68,8 +68,8 @@ class Nearest:
         }
 
     def group(self, use: GroupUse) -> list[Any] | None:
-        """Converts a group of detectors. None if rules can't express one of them, so that the
-        group never fires.
+        """Converts a group of detectors. Returns None if rules can't express one of them, so that
+        the group never fires.
         """
         made: list[Any] = [use.name]
         for it in use.detectors:
@@ -129,7 +129,7 @@ class Nearest:
         return {"name": use.name, "args": made}
 
     def argument(self, place: str, plugin: str, name: str, text: str, value: Any) -> str | None:
-        """Returns an argument as psi_oomd reads it, None if it has no meaning there."""
+        """Returns an argument's text for psi_oomd, or None if the argument has no meaning there."""
         is_size = name == "threshold" and plugin in ("memory_above", "kill_by_swap_usage")
         for is_it, write in self.writers(name, is_size):
             if is_it:
@@ -168,7 +168,7 @@ class Nearest:
         return self.exact(nearest)
 
     def exact(self, count: int) -> str:
-        """Formats a number of bytes with a letter if that is exact, else without."""
+        """Formats a number of bytes with a unit letter if that is exact, otherwise without."""
         found = size_text(count)
         return str(count) if "." in found else found
 
@@ -180,8 +180,8 @@ class Nearest:
         return found
 
     def patterns(self, place: str, text: str) -> str:
-        """Returns patterns whose only wildcard is `*`. A pattern with others becomes a wider
-        one; a pattern that can't match any group of a trace is left out.
+        """Returns patterns whose only wildcard is `*`. A pattern with other wildcards becomes a
+        wider pattern; a pattern that can't match any group of a trace is omitted.
         """
         found = []
         for pattern in split(text, ","):
@@ -211,7 +211,7 @@ class Nearest:
         return ",".join(dict.fromkeys(found[:MOST_PATTERNS])) or "no-such-group"
 
     def losses(self, use: PluginUse, made: dict[str, str]) -> None:
-        """Adds notes on what rules do differently from oomd with the same arguments."""
+        """Adds notes on differences between psi_oomd and oomd for the same arguments."""
         if use.name == "kill_by_swap_usage" and made.get("threshold", "").endswith("%"):
             self.tell(use.place, f"rules take the exact percentage, but {SWAP}")
         if use.name == "kill_by_pg_scan":

@@ -66,8 +66,8 @@ def slices(name: str) -> str:
 
 
 def pattern_of(name: str, unit: Unit, is_users: bool) -> str | None:
-    """Returns the pattern of the groups of a unit that only unit files name. None if they don't
-    say where its groups are.
+    """Returns the pattern of the groups of a unit that occurs only in unit files. None if the
+    unit's name doesn't determine its groups.
     """
     stem, _, kind = name.rpartition(".")
     if kind == "scope":
@@ -206,7 +206,7 @@ class Nearest:
                 self.tell(f"{who}: memory.oom.group: it is killed as a whole there, and rules choose among the groups in it", True)
 
     def wishing(self) -> Iterator[Place]:
-        """Yields the units that may have preferences, which needn't be watched themselves."""
+        """Yields the units that may have preferences. They needn't be watched themselves."""
         recorded = self.settings.groups
         for path, (name, unit) in self.settings.shown.items():
             if path not in recorded:
@@ -223,7 +223,7 @@ class Nearest:
 
 
 def places_of(unit: Unit) -> str:
-    """Returns the file and line that say that a unit is watched."""
+    """Returns the file and the line by which a unit is watched."""
     return unit.places[PRESSURE if unit.pressure else SWAP]
 
 

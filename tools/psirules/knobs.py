@@ -1,5 +1,5 @@
-"""The thresholds and durations of detectors that `suggest` varies, and the kills with other
-values.
+"""The thresholds and durations of detectors that `suggest` varies, and the kills with other values
+of them.
 """
 from __future__ import annotations
 
@@ -25,7 +25,7 @@ from psisystemd.settings import Settings
 
 PRESSURE = ("pressure_above", "pressure_rising_beyond")
 MOST_PERCENT = 100
-# The most rulesets in a rules file.
+# The largest number of rulesets in a rules file.
 MOST_RULESETS = 64
 # An action of oomd that waits for a second evaluation. With it, an earlier firing may lead to a
 # later kill.
@@ -35,9 +35,9 @@ Found = list[list[Kill] | Fault]
 
 @dataclass(frozen=True)
 class Knob:
-    """A number of a detector that may be varied: its place in words, its argument, the greatest
+    """A number of a detector that may be varied: its place as text, its argument, the greatest
     sensible value, its value in the file, and its unit. `way` is the path of keys and indices to
-    it.
+    the number.
     """
 
     place: str
@@ -80,7 +80,7 @@ class Subject(ABC):
         """Returns the contents of the file with these values."""
 
     def is_monotone(self) -> bool:
-        """Whether a lower threshold or duration never makes a first kill later."""
+        """Returns whether a lower threshold or duration never makes a first kill later."""
         return True
 
 
@@ -136,15 +136,15 @@ class OwnRules(Subject):
         return found
 
     def kills_of_each(self, many: list[Values], traces: Traces) -> list[Found]:
-        """Evaluates the rulesets of many sets of values in one replay, since neither rulesets
-        nor kills affect each other in a replay.
+        """Evaluates the rulesets of many sets of values in one replay, since in a replay neither
+        rulesets nor kills affect other rulesets.
         """
         step = self.at_once
         parts = [many[start : start + step] for start in range(0, len(many), step)]
         return [found for part in parts for found in self.kills_side_by_side(part, traces)]
 
     def kills_side_by_side(self, many: list[Values], traces: Traces) -> list[Found]:
-        """Returns the kills with each of as many sets of values as fit into one rules file."""
+        """Returns the kills with each set of values. All sets must fit into one rules file."""
         rulesets = [it for values in many for it in json.loads(self.text(values))["rulesets"]]
         data = {**self.rules.data, "rulesets": rulesets}
         with kept(json.dumps(data).encode(), self.rules.name) as file:
@@ -258,7 +258,7 @@ def subject(
     groups: set[str],
     files: Any,
 ) -> Subject:
-    """Returns the rules in the file or folder `name`, for the program `by` that evaluates them."""
+    """Returns the rules in the file or folder `name`, for `by`, the program that evaluates them."""
     if by == by_systemd.NAME:
         return SystemdSettings(program, name, version, groups)
     if by == by_oomd.NAME:

@@ -45,8 +45,8 @@ CAUSES = {
 
 
 def place_told(said: str, data: Any) -> str:
-    """Names the place of an error from the program's message, with the names of the ruleset,
-    group or plugin.
+    """Returns the place of an error, from the program's message, with the names of the ruleset, the
+    group or the plugin.
     """
     lists = {"ruleset": "rulesets", "group": "detectors", "action": "actions"}
     told, at = [], data
@@ -62,8 +62,8 @@ def place_told(said: str, data: Any) -> str:
 
 
 def verdict(data: bytes, read: Any) -> Finding | None:
-    """Returns the first error that psi_oomd itself finds in these bytes, None if it accepts
-    them.
+    """Returns the first error that psi_oomd itself finds in these bytes, or None if psi_oomd
+    accepts them.
     """
     with kept(data, "") as file:
         try:
@@ -79,14 +79,14 @@ def verdict(data: bytes, read: Any) -> Finding | None:
 
 
 def written(data: Any) -> bytes:
-    """Formats data as a rules file, on several lines unless it becomes too long by that."""
+    """Formats data as a rules file, on several lines unless that makes the file too long."""
     lines = (json.dumps(data, indent=1, ensure_ascii=False) + "\n").encode("utf-8", "replace")
     close = json.dumps(data, separators=(",", ":"), ensure_ascii=False).encode("utf-8", "replace")
     return lines if len(lines) <= MOST_BYTES else close
 
 
 class Linted:
-    """A rules file with its findings, and its corrected bytes, None if it can't be corrected."""
+    """A rules file with its findings, and its corrected bytes, or None if it can't be corrected."""
 
     def __init__(self, data: bytes) -> None:
         self.findings: list[Finding] = []

@@ -13,7 +13,7 @@ from psirules.plugins import ACTIONS, DETECTORS, OF_OOMD, Effect, Form, Plugin
 
 
 class Kind(Enum):
-    """What psi_oomd does with the place as it is in the file."""
+    """How psi_oomd treats the uncorrected text of a finding."""
 
     REFUSED = "refused"
     IGNORED = "passed over"
@@ -23,8 +23,8 @@ class Kind(Enum):
 
 @dataclass(frozen=True)
 class Finding:
-    """A finding: its place, its kind, what it is, how it is corrected (None if it isn't), and
-    whether the correction loses some of what oomd would do.
+    """A finding: its place, its kind, a description, its correction (None if there is none), and
+    whether the correction loses a part of what oomd would do.
     """
 
     place: str
@@ -50,7 +50,7 @@ def alike(word: str, names: list[str]) -> str | None:
 
 
 class Mender:
-    """The findings about a file's data, which is corrected in place."""
+    """Finds faults in a file's data, and corrects the data in place."""
 
     def __init__(self, data: Any) -> None:
         self.data = data
@@ -100,8 +100,8 @@ class Mender:
             ruleset["actions"] = self.actions(place, ruleset["actions"])
 
     def group(self, place: str, group: list[Any]) -> bool:
-        """Corrects a group in place, and returns whether it stays. It keeps the detectors that
-        psi_oomd knows.
+        """Corrects a group of detectors in place, keeping the detectors that psi_oomd knows, and
+        returns whether the group is kept.
         """
         if len(group) == 1:
             self.find(place, Kind.NOTE, "it has no detector, so it always holds; oomd refuses it")
@@ -128,7 +128,7 @@ class Mender:
         return True
 
     def actions(self, place: str, actions: list[Any]) -> list[Any]:
-        """Corrects a list of actions, and returns those that stay."""
+        """Corrects a list of actions, and returns the actions that are kept."""
         kept = []
         for number, action in enumerate(actions):
             here = f"{place}, action {number}"
@@ -154,8 +154,8 @@ class Mender:
     def plugin(
         self, place: str, plugin: Any, known: dict[str, Plugin], others: dict[str, Plugin]
     ) -> Effect | None:
-        """Corrects a plugin's arguments. If psi_oomd has no such plugin, returns what oomd's
-        does, otherwise None.
+        """Corrects a plugin's arguments. If psi_oomd has no such plugin, returns the effect of
+        oomd's plugin, otherwise None.
         """
         if not isinstance(plugin, dict) or not isinstance(plugin.get("name"), str):
             return None
@@ -180,7 +180,7 @@ class Mender:
         return None
 
     def arguments(self, place: str, args: dict[str, Any], plugin: Plugin) -> Effect | None:
-        """Corrects arguments. Returns an effect if one of them makes a plugin that psi_oomd
+        """Corrects arguments. Returns an effect if an argument makes the plugin one that psi_oomd
         can't express, otherwise None.
         """
         for name in list(args):
@@ -257,7 +257,7 @@ class Mender:
 
 
 def missing(kind: str, name: str, effect: Effect) -> str:
-    """Says that psi_oomd has no such plugin, and what oomd's does."""
+    """Returns the message that psi_oomd has no such plugin, and what oomd's plugin does."""
     if effect is Effect.WAITS_FOR_CPU:
         return f"{quoted(name)} of resource 'cpu': it has to be {Form.RESOURCE.value}"
     return f"no {kind} {quoted(name)}: in oomd it {effect.value}"

@@ -1,5 +1,5 @@
-"""Notes for tools/rules lint on what oomd 0.5.0 does differently from psi_oomd with the same
-rules, as far as the file shows it.
+"""Notes for tools/rules lint on differences between oomd 0.5.0 and psi_oomd with the same rules, as
+far as the rules file shows them.
 """
 from __future__ import annotations
 
@@ -88,7 +88,7 @@ def of_pace(tick_ms: int | None, interval_s: int | None) -> Iterator[Finding]:
 
 
 def notes(data: Any) -> list[Finding]:
-    """Returns all notes on a file, in its order."""
+    """Returns all notes on a file, in the order of the file."""
     return [
         Finding(place, Kind.NOTE, text)
         for place, name, args in plugins_of(data)

@@ -8,15 +8,15 @@ PATTERN = re.compile(rf"/|/?{COMPONENT}(?:/{COMPONENT})*")
 
 
 def is_pattern(text: str) -> bool:
-    """Whether `text` is a pattern that can match a path: its components have only letters of
-    paths and `*`, and none is `.` or `..`.
+    """Returns whether `text` is a pattern that can match a path: its components have only the
+    characters of paths and `*`, and none is `.` or `..`.
     """
     return bool(PATTERN.fullmatch(text)) and not {".", ".."} & set(text.split("/"))
 
 
 def matches(pattern: str, path: str) -> bool:
-    """Whether `pattern` matches `path`: they have the same number of components, and each one
-    matches.
+    """Returns whether `pattern` matches `path`: both have the same number of components, and each
+    component matches.
     """
     wanted, found = ([it for it in text.split("/") if it] for text in (pattern, path))
     return len(wanted) == len(found) and all(

@@ -17,8 +17,8 @@ DELAY = "post_action_delay"
 
 @dataclass(frozen=True)
 class Place:
-    """A plugin, or a ruleset: the path of keys and indices to it, and the numbers and the names
-    of its ruleset, its group and itself. `plugin` is None for a ruleset.
+    """A plugin or a ruleset in the file: the path of keys and indices to it, and the number and the
+    name of its ruleset, its group and its plugin. `plugin` is None for a ruleset.
     """
 
     way: tuple[str | int, ...]
@@ -33,7 +33,7 @@ class Place:
         return f"{self.spelled()} ({' / '.join(map(quoted, self.names))})"
 
     def is_meant(self, parts: list[str]) -> bool:
-        """Whether `parts` name this place: the ruleset, the detector's group or `actions`
+        """Returns whether `parts` name this place: the ruleset, the detector's group or `actions`
         (optional), and the plugin, each by name or number.
         """
         own = list(zip(self.names, self.numbers))
@@ -73,7 +73,9 @@ def places(rules: RulesFile) -> Iterator[Place]:
 
 
 def splits(text: str) -> Iterator[list[str]]:
-    """Yields `text` split at none, one or two of its slashes, since names may contain slashes."""
+    """Yields the parts of `text` if split at none, one or two of its slashes, since names may
+    contain slashes.
+    """
     pieces = text.split("/")
     yield [text]
     for one in range(1, len(pieces)):

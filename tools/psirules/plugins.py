@@ -6,7 +6,7 @@ from enum import Enum
 
 
 class Form(Enum):
-    """The forms of arguments, each with its description in messages."""
+    """The forms of arguments, each with its description for messages."""
 
     PATTERNS = "1 to 16 patterns of groups' paths, with commas between"
     RESOURCE = "io or memory"
@@ -82,7 +82,7 @@ ACTIONS = {
 
 
 class Effect(Enum):
-    """What a plugin that only oomd has does to the list of plugins that contains it."""
+    """The effect of a plugin that only oomd has on the list of plugins that contains it."""
 
     CONTINUES = "lets what follows it go on, and does nothing that a replay shows"
     STOPS = "ends its list"

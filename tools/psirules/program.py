@@ -44,8 +44,8 @@ Answer = TypeVar("Answer")
 
 @dataclass(frozen=True)
 class Kill:
-    """A kill that a replay printed: its time (ns), its ruleset and action by number from 0, and
-    the victim's path.
+    """A kill that a replay printed: its time (ns), the numbers of its ruleset and its action (from
+    0), and the victim's path.
     """
 
     time_ns: int
@@ -68,26 +68,26 @@ class Pace:
 
 @dataclass(frozen=True)
 class RulesAt:
-    """A rules file: the path of its bytes, and its own name for messages."""
+    """A rules file: the path of a copy of its bytes, and its own name for messages."""
 
     path: str
     name: str
 
 
 class Refusal(Fault):
-    """The error that the program ended without its output: the file that it rejected, its
-    message and its status.
+    """The error that the program ended without its output: the rejected file, the program's message
+    and its status.
     """
 
     def __init__(self, file: str, said: str, status: int, path: str | None = None) -> None:
-        """`path` is the file whose kind is recognised for the message, if it isn't `file`."""
+        """`path` is the file whose kind the message names, if it isn't `file`."""
         advice = ADVICE.get(status, f"the program ended by status {status}").format(
             file=shlex.quote(file)
         )
         told = why_refused(said, file if path is None else path, file)
         name = file
         if status == ProgramStatus.NO_FILE:
-            name = ""  # the program's message names it
+            name = ""  # the program's message has the file's name
         elif status == ProgramStatus.READ_FAULT and os.path.isdir(file):
             name, told, advice = "", "", folder_message(file)
         elif told != said:
@@ -141,8 +141,8 @@ class Program:
         return kills
 
     def started(self, words: list[str], said: IO[bytes] | None) -> subprocess.Popen[bytes]:
-        """Starts the program. Its standard error goes into the file `said`, or isn't redirected
-        without one.
+        """Starts the program. Its standard error goes into the file `said`, or isn't redirected if
+        `said` is None.
         """
         try:
             return subprocess.Popen([self.path, *words], stdout=subprocess.PIPE, stderr=said)
@@ -154,8 +154,8 @@ class Program:
 
     def prepare(self) -> None:
         """Builds the program next to the tools if it isn't up to date, once and before several
-        processes would build it at the same time. From then on it is run without the launcher,
-        which looks for newer sources at each start.
+        processes would build it at the same time. From then on the program is run without the
+        launcher, which checks for newer sources at each start.
         """
         if not os.environ.get(VARIABLE):
             with self.started(["--build"], None) as child:
@@ -174,7 +174,7 @@ class Program:
 
 
 def read_kills(lines: Iterable[str]) -> list[Kill] | None:
-    """Parses the kills in a replay's lines. None if these don't end like a replay."""
+    """Parses the kills in a replay's lines. Returns None if the lines don't end like a replay."""
     kills: list[Kill] = []
     end: re.Match[str] | None = None
     for line in lines:

@@ -6,15 +6,15 @@ from __future__ import annotations
 from collections.abc import Callable
 from dataclasses import dataclass
 
-# The most values in a grid, apart from the present one.
+# The largest number of values in a grid, apart from the present value.
 GRID = 21
 EARLY, LATE, OTHER = "early", "late", "other"
 
 
 @dataclass(frozen=True)
 class Outcome:
-    """The result of a value: its faults, the first of each kind EARLY, LATE and OTHER, and the
-    first kills of each trace.
+    """The result of a value: the first fault of each kind (EARLY, LATE and OTHER), and the first
+    kills of each trace.
 
     In a monotone search a lower value never makes a first kill later. So an EARLY fault remains
     if the value is lowered, and a LATE fault if it is raised.
@@ -57,31 +57,32 @@ class Search:
     step: int
 
     def of(self, value: int) -> Range | None:
-        """Returns the range that contains `value`, None if there is none."""
+        """Returns the range that contains `value`, or None if no range does."""
         return next((it for it in self.ranges if it.low <= value <= it.high), None)
 
     def widest(self) -> Range | None:
-        """Returns the range with the most values, the first if there are several. None without
+        """Returns the range with the most values, the first if there are several, or None without
         ranges.
         """
         order = sorted(self.ranges, key=lambda it: (it.low - it.high, it.low))
         return order[0] if order else None
 
 
-# Returns the outcomes of some values. It gets many at once, since one replay can evaluate many.
+# A function that returns the outcomes of values. It gets many values at once, since one replay can
+# evaluate many.
 Look = Callable[[list[int]], list[Outcome]]
 
 
 def is_settled(low: Outcome, high: Outcome) -> bool:
-    """Whether the values between two need not be tried: all have the same first kills, all are
-    too early, or all are too late.
+    """Returns whether the values between two tried values need not be tried: all have the same
+    first kills, all are too early, or all are too late.
     """
     return low.first == high.first or EARLY in high.faults or LATE in low.faults
 
 
 def bisect(low: int, high: int, at_once: int, look: Look) -> dict[int, Outcome]:
-    """Returns the outcomes of values between which all others are settled. The first round tries
-    about `at_once` values, and each further round halves all ranges that aren't settled.
+    """Returns the outcomes of enough values in a range to know those of all others. The first round
+    tries about `at_once` values, and each further round halves all intervals that aren't settled.
     """
     step = max(1, -(-(high - low) // max(1, at_once - 1)))
     values = sorted({*range(low, high, step), high})
@@ -100,7 +101,7 @@ def bisect(low: int, high: int, at_once: int, look: Look) -> dict[int, Outcome]:
 
 
 def on_grid(low: int, high: int, present: int, look: Look) -> tuple[dict[int, Outcome], int]:
-    """Returns the outcomes of evenly spaced values and of the present one, and the distance
+    """Returns the outcomes of evenly spaced values and of the present value, and the distance
     between the values.
     """
     step = max(1, -(-(high - low) // (GRID - 1)))
@@ -109,8 +110,8 @@ def on_grid(low: int, high: int, present: int, look: Look) -> tuple[dict[int, Ou
 
 
 def joined(found: dict[int, Outcome], is_exact: bool) -> list[Range]:
-    """Joins values that hold into ranges. On a grid, the values between two that hold count as
-    holding.
+    """Joins values that hold to ranges. On a grid, the values between two neighbours that hold
+    count as holding.
     """
     values = sorted(found)
     ranges: list[Range] = []

@@ -1,4 +1,4 @@
-"""Reads JSON as oomd's reader JsonCpp accepts it, with comments and trailing commas."""
+"""Parses JSON as oomd's parser JsonCpp accepts it, with comments and trailing commas."""
 import json
 import re
 from typing import Any
@@ -13,8 +13,8 @@ TAKEN_OUT = "it is taken out"
 
 
 class Reading:
-    """The data of a rules file. `changes` lists what isn't JSON by RFC 8259, and how it was
-    changed; `doubles` lists keys that occur twice in an object.
+    """The data of a rules file. `changes` lists the places that aren't JSON by RFC 8259, and how
+    they were changed; `doubles` lists keys that occur twice in an object.
     """
 
     def __init__(self, data: bytes) -> None:
@@ -92,7 +92,9 @@ def place_of(fault: json.JSONDecodeError) -> str:
 
 
 def whole(digits: str) -> int | float:
-    """Parses a whole number. -0 becomes a float, since psi_oomd doesn't count it as whole."""
+    """Parses a whole number. -0 becomes a float, since psi_oomd doesn't accept it as a whole
+    number.
+    """
     return -0.0 if digits == "-0" else int(digits)
 
 

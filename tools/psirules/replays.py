@@ -67,7 +67,7 @@ class Traces:
 
     def all_kills(self, trace: str, replay: Callable[[str], list[Kill]]) -> list[Kill]:
         """Returns the kills in a trace, or in all its parts. A kill in the time that two parts
-        share counts once.
+        share is returned once.
         """
         if trace not in self.parts:
             return replay(trace)
@@ -78,9 +78,7 @@ class Traces:
         return kills
 
     def groups(self, trace: str) -> set[str] | None:
-        """Returns the groups that a trace or any of its parts ever has. None if some part can't
-        be read twice.
-        """
+        """Returns all groups of a trace or of its parts. None if some part can't be read twice."""
         found: set[str] = set()
         for name, _ in self.parts.get(trace, [(trace, None)]):
             groups = all_groups(name)
@@ -95,7 +93,9 @@ class Traces:
         return self.joined(trace, lambda name: program.replay(name, file, self.pace, threads))
 
     def replays(self, program: Program, rules: list[RulesAt]) -> list[list[list[Kill] | Fault]]:
-        """Returns for each rules file the kills in each trace, or why it couldn't be replayed."""
+        """Returns for each rules file the kills in each trace, or the Fault if the trace couldn't
+        be replayed.
+        """
         pairs = [(file, trace) for file in rules for trace in self.names]
         calls = [functools.partial(self.replay, program, trace, file) for file, trace in pairs]
         found = side_by_side(calls, self.jobs or processors())
@@ -104,8 +104,8 @@ class Traces:
         ]
 
     def each(self, replay: Callable[[str, int], list[Kill]]) -> list[list[Kill] | Fault]:
-        """Replays each trace by the function `replay`, which gets the number of threads that it
-        may use. Returns the kills in each trace, or why it couldn't be replayed.
+        """Replays each trace by the function `replay`, which gets the number of threads that it may
+        use. Returns the kills in each trace, or the Fault if the trace couldn't be replayed.
         """
 
         def call(trace: str, threads: int) -> list[Kill]:
@@ -123,8 +123,7 @@ def length_of(whole: Whole) -> int:
 
 
 def read_again() -> None:
-    """Replaces the standard input by a temporary file with its contents, so that it can be read
-    again.
+    """Replaces the standard input by a temporary file with its contents, which can be read again.
     """
     file = tempfile.TemporaryFile()
     shutil.copyfileobj(sys.stdin.buffer, file)
@@ -133,8 +132,8 @@ def read_again() -> None:
 
 
 def all_groups(trace: str) -> set[str] | None:
-    """Returns the groups that a trace ever has, with the root and without the group of a mark.
-    None if the trace can't be read twice, such as a pipe.
+    """Returns all groups of a trace, with the root, and without the group that marks a trace of
+    samples. None if the trace can't be read twice, such as a pipe.
     """
     with contextlib.ExitStack() as files:
         number = 0 if trace == STANDARD_INPUT else None
@@ -153,7 +152,7 @@ def all_groups(trace: str) -> set[str] | None:
 
 def note_unmatched(traces: Traces, names: list[str], rules: list[RulesFile]) -> None:
     """Prints a note for each pattern of the rules that matches no group of a trace: such a rule
-    never does anything there. A trace with only the root needs no note.
+    never has an effect there. A trace with only the root needs no note.
     """
     for trace in names:
         groups = traces.groups(trace) or set()
@@ -175,7 +174,9 @@ def note_samples(traces: list[str], rules: list[RulesFile]) -> None:
 
 
 def no_input(names: list[str]) -> None:
-    """Rejects the standard input as a trace, since it would be read more than once."""
+    """Raises a Fault if the standard input is given as a trace, since it would be read more than
+    once.
+    """
     if STANDARD_INPUT in names:
         raise Fault("- is no trace here, since it is read more than once: write it to a file first")
 
@@ -184,7 +185,7 @@ def accepted(
     program: Program, name: str, files: contextlib.ExitStack, order: str = ""
 ) -> tuple[RulesFile, RulesAt]:
     """Returns a rules file that the program accepts, and a copy that exists until `files` is
-    closed. If a trace is given in its place, the Fault says in which `order` the arguments are.
+    closed. If a trace is given in the file's place, the Fault states the `order` of the arguments.
     """
     data = bytes_of(name)
     rules = files.enter_context(kept(data, name))

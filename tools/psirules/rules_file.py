@@ -24,8 +24,8 @@ def bytes_of(name: str) -> bytes:
 
 @contextmanager
 def kept(data: bytes, name: str) -> Iterator[RulesAt]:
-    """Yields a temporary rules file with these bytes. So the replayed rules are those whose
-    names are shown, even if the original file changes meanwhile or is a pipe.
+    """Yields a temporary rules file with these bytes. Thus the replayed rules are those whose names
+    are printed, even if the original file changes meanwhile or is a pipe.
     """
     with tempfile.NamedTemporaryFile(prefix="psirules-", suffix=".json") as file:
         file.write(data)
@@ -67,8 +67,8 @@ class RulesFile:
         }
 
     def numbers_of(self, ruleset: str) -> list[int]:
-        """Returns the numbers of the rulesets named `ruleset`, or if there are none, the ruleset
-        with this number.
+        """Returns the numbers of the rulesets with the name `ruleset`; if no ruleset has it, the
+        ruleset with this number.
         """
         named = [number for number, it in enumerate(self.rulesets) if it["name"] == ruleset]
         if (
@@ -81,7 +81,7 @@ class RulesFile:
         return named
 
     def patterns(self) -> list[tuple[int, str]]:
-        """Returns the groups' patterns of each ruleset without repetitions, each with the
+        """Returns the patterns of groups in each ruleset, without repetitions, each with the
         ruleset's number.
         """
         found = []

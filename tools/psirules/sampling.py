@@ -1,5 +1,5 @@
-"""Traces that were made from samples: which rules can be evaluated on them, and how reliable an
-answer is.
+"""Determines which rules can be evaluated on traces made from samples, and how reliable the answers
+are.
 """
 from __future__ import annotations
 
@@ -13,15 +13,15 @@ from psireplay.sampled import Sampled, sampled
 
 # The plugins that need counts of scanned pages.
 OF_SCANS = ("memory_reclaim", "kill_by_pg_scan")
-# The time constant (s) of the average over 10 s: after so long a full stall the average is 63
-# percent. `ABOVE` are the plugins with a threshold of pressure.
+# The time constant (s) of the average over 10 s: after a full stall of this length the average is
+# 63 percent. `ABOVE` are the plugins with a threshold of pressure.
 PERIOD = 10.0
 ABOVE = ("pressure_above", "pressure_rising_beyond")
 
 
 def must_have_scans(trace: str, plugins: Iterable[str], name: str) -> None:
-    """Raises a Fault if a plugin needs counts of scanned pages and the trace was made from
-    samples without them. `plugins` are those of the rules file `name`.
+    """Raises a Fault if a plugin needs counts of scanned pages and the trace was made from samples
+    without such counts. `plugins` are the plugins of the rules file `name`.
     """
     found = next((it for it in plugins if it in OF_SCANS), None)
     mark = sampled(trace) if found else None
@@ -33,8 +33,8 @@ def must_have_scans(trace: str, plugins: Iterable[str], name: str) -> None:
 
 
 def must_judge(trace: str, rules: Any, name: str) -> None:
-    """Raises a Fault if rules need scanned pages and the trace was made from samples without
-    them. `rules` is the data of a rules file.
+    """Raises a Fault if rules need counts of scanned pages and the trace was made from samples
+    without such counts. `rules` is the data of a rules file.
     """
     for ruleset in rules["rulesets"]:
         plugins = [it for group in ruleset["detectors"] for it in group[1:]] + ruleset["actions"]
@@ -42,17 +42,17 @@ def must_judge(trace: str, rules: Any, name: str) -> None:
 
 
 def note(trace: str) -> str:
-    """Returns what follows an answer on a trace: the interval of its samples. Empty if it wasn't
-    made from samples.
+    """Returns the text that follows an answer on a trace: the interval of its samples. Empty if the
+    trace wasn't made from samples.
     """
     mark = sampled(trace)
     return f" ({mark.interval()})" if mark else ""
 
 
 def least_stall(mark: Sampled, threshold: float, duration: float) -> float:
-    """Returns the shortest full stall (s) that is sure to be seen above a threshold (percent)
-    for a duration (s): the time until the average over 10 s exceeds the threshold, the duration,
-    and two intervals between samples.
+    """Returns the length of the shortest full stall (s) that surely exceeds a threshold (percent)
+    for a duration (s): the time until the average over 10 s exceeds the threshold, plus the
+    duration, plus two intervals between samples.
     """
     rise = PERIOD * math.log(100 / (100 - min(threshold, 99.0)))
     return duration + rise + 2 * mark.every / SECOND
@@ -68,8 +68,8 @@ def thresholds(rules: Any) -> Iterator[tuple[float, float]]:
 
 
 def promise(trace: str, rules: Any) -> str | None:
-    """Says from which length on these rules are sure to see stalls in a trace of samples. None
-    for other traces, or without pressure detectors.
+    """Returns a sentence with the length from which on stalls are surely detected by these rules in
+    a trace of samples. None for other traces, or without pressure detectors.
     """
     mark, found = sampled(trace), list(thresholds(rules))
     if not mark or not found:

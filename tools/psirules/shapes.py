@@ -1,5 +1,5 @@
-"""Finds the key of a rules file that is missing, and the value that has the wrong JSON kind.
-psi_oomd itself reports only the place and the cause.
+"""Finds a missing key of a rules file, or a value that has the wrong JSON kind. psi_oomd itself
+reports only the place and the cause.
 """
 from collections.abc import Iterator
 from typing import Any
@@ -18,19 +18,19 @@ KINDS = {
 
 
 def kind_of(value: object) -> str:
-    """The JSON kind of a value."""
+    """Returns the name of a value's JSON kind."""
     return KINDS.get(type(value), "null")
 
 
 def first_fault(data: Any) -> str | None:
-    """Returns the first missing key or value of a wrong kind, in the order in which psi_oomd
-    reads. None if there is none.
+    """Returns a description of the first missing key or value of a wrong kind, in the order in
+    which psi_oomd reads. None if there is none.
     """
     return next(faults(data), None)
 
 
 def faults(data: Any) -> Iterator[str]:
-    """Yields all missing keys and values of a wrong kind."""
+    """Yields descriptions of all missing keys and values of a wrong kind."""
     if not isinstance(data, dict):
         yield f"the file is {kind_of(data)}, and has to be an object with the key 'rulesets'"
         return
@@ -85,7 +85,9 @@ def plugin_faults(place: str, plugin: Any) -> Iterator[str]:
 
 
 def key_faults(place: str, at: dict[str, Any], wanted: dict[str, type]) -> Iterator[str]:
-    """Yields the keys of `wanted` that an object lacks, or that have a value of another kind."""
+    """Yields descriptions of the keys of `wanted` that an object lacks, or whose value has another
+    kind.
+    """
     for key, kind in wanted.items():
         if key not in at:
             yield f"{place} has no key {quoted(key)}"

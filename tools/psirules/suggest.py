@@ -1,4 +1,6 @@
-"""tools/rules suggest: finds thresholds and durations that catch incidents and spare quiet days."""
+"""tools/rules suggest: finds thresholds and durations with which rules kill in incidents and not in
+quiet traces.
+"""
 import argparse
 import contextlib
 from collections.abc import Iterator, Mapping
@@ -71,14 +73,14 @@ def kind_of(wanted: Expectation, kills: list[Kill]) -> str:
 
 
 class Judge:
-    """Evaluates sets of values, and stores their outcomes."""
+    """Evaluates sets of values, and caches their outcomes."""
 
     def __init__(self, it: Subject, task: Task) -> None:
         self.subject, self.task = it, task
         self.known: dict[tuple[tuple[Knob, int], ...], Outcome] = {}
 
     def look(self, many: list[Values]) -> list[Outcome]:
-        """Returns the outcomes of sets of values. A number that isn't in a set has its value in
+        """Returns the outcomes of sets of values. A number that isn't in a set keeps its value in
         the file.
         """
         keys = [tuple(sorted(values.items(), key=lambda it: it[0].spelled())) for values in many]
@@ -102,7 +104,7 @@ class Judge:
         return Outcome(faults, tuple(map(first_of, kills)))
 
     def faults(self, trace: str, kills: list[Kill]) -> Iterator[tuple[str, str]]:
-        """Yields what is wrong with the kills in a trace, each with its kind."""
+        """Yields the faults of the kills in a trace, each with its kind."""
         if trace in self.task.quiet and kills:
             yield EARLY, f"kills {kills[0].path} at {time_text(kills[0].time_ns)}"
         for wanted in self.task.wanted if trace in self.task.incidents else ():
@@ -113,8 +115,8 @@ class Judge:
 
 @dataclass(frozen=True)
 class Answer:
-    """The ranges of a number, and the intervals of the samples that traces were made from, if
-    they were.
+    """The ranges of a number, and the sampling intervals of those traces that were made from
+    samples.
     """
 
     knob: Knob
@@ -168,8 +170,8 @@ def middle(found: Range) -> int:
 
 def widest(judge: Judge, knobs: list[Knob]) -> dict[Knob, int]:
     """Returns values with wide margins. Each number in turn is set to the middle of its widest
-    range, given the values set before. All but the last are set a second time, since ranges
-    depend on the other numbers.
+    range, given the values set before. All numbers except the last are set a second time, since the
+    ranges depend on the other numbers.
     """
     chosen: dict[Knob, int] = {}
     for knob in [*knobs, *knobs[:-1]]:
@@ -181,7 +183,7 @@ def widest(judge: Judge, knobs: list[Knob]) -> dict[Knob, int]:
 
 
 def check_words(given: argparse.Namespace) -> None:
-    """Raises a Fault if the arguments don't fit together."""
+    """Raises a Fault if the arguments contradict each other."""
     no_input([*given.incidents, *given.quiet])
     both = sorted(set(given.incidents) & set(given.quiet))
     if both:
@@ -221,8 +223,8 @@ def check_wanted(task: Task, it: Subject, name: str) -> None:
 
 @dataclass(frozen=True)
 class Suggestion:
-    """The ranges of each number, the values with the widest margins, and the ranges around
-    these.
+    """The ranges of each number, the values with the widest margins, and the ranges around these
+    values.
     """
 
     answers: list[Answer]
@@ -232,8 +234,8 @@ class Suggestion:
 
 
 def suggest(given: argparse.Namespace, judge: Judge, knobs: list[Knob]) -> Suggestion:
-    """Finds all ranges and the values with the widest margins, and writes the latter to a file
-    if asked to.
+    """Finds all ranges and the values with the widest margins, and writes these values to a file if
+    requested.
     """
     marks = {mark.interval() for trace in judge.task.traces.names if (mark := sampled(trace))}
     samples = ", ".join(sorted(marks))

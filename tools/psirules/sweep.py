@@ -143,7 +143,7 @@ def named(axes: list[Axis], values: tuple[str, ...]) -> str:
 
 
 def tell_table(axes: list[Axis], rows: list[Row]) -> None:
-    """Prints the rows as a table with a head."""
+    """Prints the rows as a table with a head row."""
     heads = ["value"] if len(axes) == 1 else [one.argument for one in axes]
     table = [["trace", *heads, "kills", "first kill", "victim"], *(row.cells() for row in rows)]
     if len({row.trace for row in rows}) == 1:

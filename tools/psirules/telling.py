@@ -16,8 +16,8 @@ class Form(Enum):
 
 @dataclass(frozen=True)
 class Outcome:
-    """The outcome of a check: its name, whether it is as expected (None if it couldn't be run),
-    and why.
+    """The outcome of a check: its name, whether it is as expected (None if it couldn't be run), and
+    the reason.
     """
 
     name: str
@@ -26,8 +26,7 @@ class Outcome:
 
 
 def status_of(outcomes: list[Outcome]) -> int:
-    """Returns the exit status. A check that couldn't be run counts more than one that failed,
-    since it isn't known whether it would have failed.
+    """Returns the exit status. A check that couldn't be run has priority over a check that failed.
     """
     if any(outcome.is_ok is None for outcome in outcomes):
         return Status.FAILED
@@ -54,8 +53,8 @@ def tell(
     record: Callable[[int], object],
     tell_lines: Callable[[], None],
 ) -> int:
-    """Prints the outcomes in one of the forms, and returns the exit status. `record` makes the
-    JSON value from the status, and `tell_lines` prints lines for people.
+    """Prints outcomes in one of the forms, and returns the exit status. `record` makes the JSON
+    value from the status, and `tell_lines` prints lines for people.
     """
     status = status_of(outcomes)
     if form is Form.JSON:

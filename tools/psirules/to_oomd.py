@@ -30,8 +30,8 @@ CONTINUE = {"name": "continue", "args": {}}
 
 
 def oomd_size(text: str) -> str:
-    """Returns a size as oomd reads it: with a letter or as a sum, since oomd counts a bare
-    number in MiB.
+    """Returns a size in oomd's notation, with a letter or as a sum, since oomd counts a bare number
+    in MiB.
     """
     if text.endswith("%"):
         return text
@@ -101,7 +101,7 @@ class Converter:
             )
 
     def losses(self, place: str, name: str, args: dict[str, Any]) -> None:
-        """Adds notes on what oomd does differently with the same arguments."""
+        """Adds notes on differences between oomd and psi_oomd for the same arguments."""
         if args.get("growing_size_percentile") == "100":
             args["growing_size_percentile"] = MOST_PERCENTILE
             self.tell(
