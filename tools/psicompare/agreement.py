@@ -20,7 +20,7 @@ from .moments import Moments, period_of
 from .sums import Sums
 from .sums import Totals as Grown
 
-# The number of phases in a period of two seconds: one each 16 ms. First every COARSE-th phase is
+# The number of phases in a period of two seconds: one each 16 ms. First each COARSE-th phase is
 # tried, then the phases between the best one and its neighbours, at half the distance each time.
 PHASES, COARSE = 128, 4
 LEVELS = 2
@@ -29,8 +29,8 @@ MICROSECOND = 1000
 
 class Growth(NamedTuple):
     """The growth (us) of a file's totals of some and full. `machine` is the growth on the machine,
-    `told` the growth in the trace as the machine's kernel would add it up, and `true` the growth in
-    the trace in 64 bits.
+    `told` the growth in the trace as the machine's kernel computes it in 32 bits, and `true` the
+    growth in the trace in 64 bits.
     """
 
     file: File
@@ -41,8 +41,8 @@ class Growth(NamedTuple):
 
 class Asked(NamedTuple):
     """A group to compare: its path, and its number in the trace. For each resource, `spans` has the
-    start and the end (ns of the trace), and `machine` the growth (us) of the machine's totals in
-    between.
+    start and the end (ns of the trace), and `machine` has the growth (us) of the machine's totals
+    from start to end.
     """
 
     path: str
@@ -67,9 +67,9 @@ class Sampling(NamedTuple):
 
 
 def asked_of(readings: Sequence[dict[File, Totals]], clocks: Clocks, start: int) -> list[Asked]:
-    """Returns the groups that have files at the last of these readings and are in the trace. The
+    """Returns the groups that have files at the last of these readings and exist in the trace. The
     trace begins at `start` (ns of the recording's clock). Growth is counted from the first reading
-    that has the group's files, or from 0 at the creation of a group that was created later.
+    that has the group's files, or from 0 for a group that was created later.
     """
     began = max(it.time_ns for it in readings[0].values()) - start
     found = []
@@ -108,7 +108,8 @@ def growths_of(asked: Asked, clocks: Clocks, sampling: Sampling, hertz: int) -> 
 
 
 def grown(before: Sequence[int], after: Sequence[int], resource: str, path: str) -> tuple[int, int]:
-    """Returns the growth (us) of some and full of a resource. The root's full of cpu is always 0.
+    """Returns the growth (us) of some and full of a resource. For the root, full of cpu is always
+    0.
     """
     place = LEVELS * RESOURCES.index(resource)
     some, full = (
@@ -149,7 +150,7 @@ def sampling_of(
 
 
 def shifted(files: dict[File, Totals], path: str, start: int) -> dict[str, Totals]:
-    """Returns a group's totals in a reading by resource, with their times in ns of the trace."""
+    """Returns a group's totals in a reading, by resource, with their times in ns of the trace."""
     return {
         file.resource: it._replace(time_ns=it.time_ns - start)
         for file, it in files.items()
@@ -160,9 +161,9 @@ def shifted(files: dict[File, Totals], path: str, start: int) -> dict[str, Total
 def fitted_phase(
     asked: Asked, clocks: Clocks, files: Sequence[dict[str, Totals]], own: Sequence[int], hertz: int
 ) -> int:
-    """Returns the phase (ns) that brings a group's totals nearest to those of its files: the sum of
-    the squared differences of growth between consecutive readings is smallest. The group is also
-    sampled at the times `own` of the readings.
+    """Returns the phase (ns) that brings a group's totals nearest to those of its files, so that
+    the sum of the squared differences of growth between consecutive readings is smallest. The group
+    is also sampled at `own`, the times of the readings.
     """
     (begin, end), period = asked.ends(), period_of(hertz)
     grids = [range(begin + period * place // PHASES, end, period) for place in range(PHASES)]
@@ -172,7 +173,7 @@ def fitted_phase(
 
     @lru_cache(maxsize=None)
     def distance(place: int) -> int:
-        """Returns the distance between the totals and the files for the grid number `place`."""
+        """Returns the distance between the totals and the files if the phase is number `place`."""
         return distance_of(asked.path, files, sums.at(sorted({*own, *grids[place]})))
 
     best, step = min(range(0, PHASES, COARSE), key=distance), COARSE

@@ -1,4 +1,5 @@
-"""The kernel's clocks over a trace: the states of each group on each processor over time.
+"""The states of each group on each processor over the time of a trace, as the kernel's clocks count
+them.
 
 The states are those of `kernel/sched/psi.c` (`test_state`), which docs/TRACES.md lists. They are
 stored as changes of a mask, nine bytes each, so that the time in each state between any two times
@@ -16,12 +17,12 @@ from psireplay.groups import Group
 from psireplay.world import ASLEEP, IOWAIT, READY, RUNNING, World, Task
 from psireplay.trace import event_in
 
-# The bit of each state in a mask.
+# The bit number of each state in a mask.
 IO_SOME, IO_FULL, MEMORY_SOME, MEMORY_FULL, CPU_SOME, CPU_FULL, NONIDLE = (
     1 << place for place in range(7)
 )
 STATES = 7
-# The numbers of the states in each mask.
+# For each mask, the numbers of its states.
 HELD = [tuple(state for state in range(STATES) if mask >> state & 1) for mask in range(1 << STATES)]
 # A group has four counts of its tasks on a processor: tasks that wait for IO, that are in a memory
 # stall, that are ready (including the running one), and that are both stalled and ready. PLACES has

@@ -50,8 +50,8 @@ class Moments:
             self.learn(source)
 
     def learn(self, source: Source) -> None:
-        """Reads the events of the probes: the addresses of the groups, the sampling times and the
-        rate of the timer.
+        """Reads the events of the probes, and stores the addresses of the groups, the sampling
+        times and the rate of the timer.
         """
         shows = [it for it in source.events if isinstance(it, ShowProbe)]
         works: dict[int, list[int]] = defaultdict(list)
@@ -69,7 +69,7 @@ class Moments:
             moments.sort()
 
     def match(self, source: Source, shows: list[ShowProbe]) -> None:
-        """Finds the addresses of the groups in the recorder's own readings, file by file. If a
+        """Finds the addresses of the groups from the recorder's own readings, file by file. If a
         reading has a different number of files, because some were removed or couldn't be read, the
         addresses of the previous reading are used.
         """
@@ -125,8 +125,8 @@ def offset_of(groups: dict[int, list[int]], works: dict[int, list[int]]) -> int:
 
 
 def rate_of(works: dict[int, list[int]]) -> int | None:
-    """Returns the rate (Hz) of the kernel's timer, from the length of the periods in each group's
-    longest run of periods. Returns None if there is no run.
+    """Returns the rate (Hz) of the kernel's timer, from the mean length of the periods in each
+    group's longest run of consecutive periods. Returns None if no group has such a run.
     """
     runs = [run for run in map(longest_run, works.values()) if run[0]]
     if not runs:

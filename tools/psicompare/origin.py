@@ -24,7 +24,7 @@ LEAST_SHARE = 0.5
 
 
 def must_be_in_order(folder: str, trace: str) -> None:
-    """Rejects arguments in the wrong order."""
+    """Raises a Fault if the arguments are in the wrong order."""
     if os.path.isdir(trace) and is_trace(folder):
         raise Unreadable(f"the words are swapped: compare {trace} {folder}")
 

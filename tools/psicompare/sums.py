@@ -1,4 +1,4 @@
-"""A group's totals as the kernel adds them up (`collect_percpu_times` of `kernel/sched/psi.c`). At
+"""Computes a group's totals as the kernel does (`collect_percpu_times` of `kernel/sched/psi.c`). At
 each sampling, a state's total grows by the mean of its growth on the processors. The weight of a
 processor is the number of timer ticks for which the group was not idle on it.
 
@@ -100,5 +100,5 @@ class Sums:
 
 
 def added(times: Times, more: Times) -> tuple[int, ...]:
-    """Returns the sums, element by element."""
+    """Returns the sums of two tuples of times (ns), state by state."""
     return tuple(map(add, times, more))

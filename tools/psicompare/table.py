@@ -1,5 +1,5 @@
-"""The table of tools/compare: the totals of each file on the machine and in the trace, and the
-totals that exceed their limits.
+"""Formats the table of tools/compare: the totals of each file on the machine and in the trace, with
+marks at totals that exceed their limits.
 """
 from __future__ import annotations
 
@@ -114,8 +114,8 @@ def table_of(rows: Sequence[Sequence[str]]) -> str:
 
 
 def wrap_lines(rows: Sequence[Row]) -> list[str]:
-    """Returns lines with the correct values of the machine's files, if the kernel's sums lost a
-    part.
+    """Returns lines with the correct values of machine totals of which the kernel's 32-bit sums
+    lost a part.
     """
     lines = [
         f"  {row.file.path} {row.file.resource}: some {row.right[0]}, full {row.right[1]}"
@@ -147,9 +147,8 @@ def verdict_of(cells: Sequence[Cell], limits: Limits, has_bars: bool) -> str:
 
 
 class Shown(NamedTuple):
-    """How a table is shown: the lines above it, the name of the trace's numbers, the head of the
-    column of notes (empty if there are no notes), and the growth (us) from which on a file is
-    shown.
+    """The parameters of a table: the lines above it, the name of the trace's numbers, the head of
+    the column of notes (empty without notes), and the growth (us) from which on a file is shown.
     """
 
     head: list[str]

@@ -1,4 +1,4 @@
-"""The arguments of oomd's plugins, and how oomd parses them."""
+"""Parses the arguments of oomd's plugins as oomd does."""
 from __future__ import annotations
 
 from collections.abc import Callable
@@ -17,7 +17,7 @@ KIB = 1 << 10
 
 @dataclass(frozen=True)
 class Argument:
-    """How an argument's text is parsed, and whether the plugin requires the argument."""
+    """The parser of an argument's text, and whether the plugin requires the argument."""
 
     read: Callable[[str, Host], Any]
     is_required: bool = False
@@ -48,7 +48,7 @@ def swap_size(text: str, host: Host) -> int:
 
 
 def plain(read: Callable[[str], Any]) -> Callable[[str, Host], Any]:
-    """Returns a parser of an argument from one that needs no totals of the host."""
+    """Converts a parser that takes only the text to a parser that also takes the host."""
     return lambda text, _: read(text)
 
 
@@ -85,7 +85,7 @@ ANON = "threshold_anon"
 
 
 def known(use: PluginUse) -> tuple[dict[str, Argument], dict[str, str]]:
-    """Returns the arguments that the plugin accepts, and those that the configuration has."""
+    """Returns the arguments that the plugin accepts, and the arguments in the configuration."""
     table, args = dict(ARGUMENTS[use.name]), dict(use.args)
     if use.name in WITH_MEMINFO:
         args.pop("meminfo_location", None)

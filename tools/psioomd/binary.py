@@ -1,5 +1,5 @@
-"""Runs oomd itself on a trace. Its files show each time of the trace in turn, and all its kills
-are dry.
+"""Runs oomd itself on a trace. The files that oomd reads show each time of the trace in turn, and
+all its kills are dry.
 """
 from __future__ import annotations
 
@@ -43,8 +43,8 @@ MEMORY = "/dev/shm"
 
 @dataclass
 class BinaryRun:
-    """The run of oomd itself: its file and version, its sandbox, and the number of its looks.
-    `fault` says how it ended, if it ended early.
+    """A run of oomd itself: its file and version, its sandbox, the number of its evaluations, and
+    its kills. `fault` says how oomd ended, if it ended early.
     """
 
     path: str
@@ -64,7 +64,7 @@ class BinaryRun:
         self.restarts = within(self.restarts, part)
 
     def who(self, kill: Kill) -> str:
-        """Names the ruleset and the action of a kill."""
+        """Returns the text that names the ruleset and the action of a kill."""
         plugin = quoted(self.plugins[self.kills.index(kill)])
         if kill.ruleset < 0:
             return plugin
@@ -100,7 +100,9 @@ def room() -> Iterator[str]:
 
 
 def program_at(name: str) -> str:
-    """Returns the absolute path of a program, given by its path or by its name in PATH."""
+    """Returns the absolute path of a program, given by its path or by its name in PATH. Raises a
+    Fault if there is no such program.
+    """
     found = shutil.which(name)
     if not found:
         advice = "give its path, or install Debian's package oomd"
@@ -142,7 +144,7 @@ def check_config(shut: Sandbox, path: str, name: str) -> None:
 def prepare_words(
     shut: Sandbox, run: Run, base: Configuration, parts: list[Configuration]
 ) -> list[str]:
-    """Stores dry copies of the configurations, and returns the command that runs oomd on them."""
+    """Writes dry copies of the configurations, and returns the command that runs oomd on them."""
     check_config(shut, store(shut.folder, "given.json", bytes_of(run.config)), run.config)
     copy = store(shut.folder, "oomd.json", dry.copy(base))
     check_config(shut, copy, f"{run.config} with `dry` in each kill")
@@ -158,7 +160,7 @@ def prepare_words(
 
 
 class Looks:
-    """Updates the files of a machine to the time of each look."""
+    """Updates the files of a machine to the time of each evaluation by oomd."""
 
     def __init__(self, run: Run, files: Files, printed: Iterator[bytes]) -> None:
         self.run, self.files = run, files
@@ -177,7 +179,9 @@ class Looks:
             self.files.machine.world.take(*event)
 
     def times(self) -> Iterator[int]:
-        """Yields the times (ns) of the looks. When one is yielded, its files are written."""
+        """Yields the times (ns) of the evaluations. The files for a time are written before that
+        time is yielded.
+        """
         for number in range(1, self.warm + 1):
             yield (number - self.warm) * self.run.interval * SECOND
         for tick in self.ticks:
@@ -189,7 +193,7 @@ class Looks:
 
 @dataclass
 class Follower:
-    """Lets oomd look at each time, and parses its log."""
+    """Lets oomd evaluate its rules at each time, and parses its log."""
 
     daemon: Daemon
     found: BinaryRun
@@ -197,8 +201,8 @@ class Follower:
     log: IO[str] | None
 
     def has_looked(self, moment: int | None) -> bool:
-        """Waits until oomd sleeps again after its start or a look. Returns False if oomd has
-        ended.
+        """Waits until oomd sleeps again, after its start or an evaluation. Returns False if oomd
+        has ended.
         """
         end = self.daemon.sleep_end()
         said = self.daemon.new_log()

@@ -105,7 +105,7 @@ class Comparison:
 
 
 def verdict(own: list[Kill], other: list[Kill], names: tuple[str, str]) -> str:
-    """Says how the first kills by two programs differ."""
+    """Returns a sentence that says how the first kills by two programs differ."""
     if not own or not other:
         who = names[0] if own else names[1]
         return f"first kill: by {who} alone" if own or other else "no kill by either"
@@ -118,7 +118,9 @@ def verdict(own: list[Kill], other: list[Kill], names: tuple[str, str]) -> str:
 
 
 def compare(program: Program, name: str, trace: str, interval_s: int) -> Comparison:
-    """Replays the trace with a rules file, which is evaluated at each look of oomd."""
+    """Replays the trace with a rules file, which is evaluated whenever oomd evaluates its own
+    rules.
+    """
     with contextlib.ExitStack() as files:
         rules, file = accepted(program, name, files)
         kills = program.replay(trace, file, Pace(TICK_MS, interval_s), processors())
@@ -127,8 +129,8 @@ def compare(program: Program, name: str, trace: str, interval_s: int) -> Compari
 
 @dataclass(frozen=True)
 class Answers:
-    """All results: of the emulation (None if it rejects a configuration that oomd itself
-    accepts), of oomd itself, and of the rules.
+    """All results: of the emulation (None if the emulation rejects a configuration that oomd itself
+    accepts), of oomd itself, and of psi_oomd's rules.
     """
 
     run: Run
@@ -156,8 +158,8 @@ class Answers:
 
 
 def agreement(own: Engine, ran: binary.BinaryRun) -> str:
-    """Says whether the kills of oomd itself are those of the emulation, apart from the choice
-    among equal candidates.
+    """Returns a sentence that says whether oomd itself makes the kills of the emulation, apart from
+    the choice among equal candidates.
     """
     for decision, other in zip(own.decisions, ran.kills):
         found = decision.kill()
@@ -197,7 +199,9 @@ def kill_lines(answers: Answers, is_all: bool) -> list[str]:
 
 
 def print_lines(answers: Answers, is_all: bool) -> None:
-    """Prints text for people: the kills in order of time, and how near each detector came."""
+    """Prints text for people: the kills in order of time, and how near each detector came to its
+    limit.
+    """
     own, other, ran = answers.own, answers.other, answers.ran
     lines = kill_lines(answers, is_all)
     if own and not own.decisions:
@@ -252,7 +256,7 @@ def run_of(given: argparse.Namespace, trace: str) -> Run:
 
 
 def try_emulation(program: Program, run: Run, has_binary: bool) -> Engine | None:
-    """Runs the emulation. If oomd itself runs too, its own verdict on the configuration counts,
+    """Runs the emulation. If oomd itself runs too, oomd decides whether the configuration is valid,
     so a rejection by the emulation is only reported.
     """
     try:

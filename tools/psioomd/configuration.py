@@ -1,5 +1,5 @@
-"""Parses a configuration as oomd does: first by JsonCpp's rules with comments, and then by
-oomd's own.
+"""Parses a configuration as oomd does: first as JSON with comments by JsonCpp's rules, then by
+oomd's own rules.
 """
 from __future__ import annotations
 
@@ -15,7 +15,8 @@ from psirules.relaxed import Reading
 
 @dataclass
 class PluginUse:
-    """A plugin in a configuration: its arguments as strings, and its place for messages."""
+    """A plugin in a configuration: its name, its arguments as strings, and its place for messages.
+    """
 
     name: str
     args: dict[str, str]
@@ -24,7 +25,7 @@ class PluginUse:
 
 @dataclass
 class GroupUse:
-    """A group of detectors."""
+    """A group of detectors in a ruleset."""
 
     name: str
     detectors: list[PluginUse]
@@ -33,7 +34,7 @@ class GroupUse:
 
 @dataclass
 class RulesetUse:
-    """A ruleset. Delays are the strings of the file, empty if missing."""
+    """A ruleset. Delays are strings as in the file, empty if missing."""
 
     name: str
     place: str

@@ -1,4 +1,6 @@
-"""Runs oomd as a process with a controlled clock: each of its sleeps waits for the driver."""
+"""Runs oomd as a process with a controlled clock: each sleep of the process lasts until this module
+ends it.
+"""
 from __future__ import annotations
 
 import functools
@@ -25,7 +27,9 @@ GRACE = 20
 
 @functools.lru_cache(maxsize=None)
 def clock_library() -> bytes:
-    """Returns the preloaded library, which is compiled once per run of this tool."""
+    """Returns the bytes of the preloaded clock library, which is compiled once per run of this
+    tool.
+    """
     with tempfile.TemporaryDirectory(prefix="psioomd-") as folder:
         made = os.path.join(folder, LIBRARY)
         words = ["cc", "-O2", "-shared", "-fPIC", "-o", made, SOURCE, "-ldl"]
@@ -81,7 +85,7 @@ class Daemon:
         os.close(hears)
 
     def message(self) -> tuple[str, int] | None:
-        """Returns the next message of the library, None if the process has ended."""
+        """Returns the next message of the library, or None if the process has ended."""
         data, until = b"", time.monotonic() + self.patience
         while len(data) < MESSAGE.size:
             ready, _, _ = select.select([self.of], [], [], max(0, until - time.monotonic()))
@@ -99,12 +103,14 @@ class Daemon:
         return kind.decode("latin-1"), value
 
     def is_preloaded(self) -> bool:
-        """Whether the library was loaded, which is impossible in a statically linked program."""
+        """Returns whether the library was loaded, which is impossible in a statically linked
+        program.
+        """
         found = self.message()
         return found is not None and found[0] == HELLO
 
     def sleep_end(self) -> int | None:
-        """Returns the time (ns) until which the process sleeps, None if it has ended."""
+        """Returns the time (ns) until which the process sleeps, or None if it has ended."""
         while True:
             found = self.message()
             if found is None:
@@ -123,7 +129,7 @@ class Daemon:
             pass
 
     def new_log(self) -> str:
-        """Returns the log since the last call."""
+        """Returns the text that was added to the log since the last call."""
         size = os.fstat(self.log.fileno()).st_size
         text = os.pread(self.log.fileno(), min(size, MOST_LOG), 0) if size else b""
         if size:
@@ -132,8 +138,8 @@ class Daemon:
         return text.decode(errors="replace")
 
     def end(self, grace: float = GRACE) -> str:
-        """Ends the process, by a signal if it doesn't end within `grace` seconds. Says how it
-        ended.
+        """Ends the process, by a signal if it doesn't end within `grace` seconds. Returns a text
+        that says how it ended.
         """
         for fd in (self.to, self.of):
             os.close(fd)
@@ -147,7 +153,9 @@ class Daemon:
 
 
 def status_text(status: int) -> str:
-    """Says how a process ended. A sandbox returns 128 plus the number of a signal."""
+    """Returns a text that says how a process ended. A sandbox returns 128 plus the number of a
+    signal.
+    """
     number = -status if status < 0 else status - 128 if status > 128 else 0
     try:
         return f"by {signal.Signals(number).name}" if number else f"with status {status}"
@@ -156,7 +164,7 @@ def status_text(status: int) -> str:
 
 
 def answer(sandbox: Sandbox, words: list[str], patience: float = PATIENCE) -> tuple[int, str]:
-    """Returns the status and the output of a run of oomd without looks, such as --version."""
+    """Returns the status and the output of a run of oomd without evaluations, such as --version."""
     daemon = Daemon(sandbox, words, 0, patience)
     ended = False
     try:

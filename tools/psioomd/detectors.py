@@ -17,7 +17,7 @@ BITS = 1 << 64
 
 
 def average(hundredths: int) -> float:
-    """Converts a printed average (hundredths of a percent) as oomd reads it: to a 32-bit float."""
+    """Converts an average (hundredths of a percent) to the 32-bit float that oomd reads."""
     return float32(hundredths / HUNDREDTHS)
 
 
@@ -30,7 +30,7 @@ def weight(averages: Averages) -> float:
 
 
 class Nearest:
-    """The value that came nearest to a limit, and when it did (ns)."""
+    """The value that came nearest to a limit, and the time (ns) of it."""
 
     def __init__(self, is_least: bool = False) -> None:
         self.sign = -1 if is_least else 1
@@ -49,8 +49,8 @@ class Nearest:
 
 
 class Above(Plugin):
-    """`pressure_above`: avg10 of the group with the greatest weight is above the threshold for
-    the duration.
+    """The plugin `pressure_above`: avg10 of the group with the greatest weight is above the
+    threshold for the duration.
     """
 
     def __init__(self, use: PluginUse, args: dict[str, Any]) -> None:
@@ -61,7 +61,7 @@ class Above(Plugin):
         self.most = Nearest()
 
     def read(self, look: Look) -> None:
-        """Picks the one group whose pressure counts at this look."""
+        """Selects the one group whose pressure counts at this evaluation."""
         self.best, self.path = NO_PRESSURE, ""
         for path in look.machine.among(self.args["cgroup"]):
             pressure = look.machine.pressure(path, self.resource)
@@ -93,8 +93,8 @@ class Above(Plugin):
 
 
 class Rising(Above):
-    """`pressure_rising_beyond`: avg60 is above the threshold for the duration, avg10 is above it
-    now, and has not fallen much since the previous look.
+    """The plugin `pressure_rising_beyond`: avg60 is above the threshold for the duration, and avg10
+    is above the threshold now and has not fallen much since the previous evaluation.
     """
 
     def __init__(self, use: PluginUse, args: dict[str, Any]) -> None:
@@ -114,7 +114,7 @@ class Rising(Above):
 
 
 class MemoryAbove(Plugin):
-    """`memory_above`: the greatest memory use of a group is above the threshold for the
+    """The plugin `memory_above`: the greatest memory use of a group is above the threshold for the
     duration.
     """
 
@@ -145,8 +145,8 @@ class MemoryAbove(Plugin):
 
 
 class Reclaim(Plugin):
-    """`memory_reclaim`: the sum of scanned pages rose within the duration. As in oomd, the sum
-    is 0 pages when the machine starts.
+    """The plugin `memory_reclaim`: the sum of scanned pages rose within the duration. As in oomd,
+    the sum is 0 pages when the machine starts.
     """
 
     def __init__(self, use: PluginUse, args: dict[str, Any], uptime: int) -> None:
@@ -168,8 +168,8 @@ class Reclaim(Plugin):
 
 
 class SwapFree(Plugin):
-    """`swap_free`: less than a percentage of the swap is free. oomd computes with unsigned
-    numbers.
+    """The plugin `swap_free`: less than a percentage of the swap is free. oomd computes with
+    unsigned numbers.
     """
 
     def __init__(self, use: PluginUse, args: dict[str, Any]) -> None:
@@ -193,7 +193,7 @@ class SwapFree(Plugin):
 
 
 class Exists(Plugin):
-    """`exists`: some group matches, or with `negate` none does."""
+    """The plugin `exists`: some group matches, or with `negate` no group does."""
 
     def run(self, look: Look) -> Result:
         return result(
@@ -206,7 +206,9 @@ class Exists(Plugin):
 
 
 class Dying(Plugin):
-    """`nr_dying_descendants`: a group has at most a number of dying groups, or more than that."""
+    """The plugin `nr_dying_descendants`: a group has at most a number of dying groups, or more than
+    that number.
+    """
 
     def run(self, look: Look) -> Result:
         machine, count = look.machine, self.args["count"]

@@ -1,4 +1,6 @@
-"""Copies a configuration such that every kill is dry and every ruleset's name has its number."""
+"""Copies a configuration so that each kill is dry, and the name of each ruleset contains the
+ruleset's number.
+"""
 from __future__ import annotations
 
 import json
@@ -33,8 +35,8 @@ def dry_group(number: int, group: Any) -> Any:
 
 
 def dry_ruleset(ruleset: Any, name: str) -> Any:
-    """Returns the ruleset with this name. Its logs aren't silenced, since the kills are read
-    from them.
+    """Returns the ruleset with this name. Its logs aren't silenced, since the kills are parsed from
+    the logs.
     """
     if not isinstance(ruleset, dict):
         return ruleset

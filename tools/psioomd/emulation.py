@@ -1,5 +1,5 @@
-"""Applies oomd's algorithm to a trace, with the pressure that a replay by psi_oomd prints at
-each look.
+"""Applies oomd's algorithm to a trace, with the pressure that a replay by psi_oomd prints for each
+of oomd's evaluations.
 """
 from __future__ import annotations
 
@@ -32,8 +32,8 @@ UPTIME = 10**6 * SECOND
 @dataclass(frozen=True)
 class Run:
     """The input of an emulation: the trace, the configuration and its drop-in files by name, the
-    interval between looks (s), values that no trace has, the time of looks before the trace (s),
-    and the uptime (ns).
+    interval between evaluations (s), values that no trace has, for how long (s) oomd runs before
+    the trace, and the uptime (ns).
     """
 
     trace: str
@@ -52,7 +52,7 @@ class Run:
 
 @dataclass(frozen=True)
 class Tick:
-    """A look of oomd: its time (ns), and the pressure of each group."""
+    """An evaluation by oomd: its time (ns), and the pressure of each group."""
 
     time_ns: int
     reports: dict[str, Pressure]
@@ -74,7 +74,7 @@ def needed_lines(printed: Iterable[bytes]) -> Iterator[bytes]:
 
 
 def ticks_of(printed: Iterable[bytes], interval: int) -> Iterator[Tick]:
-    """Yields the looks of a replay."""
+    """Yields the evaluations that correspond to the reports of a replay."""
     reports = (it for it in read(needed_lines(printed)) if isinstance(it, Report))
     for moment, of_moment in itertools.groupby(reports, key=lambda it: it.time_ns):
         found: dict[str, Pressure] = {}
@@ -86,7 +86,9 @@ def ticks_of(printed: Iterable[bytes], interval: int) -> Iterator[Tick]:
 
 
 def first_host(trace: str) -> Host:
-    """Returns the host's first sample, which counts as its state from the start."""
+    """Returns the trace's first sample of the host, which counts as the host's state from the
+    start.
+    """
     groups = Groups()
     for event in events_of(trace):
         groups.take(*event)
@@ -96,7 +98,7 @@ def first_host(trace: str) -> Host:
 
 
 def first_samples(trace: str) -> Iterator[Event]:
-    """Yields the first `mem` event of each group that is live at the start."""
+    """Yields the first `mem` event of each group that exists at the start."""
     live, seen = {"/"}, set()
     for moment, verb, fields in events_of(trace):
         if verb == "group" and moment == 0:
@@ -107,7 +109,9 @@ def first_samples(trace: str) -> Iterator[Event]:
 
 
 def warm_up(it: Engine, run: Run, world: World[Task]) -> None:
-    """Lets oomd look before the trace begins, at a machine with the trace's first samples."""
+    """Lets oomd evaluate its rules before the trace begins, on a machine with the trace's first
+    samples.
+    """
     for event in first_samples(run.trace):
         world.take(*event)
     count = run.warm // run.interval
@@ -116,7 +120,7 @@ def warm_up(it: Engine, run: Run, world: World[Task]) -> None:
 
 
 def decide(it: Engine, run: Run, ticks: Iterator[Tick]) -> None:
-    """Passes the trace's events and the looks to the engine, in order of time."""
+    """Passes the trace's events and the evaluations to the engine, in order of time."""
     world, events = it.machine.world, Events(run.trace)
     for event in events.until(0):
         world.take(*event)
@@ -130,7 +134,7 @@ def decide(it: Engine, run: Run, ticks: Iterator[Tick]) -> None:
 
 
 def prepare_engine(run: Run) -> Engine:
-    """Returns the engine before its first look. Raises a Fault if oomd rejects the
+    """Returns the engine before its first evaluation. Raises a Fault if oomd rejects the
     configuration, or if the trace lacks what a plugin needs.
     """
     base, parts = run.configurations()
@@ -140,7 +144,7 @@ def prepare_engine(run: Run) -> Engine:
 
 
 def replay_words(run: Run, threads: int) -> list[str]:
-    """Returns the arguments with which psi_oomd prints the pressure at each look."""
+    """Returns the arguments with which psi_oomd prints the pressure at each evaluation by oomd."""
     pace = [f"--tick-ms={TICK_MS}", f"--report-s={run.interval}"]
     return ["replay", *pace, f"--workers={min(threads, 64)}", "--", run.trace]
 
@@ -161,7 +165,7 @@ def raise_refusal(status: int | None, trace: str, said: IO[bytes]) -> None:
 
 
 def emulate(program: Program, run: Run, threads: int) -> Engine:
-    """Returns the engine with what oomd would have done in a trace."""
+    """Emulates oomd on a trace, and returns the engine, which has the kills."""
     check_trace(program, run.trace)
     it = prepare_engine(run)
     with tempfile.TemporaryFile() as said:

@@ -66,7 +66,7 @@ class Start:
 
 
 class Notes:
-    """Notes on the parts of a configuration that can't be emulated, and on the consequences."""
+    """Notes on the parts of a configuration that can't be emulated, and the consequences."""
 
     def __init__(self) -> None:
         self.texts: list[str] = []
@@ -114,7 +114,9 @@ def delay_of(text: str, what: str, place: str, default: int) -> int:
 
 
 def check_head(use: RulesetUse, is_drop_in: bool) -> None:
-    """Makes the checks of a ruleset that oomd makes before those of its plugins."""
+    """Checks the parts of a ruleset that oomd checks before the ruleset's plugins. Raises Refused
+    if oomd rejects the ruleset.
+    """
     if not use.name:
         raise Refused(use.place, "Ruleset is missing name")
     for part in filter(None, use.silenced.strip().split(",")):
@@ -125,7 +127,7 @@ def check_head(use: RulesetUse, is_drop_in: bool) -> None:
 
 
 def act_of(it: Plugin, number: int, result: Result, decisions: list[Decision]) -> Act:
-    """Describes what an action did, with its kill if it made one."""
+    """Returns a description of what an action did, with its kill if it made one."""
     victim = decisions[0].victim if decisions else None
     if victim:
         return Act(number, it.name, victim, "", victim.candidates)
@@ -137,7 +139,7 @@ def act_of(it: Plugin, number: int, result: Result, decisions: list[Decision]) -
 
 
 class Ruleset(Pauses):
-    """A ruleset, and the name of the drop-in file that it comes from, empty if there is none."""
+    """A ruleset, with the name of the drop-in file that defines it, empty if none does."""
 
     def __init__(
         self, use: RulesetUse, number: int, start: Start, notes: Notes, drop_in: str = ""
@@ -167,7 +169,9 @@ class Ruleset(Pauses):
         self.is_paused_by_action = True
 
     def run(self, look: Look) -> None:
-        """Runs all detectors, and the actions if a group is true and the ruleset isn't paused."""
+        """Evaluates all detectors, and runs the actions if a group of detectors is true and the
+        ruleset isn't paused.
+        """
         if not self.is_enabled:
             return
         self.now, look.ruleset = look.now, None
@@ -197,8 +201,8 @@ class Ruleset(Pauses):
         return result
 
     def chain(self, first: int, why: list[str], look: Look) -> None:
-        """Runs the actions from the index `first` on, until one stops or waits for the next
-        look.
+        """Runs the actions from the index `first` on, until an action stops the chain or waits for
+        the next evaluation.
         """
         acts: list[Act] = []
         self.fired.append(Fired(look.now, why, None, acts))
@@ -218,7 +222,7 @@ class Ruleset(Pauses):
 
 @dataclass
 class Course:
-    """How near a detector came to its limit, as text."""
+    """How near a detector came to its limit, in words."""
 
     place: str
     text: str
@@ -227,7 +231,7 @@ class Course:
 @dataclass
 class Engine:
     """All rulesets in the order in which they run, and what oomd remembers about groups between
-    looks.
+    evaluations.
     """
 
     machine: Machine
@@ -241,7 +245,7 @@ class Engine:
     scanned: dict[Group, int] = field(default_factory=dict)
 
     def look(self, now: int) -> None:
-        """Looks at the machine at the time `now` (ns). Nothing happens after a crash."""
+        """Evaluates the rules at the time `now` (ns). After a crash nothing happens."""
         if self.crash:
             return
         self.looks, self.last = self.looks + 1, now
@@ -264,7 +268,7 @@ class Engine:
         self.scanned = {group: self.machine.scanned(path) for path, group in groups}
 
     def courses(self) -> list[Course]:
-        """Says how near each detector with a limit came to it."""
+        """Returns for each detector with a limit how near it came to the limit."""
         found = []
         for ruleset in self.rulesets:
             plugins = [it for _, detectors in ruleset.groups for it in detectors]

@@ -1,4 +1,4 @@
-"""The errors of oomd: rejected configurations, and crashes."""
+"""The errors of oomd: a rejected configuration, and a crash."""
 from __future__ import annotations
 
 from psicli.fault import Fault
@@ -13,4 +13,4 @@ class Refused(Fault):
 
 
 class Crash(Exception):
-    """The error that an input makes oomd 0.5.0 crash."""
+    """The error that this input makes oomd 0.5.0 crash."""

@@ -30,8 +30,7 @@ def text_of(hundredths: int) -> str:
 
 
 def pressure_text(averages: Averages) -> str:
-    """Formats a pressure file. oomd doesn't read its line `some`, so that has the values of
-    `full`.
+    """Formats a pressure file. oomd ignores the line `some`, so that line has the values of `full`.
     """
     shares = (averages.avg10, averages.avg60, averages.avg300)
     names = zip(("avg10", "avg60", "avg300"), map(text_of, shares))
@@ -40,7 +39,7 @@ def pressure_text(averages: Averages) -> str:
 
 
 class Files:
-    """The files of a machine. Each is written when its text changes."""
+    """The files of a machine. A file is written when its text changes."""
 
     def __init__(self, folder: str, machine: Machine) -> None:
         self.machine = machine

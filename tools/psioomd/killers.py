@@ -1,4 +1,4 @@
-"""Emulates oomd's actions that kill, and their choice of a victim."""
+"""Emulates oomd's kill actions, and how each chooses its victim."""
 from __future__ import annotations
 
 import itertools
@@ -18,14 +18,15 @@ from psisystemd.values import percent
 
 DEFAULT_SIZE, DEFAULT_PERCENTILE, DEFAULT_RATIO = 50, 80, 1.25
 WHOLE = 100
-# The values by which candidates are compared. The greatest is ranked first.
+# The values by which candidates are compared. The candidate with the greatest key is ranked first.
 Key = tuple[float, ...]
-# The candidates that an action may choose, by path: the key of each, and its rank in words.
+# The candidates that an action may choose, by path: the key of each, and the text that explains its
+# rank.
 Ranked = dict[str, tuple[Key, str]]
 
 
 class Killer(Plugin):
-    """An action that kills the highest-ranked candidate with a live task."""
+    """An action that kills the highest-ranked candidate that has a live task."""
 
     def __init__(self, use: PluginUse, args: dict[str, Any]) -> None:
         super().__init__(use, args)
@@ -36,7 +37,7 @@ class Killer(Plugin):
 
     @abstractmethod
     def ranks(self, look: Look, paths: list[str]) -> Ranked:
-        """Ranks sibling candidates."""
+        """Ranks sibling candidates, given by their paths."""
 
     def run(self, look: Look) -> Result:
         self.paths = look.machine.among(self.args["cgroup"])
@@ -54,8 +55,8 @@ class Killer(Plugin):
         return Result.STOP
 
     def victims(self, look: Look, paths: list[str]) -> list[tuple[str, list[Candidate]]]:
-        """Returns the groups that may be killed, which are equal in rank, each with its sibling
-        candidates. It is undefined which of them oomd kills.
+        """Returns the groups that may be killed, all equal in rank, each with its sibling
+        candidates. oomd doesn't define which of these groups it kills.
         """
         order, candidates = self.ranked(look, paths)
         best = [it.path for it in candidates]
@@ -73,7 +74,7 @@ class Killer(Plugin):
         return order, [self.candidate(look.machine, it, ranked[it][1]) for it in best]
 
     def nobody(self) -> str:
-        """Says why there was no victim at the last look."""
+        """Returns the reason why the last evaluation found no victim."""
         if not self.paths:
             return f"no live group matches {self.args['cgroup'].text}"
         if self.seen and all(it.passed_over for it in self.seen):
@@ -84,7 +85,7 @@ class Killer(Plugin):
         self, look: Look, path: str, candidates: list[Candidate]
     ) -> list[tuple[str, list[Candidate]]]:
         """Returns the groups that may be killed after the group at `path` was chosen: the group
-        itself, or some of its descendants. Empty if none has a task.
+        itself, or some of its descendants. Returns nothing if none of them has a task.
         """
         machine = look.machine
         if self.is_recursive and not machine.ends_as_a_whole(path):
@@ -99,7 +100,8 @@ class Killer(Plugin):
 
 
 class BySwap(Killer):
-    """`kill_by_swap_usage`: ranks by swap, from the threshold on."""
+    """The plugin `kill_by_swap_usage`: ranks groups by swap, if the swap is at least the threshold.
+    """
 
     def ranks(self, look: Look, paths: list[str]) -> Ranked:
         least = self.args.get("threshold", 1)
@@ -108,7 +110,7 @@ class BySwap(Killer):
 
 
 class ByPressure(Killer):
-    """`kill_by_pressure`: ranks by whole percents, including 0."""
+    """The plugin `kill_by_pressure`: ranks groups by whole percents of pressure, including 0."""
 
     def ranks(self, look: Look, paths: list[str]) -> Ranked:
         ranked: Ranked = {}
@@ -121,8 +123,8 @@ class ByPressure(Killer):
 
 
 class ByScans(Killer):
-    """`kill_by_pg_scan`: ranks by the pages scanned since the previous look, even if there are
-    none. It waits for a second consecutive look.
+    """The plugin `kill_by_pg_scan`: ranks groups by the pages scanned since the previous
+    evaluation, even if no page was scanned. It waits for a second consecutive evaluation.
     """
 
     def __init__(self, use: PluginUse, args: dict[str, Any]) -> None:
@@ -143,7 +145,9 @@ class ByScans(Killer):
 
 
 class BySize(Killer):
-    """`kill_by_memory_size_or_growth`: ranks large groups by size, and others by growth."""
+    """The plugin `kill_by_memory_size_or_growth`: ranks large groups by size, and other groups by
+    growth.
+    """
 
     def __init__(self, use: PluginUse, args: dict[str, Any]) -> None:
         super().__init__(use, args)
@@ -152,7 +156,7 @@ class BySize(Killer):
         self.ratio = float32(args.get("min_growth_ratio", DEFAULT_RATIO))
 
     def least_to_grow(self, machine: Machine, paths: list[str]) -> int:
-        """Returns the effective memory use (bytes) from which growth counts."""
+        """Returns the effective memory use (bytes) from which on growth counts."""
         place = math.ceil(len(paths) * (WHOLE - float(self.percentile)) / WHOLE) - 1
         if place < 0:
             raise Crash(

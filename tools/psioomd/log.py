@@ -19,14 +19,16 @@ UNKNOWN = -1
 
 @dataclass(frozen=True)
 class Restart:
-    """A service that oomd would have restarted, and the time of that (ns)."""
+    """A service that oomd would have restarted, and the time (ns) of the restart."""
 
     time_ns: int
     service: str
 
 
 class LogReader:
-    """Parses the log look by look. `actions` has the number of actions of each ruleset."""
+    """Parses oomd's log, one evaluation at a time. `actions` has the number of actions of each
+    ruleset.
+    """
 
     def __init__(self, actions: list[int]) -> None:
         self.actions = actions
@@ -36,7 +38,7 @@ class LogReader:
         self.plugins: list[str] = []
 
     def take(self, moment: int, text: str) -> None:
-        """Parses the log of the look at `moment` (ns)."""
+        """Parses the part of the log that the evaluation at `moment` (ns) wrote."""
         waiting, self.waiting = self.waiting, {}
         following: tuple[int, int] | None = None
         running: tuple[int, int] | None = None
@@ -58,7 +60,9 @@ class LogReader:
                 self.restarts.append(Restart(moment, restart[1]))
 
     def after(self, running: tuple[int, int], returned: str) -> tuple[int, int] | None:
-        """Returns the next action of the chain, None if it has ended."""
+        """Returns the next action of the chain after the action `running` returned the word
+        `returned`, or None if the chain has ended.
+        """
         ruleset, action = running
         if returned == "ASYNC":
             self.waiting[ruleset] = action
@@ -72,7 +76,9 @@ class LogReader:
 
 
 def reason(log: str) -> str:
-    """Returns the last messages of oomd, without source locations and the copy of the rules."""
+    """Returns the last messages of oomd, without source locations and without oomd's copy of the
+    rules.
+    """
     said = [PLACE.sub("", it).strip() for it in log.splitlines()]
     kept = [
         line

@@ -1,5 +1,5 @@
-"""The machine as oomd sees it at a look: the trace's last samples, and the pressure at the last
-tick.
+"""The machine as oomd sees it at an evaluation: the trace's last samples, and the pressure at the
+last tick.
 """
 from __future__ import annotations
 
@@ -31,7 +31,7 @@ Pressure = dict[str, Averages]
 
 @dataclass(eq=False)
 class Extras:
-    """Values that no trace has: numbers by a group's path and the name of a file such as
+    """Values that no trace has: numbers, by a group's path and the name of a file such as
     memory.low.
     """
 
@@ -42,7 +42,9 @@ class Extras:
 
 
 class Machine:
-    """The groups and the memory at one time. `totals` are the host's sizes at oomd's start."""
+    """The groups and the memory at one time. `totals` are the host's memory and swap sizes at
+    oomd's start.
+    """
 
     def __init__(self, extras: Extras, totals: Host) -> None:
         self.world = World(Task)
@@ -52,7 +54,9 @@ class Machine:
         self.paths: list[str] = []
 
     def refresh(self) -> None:
-        """Updates the list of groups, and discards what patterns matched if it has changed."""
+        """Updates the list of groups. If the list has changed, the cached matches of patterns are
+        discarded.
+        """
         paths = sorted(self.world.live)
         if paths != self.paths:
             self.paths, self.matched = paths, {}
@@ -68,7 +72,7 @@ class Machine:
         return self.world.host or self.totals
 
     def among(self, patterns: Patterns) -> list[str]:
-        """Returns the live groups that the patterns match, in order of paths."""
+        """Returns the live groups that match the patterns, in order of paths."""
         if patterns not in self.matched:
             self.matched[patterns] = patterns.among(self.paths)
         return self.matched[patterns]
@@ -80,8 +84,8 @@ class Machine:
         return self.group(path).sample or NO_SAMPLE
 
     def pressure(self, path: str, resource: str) -> Averages:
-        """Returns the group's averages. They are 0 if its accounting is off, since it has no
-        pressure files then.
+        """Returns the group's averages. They are 0 if the group's accounting is off, since it has
+        no pressure files then.
         """
         group = self.group(path)
         if not group.is_accounted:
@@ -99,7 +103,7 @@ class Machine:
         return (total - max(0, total - used // KIB)) * KIB
 
     def swap(self, path: str) -> int:
-        """Returns the swap in use (bytes), 0 for the root, which has no file for it."""
+        """Returns the swap in use (bytes); 0 for the root, which has no file for that."""
         return 0 if path == ROOT else self.sample(path).swap
 
     def scanned(self, path: str) -> int:
@@ -120,7 +124,7 @@ class Machine:
         return self.extras.of(path, "memory.oom.group") == 1
 
     def children(self, path: str) -> list[str]:
-        """Returns the paths of the children, without names that begin with a dot."""
+        """Returns the paths of the group's children, without names that begin with a dot."""
         front = "" if path == ROOT else path
         names = sorted(it.rpartition("/")[2] for it in self.group(path).children)
         return [f"{front}/{it}" for it in names if it[0] != "."]
@@ -130,7 +134,9 @@ class Machine:
         return min(self.current(path), max(low, least))
 
     def protection(self, path: str) -> int:
-        """Returns the bytes that memory.low and memory.min protect, shared among siblings."""
+        """Returns the number of bytes that memory.low and memory.min protect, with protection
+        shared among siblings.
+        """
         if path == ROOT:
             return self.current(path)
         if not self.extras.numbers:
@@ -143,5 +149,5 @@ class Machine:
         return int(raw * min(1.0, self.protection(above) / total)) if total else 0
 
     def effective(self, path: str) -> int:
-        """Returns the memory in use (bytes) that isn't protected."""
+        """Returns the memory in use (bytes) of a group, without the protected part."""
         return self.current(path) - self.protection(path)

@@ -1,4 +1,4 @@
-"""Parses and computes numbers as oomd does: C++'s stoi and stof, sizes, and 32-bit floats."""
+"""Parses numbers and computes as oomd does: C++'s stoi and stof, sizes, and 32-bit floats."""
 from __future__ import annotations
 
 import math
@@ -70,7 +70,9 @@ def quotient(number: int, divisor: int) -> int:
 
 
 def parts_sum(text: str) -> int | None:
-    """Parses a sum of sizes such as `1.5M 32K 512`, and returns bytes. None if it is malformed."""
+    """Parses a sum of sizes such as `1.5M 32K 512`, and returns bytes, or None if the text is
+    malformed.
+    """
     joined = "".join(it for it in text if it not in SPACES).lower()
     is_negative = joined[:1] == "-"
     rest = joined[1:] if joined[:1] in ("+", "-") else joined

@@ -1,4 +1,4 @@
-"""The results of looks: kills, each with its reason and the other candidates."""
+"""The results of oomd's evaluations: kills, each with its reason and the other candidates."""
 from __future__ import annotations
 
 from dataclasses import dataclass, field
@@ -12,8 +12,8 @@ MOST_CANDIDATES = 4
 
 @dataclass(frozen=True)
 class Candidate:
-    """A group that could be chosen: the values of its rank in words, and its preference.
-    `passed_over` says why the group was skipped, and is empty if it wasn't.
+    """A group that an action could choose: the text that explains its rank, and its preference.
+    `passed_over` says why the group was skipped, and is empty if it wasn't skipped.
     """
 
     path: str
@@ -40,7 +40,7 @@ class Victim:
 
 @dataclass(frozen=True)
 class Act:
-    """The outcome of an action at a look: its number and plugin, its victim or why there is
+    """The outcome of an action at an evaluation: its number and plugin, its victim or why it found
     none, and its candidates.
     """
 
@@ -53,8 +53,8 @@ class Act:
 
 @dataclass(frozen=True)
 class Fired:
-    """A look (ns) at which a ruleset fired: what the detectors of the group that fired found,
-    and what the actions did, or the time (ns) until which the ruleset was paused.
+    """An evaluation (its time in ns) at which a ruleset fired: what the detectors of the group that
+    fired found, and what the actions did, or the time (ns) until which the ruleset was paused.
     """
 
     time_ns: int
@@ -65,8 +65,8 @@ class Fired:
 
 @dataclass(frozen=True)
 class Source:
-    """The cause of a kill: a ruleset by number and name, its action (None for a plugin among the
-    detectors), the plugin, and the ruleset's drop-in file.
+    """The cause of a kill: the number and the name of a ruleset, its action (None for a plugin
+    among the detectors), the plugin, and the ruleset's drop-in file.
     """
 
     ruleset: int
@@ -98,7 +98,9 @@ class Decision:
         return Kill(self.time_ns, self.source.ruleset, action, self.victim.path)
 
     def may_kill(self, path: str) -> bool:
-        """Whether oomd may choose the group at `path`: it is the victim, or equal in rank."""
+        """Returns whether oomd may choose the group at `path`: the group is the victim, or equal to
+        it in rank.
+        """
         return path == self.victim.path or path in self.victim.equals
 
     def lines(self, is_all: bool) -> list[str]:

@@ -17,8 +17,8 @@ def split(text: str, mark: str) -> list[str]:
 
 
 def closing_brace(text: str, start: int) -> int | None:
-    """Returns the index of the brace that closes the brace before `start`, None if there is
-    none.
+    """Returns the index of the brace that closes the brace before `start`, or None if no brace
+    does.
     """
     depth, at = 0, start
     while at < len(text):
@@ -50,8 +50,8 @@ def without_braces(text: str) -> str:
 
 
 def bracket(text: str, at: int) -> tuple[str, int] | None:
-    """Returns the regular expression of the set that begins at `at`, and the index after the
-    set. None if the set isn't closed.
+    """Returns the regular expression of the bracket expression that begins at `at`, and the index
+    after it. None if it isn't closed.
     """
     start = at + 1
     is_negated = text[start : start + 1] in ("!", "^")
@@ -65,8 +65,8 @@ def bracket(text: str, at: int) -> tuple[str, int] | None:
 
 
 def component(text: str) -> re.Pattern[str]:
-    """Returns the regular expression of a component. Only a dot in the pattern matches a name's
-    leading dot.
+    """Returns the regular expression of a path component. A leading dot of a name is matched only
+    by a dot in the pattern.
     """
     at, parts = 0, []
     while at < len(text):
@@ -90,7 +90,7 @@ def component(text: str) -> re.Pattern[str]:
 
 
 class Patterns:
-    """The patterns of an argument `cgroup`."""
+    """The patterns of the argument `cgroup`."""
 
     def __init__(self, text: str) -> None:
         self.text = text
@@ -98,7 +98,7 @@ class Patterns:
         self.ways = [[component(part) for part in split(without_braces(it), "/")] for it in joined]
 
     def matches(self, path: str) -> bool:
-        """Whether one of the patterns matches a group's path."""
+        """Returns whether one of the patterns matches a group's path."""
         names = split(path, "/")
         return any(
             len(way) == len(names) and all(part.fullmatch(name) for part, name in zip(way, names))

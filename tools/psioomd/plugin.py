@@ -1,4 +1,6 @@
-"""The common parts of oomd's plugins."""
+"""The common parts of oomd's plugins: their results, their state during an evaluation, and
+durations.
+"""
 from __future__ import annotations
 
 from abc import ABC, abstractmethod
@@ -24,7 +26,7 @@ class Result(Enum):
 
 
 class Pauses(ABC):
-    """The part of a ruleset that its actions can change."""
+    """The interface through which an action changes the pause of its ruleset."""
 
     @abstractmethod
     def pause(self, seconds: int) -> None:
@@ -33,8 +35,8 @@ class Pauses(ABC):
 
 @dataclass
 class Look:
-    """A look at the machine: its time (ns), its number from 1, and what oomd remembers from
-    earlier looks.
+    """An evaluation of the rules: its time (ns), its number from 1, the machine, and what oomd
+    remembers from earlier evaluations.
     """
 
     now: int
@@ -58,14 +60,16 @@ class Plugin(ABC):
 
     @abstractmethod
     def run(self, look: Look) -> Result:
-        """Runs the detector or the action at a look."""
+        """Runs the detector or the action at an evaluation."""
 
     def why(self) -> str:
-        """Says what the plugin found at its last look."""
+        """Returns a text that says what the plugin found at its last evaluation."""
         return self.name
 
     def nearest(self) -> str:
-        """Says how near the plugin came to its limit in all looks. Empty if it has no limit."""
+        """Returns a text that says how near the plugin came to its limit in all evaluations. Empty
+        if it has no limit.
+        """
         return ""
 
 
@@ -74,7 +78,7 @@ def result(is_true: bool) -> Result:
 
 
 class Duration:
-    """A condition that must hold for a number of whole seconds."""
+    """A condition that must hold for a number of whole seconds before it counts."""
 
     def __init__(self, seconds: int) -> None:
         self.seconds = seconds
@@ -83,8 +87,8 @@ class Duration:
         self.longest = 0
 
     def holds(self, now: int, is_true: bool) -> bool:
-        """Updates the condition at the time `now` (ns), and returns whether it has held long
-        enough.
+        """Updates the condition at the time `now` (ns), and returns whether it has held for the
+        required time.
         """
         if not is_true:
             self.since = None

@@ -19,7 +19,7 @@ NAMES = {
     "unshare": "unshare (no network, nothing of the machine but /usr, read-only)",
     "none": "no sandbox (the preloaded clock alone refuses kills, sockets and writes)",
 }
-# A script that runs in its own mount namespace: it makes a new root with only /usr, read-only, and
+# A script that runs in its own mount namespace. It makes a new root with only /usr (read-only) and
 # the folder, and then removes the old root and all capabilities.
 ENTER = """set -e
 new=$1 folder=$2 binary=$3; shift 3
@@ -61,7 +61,7 @@ class Sandbox:
         return NAMES[self.kind]
 
     def words(self, inside: list[str]) -> list[str]:
-        """Returns the command that runs `inside` in the sandbox."""
+        """Returns the command that runs the command `inside` in the sandbox."""
         if self.kind == "bwrap":
             return [*self.bwrap(), *inside]
         if self.kind == "unshare":
@@ -92,7 +92,7 @@ class Sandbox:
         return [*words, "--bind", self.folder, self.folder, "--"]
 
     def fault(self) -> str:
-        """Says why the sandbox doesn't work on this machine. Empty if it does."""
+        """Returns the reason why the sandbox doesn't work on this machine. Empty if it works."""
         try:
             done = subprocess.run(
                 self.words(["/usr/bin/env", "true"]),
@@ -109,13 +109,15 @@ class Sandbox:
 
 @functools.lru_cache(maxsize=None)
 def fault_of(kind: str, binary: str) -> str:
-    """Says why a kind of sandbox doesn't work on this machine for a program. Empty if it does."""
+    """Returns the reason why a kind of sandbox doesn't work on this machine for a program. Empty if
+    it works.
+    """
     with tempfile.TemporaryDirectory(prefix="psioomd-") as folder:
         return Sandbox(kind, os.path.realpath(folder), binary).fault()
 
 
 def sandbox(kind: str | None, folder: str, binary: str) -> Sandbox:
-    """Returns the requested sandbox, or the first that works."""
+    """Returns the requested sandbox, or the first one that works."""
     faults = []
     for it in (kind,) if kind else SANDBOXES[:-1]:
         if it != "none" and not shutil.which(it):

@@ -1,4 +1,4 @@
-"""The groups that systemd-oomd may kill, in the order in which it would."""
+"""Lists the groups that systemd-oomd may kill, in the order in which it considers them."""
 from __future__ import annotations
 
 from collections.abc import Iterable, Iterator
@@ -11,13 +11,13 @@ from psiworld.groups import ROOT
 
 
 def is_below(path: str, above: str) -> bool:
-    """Whether `path` is `above` or a descendant of it."""
+    """Returns whether `path` is `above` or a descendant of it."""
     return above == ROOT or path == above or path.startswith(f"{above}/")
 
 
 def memory_of(group: Group) -> Sample | None:
-    """Returns a group's memory as systemd-oomd reads it; for the root, swap and scans are 0.
-    None if nothing can be read, because the group has no memory controller, or its accounting is
+    """Returns a group's memory as systemd-oomd reads it; for the root, swap and scans are 0. None
+    if systemd-oomd can't read it, because the group has no memory controller, or its accounting is
     off and so it has no pressure files.
     """
     sample = group.whole_sample()
@@ -40,8 +40,8 @@ def leaves(group: Group, settings: Settings) -> Iterator[Group]:
 
 
 def preference(group: Group, settings: Settings, above: str) -> str:
-    """Returns a candidate's preference, which counts only if the candidate belongs to root or to
-    the owner of the watched group `above`.
+    """Returns a candidate's preference, which counts only if the candidate's owner is root or the
+    owner of the watched group `above`.
     """
     if settings.owner(group.path) not in (0, settings.owner(above)):
         return "none"
@@ -51,8 +51,8 @@ def preference(group: Group, settings: Settings, above: str) -> str:
 def candidates_of(
     world: World[Task], settings: Settings, watched: Iterable[str]
 ) -> dict[str, Group]:
-    """Returns the candidates of all watched groups, by path, without those whose memory can't be
-    read.
+    """Returns the candidates of all watched groups, by path, without those whose memory
+    systemd-oomd can't read.
     """
     found = (
         it
@@ -67,8 +67,8 @@ def gathered(
     candidates: dict[str, Group], settings: Settings, above: str, risen: dict[Group, int]
 ) -> list[Candidate]:
     """Returns the candidates at and below the group `above`, in order of paths. `risen` has the
-    scanned pages by which they are ranked. If a group isn't in it, all pages that it ever
-    scanned count.
+    number of scanned pages by which each group is ranked. For a group that `risen` lacks, all pages
+    that it ever scanned count.
     """
     found = []
     for path, group in sorted(candidates.items()):
@@ -86,5 +86,7 @@ def gathered(
 
 
 def is_avoided(candidate: Candidate) -> bool:
-    """Whether the candidate is ranked after all that don't have the preference `avoid`."""
+    """Returns whether the candidate has the preference `avoid`, so that it is ranked after all
+    others.
+    """
     return candidate.preference == "avoid"

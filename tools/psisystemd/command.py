@@ -61,7 +61,7 @@ def parser() -> Parser:
 
 
 class Compared:
-    """The kills by a rules file in oomd's format, for comparison."""
+    """The kills that psi_oomd makes with a rules file, for comparison."""
 
     def __init__(self, name: str, rules: RulesFile, kills: list[Kill]) -> None:
         self.name, self.rules, self.kills = name, rules, kills
@@ -73,7 +73,7 @@ class Compared:
         )
 
     def verdict(self, own: list[Decision]) -> str:
-        """Says how the first kills differ in time and victim."""
+        """Returns a sentence that says how the first kills differ in time and victim."""
         one, other = (own[0] if own else None), (self.kills[0] if self.kills else None)
         if not one or not other:
             who = "systemd-oomd" if one else self.name if other else "neither"

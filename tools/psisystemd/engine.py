@@ -27,9 +27,9 @@ LEAST_SWAP_PERCENT = 5
 
 @dataclass
 class Look:
-    """The state of a watched group between checks: its limit (hundredths of a percent) and
-    duration (ns), the time (ns) since which its pressure is above the limit, the scan count
-    (pages) at the previous check, and when (ns) a scan was last seen.
+    """The state of a watched group between checks: its limit (hundredths of a percent) and duration
+    (ns), the time (ns) since which its pressure is above the limit, the number of scanned pages at
+    the previous check, and the time (ns) of the last scan.
     """
 
     group: Group
@@ -42,8 +42,8 @@ class Look:
 
 
 class Scans:
-    """The number of pages that each group scanned between the last two samples. A check that
-    finds no new sample uses the result of the previous one.
+    """The number of pages that each group scanned between the last two samples. A check without a
+    new sample uses the number of the previous check.
     """
 
     def __init__(self) -> None:
@@ -63,8 +63,8 @@ class Scans:
             sample = memory_of(group)
             if sample:
                 self.totals[group] = sample.scanned
-                # It isn't known when pages were scanned that a group had before the trace began, so
-                # they don't count.
+                # The trace doesn't say when a group scanned the pages that it had scanned before
+                # the trace began, so these pages don't count.
                 old = before.get(group, sample.scanned if group.made == 0 else 0)
                 self.risen[group] = sample.scanned - (old if old <= sample.scanned else 0)
 
@@ -154,7 +154,7 @@ class PressureRule:
             self.judge(now, look, averages[path])
 
     def judge(self, now: int, look: Look, pressure: int) -> None:
-        """Updates the time since which the group's pressure is above its limit."""
+        """Updates the time since which the group's pressure has been above its limit."""
         if pressure > look.limit:
             look.since = now if look.since is None else look.since
         else:
@@ -170,8 +170,8 @@ class PressureRule:
         return f"memory pressure of {path} {pressure} for {seconds(now - (target.since or 0))} s"
 
     def told_once(self, now: int, target: Look, averages: dict[str, int]) -> list[Decision]:
-        """Returns the decision that nobody is killed because nothing was scanned, but only at
-        the first check at which this prevents a kill.
+        """Returns the decision that no group is killed because no page was scanned, but only at the
+        first check at which this prevents a kill.
         """
         if target.is_told:
             return []
@@ -187,9 +187,9 @@ class PressureRule:
     def decided(
         self, now: int, target: Look, averages: dict[str, int], known: set[Group]
     ) -> Decision:
-        """Returns the decision for the group `target`: the victim, or why there is none. `known`
-        has the candidates of the previous check. For any other group all pages that it ever
-        scanned count.
+        """Returns the decision for the group `target`: the victim, or why there is no victim.
+        `known` has the candidates of the previous check. For any other group, all pages that it
+        ever scanned count.
         """
         path = target.group.path
         risen = {group: count for group, count in self.scans.risen.items() if group in known}
@@ -224,8 +224,8 @@ class SwapRule:
         self.was_watched = self.is_absent = False
 
     def is_due(self) -> bool:
-        """Whether a check would find a new sample. Without one the result would be that of the
-        previous check.
+        """Returns whether a check would find a new sample. Without a new sample the check would
+        have the result of the previous one.
         """
         return self.world.samples != self.samples
 
@@ -268,8 +268,8 @@ class SwapRule:
 
 
 def chosen(world: World[Task], decision: Decision) -> Decision:
-    """Returns `decision` with its victim, the first candidate that isn't skipped. If that group
-    has no tasks, nothing is killed, and no other candidate is tried.
+    """Returns `decision` with its victim, the first candidate that isn't skipped. If that group has
+    no tasks, no group is killed, and no other candidate is tried.
     """
     first: Candidate | None = next((it for it in decision.candidates if not it.passed_over), None)
     if not first:
@@ -283,7 +283,7 @@ def chosen(world: World[Task], decision: Decision) -> Decision:
 
 
 class Engine:
-    """Both rules applied to a trace."""
+    """The rules for memory pressure and for swap, applied to a trace."""
 
     def __init__(self, settings: Settings) -> None:
         self.world = World(Task)
@@ -294,7 +294,7 @@ class Engine:
         self.next_look = SWAP_INTERVAL
 
     def look_at_swap(self, until: int) -> None:
-        """Checks swap up to `until` (ns). It checks once per new sample, since further checks
+        """Checks swap up to `until` (ns). There is one check per new sample, since further checks
         have the same result.
         """
         if self.next_look < until:

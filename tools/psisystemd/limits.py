@@ -1,4 +1,4 @@
-"""The limits for all groups, from oomd.conf and its drop-in files."""
+"""The limits for all groups, read from oomd.conf and its drop-in files."""
 from __future__ import annotations
 
 import difflib
@@ -13,7 +13,7 @@ from psisystemd.values import duration, share
 SHARE = "a percentage such as 60%, from 0% to 100%, with at most two decimals"
 DURATION = "a time of at least 1 s, such as 20s or 1min 30s"
 SECTION = "OOM"
-# From this version oomd.conf is also searched in /run and /usr.
+# The first version of systemd that also searches oomd.conf in /run and /usr.
 MAIN_ANYWHERE = 256
 
 
@@ -51,7 +51,7 @@ NAMES = {
 
 
 def checked_duration(setting: Setting) -> int | None:
-    """Parses a duration of at least 1 s, and returns it in ns. None if it is empty or 0, which
+    """Parses a duration of at least 1 s, and returns ns. None if the value is empty or 0, which
     select the default.
     """
     if not setting.value:
@@ -65,7 +65,7 @@ def checked_duration(setting: Setting) -> int | None:
 
 
 def unknown(setting: Setting, names: list[str], where: str) -> str:
-    """Returns the message that systemd doesn't know this setting in `where`."""
+    """Returns the message that systemd doesn't know this setting in the file or section `where`."""
     meant = difflib.get_close_matches(setting.name, names, 1)
     guess = f"; did you mean {meant[0]}?" if meant else ""
     return (
@@ -75,7 +75,7 @@ def unknown(setting: Setting, names: list[str], where: str) -> str:
 
 
 def configurations(root: str, version: int) -> list[str]:
-    """Lists oomd.conf and its drop-in files. The last file has priority."""
+    """Returns the paths of oomd.conf and its drop-in files. The last file has priority."""
     mains = [os.path.join(root, it, "oomd.conf") for it in CONFIGURATIONS]
     main = [it for it in (mains if version >= MAIN_ANYWHERE else mains[:1]) if os.path.exists(it)]
     return main[:1] + drop_ins(root, [f"{it}/oomd.conf.d" for it in CONFIGURATIONS])

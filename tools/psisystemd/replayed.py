@@ -29,7 +29,7 @@ BY = (MEMORY_PRESSURE, SWAP)
 
 @contextlib.contextmanager
 def kept_trace(name: str) -> Iterator[str]:
-    """Yields the path of a trace that can be read twice: the standard input is copied to a
+    """Yields the path of a trace that can be read twice. A trace on standard input is copied to a
     temporary file.
     """
     if name != "-":
@@ -43,8 +43,8 @@ def kept_trace(name: str) -> Iterator[str]:
 
 @dataclass(frozen=True)
 class Second:
-    """A check: its time (ns), and the full memory pressure over 10 s of the watched groups and
-    the root, in hundredths of a percent.
+    """A check each second: its time (ns), and the full memory pressure over 10 s of the watched
+    groups and the root, in hundredths of a percent.
     """
 
     time_ns: int
@@ -52,8 +52,8 @@ class Second:
 
 
 def kept(printed: Iterable[bytes], settings: Settings) -> Iterator[bytes]:
-    """Yields the lines that checks need. It drops the reports of other resources, and of
-    unwatched groups except the root, whose reports mark each second.
+    """Yields the lines that checks need, without the reports of other resources and of unwatched
+    groups. The root's reports are kept, since they mark each second.
     """
     is_kept = True
     for line in printed:
@@ -73,7 +73,7 @@ def is_needed(path: str, settings: Settings) -> bool:
 
 
 def seconds_of(printed: Iterable[bytes], settings: Settings) -> Iterator[Second]:
-    """Yields the checks of a replay."""
+    """Yields the checks that correspond to the reports of a replay."""
     reports = (it for it in read(kept(printed, settings)) if isinstance(it, Report))
     for moment, of_moment in itertools.groupby(reports, key=lambda it: it.time_ns):
         yield Second(moment, {it.path: it.full.avg10 for it in of_moment})
@@ -91,8 +91,8 @@ def decide(engine: Engine, trace: str, seconds: Iterator[Second]) -> None:
 
 
 def replayed(program: Program, trace: str, settings: Settings, threads: int) -> Engine:
-    """Returns what systemd-oomd would have done in a trace with these settings. Raises a Refusal
-    if psi_oomd rejects the trace.
+    """Applies the settings to a trace, and returns the engine, which has the decisions. Raises a
+    Refusal if psi_oomd rejects the trace.
     """
     words = [
         "replay",
@@ -122,8 +122,8 @@ def replayed(program: Program, trace: str, settings: Settings, threads: int) -> 
 
 
 def kills_of(decisions: Iterable[Decision]) -> list[Kill]:
-    """Converts decisions to the kills of a replay, in which a rule's index takes the place of
-    the ruleset.
+    """Converts decisions to the kills of a replay. The index of systemd-oomd's rule takes the place
+    of the ruleset's number.
     """
     return [
         Kill(it.time_ns, BY.index(it.by), 0, it.victim) for it in decisions if it.victim is not None
@@ -131,7 +131,7 @@ def kills_of(decisions: Iterable[Decision]) -> list[Kill]:
 
 
 def warnings(engine: Engine, settings: Settings) -> list[str]:
-    """Returns warnings about what the trace or the settings lack, so that nothing could be
+    """Returns warnings about data that the trace or the settings lack, so that no group could be
     killed.
     """
     found = []

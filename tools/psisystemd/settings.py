@@ -1,4 +1,4 @@
-"""The settings of a machine, by the paths of groups.
+"""The settings of systemd-oomd on a machine, by the paths of groups.
 
 They are read from a folder with files as in a machine's root, or from what tools/record stored.
 The latter also has what systemd itself reported about its units, and each group's owner and
@@ -26,8 +26,8 @@ NO_UNIT = Unit()
 
 @dataclass(frozen=True)
 class Watched:
-    """The rules by which a group is watched: swap, and memory pressure with its limit
-    (hundredths of a percent) and duration (ns).
+    """The rules by which a group is watched: for swap, and for memory pressure with a limit
+    (hundredths of a percent) and a duration (ns).
     """
 
     swap: bool
@@ -123,7 +123,7 @@ class Settings:
         return replace(shown, is_whole=by_files.is_whole)
 
     def watched(self, path: str) -> Watched:
-        """Returns how the group is watched."""
+        """Returns the rules by which the group is watched."""
         if path not in self.watches:
             unit = self.unit(path)
             limit = self.limits.pressure if unit.limit is None else unit.limit
@@ -133,7 +133,7 @@ class Settings:
         return self.watches[path]
 
     def is_whole(self, path: str) -> bool:
-        """Whether the group is a candidate even though it has children (memory.oom.group)."""
+        """Returns whether the group is a candidate even if it has children (memory.oom.group)."""
         if path in self.groups:
             return self.groups[path].is_whole
         return bool(self.unit(path).is_whole)
@@ -148,8 +148,8 @@ class Settings:
         return int(found[1]) if found else 0
 
     def preference(self, path: str, traced: str) -> str:
-        """Returns the group's preference, from its attributes, or else from its unit, or else
-        from the trace (`traced`).
+        """Returns the group's preference: that of its attributes, otherwise that of its unit,
+        otherwise that of the trace (`traced`).
         """
         if path in self.groups:
             return self.groups[path].preference
@@ -157,9 +157,9 @@ class Settings:
 
 
 def unit_of(path: str) -> tuple[str, bool] | None:
-    """Returns the name of the unit whose group is at `path`, and whether it belongs to a user's
-    manager. None if no manager has it: units are in slices, and a user's units in slices below
-    the manager.
+    """Returns the name of the unit whose group is at `path`, and whether the unit belongs to a
+    user's manager. None if no manager has such a unit: units are in slices, and a user's units in
+    slices below the user's manager.
     """
     if path == "/":
         return "-.slice", False

@@ -22,8 +22,8 @@ class Setting:
     value: str
 
     def fault(self, wanted: str) -> Fault:
-        """Returns the error that the setting's value is malformed; `wanted` says what it has to
-        be.
+        """Returns the error that the setting's value is malformed. `wanted` describes a valid
+        value.
         """
         return Fault(f"{self.place}: {self.name} is {quoted(self.value)}: it has to be {wanted}")
 
@@ -88,9 +88,9 @@ def settings_of(path: str) -> Iterator[Setting]:
 
 
 def drop_ins(root: str, folders: list[str]) -> list[str]:
-    """Returns the drop-in files in `folders`, sorted by file name. Of files with the same name,
-    the one in the first folder is used, even if it is empty or a link to /dev/null, which then
-    only hides the others.
+    """Returns the drop-in files in `folders`, sorted by file name. If several files have the same
+    name, the one in the first folder is used. It may be empty or a link to /dev/null, and then only
+    hides the others.
     """
     found: dict[str, str] = {}
     for folder in folders:

@@ -1,4 +1,6 @@
-"""The results as text and JSON: kills, why nothing was killed, and how near the limits came."""
+"""Formats the results as text and JSON: kills, why no group was killed, and how near pressure came
+to the limits.
+"""
 from __future__ import annotations
 
 from dataclasses import dataclass, field
@@ -21,10 +23,10 @@ def size(count: int) -> str:
 
 @dataclass(frozen=True)
 class Candidate:
-    """A group that could be chosen: the scanned pages by which it is ranked, its memory and swap
-    (bytes), and its preference. `passed_over` says why it was skipped; it is empty for a group
-    that only ranked too low. `is_new` says that the group was no candidate at the previous
-    check, so that all pages that it ever scanned count.
+    """A group that could be chosen: the number of scanned pages by which it is ranked, its memory
+    and swap (bytes), and its preference. `passed_over` says why the group was skipped; it is empty
+    for a group that only ranked too low. `is_new` says that the group was no candidate at the
+    previous check, so that all pages that it ever scanned count.
     """
 
     path: str
@@ -36,7 +38,7 @@ class Candidate:
     is_new: bool = False
 
     def told(self, by: str, span: str) -> str:
-        """Returns the values by which the candidate was ranked."""
+        """Returns the text with the values by which the candidate was ranked."""
         span = " ever" if self.is_new else span
         rank = (
             f"scanned {self.scanned} pages{span}, memory {size(self.memory)}"
@@ -52,8 +54,8 @@ class Candidate:
 
 @dataclass(frozen=True)
 class Decision:
-    """A decision at a time (ns): the victim or None, the rule, the watched group, the reason,
-    and all candidates in order of rank. `span` says in which time the pages were scanned.
+    """A decision at a time (ns): the victim or None, the rule, the watched group, the reason, and
+    all candidates in order of rank. `span` is the time in which the pages were scanned, in words.
     """
 
     time_ns: int
@@ -101,8 +103,8 @@ class Decision:
 @dataclass
 class Course:
     """How near a watched group came to a kill: its limit and its greatest pressure (both in
-    hundredths of a percent), when that was reached (ns), and the longest time (ns) above the
-    limit, None if it was never above.
+    hundredths of a percent), the time (ns) of that pressure, and the longest time (ns) above the
+    limit, or None if the pressure was never above it.
     """
 
     path: str
@@ -113,8 +115,8 @@ class Course:
     longest: int | None = None
 
     def take(self, moment: int, pressure: int, since: int | None) -> None:
-        """Records the pressure at a time (ns). `since` is the time since which the pressure is
-        above the limit, None if it isn't.
+        """Records the pressure at a time (ns). `since` is the time (ns) since which the pressure
+        has been above the limit, or None.
         """
         if pressure > self.most:
             self.most, self.most_at = pressure, moment

@@ -1,5 +1,5 @@
-"""The settings of systemd-oomd in units, from unit files and drop-in files, merged as systemd
-does, and from `systemctl show`.
+"""Reads the settings of systemd-oomd for units, from unit files and drop-in files, which are merged
+as systemd does, or from the output of `systemctl show`.
 """
 from __future__ import annotations
 
@@ -27,9 +27,9 @@ LIMIT, DURATION_OF_UNIT = "ManagedOOMMemoryPressureLimit", "ManagedOOMMemoryPres
 PREFERENCE, POLICY = "ManagedOOMPreference", "OOMPolicy"
 NAMES = (SWAP, PRESSURE, LIMIT, DURATION_OF_UNIT, PREFERENCE)
 POLICIES = ("continue", "stop", "kill")
-# The first version in which a unit may have its own duration.
+# The first version of systemd in which a unit may have its own duration.
 OWN_DURATION = 257
-# The name of a unit's duration in `systemctl show`.
+# The name of a unit's duration in the output of `systemctl show`.
 SHOWN_DURATION = "ManagedOOMMemoryPressureDurationUSec"
 
 
@@ -88,8 +88,8 @@ class Unit:
 
 
 def chosen(setting: Setting, words: dict[str, Meaning], empty: str) -> Meaning:
-    """Returns the meaning of the setting's value, or raises a Fault if it isn't one of `words`.
-    An empty value means the same as the word `empty`.
+    """Returns the meaning of the setting's value, or raises a Fault if the value isn't one of
+    `words`. An empty value has the meaning of the word `empty`.
     """
     value = setting.value or empty
     if value not in words:
@@ -110,9 +110,9 @@ def template_of(name: str) -> str | None:
 
 
 def widened(name: str) -> str | None:
-    """Shortens a unit's name to the prefix before its last dash: a-b-.service for a-b-c.service,
-    then a-.service. For a template the result isn't a template: a-.service for a-b@.service.
-    None if there is no such prefix.
+    """Returns a unit's name shortened to the prefix before its last dash: a-b-.service for
+    a-b-c.service, then a-.service. For a template the result isn't a template: a-.service for
+    a-b@.service. None if the name has no such prefix.
     """
     name = name.replace("@.", ".", 1)
     stem = name.partition("@")[0] if "@" in name else name.rpartition(".")[0]
@@ -168,8 +168,8 @@ class UnitFiles:
         return mains + drop_ins(self.root, folders + [f"{it}/{kind}.d" for it in self.folders])
 
     def is_known(self, setting: Setting, kind: str) -> bool:
-        """Whether systemd knows the setting in a unit of this kind. Adds a note if it is ignored
-        although it looks like a setting of systemd-oomd.
+        """Returns whether systemd knows the setting in a unit of this kind. Adds a note if systemd
+        ignores a setting that looks like one of systemd-oomd.
         """
         if setting.name == DURATION_OF_UNIT and self.version < OWN_DURATION:
             self.note(
@@ -194,9 +194,7 @@ class UnitFiles:
             self.notes.append(text)
 
     def named(self) -> list[str]:
-        """Returns the sorted names of units and templates for which there is a file or a drop-in
-        folder.
-        """
+        """Returns the sorted names of units and templates that have a file or a drop-in folder."""
         found = set()
         for folder in self.folders:
             for name in os.listdir(os.path.join(self.root, folder)):

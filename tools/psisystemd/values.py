@@ -11,7 +11,8 @@ WHOLE = 10000
 SCALE = (1 << 32) - 1
 """A share of 100 percent in the scale in which `systemctl show` prints a unit's limit."""
 SHARE = re.compile(r"([0-9]{1,9})(?:\.([0-9]{1,2}))?([%‰‱])")
-# The hundredths of a percent for each sign, and the most decimals before the sign.
+# For each sign the hundredths of a percent in one unit, and the largest number of decimals before
+# the sign.
 SIGNS = {"%": (100, 2), "‰": (10, 1), "‱": (1, 0)}
 PART = re.compile(r"\s*([0-9]{1,18})(?:\.([0-9]{1,9}))?\s*([a-zA-Zµμ]*)")
 UNITS = {
@@ -26,8 +27,8 @@ UNITS = {
 
 
 def share(text: str) -> int | None:
-    """Parses a number with its sign as hundredths of a percent. None if it is malformed or above
-    100 percent.
+    """Parses a number with its sign, and returns hundredths of a percent. None if the text is
+    malformed or above 100 percent.
     """
     found = SHARE.fullmatch(text)
     if not found:
@@ -40,8 +41,8 @@ def share(text: str) -> int | None:
 
 
 def share_of_scale(text: str) -> int | None:
-    """Parses a share, as `systemctl show` prints it or with a sign, as hundredths of a percent.
-    None if it is malformed.
+    """Parses a share, as `systemctl show` prints it or with a sign, and returns hundredths of a
+    percent. None if the text is malformed.
     """
     if re.fullmatch("[0-9]{1,10}", text) and int(text) <= SCALE:
         return (int(text) * WHOLE + SCALE // 2) // SCALE
@@ -49,8 +50,8 @@ def share_of_scale(text: str) -> int | None:
 
 
 def duration(text: str) -> int | None:
-    """Parses a duration in the format of systemd.time(7), in seconds if it has no unit, as ns.
-    None if it is malformed or infinite.
+    """Parses a duration in the format of systemd.time(7), in seconds if it has no unit, and returns
+    ns. None if the text is malformed or infinite.
     """
     place, ns = 0, 0
     while place < len(text):
