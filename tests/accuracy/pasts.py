@@ -125,7 +125,7 @@ def check_how_recordings_begin(program: str) -> None:
             for path, averages in machine.items():
                 for (resource, level), wanted in averages.items():
                     if (path, resource, level) not in found:
-                        continue  # The group was created between the start and the first reading.
+                        continue  # the group was created between the start and the first reading
                     for period, one, other in zip(NEAR, found[path, resource, level], wanted):
                         tried += 1
                         must(abs(one - other) <= NEAR[period],

@@ -31,7 +31,7 @@ def check_works_without_end() -> None:
 def check_handles_exceptions() -> None:
     try:
         time.sleep(1000)
-    except Exception:  # An interrupted check must not be caught here.
+    except Exception:  # must not catch the interrupt of a check
         print("handled")
 
 

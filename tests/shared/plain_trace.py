@@ -219,8 +219,8 @@ class World:
         yield path == "/", "RootPressure"
 
     def against_irq(self, moment: int, cpu: str, length: str) -> Iterator[str]:
-        """Returns whether the interrupts of an `irq` line last more than a second, or more than the
-        time since the processor's previous `irq` line.
+        """Yields the causes to reject an `irq` line. Interrupts last at most a second, and at most
+        the time since the processor's previous `irq` line.
         """
         if not self.is_cpu(cpu):
             yield "BadCpu"
