@@ -13,9 +13,7 @@ from systemd.slices import (
 
 
 def files_by_folder() -> dict[str, tuple[dict[str, str], int]]:
-    """Returns, for each property to show, the settings files of s.slice and the time (s) of the
-    resulting kill.
-    """
+    """Returns settings files of s.slice by case, with the time (s) of the resulting kill."""
     low, high = (f"[Slice]\nManagedOOMMemoryPressureLimit={it}%\n" for it in (40, 60))
     kill = WATCHED[f"{UNITS}/s.slice"]
     lib, run = "usr/lib/systemd/system", "run/systemd/system"
