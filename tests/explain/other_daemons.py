@@ -1,4 +1,5 @@
-"""Compares `tools/rules explain --by oomd` and `--by systemd-oomd` with values computed from a replay and the trace alone.
+"""Compares `tools/rules explain --by oomd` and `--by systemd-oomd` with values computed from a
+replay and the trace alone.
 
 It follows docs/OOMD.md and docs/SYSTEMD.md for the detectors and settings that the examples use.
 """
@@ -39,8 +40,8 @@ def explained(room: Room, rules: str, trace: str, by: str) -> Any:
 
 
 class Detector:
-    """A detector as oomd evaluates it: its greatest value with its time and group, since when its condition holds, the longest
-    hold (ns), and whether it is true.
+    """A detector as oomd evaluates it: its greatest value with its time and group, since when its
+    condition holds, the longest hold (ns), and whether it is true.
     """
 
     def __init__(self, plugin: Any) -> None:
@@ -64,23 +65,32 @@ class Detector:
             self.best = value, look.moment, path
         is_above = value > self.limit(look)
         self.since = (look.moment if self.since is None else self.since) if is_above else None
-        self.longest = max(self.longest, look.moment - self.since) if self.since is not None else self.longest
+        self.longest = max(
+            self.longest, look.moment - self.since
+        ) if self.since is not None else self.longest
         self.is_true = self.since is not None and look.moment - self.since >= duration * SECOND
 
     def watched(self, look: Look, paths: list[str]) -> tuple[int, str]:
-        """The value that counts, and whose it is: avg10 (hundredths of a percent) of the group with the greatest weighted sum of its
-        averages, or the most bytes.
+        """The value that counts, and whose it is: avg10 (hundredths of a percent) of the group with
+        the greatest weighted sum of its averages, or the most bytes.
         """
         if self.name == "memory_above":
-            return max(((look.groups[it].memory, it) for it in paths), key=lambda it: it[0], default=(0, ""))
+            return max(((look.groups[it].memory, it) for it in paths), key=lambda it: it[0],
+                       default=(0, ""))
         resource = self.args["resource"]
-        full = {it: [look.full.get((it, resource, f"avg{length}"), 0) for length in (10, 60, 300)] for it in paths}
-        chosen = max(paths, key=lambda it: 3 * full[it][0] + 2 * full[it][1] + full[it][2], default="")
+        full = {
+            it: [look.full.get((it, resource, f"avg{length}"), 0) for length in (10, 60, 300)]
+            for it in paths
+        }
+        chosen = max(paths, key=lambda it: 3 * full[it][0] + 2 * full[it][1] + full[it][2],
+                     default="")
         return (full[chosen][0], chosen) if chosen and any(full[chosen]) else (0, "")
 
     def limit(self, look: Look) -> float:
         text = self.args["threshold"]
-        return (look.host or (0, 0, 0))[0] * int(text[:-1]) / 100 if text.endswith("%") else 100 * int(text)
+        return (
+            look.host or (0, 0, 0)
+        )[0] * int(text[:-1]) / 100 if text.endswith("%") else 100 * int(text)
 
 
 def compare_detector(one: Any, it: Detector) -> None:
@@ -96,13 +106,16 @@ def compare_detector(one: Any, it: Detector) -> None:
 
 
 def compare_act(act: Any, look: Any, args: Any) -> None:
-    """The candidates are the matching groups, with their memory and its share; the victim has the most if that is enough."""
+    """The candidates are the matching groups, with their memory and its share; the victim has the
+    most if that is enough.
+    """
     memory = {it["path"]: look[it["path"]] for it in act["candidates"]}
     total = sum(memory.values())
     for it in act["candidates"]:
         found = re.match(r"memory \S+, (\d+) % of all", it["rank"])
         must(found, f"{it} has a share")
-        must_be(f"the share of {it['path']}", int(found[1]), memory[it["path"]] * 100 // total)  # type: ignore[index]
+        share = memory[it["path"]] * 100 // total
+        must_be(f"the share of {it['path']}", int(found[1]), share)  # type: ignore[index]
     largest = max(memory, key=lambda path: memory[path])
     if memory[largest] * 100 >= int(args.get("size_threshold", "50")) * total:
         must_be("the victim", act["victim"], largest)
@@ -113,7 +126,10 @@ def compare_oomd(room: Room, rules: str, trace: str) -> int:
     with open(rules, encoding="utf-8") as file:
         rulesets = json.load(file)["rulesets"]
     found = explained(room, rules, trace, "oomd")
-    groups = [[[Detector(it) for it in group[1:]] for group in ruleset["detectors"]] for ruleset in rulesets]
+    groups = [
+        [[Detector(it) for it in group[1:]] for group in ruleset["detectors"]]
+        for ruleset in rulesets
+    ]
     true: list[list[int]] = [[] for _ in rulesets]
     memory = {}
     for look in Replayed(text_of(trace)).looks(printed_of(room, trace), SECOND, INTERVAL * SECOND):
@@ -128,10 +144,12 @@ def compare_oomd(room: Room, rules: str, trace: str) -> int:
             for it, one in zip(group, printed["detectors"]):
                 compare_detector(one, it)
         must_be("when it fired", [it["moment_ns"] for it in part["firings"]], true[number])
-        compare_rests(part["firings"], int(rulesets[number].get("post_action_delay", "15")) * SECOND)
+        compare_rests(part["firings"],
+                      int(rulesets[number].get("post_action_delay", "15")) * SECOND)
         for firing in part["firings"]:
             for act in firing["actions"]:
-                compare_act(act, memory[firing["moment_ns"]], rulesets[number]["actions"][act["action"]]["args"])
+                compare_act(act, memory[firing["moment_ns"]],
+                            rulesets[number]["actions"][act["action"]]["args"])
     return sum(map(len, true))
 
 
@@ -140,14 +158,17 @@ def compare_rests(firings: Any, delay: int) -> None:
     until = 0
     for it in firings:
         is_resting = it["moment_ns"] < until
-        must_be(f"the rest at {it['moment_ns']}", it["rests_until_ns"], until if is_resting else None)
+        must_be(f"the rest at {it['moment_ns']}", it["rests_until_ns"],
+                until if is_resting else None)
         must_be("whether actions ran", bool(it["actions"]), not is_resting)
         if any(act["victim"] for act in it["actions"]):
             until = it["moment_ns"] + delay
 
 
 def check_by_oomd_from_a_replay(room: Room) -> None:
-    """oomd's detectors, firings, rests and candidates have the numbers of a replay at ticks of a second."""
+    """oomd's detectors, firings, rests and candidates have the numbers of a replay at ticks of a
+    second.
+    """
     must(compare_oomd(room, RUNAWAY_RULES, RUNAWAY) > 3, "the import's rules fired")
     must(compare_oomd(room, LOW_RULES, LOW) > 0, "the rules for memory fired")
     with open(RUNAWAY_RULES, encoding="utf-8") as file:
@@ -155,7 +176,8 @@ def check_by_oomd_from_a_replay(room: Room) -> None:
     rules["rulesets"][0]["post_action_delay"] = "30"
     rules["rulesets"][0]["detectors"][0][1]["args"].update(threshold="30", duration="7")
     room.file("rules.json", json.dumps(rules))
-    must(compare_oomd(room, os.path.join(room.path, "rules.json"), RUNAWAY) > 16, "other rules fired more often")
+    must(compare_oomd(room, os.path.join(room.path, "rules.json"), RUNAWAY) > 16,
+         "other rules fired more often")
 
 
 def compare_course(one: Any, shares: dict[int, int], path: str) -> None:
@@ -166,30 +188,46 @@ def compare_course(one: Any, shares: dict[int, int], path: str) -> None:
     for moment, share in sorted(shares.items()):
         since = (moment if since is None else since) if share > LIMIT else None
         longest = max(longest, moment - since) if since is not None else longest
-    must_be("the highest pressure", (round(one["value"] * 100), one["at_ns"], one["path"]), (highest, at, path))
-    must_be("the longest hold", (one["longest_hold_ns"], one["duration_ns"]), (longest, LENGTH * SECOND))
+    must_be("the highest pressure", (round(one["value"] * 100), one["at_ns"], one["path"]),
+            (highest, at, path))
+    must_be("the longest hold", (one["longest_hold_ns"], one["duration_ns"]),
+            (longest, LENGTH * SECOND))
 
 
 def compare_candidates(firing: Any, text: str) -> None:
-    """The candidates have the memory and the swap of the trace's last sample, and new scans since the sample before."""
+    """The candidates have the memory and the swap of the trace's last sample, and new scans since
+    the sample before.
+    """
     lines = [(int(it.split()[0]), it.split()[1:]) for it in text.splitlines()[1:-1]]
     state = state_at(lines, firing["moment_ns"])
     for it in firing["actions"][0]["candidates"]:
         sample = state.read(it["path"])
         must(sample is not None, f"{it['path']} has a sample")
-        must_be(f"memory and swap of {it['path']}", [it["memory_bytes"], it["swap_bytes"]], sample[:2])  # type: ignore[index]
-        scans = [int(words[4]) for at, words in lines if words[:2] == ["mem", it["path"]] and at <= firing["moment_ns"]]
-        must_be(f"new scans of {it['path']}", it["scanned_pages"], scans[-1] - (scans[-2] if len(scans) > 1 else 0))
+        sizes = [it["memory_bytes"], it["swap_bytes"]]  # type: ignore[index]
+        must_be(f"memory and swap of {it['path']}", sizes,
+                sample[:2])
+        scans = [
+            int(words[4])
+            for at, words in lines
+            if words[:2] == ["mem", it["path"]] and at <= firing["moment_ns"]
+        ]
+        must_be(f"new scans of {it['path']}", it["scanned_pages"],
+                scans[-1] - (scans[-2] if len(scans) > 1 else 0))
     paths = [it["path"] for it in firing["actions"][0]["candidates"]]
-    must(set(paths) == {it for it in state.leaves() if it.startswith("/batch/")}, f"the candidates: {paths}")
+    must(set(paths) == {it for it in state.leaves() if it.startswith("/batch/")},
+         f"the candidates: {paths}")
 
 
 def check_by_systemd_oomd_from_a_replay(room: Room) -> None:
-    """systemd-oomd's limit, kills and candidates have the numbers of a replay at ticks of a second."""
+    """systemd-oomd's limit, kills and candidates have the numbers of a replay at ticks of a second.
+    """
     text, printed = text_of(RUNAWAY), printed_of(room, RUNAWAY)
     found = explained(room, SYSTEMD, RUNAWAY, "systemd-oomd")
     part = found["rulesets"][0]
-    shares = {moment: full.get(("/batch", "memory", "avg10"), 0) for moment, full in reports_of(printed).items()}
+    shares = {
+        moment: full.get(("/batch", "memory", "avg10"), 0)
+        for moment, full in reports_of(printed).items()
+    }
     compare_course(part["groups"][0]["detectors"][0], shares, "/batch")
     fired = [it for it in part["firings"] if it["actions"]]
     killed = [(it["moment_ns"], it["actions"][0]["victim"]) for it in fired]
@@ -201,6 +239,13 @@ def check_by_systemd_oomd_from_a_replay(room: Room) -> None:
 
 
 def kills_below(text: str, printed: str) -> list[tuple[int, Optional[str]]]:
-    """The plain version's decisions for memory pressure. It watches all groups with one limit, so other groups get no pressure."""
-    only = re.sub(r"^(report \d+ (?!/batch memory).* memory\nsome .*\nfull) avg10=\d+\.\d\d", r"\1 avg10=0.00", printed, flags=re.MULTILINE)
-    return [(at, victim) for at, victim, why in decisions(text, only, LIMIT, LENGTH * SECOND) if why == "memory pressure"]
+    """The plain version's decisions for memory pressure. It watches all groups with one limit, so
+    other groups get no pressure.
+    """
+    only = re.sub(r"^(report \d+ (?!/batch memory).* memory\nsome .*\nfull) avg10=\d+\.\d\d",
+                  r"\1 avg10=0.00", printed, flags=re.MULTILINE)
+    return [
+        (at, victim) for at, victim, why in decisions(
+            text, only, LIMIT, LENGTH * SECOND
+        ) if why == "memory pressure"
+    ]

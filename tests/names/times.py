@@ -1,4 +1,6 @@
-"""Cases of times of day in the tools of kills: which kills the options select, and how times are printed."""
+"""Cases of times of day in the tools of kills: which kills the options select, and how times are
+printed.
+"""
 from __future__ import annotations
 
 import json
@@ -37,7 +39,9 @@ def done_of(room: Room, *words: str, status: int = 0, given: str = "") -> Done:
 def kills_of(room: Room, *words: str) -> list[int]:
     """The times (s) of the kills that a tool's JSON has."""
     found: Any = done_of(room, *words, "--json").json()
-    rows = found.get("decisions") or [it for trace in found.get("traces", []) for it in trace["kills"]]
+    rows = (
+        found.get("decisions") or [it for trace in found.get("traces", []) for it in trace["kills"]]
+    )
     for part in found.get("rulesets", []):
         rows += [it for it in part["firings"] if any(act["victim"] for act in it["actions"])]
     return [it["moment_ns"] // SECOND for it in rows]
@@ -51,7 +55,9 @@ def tools_of(trace: str) -> dict[str, tuple[str, ...]]:
         "expect": ("tools/rules", "expect", "want", trace, "--rules", "often.json"),
         "explain": ("tools/rules", "explain", "often.json", trace),
         "explain by oomd": ("tools/rules", "explain", RUNAWAY_RULES, trace, "--by", "oomd"),
-        "explain by systemd-oomd": ("tools/rules", "explain", SETTINGS, trace, "--by", "systemd-oomd"),
+        "explain by systemd-oomd": (
+            "tools/rules", "explain", SETTINGS, trace, "--by", "systemd-oomd"
+        ),
     }
 
 
@@ -66,8 +72,8 @@ def prepare(room: Room) -> str:
 
 
 def check_a_part_selects_kills(room: Room) -> None:
-    """Each way to give a part, by seconds or by times of day, selects the kills of that time and no others. All ways are tried with
-    one tool, and two of them with the others.
+    """Each way to give a part, by seconds or by times of day, selects the kills of that time and no
+    others. All ways are tried with one tool, and two of them with the others.
     """
     trace = prepare(room)
     for name, words in tools_of(trace).items():
@@ -78,7 +84,8 @@ def check_a_part_selects_kills(room: Room) -> None:
         wanted = [it for it in kills if start <= it <= end]
         clock = [f"14:{it // 60:02}:{it % 60:02}" for it in (start, end, first)]
         ways: tuple[tuple[str, ...], ...] = (
-            ("--from", str(start), "--to", str(end)), ("--from", clock[0], "--to", clock[1]), ("--at", clock[2], "--window", "20"),
+            ("--from", str(start), "--to", str(end)), ("--from", clock[0], "--to", clock[1]),
+            ("--at", clock[2], "--window", "20"),
             ("--at", f"13{clock[2][2:]}", "--window", "20", "--tz", "UTC"),
             ("--at", f"2026-11-28T{clock[2]}+01:00", "--window", "20"),
         )  # fmt: skip
@@ -88,7 +95,9 @@ def check_a_part_selects_kills(room: Room) -> None:
 
 
 def check_times_of_day_are_printed(room: Room) -> None:
-    """Each time of day is that of its seconds, in the machine's zone or in another; without a clock there is none."""
+    """Each time of day is that of its seconds, in the machine's zone or in another; without a clock
+    there is none.
+    """
     trace = prepare(room)
     for name, words in tools_of(trace).items():
         for zone, ahead in (((), 0), (("--tz", "UTC"), -3600), (("--tz=-03:00",), -4 * 3600)):
@@ -96,7 +105,8 @@ def check_times_of_day_are_printed(room: Room) -> None:
             must(found or name == "expect", f"{name}: times of day are printed")
             for seconds, *clock in found:
                 hours, minutes, rest = map(int, clock)
-                must_be(f"{name} {zone}: the time of day at {seconds} s", hours * 3600 + minutes * 60 + rest, DAY_SECONDS + ahead + int(seconds))
+                must_be(f"{name} {zone}: the time of day at {seconds} s",
+                        hours * 3600 + minutes * 60 + rest, DAY_SECONDS + ahead + int(seconds))
         plain = done_of(room, *(RUNAWAY if it == trace else it for it in words)).output
         told = done_of(room, *words).output
         must(not PAIR.search(plain), f"{name}: no time of day without a clock")
@@ -105,31 +115,46 @@ def check_times_of_day_are_printed(room: Room) -> None:
 
 
 def check_comparisons(room: Room) -> None:
-    """`compare` and `sweep` compare the kills of a part; `expect` and `sweep` print its times of day."""
+    """`compare` and `sweep` compare the kills of a part; `expect` and `sweep` print its times of
+    day.
+    """
     trace = prepare(room)
     first = kills_of(room, "tools/rules", "expect", "want", trace, "--rules", "often.json")[0]
     words = ("tools/rules", "sweep", "often.json", "--vary", "0/pressure_above.threshold=40", trace)
     clock = f"14:{first // 60:02}:{first % 60:02}"
-    must(f"{first} s ({clock})" in done_of(room, *words).output, "sweep has the first kill's time of day")
-    rows = done_of(room, *words, "--from", str(first + 1), "--json").json()["rows"]  # type: ignore[index]
+    must(f"{first} s ({clock})" in done_of(room, *words).output,
+         "sweep has the first kill's time of day")
+    found = done_of(room, *words, "--from", str(first + 1), "--json").json()
+    rows = found["rows"]  # type: ignore[index]
     must(all(it["moment_ns"] > first * SECOND for row in rows for it in row["kills"]), f"{rows}")
     room.file("want", "no kill of /batch/import\n")
-    told = done_of(room, "tools/rules", "expect", "want", trace, "--rules", "often.json", status=1).output
+    told = done_of(
+        room, "tools/rules", "expect", "want", trace, "--rules", "often.json", status=1
+    ).output
     must(f"killed at {first} s ({clock}) by" in told, told)
-    done_of(room, "tools/rules", "expect", "want", trace, "--rules", "often.json", "--to", str(first - 1))
+    done_of(room, "tools/rules", "expect", "want", trace, "--rules", "often.json", "--to",
+            str(first - 1))
     lower = ("tools/rules", "compare", RUNAWAY_RULES, "often.json", trace)
     done_of(room, *lower, status=1)
     told = done_of(room, *lower, "--to", str(first)).output
-    must_be("compare, up to the first kill", told, f"{trace}: same: 1 kill, /batch/import at {first} s ({clock})\n")
+    must_be("compare, up to the first kill", told,
+            f"{trace}: same: 1 kill, /batch/import at {first} s ({clock})\n")
 
 
 def check_suggestions(room: Room) -> None:
-    """In a part `suggest` looks at its kills only, and tries a grid, since an earlier kill may prevent one."""
+    """In a part `suggest` looks at its kills only, and tries a grid, since an earlier kill may
+    prevent one.
+    """
     trace = prepare(room)
     room.file("want", "first /batch/import from 140 to 200\n")
-    words = ("tools/rules", "suggest", RUNAWAY_RULES, "--incidents", trace, "--want", "want", "--json")
-    whole, part = (done_of(room, *words, *more).json()["ranges"] for more in ((), ("--from", "14:01", "--to", "14:03:20")))  # type: ignore[index]
-    must_be("how", [{it["by"].partition(" of")[0] for it in one} for one in (whole, part)], [{"bisection"}, {"a grid"}])
+    words = ("tools/rules", "suggest", RUNAWAY_RULES, "--incidents", trace, "--want", "want",
+             "--json")
+    whole, part = (  # type: ignore[index]
+        done_of(room, *words, *more).json()["ranges"]
+        for more in ((), ("--from", "14:01", "--to", "14:03:20"))
+    )
+    must_be("how", [{it["by"].partition(" of")[0] for it in one} for one in (whole, part)],
+            [{"bisection"}, {"a grid"}])
 
 
 def points_in(text: str) -> dict[str, list[int]]:
@@ -143,17 +168,28 @@ def points_in(text: str) -> dict[str, list[int]]:
 
 
 def check_metrics(room: Room) -> None:
-    """`openmetrics` has the points of a part, with the same values, and names of containers as a label."""
-    printed = done_of(room, "psi_oomd", "replay", RUNAWAY, "--report-s", "10").output.replace("/batch/import", f"/pods/cri-{ID}.scope")
+    """`openmetrics` has the points of a part, with the same values, and names of containers as a
+    label.
+    """
+    printed = done_of(room, "psi_oomd", "replay", RUNAWAY, "--report-s", "10").output.replace(
+        "/batch/import", f"/pods/cri-{ID}.scope"
+    )
     words = ("tools/openmetrics", "--start", BEGAN)
     whole = done_of(room, *words, given=printed).output
-    part = done_of(room, *words, "--from", "13:01", "--to", "120", "--tz", "UTC", given=printed).output
+    part = done_of(
+        room, *words, "--from", "13:01", "--to", "120", "--tz", "UTC", given=printed
+    ).output
     start = 1795870800
-    wanted = {name: kept for name, times in points_in(whole).items() if (kept := [it for it in times if start + 60 <= it <= start + 120])}
+    wanted = {
+        name: kept for name, times in points_in(whole).items() if (
+            kept := [it for it in times if start + 60 <= it <= start + 120]
+        )
+    }
     must_be("the points of the part", points_in(part), wanted)
     must(set(part.splitlines()) <= set(whole.splitlines()), "its lines are those of the whole")
     room.file("names", f"{ID} default/web/nginx\n")
     told = done_of(room, *words, "--containers", "names", given=printed).output
     label = f'id="/pods/cri-{ID}.scope"'
-    must(label in whole and f'{label},name="default/web/nginx"' in told, "the container's name is a label")
+    must(label in whole and f'{label},name="default/web/nginx"' in told,
+         "the container's name is a label")
     must_be("nothing else differs", told.replace(',name="default/web/nginx"', ""), whole)
