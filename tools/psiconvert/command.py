@@ -1,40 +1,23 @@
-"""Converts a recording of a whole machine, or ftrace's text, to a psitrace, and reports on standard error how exact it is.
-
-  tools/psitrace FOLDER > X.trace             a folder that tools/record wrote: groups, memory, and all that a trace can express
-  tools/psitrace TEXT --cpus N > X.trace      text of trace, trace_pipe, trace-cmd report or perf script: as much as it contains
-
-A text is a file (possibly gzipped) or - for the standard input. S is a number of seconds with at most nine decimals, from the
-start of the recording. The trace always begins at 0, even if it is cut from the middle. It has version 2 with --interrupts, and if a
-group wasn't accounted all the time (its cgroup.pressure was 0); else version 1.
-
-The status is 0; 2 for a usage error, or if something can't be read or written; 3 if events were lost or a limit of traces was reached,
-and if folding makes the trace longer: then nothing is written, except with --force, which writes the longest stretch without losses;
-4 if the check of a folded trace found a difference, which is a bug of this tool; 11 for a group of --trigger that isn't in the
-trace; and 12 for a time outside the recording.
-"""
+"""Converts a recording by the options of tools/psitrace, and writes the trace and the report."""
 from __future__ import annotations
 
 import os
-import re
 import sys
 from collections.abc import Iterable, Iterator, Sequence
 from typing import IO, NamedTuple
 
-from psicli.fault import Fault, Malformed
-from psicli.output import must_be_writable
-from psicli.parser import Parser
+from psicli.fault import Fault
 from psicli.running import run
 from psicli.status import Status
-from psicli.times import SECOND, WallTime
-from psicli.values import length, whole_number
+from psicli.times import WallTime
 from psifold.check import Different
-from psifold.words import Folding, add_window, folding_lines, folding_of, is_longer
+from psifold.words import folding_lines, is_longer
 from psifold.world import NotATrace
 from psiftrace.text import read_text
-from psinames.clock import TraceTime, in_zone
+from psinames.clock import in_zone
 from psinames.companion import Companion, companion_of, digest_of
 from psinames.companion import write as write_file
-from psinames.known import add_times, must_fit, span_in
+from psinames.known import span_in
 from psiread.events import Interrupts, SwitchProbe, WaitEnds
 from psiread.files import text_of
 from psiread.pressure import spans_of
@@ -43,123 +26,23 @@ from psiread.slices import Survey
 from psiread.source import Source, Unreadable
 from psiread.waits import Method, best_method
 from psiread.window import Window, longest_stretch, loss_text, overlapping
-from psirec.layout import PRESSURE, RESOURCES, escaped_path
-from psiworld.limits import LEAST_WINDOW, MOST_PROCESSORS, MOST_WINDOW
+from psirec.layout import PRESSURE
+from psiworld.limits import MOST_PROCESSORS
 
 from .anonymous import Anonymous
 from .companion import Written, companion
 from .convert import Converted, Past, Wanted, convert
 from .folded import Slices, convert_folded, looked_ahead
 from .lead_in import TICK, averages_in
+from .options import Options, options_of
 from .summary import limit_lines, summary_of
 from .unwritten import UNWRITTEN, silent_tasks, with_unwritten
 from .wakeups import Counting, Wakeups
 
-LEVELS = ("some", "full")
 # A recording of at least this size (bytes) is surveyed by several processes, and folded by a
 # separate process.
 LARGE = 16 << 20
-MOST_TRIGGERS = 256
-# The shortest and the longest lead-in (ns).
-LEAST_PAST, MOST_PAST = 300 * SECOND, 3600 * SECOND
 DEFAULT_PREFERENCES = {"prefer": "prefer", "avoid": "avoid", "omit": "avoid"}
-
-
-class Options(NamedTuple):
-    """The parsed command line. `wall` is the time of day at the start, if an option gives it."""
-
-    source: str
-    output: str | None
-    processors: int | None
-    method: Method | None
-    start: TraceTime | None
-    end: TraceTime | None
-    at: TraceTime | None
-    window: int | None
-    wall: WallTime | None
-    tz: str | None
-    deepest: int | None
-    triggers: list[str]
-    has_interrupts: bool
-    is_forced: bool
-    folding: Folding | None
-    counting: Counting | None
-    lead_in: int | None
-    no_names: bool
-    is_anonymous: bool
-
-
-def trigger_of(text: str) -> str:
-    """Parses a trigger, and returns it as the words of a trace."""
-    words = text.split()
-    is_whole = len(words) == 5 and words[0].startswith("/") and words[1] in RESOURCES and words[2] in LEVELS
-    if not is_whole or not all(re.fullmatch("[1-9][0-9]{0,7}", word) for word in words[3:]):
-        raise Malformed(f"'{text}' isn't 'PATH io|memory|cpu some|full THRESHOLD WINDOW'")
-    if not LEAST_WINDOW <= int(words[4]) <= MOST_WINDOW or int(words[3]) > int(words[4]):
-        raise Malformed(f"'{text}': a window is {LEAST_WINDOW} to {MOST_WINDOW} us, a threshold at most that")
-    return " ".join([escaped_path(words[0].encode("utf-8", "surrogateescape")), *words[1:]])
-
-
-def parser() -> Parser:
-    """Returns the parser of the command line."""
-    words = Parser(__doc__)
-    words.add_argument("source", metavar="FOLDER|TEXT", help="a folder of tools/record, or a file of ftrace's text")
-    words.add_argument("-o", dest="output", metavar="FILE",
-                       help="write the trace to FILE instead of the standard output, and names of its tasks and its time of day"
-                       " to FILE.names")  # fmt: skip
-    words.add_argument("--cpus", dest="processors", metavar="N", type=whole_number(1, MOST_PROCESSORS),
-                       help="the number of processors of a text's machine (without it: as many as the text shows)")  # fmt: skip
-    words.add_argument("--iowait", dest="method", choices=[it.value for it in Method],
-                       help="what shows a wait for IO: a probe of the recorder, sched_stat_iowait, or each sleep in state D"
-                       " (without it the first of these that the recording has)")  # fmt: skip
-    words.add_argument("--wakeups", dest="counting", choices=[it.value for it in Counting],
-                       help="the time of a wakeup: when psi counted it, by a probe of the recorder; halfway from there to its event;"
-                       " or at its event (without it the first of these that the recording has)")  # fmt: skip
-    add_times(words)
-    words.add_argument("--groups", dest="deepest", metavar="DEPTH", type=whole_number(0, 32),
-                       help="groups down to DEPTH levels below the root; deeper ones count in their ancestor; 0: the"
-                       " root alone")  # fmt: skip
-    words.add_argument("--trigger", dest="triggers", metavar="'PATH RES LEVEL THRESHOLD WINDOW'", type=trigger_of,
-                       action="append", default=[],
-                       help="add a trigger to the trace, times in us, such as '/ memory full 100000 1000000'; may be"
-                       " repeated")  # fmt: skip
-    words.add_argument("--interrupts", dest="has_interrupts", action="store_true",
-                       help="write how long interrupts held up the running tasks, if the recorder's machine accounted"
-                       " them")  # fmt: skip
-    words.add_argument("--lead-in", dest="lead_in", metavar="LENGTH", type=length,
-                       help="begin with a warm-up of this length, as 12min, so that averages begin as the machine's did; at"
-                       " least 5min")  # fmt: skip
-    add_window(words, "--fold", False, "fold the trace into windows of S seconds, which divide the tick's length: the pressure at such"
-               " ticks is the same, and its size depends on the recording's length instead of its events")  # fmt: skip
-    words.add_argument("--no-names", action="store_true",
-                       help="leave the names of tasks and containers out of FILE.names")  # fmt: skip
-    words.add_argument("--anonymize", dest="is_anonymous", action="store_true",
-                       help="replace groups and tasks by numbers, and leave out their names")  # fmt: skip
-    words.add_argument("--force", dest="is_forced", action="store_true",
-                       help="if something was lost, write the longest stretch without loss")  # fmt: skip
-    return words
-
-
-def options_of(arguments: Sequence[str] | None) -> Options:
-    """Parses the command line."""
-    words = parser()
-    found = words.values(arguments)
-    if len(found["triggers"]) > MOST_TRIGGERS:
-        words.error(f"more than {MOST_TRIGGERS} triggers")
-    must_fit(found)
-    if found["lead_in"] is not None and (not LEAST_PAST <= found["lead_in"] <= MOST_PAST or found["lead_in"] % TICK):
-        words.error(f"--lead-in is {LEAST_PAST // SECOND} to {MOST_PAST // SECOND} s, in whole ticks of 2 s")
-    found["folding"] = folding_of(found)
-    if found["folding"] and found["lead_in"]:
-        words.error("--lead-in isn't for --fold: make the trace with its past, and fold that by tools/fold")
-    found["method"] = Method(found["method"]) if found["method"] else None
-    found["counting"] = Counting(found["counting"]) if found["counting"] else None
-    if found["output"] is not None:
-        must_be_writable(found["output"])
-    return Options(**found)
-
-
-# ---------------------------------------------------------------- the output
 
 
 def tell(line: str) -> None:
@@ -197,24 +80,31 @@ def set_clock(options: Options, source: Source) -> None:
     if options.wall:
         source.realtime, source.ahead = options.wall.epoch - source.start, options.wall.ahead
     if source.realtime is not None:
-        source.ahead = in_zone(WallTime(source.start + source.realtime, source.ahead), options.tz).ahead
+        start = WallTime(source.start + source.realtime, source.ahead)
+        source.ahead = in_zone(start, options.tz).ahead
 
 
 def part_of(options: Options, source: Source, whole: Window) -> Window:
     """Returns the part of the recording that the options select."""
-    wall = None if source.realtime is None else WallTime(whole.start + source.realtime, source.ahead)
+    wall = None
+    if source.realtime is not None:
+        wall = WallTime(whole.start + source.realtime, source.ahead)
     span = span_in(options._asdict(), wall, whole.length(), "recording")
     return Window(whole.start + span.start, whole.start + span.end)
 
 
 def method_of(options: Options, source: Source) -> Method:
-    """Returns the requested method, which the recording must support, or the best one that it has."""
+    """Returns the requested method, which the recording must support, or the best one that it has.
+    """
     best = best_method(source.events, source.has_switch_probe)
     kinds = {type(event) for event in source.events} if options.method else set()
     has_probe = source.has_switch_probe or SwitchProbe in kinds
     has = {Method.PROBE: has_probe, Method.STATISTICS: WaitEnds in kinds, Method.STATE: True}
     if options.method and not has[options.method]:
-        raise Fault(f"--iowait {options.method.value}: the recording has no such events; it has {best.value}")
+        raise Fault(
+            f"--iowait {options.method.value}: the recording has no such events; "
+            f"it has {best.value}"
+        )
     return options.method or best
 
 
@@ -224,14 +114,19 @@ def wakeups_of(options: Options, source: Source) -> Wakeups:
     """
     counting = options.counting or (Counting.PROBE if source.has_ready_probe else Counting.EVENT)
     if counting is not Counting.EVENT and not source.has_ready_probe:
-        raise Fault(f"--wakeups {counting.value}: the recording has no such probe (record --wakeups)")
+        raise Fault(
+            f"--wakeups {counting.value}: the recording has no such probe (record --wakeups)"
+        )
     return Wakeups(counting)
 
 
 def check_interrupts(options: Options, source: Source) -> None:
     """Raises a Fault if --interrupts is given but the recording has no events of interrupts."""
     if options.has_interrupts and not any(isinstance(event, Interrupts) for event in source.events):
-        raise Fault("--interrupts: the recording has no such events: its kernel doesn't account interrupts, or is newer than 6.9")
+        raise Fault(
+            "--interrupts: the recording has no such events: its kernel doesn't account "
+            "interrupts, or is newer than 6.9"
+        )
 
 
 def upon_of(options: Options, source: Source) -> dict[str, list[str]]:
@@ -248,7 +143,9 @@ def upon_of(options: Options, source: Source) -> dict[str, list[str]]:
 
 
 def past_of(options: Options, source: Source, window: Window) -> Past | None:
-    """Returns the requested lead-in, with the averages in the reading nearest to the start, or None."""
+    """Returns the requested lead-in, with the averages in the reading nearest to the start, or
+    None.
+    """
     if options.lead_in is None:
         return None
     spans = spans_of(source) if os.path.isdir(options.source) else {}
@@ -309,7 +206,9 @@ def is_large(options: Options) -> bool:
     folder's files.
     """
     path = options.source
-    names = [os.path.join(path, name) for name in os.listdir(path)] if os.path.isdir(path) else [path]
+    names = [path]
+    if os.path.isdir(path):
+        names = [os.path.join(path, name) for name in os.listdir(path)]
     return sum(os.path.getsize(name) for name in names if os.path.isfile(name)) >= LARGE
 
 
@@ -336,10 +235,42 @@ def converted_of(options: Options, reading: Reading, wanted: Wanted) -> Made:
     early = Wakeups(wakeups.counting).slices(reading.slices())
     ahead = looked_ahead(source, early, reading.silent, wanted.window)
     folding, silent = options.folding, reading.silent
-    made = convert_folded(source, lambda: wakeups.slices(reading.slices()), ahead, silent, wanted, folding, is_large(options))
+    made = convert_folded(source, lambda: wakeups.slices(reading.slices()), ahead, silent, wanted,
+                          folding, is_large(options))
     source.notes.append(wakeups.text())
     longer = is_longer(made.outcome.counts)
-    return Made(made.converted, made.spool.parts(), folding_lines(options.folding, made.outcome), longer)
+    return Made(made.converted, made.spool.parts(), folding_lines(folding, made.outcome), longer)
+
+
+def wanted_of(options: Options, source: Source, window: Window) -> Wanted:
+    """Returns the options of the conversion. Raises a Fault if the recording lacks what they need.
+    """
+    upon = upon_of(options, source)
+    method = method_of(options, source)
+    check_interrupts(options, source)
+    past = past_of(options, source, window)
+    return Wanted(window, method, options.deepest, upon, options.has_interrupts, past)
+
+
+def must_have_groups(upon: dict[str, list[str]]) -> None:
+    """Raises a Fault if a group with a trigger wasn't created. `upon` has the lines of the groups
+    that weren't created.
+    """
+    for path, words in upon.items():
+        if any(it.startswith("trigger") for it in words):
+            raise Fault(f"--trigger: there is no group {path} in the trace", Status.NO_GROUP)
+
+
+def write_output(
+    options: Options, source: Source, made: Made, window: Window, anonymous: Anonymous | None
+) -> None:
+    """Writes the trace and its companion, by the numbers of `anonymous` if it isn't None."""
+    written = write(options, anonymous.parts(made.parts) if anonymous else made.parts)
+    tell(f"trace: {written.size} bytes, sha256 {written.digest}")
+    known = companion(source, made.converted, window, written, not options.no_names)
+    if anonymous:
+        anonymous.companion(known)
+    write_companion(options, known)
 
 
 def convert_recording(options: Options) -> int:
@@ -347,7 +278,10 @@ def convert_recording(options: Options) -> int:
     reading = reading_of(options)
     source = reading.source
     if source.processors > MOST_PROCESSORS:
-        tell(f"limit: {source.processors} processors, and a trace has {MOST_PROCESSORS} at most: nothing is written")
+        tell(
+            f"limit: {source.processors} processors, and a trace has {MOST_PROCESSORS} at most: "
+            "nothing is written"
+        )
         return Status.INCOMPLETE
     set_clock(options, source)
     whole = Window(source.start, source.stop)
@@ -355,28 +289,19 @@ def convert_recording(options: Options) -> int:
     losses = losses_of(source, window, whole)
     if losses and options.is_forced:
         window = longest_stretch(overlapping(source.gaps, window), window)
-    upon = upon_of(options, source)
-    method = method_of(options, source)
-    check_interrupts(options, source)
-    wanted = Wanted(window, method, options.deepest, upon, options.has_interrupts, past_of(options, source, window))
+    wanted = wanted_of(options, source, window)
     made = converted_of(options, reading, wanted)
-    converted = made.converted
-    never_made = [path for path, words in upon.items() if any(it.startswith("trigger") for it in words)]
-    if never_made:
-        raise Fault(f"--trigger: there is no group {never_made[0]} in the trace", Status.NO_GROUP)
-    losses += limit_lines(source, converted) + ["limit: the folded trace is longer than the trace"] * made.is_longer
+    must_have_groups(wanted.upon)
+    losses += limit_lines(source, made.converted)
+    losses += ["limit: the folded trace is longer than the trace"] * made.is_longer
     anonymous = Anonymous() if options.is_anonymous else None
-    for line in [*summary_of(source, converted, method, window, whole), *made.notes, *losses]:
+    summary = summary_of(source, made.converted, wanted.method, window, whole)
+    for line in [*summary, *made.notes, *losses]:
         tell(anonymous.text(line) if anonymous else line)
     if losses and not options.is_forced:
         tell("nothing is written; --force writes what is sound")
         return Status.INCOMPLETE
-    written = write(options, anonymous.parts(made.parts) if anonymous else made.parts)
-    tell(f"trace: {written.size} bytes, sha256 {written.digest}")
-    known = companion(source, converted, window, written, not options.no_names)
-    if anonymous:
-        anonymous.companion(known)
-    write_companion(options, known)
+    write_output(options, source, made, window, anonymous)
     return Status.INCOMPLETE if losses else Status.DONE
 
 
