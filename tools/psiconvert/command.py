@@ -32,9 +32,10 @@ from psiworld.limits import MOST_PROCESSORS
 from .anonymous import Anonymous
 from .companion import Written, companion
 from .convert import Converted, Past, Wanted, convert
-from .folded import Slices, convert_folded, looked_ahead
+from .folded import Slices, convert_folded
 from .lead_in import TICK, averages_in
 from .options import Options, options_of
+from .slices import looked_ahead
 from .summary import limit_lines, summary_of
 from .unwritten import UNWRITTEN, silent_tasks, with_unwritten
 from .wakeups import Counting, Wakeups

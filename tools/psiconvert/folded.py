@@ -16,34 +16,29 @@ import tempfile
 from bisect import bisect_left
 from collections import Counter
 from collections.abc import Callable, Iterable, Iterator
-from dataclasses import dataclass
-from operator import itemgetter
 from typing import Any, NamedTuple
 
 from psifold.fold import Fold, Outcome, TooMany
 from psifold.process import Elsewhere, Here
 from psifold.words import Folding, Progress
 from psinames.busy import Clocks
-from psiread.events import NAMES, NEVER, Event, Exec, Marker, Migration, Switch, SwitchProbe, Wakeup
+from psiread.events import NAMES, Event, Exec, Marker, Migration, Switch, SwitchProbe, Wakeup
 from psiread.slices import WaitingSwitch
 from psiread.source import Source, Unreadable
 from psiread.waits import Method, by_probe, by_state, by_statistics
-from psiread.window import Window
 from psiworld.groups import Groups
 from psiworld.limits import MOST_EVENTS
 from psiworld.world import World
 
 from .accounts import accounts_of
 from .convert import Converted, Prior, Wanted, begin, begin_groups, snapshot_prior, world_prior
-from .first import LONGEST_READY, Beginning, reports_births
+from .first import Beginning
 from .player import Player
-from .unwritten import UNWRITTEN, Chains
+from .slices import BY_TIME, Ahead, Mender, Slice
+from .unwritten import UNWRITTEN
 
 # The number of lines that are folded at once.
 LINES = 5_000
-# The initial state is found from the events of this time (ns) after the start.
-LOOK_AHEAD = 60 * 10**9
-BY_TIME = itemgetter(0)
 # A function that returns all events in slices. Each call begins again with the first slice.
 Slices = Callable[[], Iterable[list[Event]]]
 
@@ -73,7 +68,8 @@ class Spool:
             while rest:
                 rest = rest[self.file.write(rest) :]
         except OSError as fault:
-            raise Unreadable(f"a temporary file in {tempfile.gettempdir()}: {fault.strerror}") from None
+            name = f"a temporary file in {tempfile.gettempdir()}"
+            raise Unreadable(f"{name}: {fault.strerror}") from None
 
     def close(self, events: int, time_ns: int) -> None:
         """Ends a trace of `events` lines by an end line at `time_ns`."""
@@ -89,123 +85,20 @@ class Spool:
             yield part
 
 
-# ---------------------------------------------------------------- slices
-
-
-@dataclass
-class Slice:
-    """Consecutive events with the unwritten switches inserted, and the events of the next slice."""
-
-    events: list[Event]
-    following: list[Event]
-
-    def __post_init__(self) -> None:
-        self.kinds = {*map(type, self.events), *map(type, self.following)}
-
-    def both(self) -> list[Event]:
-        """Returns the events of this slice and the next."""
-        return [*self.events, *self.following]
-
-    def has(self, *kinds: type) -> bool:
-        """Whether this slice or the next has an event of one of these kinds."""
-        return not self.kinds.isdisjoint(kinds)
-
-
-class Mender:
-    """Inserts the switches that the kernel didn't write. `times_ns` has their times (ns)."""
-
-    def __init__(self, source: Source, silent: set[int]) -> None:
-        self.chains = Chains(source.events, source.gaps)
-        self.chains.silent = silent
-        self.times_ns: list[int] = []
-
-    def pairs(self, slices: Iterable[list[Event]]) -> Iterator[Slice]:
-        """Yields each slice together with the next one."""
-        before: list[Event] | None = None
-        for events in slices:
-            whole, late = self.mended(events, before)
-            if before is not None:
-                if late:
-                    before = sorted([*before, *late], key=lambda event: event[0])
-                yield Slice(before, whole)
-            before = whole
-        if before is not None:
-            yield Slice(before, [])
-
-    def mended(self, events: list[Event], before: list[Event] | None) -> tuple[list[Event], list[Event]]:
-        """Returns a slice's events with the unwritten switches that belong into the slice, and
-        separately the unwritten switches from before its first event. `before` is the previous
-        slice.
-        """
-        whole, times_ns = self.chains.mended(events)
-        if not times_ns:
-            return events, []
-        self.times_ns += times_ns
-        whole.sort(key=BY_TIME)
-        first = bisect_left(whole, events[0].time_ns, key=BY_TIME) if before else 0
-        return whole[first:], whole[:first]
-
-
-# ---------------------------------------------------------------- the initial state
-
-
-class Ahead:
-    """The initial states of tasks, for the recording and for the window, by LOOK_AHEAD ns of events.
-    """
-
-    def __init__(self, source: Source, window: Window) -> None:
-        self.source, self.start, self.end = source, window.start, min(window.end, window.start + LOOK_AHEAD)
-        self.latest_ready = None if reports_births(source.events) else LONGEST_READY
-        self.recording, self.window = self.new(source.events[0].time_ns), self.new(window.start)
-        self.until = source.events[0].time_ns + LOOK_AHEAD
-        self.is_begun = False
-
-    def new(self, time_ns: int) -> Beginning:
-        """Returns an empty initial state, for events from `time_ns` on."""
-        return Beginning(NEVER if self.latest_ready is None else time_ns + self.latest_ready)
-
-    def take(self, events: list[Event]) -> bool:
-        """Processes the next events. Returns whether further events are needed."""
-        for event in events:
-            time_ns = event[0]
-            if time_ns <= self.until:
-                self.recording.take(event)
-            if self.start <= time_ns <= self.end:
-                if not self.is_begun:
-                    self.window, self.is_begun = self.new(time_ns), True
-                self.window.take(event)
-        return not events or events[-1][0] <= max(self.until, self.end)
-
-    def take_late(self) -> None:
-        """Processes the first event of each processor that had no event so far."""
-        begins_there = self.start <= self.source.start
-        for event in self.source.events:
-            if event[1] not in self.recording.runs:
-                self.recording.take(event)
-            if begins_there and self.start <= event[0] and event[1] not in self.window.runs:
-                self.window.take(event)
-
-
-def looked_ahead(source: Source, slices: Iterable[list[Event]], silent: set[int], window: Window) -> Ahead:
-    """Reads the events that are needed for the initial state, and returns this."""
-    ahead = Ahead(source, window)
-    for part in Mender(source, silent).pairs(slices):
-        if not ahead.take(part.events):
-            break
-    ahead.take_late()
-    return ahead
-
-
-# ---------------------------------------------------------------- slice by slice
-
-
 class Conversion:
     """Plays the events of a recording slice by slice, and passes the resulting lines to `put`.
     `window` is the length (ns) of a folded window. `accounts` has the changes of accounting by the
     event that reports them.
     """
 
-    def __init__(self, source: Source, wanted: Wanted, ahead: Ahead, put: Callable[[list[str]], None], window: int) -> None:
+    def __init__(
+        self,
+        source: Source,
+        wanted: Wanted,
+        ahead: Ahead,
+        put: Callable[[list[str]], None],
+        window: int,
+    ) -> None:
         self.source, self.wanted, self.ahead, self.put = source, wanted, ahead, put
         self.window_length = window
         accounts = accounts_of(source.events, source.snapshot)
@@ -226,8 +119,12 @@ class Conversion:
         if self.wanted.method is Method.STATE:
             return by_state(part.events)
         if self.wanted.method is Method.PROBE:
-            known = {place for place, event in enumerate(part.events) if type(event) is WaitingSwitch}
-            return known | by_probe(part.events, self.probes) if self.probes or part.has(SwitchProbe) else known
+            known = {
+                place for place, event in enumerate(part.events) if type(event) is WaitingSwitch
+            }
+            if self.probes or part.has(SwitchProbe):
+                known |= by_probe(part.events, self.probes)
+            return known
         return {place for place in by_statistics(part.both()) if place < len(part.events)}
 
     def prepare(self, player: Player, part: Slice, waits: set[int]) -> None:
@@ -247,20 +144,30 @@ class Conversion:
         """Counts the renumberings in the next slice that the player handled in this slice already.
         """
         following = part.following if part.has(Exec) else ()
-        counts = Counter(event.task for event in following if type(event) is Exec and event.task != event.old)
-        left = {task: sum(place >= len(part.events) for place, _ in player.changes.get(task, ())) for task in counts}
-        self.early = Counter({task: count - left[task] for task, count in counts.items() if count > left[task]})
+        counts = Counter(
+            event.task for event in following if type(event) is Exec and event.task != event.old
+        )
+        left = {
+            task: sum(place >= len(part.events) for place, _ in player.changes.get(task, ()))
+            for task in counts
+        }
+        self.early = Counter(
+            {task: count - left[task] for task, count in counts.items() if count > left[task]}
+        )
 
     def play(self, part: Slice) -> bool:
         """Plays a slice, and returns whether the window continues after it."""
         events, window = part.events, self.wanted.window
-        start, end = (bisect_left(events, time_ns, key=BY_TIME) for time_ns in (window.start, window.end + 1))
+        start = bisect_left(events, window.start, key=BY_TIME)
+        end = bisect_left(events, window.end + 1, key=BY_TIME)
         waits = self.waits_in(part)
         if self.prior is None:
             beginning = self.ahead.recording
-            self.prior = snapshot_prior(self.source.snapshot, self.source.events, beginning, self.off)
+            source = self.source
+            self.prior = snapshot_prior(source.snapshot, source.events, beginning, self.off)
             if start:
-                self.player = self.new_player(World(self.source.processors, Groups(self.wanted.deepest)), beginning)
+                world = World(source.processors, Groups(self.wanted.deepest))
+                self.player = self.new_player(world, beginning)
         if start and self.player and not self.is_begun:
             self.prepare(self.player, part, waits)
             for place in range(start):
@@ -302,7 +209,8 @@ class Conversion:
         self.player, self.is_begun = self.new_player(world, self.ahead.window), True
 
     def play_window(self, player: Player, events: list[Event], places: range) -> None:
-        """Plays the events at these indices, and passes their lines on. Common kinds are inlined."""
+        """Plays the events at these indices, and passes their lines on. Common kinds are inlined.
+        """
         world, start, put, play = player.world, self.wanted.window.start, self.put, player.play
         switch, wake, migrate, lines = player.switch, player.wake, player.migrate, world.lines
         pairs: Iterable[tuple[int, Any]] = zip(places, events[places.start : places.stop])
@@ -361,7 +269,25 @@ class Folded(NamedTuple):
     outcome: Outcome
 
 
-def convert_folded(source: Source, slices: Slices, ahead: Ahead, silent: set[int], wanted: Wanted, folding: Folding, is_large: bool) -> Folded:
+def play_slices(conversion: Conversion, slices: Iterable[Slice], progress: Progress) -> World:
+    """Plays the slices up to the end of the window, ends the trace, and returns its world."""
+    start = conversion.wanted.window.start
+    for part in slices:
+        progress.show(part.events[0].time_ns - start if part.events else 0)
+        if not conversion.play(part):
+            break
+    return conversion.end()
+
+
+def convert_folded(
+    source: Source,
+    slices: Slices,
+    ahead: Ahead,
+    silent: set[int],
+    wanted: Wanted,
+    folding: Folding,
+    is_large: bool,
+) -> Folded:
     """Converts a recording and folds the trace. If the recording is large, another process folds.
     """
     # Events form no reference cycles, and the search for cycles would take a tenth of the time.
@@ -369,14 +295,11 @@ def convert_folded(source: Source, slices: Slices, ahead: Ahead, silent: set[int
     spool = Spool()
     fold = Fold(source.processors, folding.length, spool.put, folding.victims)
     folder: Elsewhere | Here = Elsewhere(fold) if is_large else Here(fold)
-    conversion, mender, limit = Conversion(source, wanted, ahead, folder.take, folding.length), Mender(source, silent), None
-    progress = Progress("psitrace", wanted.window.length())
+    conversion = Conversion(source, wanted, ahead, folder.take, folding.length)
+    mender, limit, window = Mender(source, silent), None, wanted.window
+    progress = Progress("psitrace", window.length())
     try:
-        for part in mender.pairs(slices()):
-            progress.show(part.events[0].time_ns - wanted.window.start if part.events else 0)
-            if not conversion.play(part):
-                break
-        world = conversion.end()
+        world = play_slices(conversion, mender.pairs(slices()), progress)
         folder.take([f"{world.now} end"])
         folder.end()
         outcome = folder.outcome()
@@ -389,7 +312,7 @@ def convert_folded(source: Source, slices: Slices, ahead: Ahead, silent: set[int
         folder.stop()
         raise
     progress.end()
-    source.mended[UNWRITTEN] += sum(wanted.window.start <= it <= wanted.window.end for it in mender.times_ns)
+    source.mended[UNWRITTEN] += sum(window.start <= it <= window.end for it in mender.times_ns)
     spool.header = f"psitrace {world.version()} cpus={source.processors}"
     victims = conversion.player.victims if conversion.player else []
     wait_counts = conversion.waits, conversion.uninterruptible
