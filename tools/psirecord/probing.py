@@ -24,7 +24,9 @@ EVENTS = {
     "sched/sched_switch": "nothing can be said",
     "sched/sched_wakeup": "nothing can be said",
     "sched/sched_wakeup_new": "new tasks seem to be born when they first run",
-    "sched/sched_migrate_task": "a wait for IO that ends by a migration seems to last until the wakeup",
+    "sched/sched_migrate_task": (
+        "a wait for IO that ends by a migration seems to last until the wakeup"
+    ),
     "sched/sched_process_exec": "a thread that calls exec seems to be ready for ever",
     "task/task_newtask": "new tasks are taken to be in the root group",
     "cgroup/cgroup_attach_task": "moves of tasks between groups aren't seen",
@@ -34,7 +36,9 @@ EVENTS = {
 }
 STATISTICS_EVENT = "sched/sched_stat_iowait"
 NO_STALLS = "memory stalls aren't recorded, so memory pressure will be 0"
-NO_WAKEUPS = "no probe of wakeups: when psi counts them isn't recorded, only when their events are written"
+NO_WAKEUPS = (
+    "no probe of wakeups: when psi counts them isn't recorded, only when their events are written"
+)
 # What a recording lacks without a probe.
 PROBES: dict[str, str] = {
     Probe.STALL_BEGINS: NO_STALLS,
@@ -46,7 +50,9 @@ PROBES: dict[str, str] = {
     Probe.READY: NO_WAKEUPS,
 }
 BY_PROBE, BY_STATISTICS, BY_STATE = "the kernel's own flag", "sched_stat_iowait", "state D"
-STATE_ALONE = "waits for IO are told by state D alone: up to 3.5 times too many on journaling file systems"
+STATE_ALONE = (
+    "waits for IO are told by state D alone: up to 3.5 times too many on journaling file systems"
+)
 
 
 def without(event: str) -> str:
@@ -106,7 +112,10 @@ def switch_plan(types: KernelTypes) -> Plan | None:
     places = types.members("task_struct", ("pid", "in_iowait"))
     if not places:
         return None
-    fetched = f"{Probe.PID}={places['pid'].fetch(1, 's32')} {Probe.IO}={places['in_iowait'].fetch(1, 'u32')}"
+    fetched = (
+        f"{Probe.PID}={places['pid'].fetch(1, 's32')} "
+        f"{Probe.IO}={places['in_iowait'].fetch(1, 'u32')}"
+    )
     return Plan(Probe.SWITCH, "psi_task_switch", fetched, f"{Probe.IO} == 1")
 
 
@@ -114,7 +123,8 @@ def interrupt_plan(machine: Machine, types: KernelTypes) -> Plan | None:
     """Returns the probe on psi_account_irqtime(task, delta); None if the kernel doesn't account
     interrupts. Since Linux 6.10 the parameters differ, and none of them is the time.
     """
-    if not read_file(f"{machine.proc}/pressure/irq") or types.parameters("psi_account_irqtime") != 2:
+    pressure = read_file(f"{machine.proc}/pressure/irq")
+    if not pressure or types.parameters("psi_account_irqtime") != 2:
         return None
     return Plan(Probe.INTERRUPT, "psi_account_irqtime", f"{Probe.DELTA}=$arg2:u32")
 
@@ -138,7 +148,10 @@ def sample_plans(types: KernelTypes) -> list[Plan]:
     if types.parameters("psi_show") != 3 or types.parameters("psi_avgs_work") != 1:
         return []
     shows = f"{Probe.GROUP}=$arg2:x64 {Probe.RES}=$arg3:u32"
-    return [Plan(Probe.SHOW, "psi_show", shows), Plan(Probe.AVERAGE, "psi_avgs_work", f"{Probe.WORK}=$arg1:x64")]
+    return [
+        Plan(Probe.SHOW, "psi_show", shows),
+        Plan(Probe.AVERAGE, "psi_avgs_work", f"{Probe.WORK}=$arg1:x64"),
+    ]
 
 
 def ready_plan(types: KernelTypes) -> Plan | None:
@@ -152,23 +165,31 @@ def ready_plan(types: KernelTypes) -> Plan | None:
     return Plan(Probe.READY, "psi_task_change", fetched, f"{Probe.SET} & {SET_READY}")
 
 
-def add_probes(machine: Machine, group: str, undoing: Undoing, say: Say, has_wakeups: bool) -> Sources:
+def add_probes(
+    machine: Machine, group: str, undoing: Undoing, say: Say, has_wakeups: bool
+) -> Sources:
     """Adds the available probes, and returns the events to record. Probes of wakeups are added only
     if `has_wakeups`. Reports why a probe isn't available.
     """
     types = KernelTypes(read_file(machine.types))
     switch, attach, samples = switch_plan(types), attach_plan(types), sample_plans(types)
     if not switch:
-        say(Key.NO_PROBE, f"psi_task_switch: {machine.types} has no task_struct with pid and in_iowait")
+        say(Key.NO_PROBE,
+            f"psi_task_switch: {machine.types} has no task_struct with pid and in_iowait")
     if not attach:
-        say(Key.NO_PROBE, f"cgroup_attach_task: {machine.types} has no such function of three parameters, or no pid of tasks")
+        say(Key.NO_PROBE,
+            f"cgroup_attach_task: {machine.types} has no such function of three parameters, or "
+            "no pid of tasks")
     if not samples:
-        say(Key.NO_PROBE, f"psi_show, psi_avgs_work: {machine.types} has not both, or with other parameters")
+        say(Key.NO_PROBE,
+            f"psi_show, psi_avgs_work: {machine.types} has not both, or with other parameters")
     ready = ready_plan(types) if has_wakeups else None
     if has_wakeups and not ready:
-        say(Key.NO_PROBE, f"psi_task_change: {machine.types} has no such function of three parameters, or no pid of tasks")
-    sources = Sources()
-    for plan in [*stall_plans(), *(it for it in (switch, interrupt_plan(machine, types), attach, ready) if it), *samples]:
+        say(Key.NO_PROBE,
+            f"psi_task_change: {machine.types} has no such function of three parameters, or no "
+            "pid of tasks")
+    sources, single = Sources(), (switch, interrupt_plan(machine, types), attach, ready)
+    for plan in [*stall_plans(), *(it for it in single if it), *samples]:
         definition, name = plan.definition(group), f"{group}/{plan.name}"
         try:
             undoing.note(f"the probe {name}", probe_remover(machine, name))
