@@ -8,9 +8,10 @@ from typing import NamedTuple, Optional
 
 from .block import NONE, TICK
 from .lives import Life, Lives, Memory, between_samples
+from .options import Options
 from .past import Past, end_past
 from .plan import Plan, Tree
-from .rows import ROOT
+from .rows import ROOT, prefixes
 from .trace_file import FIRST, Tasks, TraceFile
 from .writer import Event, Key, Processor, Task
 
@@ -38,25 +39,6 @@ class Off(NamedTuple):
 
     times: int
     most: int
-
-
-class Trigger(NamedTuple):
-    """A trigger of --trigger: a group, and the other words of its line."""
-
-    path: str
-    fields: str
-
-
-class Options(NamedTuple):
-    """Options: triggers, the lead-in (ticks), and whether totals grow as avg10 indicates."""
-
-    triggers: tuple[Trigger, ...] = ()
-    lead: int = 0
-    is_shaped: bool = False
-
-    def later(self) -> Options:
-        """Returns the options for the parts after the first one, which have no lead-in."""
-        return self._replace(lead=0)
 
 
 class Conversion:
@@ -116,13 +98,15 @@ class Conversion:
         removed = {it.path for it in ends}
         again: list[Life] = []
         for life in sorted(self.order, key=lambda it: -it.path.count("/")):
-            if life.path == ROOT or not (life.path in removed or any(it in removed for it in prefixes(life.path))):
+            if life.path == ROOT or removed.isdisjoint([life.path, *prefixes(life.path)]):
                 continue
             self.leave(life, lines)
             if life.path not in removed:
                 again.append(goes_on(life, self.tick))
                 self.lives.tails[life.path] = again[-1]
-        while empty := [it for it in self.live.values() if not it.is_sampled and not self.has_below(it.path)]:
+        while empty := [
+            it for it in self.live.values() if not it.is_sampled and not self.has_below(it.path)
+        ]:
             for life in empty:
                 self.leave(life, lines)
         return again
@@ -137,7 +121,9 @@ class Conversion:
         numbers = self.tasks.pop(life.number).numbers
         self.ended.add(life.number)
         lines += [f"wake {it} {FIRST}" for it in numbers]
-        lines += [f"switch {FIRST} {it} {'exit' if place else 'idle'}" for place, it in enumerate(numbers)]
+        lines += [
+            f"switch {FIRST} {it} {'exit' if place else 'idle'}" for place, it in enumerate(numbers)
+        ]
         lines += [f"switch {FIRST} 0 exit"] if numbers else []
         lines.append(f"rmgroup {life.path}")
         self.written.pop(life.path, None)
@@ -162,13 +148,16 @@ class Conversion:
             # Rules choose among groups with a live task, so each has one.
             self.put_back((life.number, "r"), self.task_of((life.number, "r")))
             lines += [f"group {life.path}"] if life.path != ROOT else []
-            lines += [f"trigger {it.path} {it.fields}" for it in self.triggers if it.path == life.path]
+            lines += [
+                f"trigger {it.path} {it.fields}" for it in self.triggers if it.path == life.path
+            ]
             lines.append(f"{TASKS} {life.number}")
         life.start()
 
     def arrange(self) -> None:
         """Sorts the groups from the deepest up, and computes the chains of their ancestors."""
-        self.order = sorted(self.live.values(), key=lambda it: (it.path == ROOT, -it.path.count("/"), it.path))
+        self.order = sorted(self.live.values(),
+                            key=lambda it: (it.path == ROOT, -it.path.count("/"), it.path))
         chains = {}
         for life in self.order:
             above = [self.live[it].number for it in reversed(prefixes(life.path))]
@@ -244,7 +233,9 @@ class Conversion:
     def played(self, plan: Plan) -> list[Event]:
         """Returns the events of the blocks, in order of time."""
         while len(self.processors) < len(plan.used):
-            self.processors.append(Processor(FIRST + 1 + len(self.processors), self.task_of, self.put_back))
+            self.processors.append(
+                Processor(FIRST + 1 + len(self.processors), self.task_of, self.put_back)
+            )
             self.file.processors = max(self.file.processors, len(self.processors))
         events: list[Event] = []
         for number, processor in enumerate(self.processors):
@@ -336,17 +327,21 @@ class Conversion:
         """Writes the memory sample of a group, unless it hardly differs from the last one."""
         found, is_reading = between_samples(life.memory, at)
         last = self.written.get(life.path)
-        is_same = last is not None and (found.current, found.swap, found.scans) == (last.current, last.swap, last.scans)
-        is_due = last is None or is_reading or found.scans != last.scans
-        if last is None or not is_same and (is_due or abs(found.current - last.current) * PARTS > last.current):
-            out.append(f"{time} mem {life.path} {found.current} {found.swap} {max(0, found.scans)}\n")
+        if last is None or not is_same(found, last) and (
+            is_reading or found.scans != last.scans
+            or abs(found.current - last.current) * PARTS > last.current
+        ):
+            out.append(
+                f"{time} mem {life.path} {found.current} {found.swap} {max(0, found.scans)}\n"
+            )
             last = self.written[life.path] = found
         life.memory_due = next_due(life.memory, last)
 
     # ---------------------------------------------------------------- comparing
 
     def compare(self) -> None:
-        """Stores the totals that a replay must print at this tick, and counts those that are off."""
+        """Stores the totals that a replay must print at this tick, and counts those that are off.
+        """
         at = self.tick * TICK
         for life, number in self.sampled:
             for level in (2 * number, 2 * number + 1):
@@ -361,13 +356,21 @@ class Conversion:
         self.sampled.clear()
 
 
+def is_same(found: Memory, last: Memory) -> bool:
+    """Whether two memory samples differ in nothing that is written."""
+    return (found.current, found.swap, found.scans) == (last.current, last.swap, last.scans)
+
+
 def next_due(samples: deque[Memory], last: Memory) -> int:
     """Returns the time (ns) until which no memory sample is due after the sample `last`: that of
     the next sample if its size is similar and no page is scanned until then, and otherwise 0.
     """
     if len(samples) < 2:
         return NEVER
-    is_near = all(it.scans == last.scans and abs(it.current - last.current) * PARTS <= last.current for it in (samples[0], samples[1]))
+    is_near = all(
+        it.scans == last.scans and abs(it.current - last.current) * PARTS <= last.current
+        for it in (samples[0], samples[1])
+    )
     return samples[1].time if is_near else 0
 
 
@@ -383,15 +386,9 @@ def bounded(growth: int, owed: int) -> int:
     return min(TICK, growth + owed)
 
 
-def prefixes(path: str) -> list[str]:
-    """Returns the ancestors of a group, from the root down."""
-    if path == ROOT:
-        return []
-    return [ROOT, *(path[:place] for place, letter in enumerate(path) if letter == "/" and place)]
-
-
 def goes_on(life: Life, tick: int) -> Life:
     """Returns a new group that continues `life`, because an ancestor was created again."""
     again = Life(life.path, tick, life.is_sampled)
-    again.knots, again.memory, again.last, again.shift, again.end_tick = life.knots, life.memory, life.last, life.shift, life.end_tick
+    again.knots, again.memory, again.last = life.knots, life.memory, life.last
+    again.shift, again.end_tick = life.shift, life.end_tick
     return again

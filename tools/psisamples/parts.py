@@ -13,9 +13,10 @@ from psicli.times import SECOND, duration
 from psireplay.sampled import Sampled
 
 from .block import TICK
-from .convert import Conversion, Off, Options
+from .convert import Conversion, Off
 from .data import Data
 from .lives import Lives
+from .options import Options
 from .verify import Checked, check
 
 # The overlap of two parts, in ticks. The averages of a trace begin at 0; after this time those over

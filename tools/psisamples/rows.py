@@ -109,3 +109,10 @@ def must_be_path(path: str, place: Place) -> None:
             f"{place}: the path of a group has {len(path)} bytes and {len(components)} parts: at"
             " most 255 and 32; see --groups"
         )
+
+
+def prefixes(path: str) -> list[str]:
+    """Returns the ancestors of a group, from the root down."""
+    if path == ROOT:
+        return []
+    return [ROOT, *(path[:place] for place, letter in enumerate(path) if letter == "/" and place)]

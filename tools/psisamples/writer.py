@@ -6,7 +6,7 @@ from __future__ import annotations
 from collections.abc import Callable, Iterable
 from itertools import repeat
 
-from .block import TICK
+from .block import TICK, Span
 from .overlays import IN_STALL
 from .plan import Block
 
@@ -32,7 +32,9 @@ class Task:
 class Processor:
     """A processor, the tasks that it uses by group and kind, and the task that runs on it."""
 
-    def __init__(self, number: int, task_of: Callable[[Key], Task], put_back: Callable[[Key, Task], None]) -> None:
+    def __init__(
+        self, number: int, task_of: Callable[[Key], Task], put_back: Callable[[Key, Task], None]
+    ) -> None:
         self.number, self.task_of, self.put_back = number, task_of, put_back
         self.tasks: dict[Key, Task] = {}
         self.runs: Task | None = None
@@ -48,7 +50,9 @@ class Processor:
             found[0] = asleep
         for block in blocks:
             start = block.start
-            spans = [(block.group, it) for it in block.spans] + block.others if block.others else zip(repeat(block.group), block.spans)
+            spans: Iterable[tuple[int, Span]] = zip(repeat(block.group), block.spans)
+            if block.others:
+                spans = [*spans, *block.others]
             for group, (begin, end, kind, state) in spans:
                 key = group, kind
                 begins.setdefault(start + begin, {})[key] = state
