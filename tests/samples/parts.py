@@ -123,8 +123,10 @@ def check_fleet_takes_parts_as_one(program: str) -> None:
             answers.append(
                 Answer([*lines, f"end {3600 * SECOND} ticks=1800 events=2 kills={len(times)}"])
             )
-        found = summary(argparse.Namespace(rules=os.path.join(room.path, "rules.json")), names,
-                        answers)
+        options = argparse.Namespace(
+            rules=os.path.join(room.path, "rules.json"), start=None, end=None, at=None, window=None
+        )
+        found = summary(options, names, answers)
         must_be("how many traces they are", found["traces"], 1)
         must_be("kills: that at 300 s of the second part is the first one's at 3000 s",
                 found["kills_by_path"], {"/a": 3})
