@@ -109,7 +109,7 @@ def compare_act(act: Any, look: Any, args: Any) -> None:
     """The candidates are the matching groups, with their memory and its share; the victim has the
     most if that is enough.
     """
-    memory = {it["path"]: look[it["path"]] for it in act["candidates"]}
+    memory: dict[str, int] = {it["path"]: look[it["path"]] for it in act["candidates"]}
     total = sum(memory.values())
     for it in act["candidates"]:
         found = re.match(r"memory \S+, (\d+) % of all", it["rank"])
@@ -203,9 +203,8 @@ def compare_candidates(firing: Any, text: str) -> None:
     for it in firing["actions"][0]["candidates"]:
         sample = state.read(it["path"])
         must(sample is not None, f"{it['path']} has a sample")
-        sizes = [it["memory_bytes"], it["swap_bytes"]]  # type: ignore[index]
-        must_be(f"memory and swap of {it['path']}", sizes,
-                sample[:2])
+        sizes = [it["memory_bytes"], it["swap_bytes"]]
+        must_be(f"memory and swap of {it['path']}", sizes, (sample or [])[:2])
         scans = [
             int(words[4])
             for at, words in lines

@@ -149,8 +149,8 @@ def check_suggestions(room: Room) -> None:
     room.file("want", "first /batch/import from 140 to 200\n")
     words = ("tools/rules", "suggest", RUNAWAY_RULES, "--incidents", trace, "--want", "want",
              "--json")
-    whole, part = (  # type: ignore[index]
-        done_of(room, *words, *more).json()["ranges"]
+    whole, part = (
+        done_of(room, *words, *more).json()["ranges"]  # type: ignore[index]
         for more in ((), ("--from", "14:01", "--to", "14:03:20"))
     )
     must_be("how", [{it["by"].partition(" of")[0] for it in one} for one in (whole, part)],
