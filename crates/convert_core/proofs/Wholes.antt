@@ -50,9 +50,9 @@ prefix_output old new text (Some why) rest prefix = prefix
 -- a file's end is the output's
 pub file_stops_output : (T : Type 0) (old new : Option (List ℕ)) (cpu : ℕ) (found : Found PageFault) (rest : Output) (stopped : FileStop)
     → PutsFile {T = T} old new cpu found (Err stopped) → PutsOutput old new (output_then (items_text cpu found.items) (option_map (fault_of_cpu cpu) found.fault) rest) (status_at cpu stopped)
-file_stops_output T old new cpu found rest (stop.Refused page why) puts =
+file_stops_output T old new cpu found rest (stop.Refused page byte why) puts =
     let text = items_text cpu found.items in
-    let whole : output_then text (option_map (fault_of_cpu cpu) found.fault) rest ≡ record { text = text; fault = Some (run_fault cpu page why) } =
+    let whole : output_then text (option_map (fault_of_cpu cpu) found.fault) rest ≡ record { text = text; fault = Some (run_fault cpu page byte why) } =
     ap (λ fault. output_then text (option_map (fault_of_cpu cpu) fault) rest) puts.0 in
     (ap (λ (o : Output). o.fault) whole, subst (λ t. Appends old new t) (sym (ap (λ (o : Output). o.text) whole)) puts.1)
 file_stops_output T old new cpu found rest stop.NoFile puts = prefix_output old new (items_text cpu found.items) (option_map (fault_of_cpu cpu) found.fault) rest puts
@@ -63,7 +63,7 @@ file_stops_output T old new cpu found rest stop.WriteFault puts = prefix_output 
 text_then : (old mid new : Option (List ℕ)) (text : List ℕ) (rest : Output) (result : Status) → Appends old mid text → PutsOutput mid new rest result
     → PutsOutput old new (record { text = text ++ rest.text; fault = rest.fault }) result
 text_then old mid new text rest status.Done first puts = (puts.0, Appends-then old mid new text rest.text first puts.1)
-text_then old mid new text rest (status.Page cpu page why) first puts = (puts.0, Appends-then old mid new text rest.text first puts.1)
+text_then old mid new text rest (status.Page cpu page byte why) first puts = (puts.0, Appends-then old mid new text rest.text first puts.1)
 text_then old mid new text rest (status.NoFile file) first puts = AppendsPrefix-last old mid new text rest.text first puts
 text_then old mid new text rest status.ReadFault first puts = AppendsPrefix-last old mid new text rest.text first puts
 text_then old mid new text rest status.WriteFault first puts = AppendsPrefix-last old mid new text rest.text first puts
@@ -97,7 +97,7 @@ file_counts T cpu f0 a0 w0 f1 a1 w1 stop.ReadFault causes writes = record {
   absent = record { increased = λ is. cc is.1; same = λ _. causes.absent_same (λ is. cc is) };
   writes = record { increased = λ is. cc is; same = λ _. writes.same (λ is. cc is) };
 }
-file_counts T cpu f0 a0 w0 f1 a1 w1 (stop.Refused page why) causes writes = record {
+file_counts T cpu f0 a0 w0 f1 a1 w1 (stop.Refused page byte why) causes writes = record {
   faults = record { increased = λ is. cc is; same = λ _. causes.faults_same (λ is. cc is) };
   absent = record { increased = λ is. cc is.1; same = λ _. causes.absent_same (λ is. cc is) };
   writes = record { increased = λ is. cc is; same = λ _. writes.same (λ is. cc is) };
@@ -134,7 +134,7 @@ pub stop_in_order : (cpu : ℕ) (name : List ℕ) (names : List (List ℕ)) (bef
     → ReadsInOrder (name ∷ names) before now (shelf_fault_in (status_at cpu stopped))
 stop_in_order cpu name names before now stop.NoFile reads = inr (shelf.NoFile, reads, refl)
 stop_in_order cpu name names before now stop.ReadFault reads = inr (shelf.Failed, reads, refl)
-stop_in_order cpu name names before now (stop.Refused page why) reads = inl (now, reads, unread_in_order names now)
+stop_in_order cpu name names before now (stop.Refused page byte why) reads = inl (now, reads, unread_in_order names now)
 stop_in_order cpu name names before now stop.WriteFault reads = inl (now, reads, unread_in_order names now)
 
 -- ---- missing files
@@ -143,7 +143,7 @@ stop_in_order cpu name names before now stop.WriteFault reads = inl (now, reads,
 pub missing_at : (cpu : ℕ) (stopped : FileStop) (file : ℕ) → status_at cpu stopped ≡ status.NoFile file → (file ≡ cpu + 1) × (stopped ≡ stop.NoFile)
 missing_at cpu stop.NoFile file is = (cc is, refl)
 missing_at cpu stop.ReadFault file is = cc is
-missing_at cpu (stop.Refused page why) file is = cc is
+missing_at cpu (stop.Refused page byte why) file is = cc is
 missing_at cpu stop.WriteFault file is = cc is
 
 -- ---- the inner sink of a buffered one
@@ -152,7 +152,7 @@ missing_at cpu stop.WriteFault file is = cc is
 pub sent : (had mid below : Option (List ℕ)) (pending left : List ℕ) (output : Output) (result : Status) → ends_whole result ≡ true → PutsOutput (append_known had []) (append_known mid pending) output result
     → Keeps (append_known mid pending) (append_known below left) → left ≡ [] → PutsOutput had below output result
 sent had mid below pending left output status.Done whole puts kept none = (puts.0, flushed had mid below pending left output.text puts.1 kept none)
-sent had mid below pending left output (status.Page cpu page why) whole puts kept none = (puts.0, flushed had mid below pending left output.text puts.1 kept none)
+sent had mid below pending left output (status.Page cpu page byte why) whole puts kept none = (puts.0, flushed had mid below pending left output.text puts.1 kept none)
 sent had mid below pending left output (status.NoFile file) whole puts kept none = cc
 sent had mid below pending left output status.ReadFault whole puts kept none = cc
 sent had mid below pending left output status.WriteFault whole puts kept none = cc
@@ -164,7 +164,7 @@ sent had mid below pending left output (status.NoMemory none') whole puts kept n
 pub unsent : (had mid below : Option (List ℕ)) (pending left : List ℕ) (output : Output) (result : Status) → ends_whole result ≡ true → PutsOutput (append_known had []) (append_known mid pending) output result
     → Keeps (append_known mid pending) (append_known below left) → known_count had ≤ known_count below → PutsOutput had below output status.WriteFault
 unsent had mid below pending left output status.Done whole puts kept more = flush_failed had mid below pending left output.text puts.1 kept more
-unsent had mid below pending left output (status.Page cpu page why) whole puts kept more = flush_failed had mid below pending left output.text puts.1 kept more
+unsent had mid below pending left output (status.Page cpu page byte why) whole puts kept more = flush_failed had mid below pending left output.text puts.1 kept more
 unsent had mid below pending left output (status.NoFile file) whole puts kept more = cc
 unsent had mid below pending left output status.ReadFault whole puts kept more = cc
 unsent had mid below pending left output status.WriteFault whole puts kept more = cc
@@ -176,7 +176,7 @@ unsent had mid below pending left output (status.NoMemory none) whole puts kept 
 pub stopped : (had below : Option (List ℕ)) (pending : List ℕ) (output : Output) (result : Status) → ends_whole result ≡ false → PutsOutput (append_known had []) (append_known below pending) output result
     → known_count had ≤ known_count below → PutsOutput had below output result
 stopped had below pending output status.Done early puts more = cc
-stopped had below pending output (status.Page cpu page why) early puts more = cc
+stopped had below pending output (status.Page cpu page byte why) early puts more = cc
 stopped had below pending output (status.NoFile file) early puts more = put_failed had below pending output.text puts more
 stopped had below pending output status.ReadFault early puts more = put_failed had below pending output.text puts more
 stopped had below pending output status.WriteFault early puts more = put_failed had below pending output.text puts more
@@ -209,7 +209,7 @@ same_writes f0 a0 w0 f1 a1 w1 w2 result same counts = subst (λ w. FailuresAreCo
 -- no read failed
 pub whole_reads : (names : List (List ℕ)) (before now : List ReadCall) (result : Status) → ends_whole result ≡ true → ReadsInOrder names before now (shelf_fault_in result) → ReadsInOrder names before now None
 whole_reads names before now status.Done whole reads = reads
-whole_reads names before now (status.Page cpu page why) whole reads = reads
+whole_reads names before now (status.Page cpu page byte why) whole reads = reads
 whole_reads names before now (status.NoFile file) whole reads = cc
 whole_reads names before now status.ReadFault whole reads = cc
 whole_reads names before now status.WriteFault whole reads = reads

@@ -22,14 +22,16 @@ is_name word = nat_lt 0 (length word) && (length word == 1 || not (slice_index w
 abbrev pub are_names : List (List ℕ) → Bool
 are_names names = nat_le 2 (length names) && nat_le (length names) 4097 && list_all is_name names
 
--- Whether the words of a command line are a command.
+-- Whether the words of a command line form a command: `events` and the names of files
+-- (`are_names`).
 abbrev pub is_command : List (List ℕ) → Bool
 is_command [] = false
 is_command (word ∷ names) = bytes_eq word (codes "events") && are_names names
 
 -- ---- files
 
--- The bytes of a file, followed by the bytes of other files; `None` unless all are known.
+-- `with_content first rest`: the list of contents `rest` with the bytes `first` of one more file at
+-- the front, or `None` unless all are known.
 abbrev pub with_content : Option (List ℕ) → Option (List (List ℕ)) → Option (List (List ℕ))
 with_content None rest = None
 with_content (Some first) None = None
@@ -43,19 +45,21 @@ contents_of files (name ∷ names) = with_content (content_of files name) (conte
 -- ---- the output
 
 -- The first error in the pages: the number of the processor (from 0), the number of the page in its
--- file (from 0), and the cause.
+-- file (from 0), the offset of the error in this page (bytes, from 0), and the cause.
 pub record RunFault : Type 0 where
   pub cpu : ℕ
   pub page : ℕ
+  pub byte : ℕ
   pub cause : PageCause
 
 -- Makes the record of an error from its parts.
-abbrev pub run_fault : ℕ → ℕ → PageCause → RunFault
-run_fault cpu page why = record { cpu = cpu; page = page; cause = why }
+abbrev pub run_fault : ℕ → ℕ → ℕ → PageCause → RunFault
+run_fault cpu page byte why = record { cpu = cpu; page = page; byte = byte; cause = why }
 
--- The error of a file, with the number of the file's processor added.
+-- `fault_of_cpu cpu fault`: the error `fault` in the file of processor `cpu`, with this number
+-- added.
 abbrev pub fault_of_cpu : ℕ → PageFault → RunFault
-fault_of_cpu cpu fault = run_fault cpu fault.page fault.cause
+fault_of_cpu cpu fault = run_fault cpu fault.page fault.byte fault.cause
 
 -- What a run writes: the text, and the error after it or `None`.
 pub record Output : Type 0 where
@@ -66,24 +70,27 @@ pub record Output : Type 0 where
 abbrev pub no_output : Output
 no_output = record { text = []; fault = None }
 
--- The output of a file with the text `text`, followed by `rest`, the output of the further files.
--- After an error nothing more is written.
+-- `output_then text fault rest`: the output of a file with the text `text` and the error `fault`,
+-- if any. `rest` is the output of the later files, and follows only if there is no error.
 abbrev pub output_then : List ℕ → Option RunFault → Output → Output
 output_then text None rest = record { text = text ++ rest.text; fault = rest.fault }
 output_then text (Some why) rest = record { text = text; fault = Some why }
 
--- The output for the files of processors `cpu`, `cpu + 1` and so on, given the bytes of each file.
+-- `files_output layout cpu wholes`: the output for the files of processors `cpu`, `cpu + 1` and so
+-- on. `wholes` has the bytes of each file.
 abbrev pub files_output : Layout → ℕ → List (List ℕ) → Output
 files_output layout cpu [] = no_output
 files_output layout cpu (whole ∷ wholes) =
     output_then (items_text cpu (file_found layout whole).items) (option_map (fault_of_cpu cpu) (file_found layout whole).fault)
     (files_output layout (cpu + 1) wholes)
 
--- The output for the files of pages, given the parsed table or the table's error.
+-- `output_with parsed wholes`: the output for files of pages with the bytes `wholes`. `parsed` is
+-- the layout from the table. If it is the table's error, the result is this error.
 abbrev pub output_with : Result Layout TableFault → List (List ℕ) → Result Output TableFault
 output_with (Ok layout) wholes = Ok (files_output layout 0 wholes)
 output_with (Err fault) wholes = Err fault
 
--- The output for the bytes of a table and of the files of pages, or the first error of the table.
+-- `convert_of table wholes`: the output for the bytes `table` of a table and the bytes `wholes` of
+-- the files of pages, or the first error of the table.
 abbrev pub convert_of : List ℕ → List (List ℕ) → Result Output TableFault
 convert_of table wholes = output_with (table_of table) wholes

@@ -1,5 +1,5 @@
--- What a run promises: what each status means for the files and the output, and which counts of
--- failures increase.
+-- Defines what each status of a run means for the files and the output, and which failure counts
+-- increase.
 use Rattle.std.specs.Prelude.{◌≡◌, ◌⊎◌, ℕ, ◌+◌, List, [], ◌∷◌, Bool, true, false, Option, None, Some, Result, Ok, Err}
 use Rattle.std.specs.Io.KnownBytes.{Appends, Keeps}
 use Rattle.outside.specs.Outside.{AppendsPrefix, Files, Increased, ShelfCounts, content_of, counts_of}
@@ -17,45 +17,50 @@ use Rattle.convert_core.specs.Convert.{Output, run_fault}
 use Rattle.convert_core.specs.declared.status.Status.{Status}
 use Rattle.convert_core.specs.declared.status.Status.TheVariants as status
 
--- the end of the file of a processor, as that of a run
+-- `status_at cpu stop`: the status of a run that stops at the file of processor `cpu` for the
+-- reason `stop`.
 abbrev pub status_at : ℕ → FileStop → Status
 status_at cpu stop.NoFile = status.NoFile (cpu + 1)
 status_at cpu stop.ReadFault = status.ReadFault
-status_at cpu (stop.Refused page why) = status.Page cpu page why
+status_at cpu (stop.Refused page byte why) = status.Page cpu page byte why
 status_at cpu stop.WriteFault = status.WriteFault
 
--- the status of a table's file that wasn't read
+-- `table_status fault`: the status of a run that can't read the table's file because of `fault`.
 abbrev pub table_status : FileFault → Status
 table_status fault.NoFile = status.NoFile 0
 table_status fault.ReadFault = status.ReadFault
 table_status (fault.NoMemory none) = status.NoMemory none
 
--- the status of a table that has no layout
+-- `refused_status fault`: the status of a run that can't parse the table because of `fault`.
 abbrev pub refused_status : Fault TableFault → Status
 refused_status (base.Refused why) = status.Table why
 refused_status (base.NoMemory none) = status.NoMemory none
 
--- all events were written, or those up to a fault of the pages
+-- Whether the status means that all events were written, or all events before an invalid page.
 abbrev pub ends_whole : Status → Bool
 ends_whole status.Done = true
-ends_whole (status.Page cpu page why) = true
+ends_whole (status.Page cpu page byte why) = true
 ends_whole _ = false
 
 -- ---- the output
 
--- What a status says about an output, if nothing of it was written before: it was written, and has
--- no fault; it was, up to its fault; or a file is missing, or a read or write failed, after a
--- prefix of its text.
+-- `PutsOutput old new output result`: what the status `result` means for the bytes written. `old`
+-- and `new` are the bytes written before and after. Done: the whole text of `output` was appended,
+-- and `output` has no error. Page: the text was appended, and the status reports the error of
+-- `output`. NoFile, ReadFault, WriteFault: a prefix of the text was appended. No other status is
+-- possible.
 abbrev pub PutsOutput : Option (List ℕ) → Option (List ℕ) → Output → Status → Type 0
 PutsOutput old new output status.Done = (output.fault ≡ None) × Appends old new output.text
-PutsOutput old new output (status.Page cpu page why) = (output.fault ≡ Some (run_fault cpu page why)) × Appends old new output.text
+PutsOutput old new output (status.Page cpu page byte why) =
+    (output.fault ≡ Some (run_fault cpu page byte why)) × Appends old new output.text
 PutsOutput old new output (status.NoFile file) = AppendsPrefix old new output.text
 PutsOutput old new output status.ReadFault = AppendsPrefix old new output.text
 PutsOutput old new output status.WriteFault = AppendsPrefix old new output.text
 PutsOutput old new output _ = ⊥
 
--- What a status says about the output for a table and pages, or the table's fault. After a fault of
--- the table nothing is written.
+-- `Converts old new converted result`: what the status `result` means for the bytes written
+-- (`PutsOutput`). `converted` is the output for the table and the pages, or the error of the table.
+-- If the table has an error or memory runs out, nothing was written.
 abbrev pub Converts : Option (List ℕ) → Option (List ℕ) → Result Output TableFault → Status → Type 0
 Converts old new (Ok output) (status.NoMemory _) = Keeps old new
 Converts old new (Ok output) result = PutsOutput old new output result
@@ -67,45 +72,50 @@ Converts old new (Err why) _ = ⊥
 
 -- ---- failures
 
--- the numbers of failed reads, of missing files, and of failed writes
+-- The failure counts of a run: the numbers of failed reads, of missing files, and of failed writes.
 pub record RunCounts : Type 0 where
   pub shelf : ShelfCounts
   pub writes : ℕ
 
--- the counts of a run, from the three numbers
+-- Builds the failure counts of a run from the numbers of failed reads, missing files and failed
+-- writes.
 abbrev pub counts_of_run : ℕ → ℕ → ℕ → RunCounts
 counts_of_run faults absent writes = record { shelf = counts_of faults absent; writes = writes }
 
--- a count increased if this happened, and is unchanged otherwise
+-- `IncreasesIf Happened before now`: a count increased from `before` to `now` if `Happened` holds,
+-- and is unchanged if it doesn't.
 pub record IncreasesIf (Happened : Type 0) (before now : ℕ) : Type 0 where
   pub increased : Happened → Increased before now
   pub same : ¬ Happened → now ≡ before
 
--- the status says that a file is missing
+-- The status reports that a file is missing.
 abbrev pub IsNoFile : Status → Type 0
 IsNoFile result = (file : ℕ) × (result ≡ status.NoFile file)
 
--- Each count increased exactly if the status reports its failure: no failure is silently ignored.
+-- Each failure count increased if and only if the status reports this failure. So no failure is
+-- silently ignored.
 pub record FailuresAreCounted (before now : RunCounts) (result : Status) : Type 0 where
   pub faults : IncreasesIf (result ≡ status.ReadFault) before.shelf.faults now.shelf.faults
   pub absent : IncreasesIf (IsNoFile result) before.shelf.absent now.shelf.absent
   pub writes : IncreasesIf (result ≡ status.WriteFault) before.writes now.writes
 
--- one of these names, whose numbers begin at a number, is missing: that with this number
+-- `IsMissing files number names file`: the file with the number `file` is missing. The files in
+-- `names` are numbered from `number`.
 abbrev pub IsMissing : Option Files → ℕ → List (List ℕ) → ℕ → Type 0
 IsMissing files number [] file = ⊥
 IsMissing files number (name ∷ names) file = ((file ≡ number) × (content_of files name ≡ None)) ⊎ IsMissing files (number + 1) names file
 
 -- ---- reads
 
--- the shelf's fault that a status reports, if any
+-- Returns the fault of the file store (`Shelf`) that a status reports, or `None`.
 abbrev pub shelf_fault_in : Status → Option ShelfFault
 shelf_fault_in (status.NoFile file) = Some shelf.NoFile
 shelf_fault_in status.ReadFault = Some shelf.Failed
 shelf_fault_in _ = None
 
--- A log grew by reads of files in order, each from its first byte and without reading a byte twice.
--- After a read with a fault, which is this one, nothing more is read.
+-- `ReadsInOrder names before now fault`: the log of read calls grew from `before` to `now` by reads
+-- of the files `names` in order. Each file is read from its first byte, and no byte is read twice.
+-- If a read fails with `fault`, nothing more is read.
 abbrev pub ReadsInOrder : List (List ℕ) → List ReadCall → List ReadCall → Option ShelfFault → Type 0
 ReadsInOrder [] before now fault = (now ≡ before) × (fault ≡ None)
 ReadsInOrder (name ∷ names) before now fault =

@@ -11,7 +11,7 @@ use Rattle.convert_core.specs.declared.status.Status.TheVariants as status
 abbrev pub code_of : Status → ℕ
 code_of status.Done = 0
 code_of status.Usage = 1
-code_of (status.Page cpu number why) = 2
+code_of (status.Page cpu number byte why) = 2
 code_of (status.Table fault) = 3
 code_of (status.NoFile file) = 4
 code_of status.ReadFault = 5
@@ -39,9 +39,19 @@ abbrev pub word_at : List (List ℕ) → ℕ → List ℕ
 word_at [] number = []
 word_at (word ∷ words) number = if number == 0 then word else word_at words (number - 1)
 
--- The line that reports that page number `number` of the file `name` is invalid.
-abbrev pub page_text : List ℕ → ℕ → PageCause → List ℕ
-page_text name number why = name ++ codes " page " ++ decimal number ++ codes ": " ++ page_cause_text why ++ codes "\n"
+-- The words that name page number `number` of the file `name`.
+abbrev pub page_name_text : List ℕ → ℕ → List ℕ
+page_name_text name number = name ++ codes " page " ++ decimal number
+
+-- The rest of the line that reports an invalid page: the offset (bytes, from 0) of the error in the
+-- page, and the cause.
+abbrev pub byte_fault_text : ℕ → PageCause → List ℕ
+byte_fault_text byte why = codes " byte " ++ (decimal byte ++ (codes ": " ++ (page_cause_text why ++ codes "\n")))
+
+-- The line that reports that page number `number` of the file `name` is invalid. `byte` is the
+-- offset (bytes, from 0) of the error in the page.
+abbrev pub page_text : List ℕ → ℕ → ℕ → PageCause → List ℕ
+page_text name number byte why = page_name_text name number ++ byte_fault_text byte why
 
 -- The line that reports an invalid line of a table.
 abbrev pub table_text : ℕ → TableCause → List ℕ
@@ -56,7 +66,7 @@ missing_text name = codes "no file: " ++ (name ++ codes "\n")
 abbrev pub status_text : List (List ℕ) → Status → List ℕ
 status_text words status.Done = []
 status_text words status.Usage = codes "usage: psi_convert events TABLE PAGES..\n"
-status_text words (status.Page cpu number why) = page_text (word_at words (min (cpu + 2) (2 ^ 32 - 1))) number why
+status_text words (status.Page cpu number byte why) = page_text (word_at words (min (cpu + 2) (2 ^ 32 - 1))) number byte why
 status_text words (status.Table fault) = table_text fault.line fault.cause
 status_text words (status.NoFile file) = missing_text (word_at words (min (file + 1) (2 ^ 32 - 1)))
 status_text words status.ReadFault = codes "read fault\n"

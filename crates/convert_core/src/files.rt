@@ -9,7 +9,7 @@ use outside::{Shelf, Sink};
 use page_files::{FileStop, put_file};
 use page_spec::Layout;
 
-// Returns the status of the run, given the reason why the file of processor `cpu` ended.
+// Returns the status of a run that stops at the file of processor `cpu` for the reason `stop`.
 fn status_at(cpu: u32, stop: FileStop) -> Status
     requires { cpu + 1 ≤ 4096 }
     ensures exact { result ≡ status_at cpu stop }
@@ -18,7 +18,12 @@ fn status_at(cpu: u32, stop: FileStop) -> Status
     match stop {
         FileStop::NoFile => Status::NoFile { file: cpu + 1 },
         FileStop::ReadFault => Status::ReadFault,
-        FileStop::Refused { page, cause } => Status::Page { cpu, page, cause },
+        FileStop::Refused { page, byte, cause } => Status::Page {
+            cpu,
+            page,
+            byte,
+            cause,
+        },
         FileStop::WriteFault => Status::WriteFault,
     }
 }

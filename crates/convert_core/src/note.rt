@@ -2,7 +2,7 @@
 ghost use Rattle.std.specs.Prelude.{◌≡◌, ◌+◌, map, string_bytes};
 ghost use Rattle.outside.specs.Outside.{HasCause};
 ghost use Rattle.outside.specs.Calls.{PutsAll};
-ghost use Rattle.convert_core.specs.Status.{missing_text, page_cause_text, page_text, status_text, table_cause_text, table_text, word_at};
+ghost use Rattle.convert_core.specs.Status.{byte_fault_text, missing_text, page_cause_text, page_name_text, page_text, status_text, table_cause_text, table_text, word_at};
 
 use crate::status::Status;
 use convert_table::TableCause;
@@ -34,24 +34,53 @@ fn table_cause_name(cause: TableCause) -> &'static [u8]
     }
 }
 
-// Writes the message for an invalid page of a file.
+// Writes the words that name page number `page` of a file.
+#[tactic(auto, using(outside::proofs::Grows::chain))]
+fn put_page_name<N: Sink>(note: &mut N, name: &str, page: u64) -> Result<(), WriteFailed>
+    ensures bytes { PutsAll (N.has note.old) (N.has note.new) result
+        (page_name_text name.now page) }
+    ensures cause { HasCause (N.faults note.old) (N.faults note.new) result }
+{
+    put_all(note, name.as_bytes())?;
+    put_all(note, b" page ")?;
+    put_number(note, page)
+}
+
+// Writes the offset of an error in a page, and its cause, as the end of a line.
+fn put_byte_fault<N: Sink>(note: &mut N, byte: u64, cause: PageCause) -> Result<(), WriteFailed>
+    ensures bytes { PutsAll (N.has note.old) (N.has note.new) result
+        (byte_fault_text byte cause) }
+    ensures cause { HasCause (N.faults note.old) (N.faults note.new) result }
+{
+    let mut digits = Buffer::new();
+    let byte = digits.format(byte).as_bytes();
+    put_each(
+        note,
+        &[
+            b" byte ".as_slice(),
+            byte,
+            b": ".as_slice(),
+            page_cause_name(cause),
+            b"\n".as_slice(),
+        ],
+    )
+}
+
+// Writes the message for an invalid page of a file. `byte` is the offset of the error in the page.
 #[tactic(auto, using(outside::proofs::Grows::chain))]
 fn put_page_fault<N: Sink>(
     note: &mut N,
     name: &str,
     page: u64,
+    byte: u64,
     cause: PageCause,
 ) -> Result<(), WriteFailed>
     ensures bytes { PutsAll (N.has note.old) (N.has note.new) result
-        (page_text name.now page cause) }
+        (page_text name.now page byte cause) }
     ensures cause { HasCause (N.faults note.old) (N.faults note.new) result }
 {
-    put_all(note, name.as_bytes())?;
-    put_all(note, b" page ")?;
-    put_number(note, page)?;
-    put_all(note, b": ")?;
-    put_all(note, page_cause_name(cause))?;
-    put_all(note, b"\n")
+    put_page_name(note, name, page)?;
+    put_byte_fault(note, byte, cause)
 }
 
 // Writes the message for an invalid line of a table.
@@ -111,9 +140,18 @@ pub(crate) fn put_status<N: Sink>(
     match status {
         Status::Done => put_all(note, b""),
         Status::Usage => put_all(note, b"usage: psi_convert events TABLE PAGES..\n"),
-        Status::Page { cpu, page, cause } => {
-            put_page_fault(note, word_at(words, cpu.saturating_add(2)), page, cause)
-        }
+        Status::Page {
+            cpu,
+            page,
+            byte,
+            cause,
+        } => put_page_fault(
+            note,
+            word_at(words, cpu.saturating_add(2)),
+            page,
+            byte,
+            cause,
+        ),
         Status::Table(fault) => put_table_fault(note, fault.line, fault.cause),
         Status::NoFile { file } => put_missing(note, word_at(words, file.saturating_add(1))),
         Status::ReadFault => put_all(note, b"read fault\n"),

@@ -14,10 +14,12 @@ pub enum Status {
     /// The words aren't a command.
     Usage,
     /// A page is invalid. `cpu` is the number of its file and `page` the number of the page in this
-    /// file, both from 0. All events before the error were written.
+    /// file, both from 0. `byte` is the offset (bytes, from 0) of the error in the page. All events
+    /// before the error were written.
     Page {
         cpu: u32,
         page: u64,
+        byte: u64,
         cause: PageCause,
     },
     /// The table is invalid.

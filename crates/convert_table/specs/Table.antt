@@ -19,14 +19,14 @@ use Rattle.convert_table.specs.declared.row.PageSize.{PageSize}
 use Rattle.convert_table.specs.declared.row.Row.{Row}
 use Rattle.convert_table.specs.declared.row.Row.TheVariants as row
 
--- ---- words
+-- ---- parts of a line
 
--- The first part of a list and the parts after it, or `None` if the list is empty.
+-- The first part of a list and the list of the parts after it, or `None` if the list is empty.
 abbrev pub next : List (List ℕ) → Option (List ℕ × List (List ℕ))
 next [] = None
 next (part ∷ parts) = Some (part, parts)
 
--- A result exactly if no part remains.
+-- `Some` if no part remains, and `None` if a part remains.
 abbrev pub ended : List (List ℕ) → Option (Unit {0})
 ended [] = Some tt
 ended (part ∷ parts) = None
@@ -51,8 +51,8 @@ abbrev pub width_of : ℕ → Option Width
 width_of size =
     if size == 1 then Some One else if size == 2 then Some Two else if size == 4 then Some Four else if size == 8 then Some Eight else None
 
--- The field with this form, offset (bytes) and size (bytes), or `None` if the form is unknown or
--- the size isn't allowed.
+-- The field with this form, offset (bytes) and size (bytes). `None` if the form is unknown or the
+-- size isn't allowed.
 abbrev pub field_with : List ℕ → ℕ → ℕ → Option Field
 field_with form offset size =
     if bytes_eq form (codes "unsigned") then option_map (λ width. field.Unsigned offset width) (width_of size)
@@ -74,7 +74,8 @@ field_of word = do
   count ← small size.0
   field_with form.0 start count
 
--- A list of fields with the first field added, or `None` if one of the two is `None`.
+-- `with_first first rest`: the list `rest` of fields with the field `first` added at the front, or
+-- `None` if either is `None`.
 abbrev pub with_first : Option Field → Option (List Field) → Option (List Field)
 with_first None rest = None
 with_first (Some first) None = None
@@ -86,8 +87,7 @@ fields_of (word ∷ words) = with_first (field_of word) (fields_of words)
 
 -- ---- lines
 
--- The letter of a task's state, from the words after `letter`: the bits of the state, and the
--- letter.
+-- Parses the words after `letter`: the bits of a task's state, and the letter for these bits.
 unfoldable pub state_letter_of : List (List ℕ) → Option StateLetter
 state_letter_of words = do
   bits ← next words
@@ -97,7 +97,7 @@ state_letter_of words = do
   byte ← byte_in letter.0
   Some (record { bits = number; letter = byte })
 
--- A kind of event, from the words after `kind`: its number, its name and its fields.
+-- Parses the words after `kind`: the number, the name and the fields of a kind of event.
 unfoldable pub kind_of : List (List ℕ) → Option Kind
 kind_of words = do
   number ← next words
@@ -106,29 +106,32 @@ kind_of words = do
   fields ← fields_of name.1
   Some (record { number = value; name = name.0; fields = fields })
 
--- A row, from the first word of its line and the other words.
+-- Parses a row, which is a line for a letter or for a kind of event. `word` is the first word of
+-- the line, and `words` are the other words.
 abbrev pub row_with : List ℕ → List (List ℕ) → Option Row
 row_with word words =
     if bytes_eq word (codes "letter") then option_map (λ letter. row.Letter letter) (state_letter_of words)
     else if bytes_eq word (codes "kind") then option_map (λ kind. row.Event kind) (kind_of words)
     else None
 
--- A row, from a line after the line `page` and before the line `end`. Words are separated by spaces
+-- Parses a row: a line between the line `page` and the line `end`. Words are separated by spaces
 -- (byte 32).
 unfoldable pub row_of : List ℕ → Option Row
 row_of line = do
   word ← next (parts_at 32 line)
   row_with word.0 word.1
 
--- The sizes (bytes) of a page and of its header, if the first word is `page`, the header has at
--- least 16 bytes, and the page at most 2 MiB and at least the header.
+-- The sizes (bytes) of a page and of its header, or `None` if the line is invalid. `word`, the
+-- first word of the line, must be `page`, and the sizes must satisfy `16 <= start <= size <=
+-- 2097152`.
 abbrev pub page_with : List ℕ → ℕ → ℕ → Option PageSize
 page_with word size start =
     if bytes_eq word (codes "page") && nat_le 16 start && nat_le start size && nat_le size 2097152
     then Some (record { page = size; header = start })
     else None
 
--- The sizes (bytes) of a page and of its header, from the second line of a table.
+-- Parses the second line of a table: the word `page`, and the sizes (bytes) of a page and of its
+-- header.
 unfoldable pub page_of : List ℕ → Option PageSize
 page_of line = do
   word ← next (parts_at 32 line)
@@ -141,59 +144,63 @@ page_of line = do
 
 -- ---- the table
 
--- The error `why` of line number `line` (from 1).
+-- The error `why` in line number `line` (from 1).
 abbrev pub table_fault : ℕ → TableCause → TableFault
 table_fault line why = record { line = line; cause = why }
 
--- The layout with these sizes, state letters and kinds of events.
+-- The layout with these page sizes, state letters and kinds of events.
 abbrev pub layout_with : PageSize → List StateLetter → List Kind → Layout
 layout_with size letters kinds = record { page = size.page; header = size.header; letters = letters; kinds = kinds }
 
--- The error after the line `end`, which has number `number`, or `None`: the line must have a
--- newline, and nothing may follow the newline.
+-- `end_fault number lines`: the error at the end of a table, or `None`. `number` is the number of
+-- the line `end`, and `lines` are the parts after it. The line `end` must have a newline, and
+-- nothing may follow the newline.
 abbrev pub end_fault : ℕ → List (List ℕ) → Option TableFault
 end_fault number [] = Some (table_fault number NoNewline)
 end_fault number ([] ∷ []) = None
 end_fault number _ = Some (table_fault (number + 1) AfterEnd)
 
--- The result after the line `end`, given the error after the line or `None`.
+-- `end_from size letters kinds why`: the result of parsing a table up to its end. This is the error
+-- in `why`, or the layout if `why` is `None`.
 abbrev pub end_from : PageSize → List StateLetter → List Kind → Option TableFault → Result Layout TableFault
 end_from size letters kinds None = Ok (layout_with size letters kinds)
 end_from size letters kinds (Some why) = Err why
 
--- The result for a row in line `number`: its letter or kind is appended to the previous ones, and
--- `following` gives the result of the further lines. If the line isn't a row, the result is an
--- error.
+-- `row_then number letters kinds row following`: the result of parsing line `number` and the lines
+-- after it. If the line is the row `row`, its letter or kind is appended to `letters` or `kinds`,
+-- and `following` parses the later lines. If `row` is `None`, the line is invalid.
 abbrev pub row_then : ℕ → List StateLetter → List Kind → Option Row
     → (List StateLetter → List Kind → Result Layout TableFault) → Result Layout TableFault
 row_then number letters kinds None following = Err (table_fault number BadRow)
 row_then number letters kinds (Some (row.Letter letter)) following = following (letters ++ letter ∷ []) kinds
 row_then number letters kinds (Some (row.Event kind)) following = following letters (kinds ++ kind ∷ [])
 
--- The result for the lines from number `number` on; `letters` and `kinds` are those of the lines
--- before.
+-- `rows_from size number letters kinds lines`: the result of parsing `lines`, the first of which
+-- has number `number`. `size` was parsed from line 2, and `letters` and `kinds` from the lines
+-- between line 2 and line `number`.
 abbrev pub rows_from : PageSize → ℕ → List StateLetter → List Kind → List (List ℕ) → Result Layout TableFault
 rows_from size number letters kinds [] = Err (table_fault number NoEnd)
 rows_from size number letters kinds (line ∷ lines) =
     if bytes_eq line (codes "end") then end_from size letters kinds (end_fault number lines)
     else row_then number letters kinds (row_of line) (λ more_letters more_kinds. rows_from size (number + 1) more_letters more_kinds lines)
 
--- The result for the lines after the second line, which gave the sizes; an error if it gave none.
+-- `sized_layout size lines`: the result of parsing `lines`, which follow line 2. `size` has the
+-- sizes from line 2. If line 2 is invalid, `size` is `None`, and the result is an error.
 abbrev pub sized_layout : Option PageSize → List (List ℕ) → Result Layout TableFault
 sized_layout None lines = Err (table_fault 2 BadPage)
 sized_layout (Some size) lines = rows_from size 3 [] [] lines
 
--- The result for the lines after the first line.
+-- The result of parsing the lines that follow line 1.
 abbrev pub after_first : List (List ℕ) → Result Layout TableFault
 after_first [] = Err (table_fault 2 BadPage)
 after_first (second ∷ lines) = sized_layout (page_of second) lines
 
--- The result for all lines of a table.
+-- The result of parsing all lines of a table.
 abbrev pub lines_layout : List (List ℕ) → Result Layout TableFault
 lines_layout [] = Err (table_fault 1 BadHeader)
 lines_layout (first ∷ lines) = if bytes_eq first (codes "psi_layout 1") then after_first lines else Err (table_fault 1 BadHeader)
 
--- The result for the bytes of a table: a layout, or the first error. Lines are separated by
+-- The result of parsing the bytes of a table: a layout, or the first error. Lines are separated by
 -- newlines (byte 10).
 unfoldable pub table_of : List ℕ → Result Layout TableFault
 table_of bytes = if nat_lt 65536 (length bytes) then Err (table_fault 1 TooLong) else lines_layout (parts_at 10 bytes)

@@ -1,4 +1,5 @@
-//! The errors of a table: the number of the invalid line, and why it is invalid.
+//! The error of an invalid table: the number of the first invalid line, and why this line is
+//! invalid.
 use psi_base::Fault;
 
 /// The reason why a line of a table is invalid.

@@ -14,14 +14,15 @@ use std::alloc::Global;
 /// The lines of a table that haven't been parsed yet.
 type Lines<'a> = Parts<'a, b'\n'>;
 
-// Returns the error for line number `line` (from 1).
+// Returns the error that line number `line` (from 1) is invalid for this cause.
 fn refused(line: u32, cause: TableCause) -> Fault<TableFault>
     ensures { result ≡ refused_at line cause }
 {
     Fault::Refused(TableFault { line, cause })
 }
 
-// Returns the error after the line `end`, which has number `number`, or `None`.
+// Checks the end of a table. `number` is the number of the line `end`, and `lines` are the parts
+// after it. Returns an error unless the line `end` has a newline and nothing follows the newline.
 fn end_fault(number: u32, mut lines: Lines) -> Option<TableFault>
     requires { number < 2 ^ 32 - 1 }
     ensures { result ≡ end_fault number lines.entry }
@@ -42,8 +43,8 @@ fn end_fault(number: u32, mut lines: Lines) -> Option<TableFault>
     }
 }
 
-// Parses the lines from the third on, and returns the layout. `size` has the sizes of the second
-// line.
+// Parses the lines from line 3 to the end, and returns the layout. `size` has the sizes from line
+// 2.
 fn read_rows(alloc: Global, size: PageSize, lines: Lines) -> Result<Layout, Fault<TableFault>>
     requires { length lines < 2 ^ 31 }
     ensures exact { Gives result (rows_from size 3 [] [] lines.entry) }

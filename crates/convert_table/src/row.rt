@@ -10,7 +10,7 @@ use std::alloc::Global;
 /// The words of a line that haven't been parsed yet.
 pub(crate) type Words<'a> = Parts<'a, b' '>;
 
-/// The error if a line doesn't have the form that its first word requires.
+/// The error for a line that doesn't have the form that its first word requires.
 #[derive(Clone, Copy, Debug, PartialEq, Eq)]
 pub(crate) struct BadRow;
 
@@ -41,7 +41,7 @@ pub(crate) struct PageSize {
     pub(crate) header: u32,
 }
 
-// Removes and returns the first part, or returns `None` if no part remains.
+// Removes the first part and returns it. Returns `None` if no part remains.
 fn next<'a, const AT: u8>(parts: &mut Parts<'a, AT>) -> Option<&'a [u8]>
     ensures { MatchOption result (next parts.old ≡ None)
         (λ part. next parts.old ≡ Some (part.now, parts.new)) }
@@ -49,7 +49,7 @@ fn next<'a, const AT: u8>(parts: &mut Parts<'a, AT>) -> Option<&'a [u8]>
     parts.next_part()
 }
 
-// Checks that no part remains. Returns `None` if a part remains.
+// Returns `Some` if no part remains, and `None` if a part remains.
 fn ended<const AT: u8>(parts: &mut Parts<'_, AT>) -> Option<()>
     ensures { MatchOption result (ended parts.old ≡ None) (λ _. ended parts.old ≡ Some tt) }
 {
@@ -70,7 +70,7 @@ fn small(word: &[u8]) -> Option<u32>
     }
 }
 
-// Returns the width of a number with `size` bytes, or `None` if no number has this size.
+// Returns the width of a number with `size` bytes, or `None` unless `size` is 1, 2, 4 or 8.
 fn width_of(size: u32) -> Option<Width>
     ensures { result ≡ width_of size }
 {
@@ -83,7 +83,7 @@ fn width_of(size: u32) -> Option<Width>
     }
 }
 
-// Returns the field with this form, offset (bytes) and size (bytes), or `None` if the form is
+// Returns the field with this form, offset (bytes) and size (bytes). Returns `None` if the form is
 // unknown or the size isn't allowed.
 fn field_with(form: &[u8], offset: u32, size: u32) -> Option<Field>
     ensures { result ≡ field_with form.now offset size }

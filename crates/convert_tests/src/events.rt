@@ -1,26 +1,27 @@
-//! Tests of the events in pages: their fields and times, lost events, bytes that are no events, and
+//! Tests of the events in pages: their fields and times, lost events, bytes that aren't events, and
 //! invalid pages. The pages are made by hand.
 
 use crate::pages::{
     EXTENDS, LOST, PADDING, STAMP, STORED, head, page_of, page_with, put, put_note,
 };
 use crate::runs::{
-    ANY, Files, Host, ONE, TABLE, TWO, assert_files, assert_prints, pages_alone, run_calls,
+    Files, Host, ONE, TABLE, TWO, assert_files, assert_prints, pages_alone, run_files,
 };
 use convert_core::Status;
 use page_spec::PageCause;
+use test_support::{NO_FAILURE, assert_equal};
 
-/// The output for a page at 1,000 ns with one note.
+/// The output for a page with time 1,000 ns and the record of `one_note`.
 const ONE_NOTE: &str = "1005 0 note -1 ab\n";
 
-/// Makes the records of a page with one note.
+/// Makes the records of a page with a single event `note`.
 fn one_note(rt: &impl Host) -> Vec<u8> {
     let mut records = Vec::new(rt.alloc());
     put_note(rt, &mut records, 5, 0xffff_ffff, b"ab\0c");
     records
 }
 
-/// Checks the output for a page at 1,000 ns with these records.
+/// Checks the output for a page with time 1,000 ns and these records.
 fn assert_records(rt: &impl Host, records: &[u8], output: &str) {
     assert_prints(rt, &page_of(rt, 1000, records), output);
 }
@@ -50,7 +51,7 @@ fn put_state(rt: &impl Host, bytes: &mut Vec<u8>, byte: u64, state: u64, number:
 
 #[test]
 fn states(rt: HostRuntime) {
-    // If a state has several letters, the first one is printed.
+    // If several letters of the table match a state, the first of them is printed.
     for row in &[(0, "R"), (1, "S"), (3, "S"), (2, "D"), (258, "R"), (4, "R")] {
         let (state, letter) = *row;
         let mut records = Vec::new(rt.alloc());
@@ -185,7 +186,7 @@ fn files(rt: HostRuntime) {
     let mut two = page_of(&rt, 1000, &one_note(&rt));
     two.extend_from_slice(&page_of(&rt, 500, &one_note(&rt)))
         .expect(&rt, "memory");
-    // The file has no pages, or bytes after its last whole page.
+    // The file is empty, or ends in the middle of a page. An incomplete page is ignored.
     assert_prints(&rt, b"", "");
     let cut = page.get(..63).expect(&rt, "a page");
     assert_prints(&rt, cut, "");
@@ -207,20 +208,29 @@ fn files(rt: HostRuntime) {
     assert_files(&rt, TWO, files, Status::Done, "1005 1 note -1 ab\n", "");
 }
 
-/// Checks that the second page of a file is invalid for this cause, and that one note and `lines`
-/// are printed before.
-fn assert_refused(rt: &impl Host, page: &[u8], cause: PageCause, name: &str, lines: &str) {
+/// Checks that the second page of a file is rejected at the offset `byte` for this cause, which is
+/// printed as `name`. The event of the first page and then `lines` must be printed before the
+/// error.
+fn assert_refused(
+    rt: &impl Host,
+    page: &[u8],
+    byte: u64,
+    cause: PageCause,
+    name: &str,
+    lines: &str,
+) {
     let mut pages = page_of(rt, 1000, &one_note(rt));
     pages.extend_from_slice(page).expect(rt, "memory");
     let refused = |cpu| Status::Page {
         cpu,
         page: 1,
+        byte,
         cause,
     };
     let lines = format!(in rt.alloc(); "{ONE_NOTE}{lines}").expect(rt, "memory");
-    let note = format!(in rt.alloc(); "a page 1: {name}\n").expect(rt, "memory");
+    let note = format!(in rt.alloc(); "a page 1 byte {byte}: {name}\n").expect(rt, "memory");
     assert_files(rt, ONE, pages_alone(&pages), refused(0), &lines, &note);
-    // The second file isn't read after an error in the first one, and the note names the first
+    // The second file isn't read after an error in the first file, and the message names the first
     // file.
     let files = Files {
         table: TABLE.as_bytes(),
@@ -228,14 +238,14 @@ fn assert_refused(rt: &impl Host, page: &[u8], cause: PageCause, name: &str, lin
         second: &pages,
     };
     assert_files(rt, TWO, files, refused(0), &lines, &note);
-    let note = format!(in rt.alloc(); "b page 1: {name}\n").expect(rt, "memory");
+    let note = format!(in rt.alloc(); "b page 1 byte {byte}: {name}\n").expect(rt, "memory");
     let files = Files {
         first: &[],
         ..files
     };
-    let ran = run_calls(rt, TWO, files, ANY);
-    let is_second = ran.status == refused(1) && ran.note.as_slice() == note.as_bytes();
-    assert!(rt; is_second, "{ran} in place of {note:?}");
+    let ran = run_files(rt, TWO, files, 65536, NO_FAILURE);
+    let (status, _, printed) = ran.results();
+    assert_equal!(rt; (status, printed), (refused(1), note.as_str()), TWO);
 }
 
 #[test]
@@ -243,27 +253,32 @@ fn rejected_pages(rt: HostRuntime) {
     let note = one_note(&rt);
     let lines = "505 0 note -1 ab\n";
     let short = PageCause::ShortRecord;
-    // The page claims more bytes of records than it has room for. None of its events is printed.
+    // The page's header claims more bytes of records than fit in the page. None of its events is
+    // printed. The header's word with this number is at offset 8.
     let page = page_with(&rt, 500, LOST + 49 - 16, &note, 0);
-    assert_refused(&rt, &page, PageCause::TooLong, "TooLong", "");
+    assert_refused(&rt, &page, 8, PageCause::TooLong, "TooLong", "");
     let page = page_with(&rt, 500, STORED - 1, &[], 0);
-    assert_refused(&rt, &page, PageCause::TooLong, "TooLong", "");
-    // After a valid record, a record is too short for its fields.
+    assert_refused(&rt, &page, 8, PageCause::TooLong, "TooLong", "");
+    // After the header (16 bytes) and a valid record (16 bytes), a record is too short for its
+    // fields.
     let mut records = one_note(&rt);
     put(&rt, &mut records, head(1, 1), 4);
     put(&rt, &mut records, 7, 4);
     let page = page_of(&rt, 500, &records);
-    assert_refused(&rt, &page, short, "ShortRecord", lines);
+    assert_refused(&rt, &page, 32, short, "ShortRecord", lines);
     // The records end in the middle of a record.
     let mut records = one_note(&rt);
     put(&rt, &mut records, head(3, 1), 4);
     put(&rt, &mut records, 7, 7);
     let page = page_of(&rt, 500, &records);
-    assert_refused(&rt, &page, short, "ShortRecord", lines);
-    // After lost events, a record is too short for the number of its kind.
+    assert_refused(&rt, &page, 32, short, "ShortRecord", lines);
+    // After lost events and a time extension (8 bytes), a record is too short for the number of its
+    // kind.
     let mut records = Vec::new(rt.alloc());
+    put(&rt, &mut records, head(EXTENDS, 1), 4);
+    put(&rt, &mut records, 0, 4);
     put(&rt, &mut records, head(0, 1), 4);
     put(&rt, &mut records, 4, 4);
     let page = page_with(&rt, 500, LOST, &records, 0);
-    assert_refused(&rt, &page, short, "ShortRecord", "500 0 lost 0\n");
+    assert_refused(&rt, &page, 24, short, "ShortRecord", "500 0 lost 0\n");
 }

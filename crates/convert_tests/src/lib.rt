@@ -1,7 +1,7 @@
 //! Tests of the entry point of psi_convert with files and sinks in memory: the events of small
 //! pages, tables, command words, and reads and writes that fail.
 //!
-//! Recordings of kernels aren't used here: they are tested with the built program.
+//! Recordings of kernels are tested elsewhere, with the built program.
 #![tactic(auto)]
 
 #[cfg(test)]

@@ -6,13 +6,14 @@ use crate::runs::Host;
 /// The size of a page in bytes.
 const SIZE: usize = 64;
 
-/// The flags in the third word of a page: events were lost before the page, and the number of lost
-/// events is stored after the records.
+/// The flags in the third word of a page: events were lost before the page (`LOST`), and the number
+/// of lost events is stored after the records (`STORED`).
 pub const LOST: u32 = 1 << 31;
 
 pub const STORED: u32 = 1 << 30;
 
-/// The kinds of records that are no events: the lower 5 bits of the first word.
+/// The kinds of records that aren't events. The kind of a record is the lower 5 bits of its first
+/// word.
 pub const PADDING: u32 = 29;
 
 pub const EXTENDS: u32 = 30;
@@ -28,12 +29,14 @@ pub fn put(rt: &impl Host, bytes: &mut Vec<u8>, number: u64, count: usize) {
     }
 }
 
-/// Returns the first word of a record: its kind, and the time (ns) since the previous record.
+/// Returns the first word of a record. `kind` is the record's kind, and `delta` is the time (ns)
+/// since the previous record.
 pub fn head(kind: u32, delta: u32) -> u64 {
     u64::from(delta) * 32 + u64::from(kind)
 }
 
 /// Appends the record of an event `note` (kind 7) with a signed number and a text of four bytes.
+/// `delta` is the time (ns) since the previous record.
 pub fn put_note(rt: &impl Host, bytes: &mut Vec<u8>, delta: u32, number: u64, text: &[u8; 4]) {
     put(rt, bytes, head(3, delta), 4);
     put(rt, bytes, 7, 4);

@@ -2,13 +2,8 @@
 //! memory, and check the run. A test aborts if memory runs out.
 
 use convert_core::{Status, run};
-use outside_fakes::{MemShelf, MemSink};
-use psi_base::Text;
-use std::fmt;
 use std::process::Abort;
-
-/// The number of a call that no test reaches.
-pub const NONE: u64 = 1_000_000;
+use test_support::{Failing, NO_FAILURE, Streams, assert_equal, file_of, words_of};
 
 /// The capacity (bytes) of each sink.
 const ROOM: usize = 4096;
@@ -24,7 +19,7 @@ pub const TABLE: &str = "psi_layout 1\n\
     kind 11 path located:4:4\n\
     end\n";
 
-/// The usual command lines, for one file of pages and for two.
+/// The command lines of most tests, for one file of pages and for two files.
 pub const ONE: &str = "events t a";
 
 pub const TWO: &str = "events t a b";
@@ -34,7 +29,7 @@ pub trait Host: AllocGlobal + Abort {}
 
 impl<R: AllocGlobal + Abort> Host for R {}
 
-/// The files on the shelf: a table named `t`, and files of pages named `a` and `b`.
+/// The files of a run, in memory: a table named `t`, and files of pages named `a` and `b`.
 #[derive(Clone, Copy)]
 pub struct Files<'a> {
     pub table: &'a [u8],
@@ -42,7 +37,7 @@ pub struct Files<'a> {
     pub second: &'a [u8],
 }
 
-/// Returns the usual table and one file of pages.
+/// Returns files with the table `TABLE` and one file of pages.
 pub fn pages_alone(first: &[u8]) -> Files<'_> {
     Files {
         table: TABLE.as_bytes(),
@@ -51,115 +46,33 @@ pub fn pages_alone(first: &[u8]) -> Files<'_> {
     }
 }
 
-/// The numbers of the read, of the write and of the write to the note that fail, each counted from
-/// 0, and the largest number of bytes per call.
-#[derive(Clone, Copy, Debug)]
-pub struct Calls {
-    pub read: u64,
-    pub write: u64,
-    pub note: u64,
-    pub most: usize,
-}
+/// The results of a run of psi_convert.
+pub type Ran = test_support::Ran<Status>;
 
-/// No call fails, and a call may transfer any number of bytes.
-pub const ANY: Calls = Calls {
-    read: NONE,
-    write: NONE,
-    note: NONE,
-    most: 65536,
-};
-
-/// The results of a run: its status, output and note.
-#[derive(Drop)]
-pub struct Ran {
-    pub status: Status,
-    pub output: Vec<u8>,
-    pub note: Vec<u8>,
-    calls: Calls,
-}
-
-/// Returns bytes as text, for a message.
-fn shown(bytes: &[u8]) -> &str {
-    str::from_utf8(bytes).unwrap_or("no text")
-}
-
-impl fmt::Display for Ran {
-    fn fmt<W: fmt::Write>(&self, f: &mut fmt::Formatter<W>) -> fmt::Result {
-        let (output, note) = (shown(&self.output), shown(&self.note));
-        write!(f, "{:?}: ", self.calls)?;
-        write!(f, "{:?} {output:?} {note:?}", self.status)
-    }
-}
-
-/// Splits a command line into words at spaces.
-fn words_of(rt: &impl Host, line: &str) -> Vec<String> {
-    let mut words = Vec::new(rt.alloc());
-    for word in line.split(' ') {
-        let word = String::from_str(rt.alloc(), word).expect(rt, "memory");
-        words.push(word).expect(rt, "memory");
-    }
-    words
-}
-
-/// Makes a file of the shelf from a name and bytes.
-fn file_of(rt: &impl Host, name: &str, bytes: &[u8]) -> (Text, Text) {
-    let name = Text::make(rt.alloc(), name.as_bytes()).expect(rt, "memory");
-    let bytes = Text::make(rt.alloc(), bytes).expect(rt, "memory");
-    (name, bytes)
-}
-
-/// Makes the list of failing calls, which has only the number `call`.
-fn call_of(rt: &impl Host, call: u64) -> Vec<u64> {
-    vec![in rt.alloc(); call].expect(rt, "memory")
-}
-
-/// Makes a sink that accepts at most `most` bytes per write, and fails at write number `call`.
-fn sink_of(rt: &impl Host, most: usize, call: u64) -> MemSink {
-    let sink = MemSink::new(rt.alloc(), ROOM, most.max(1), call_of(rt, call));
-    sink.expect(rt, "memory")
-}
-
-/// Runs a command line with these files and failing calls.
-pub fn run_calls(rt: &impl Host, line: &str, files: Files, calls: Calls) -> Ran {
-    let words = words_of(rt, line);
-    let held = vec![in rt.alloc();
-        file_of(rt, "t", files.table),
-        file_of(rt, "a", files.first),
-        file_of(rt, "b", files.second),
+/// Runs a command line with these files and failing calls. Each call transfers at most `most`
+/// bytes.
+pub fn run_files(rt: &impl Host, line: &str, files: Files, most: usize, failing: Failing) -> Ran {
+    let alloc = rt.alloc();
+    let words = words_of(alloc, line, ' ').expect(rt, "memory");
+    let held = vec![in alloc;
+        file_of(alloc, "t", files.table).expect(rt, "memory"),
+        file_of(alloc, "a", files.first).expect(rt, "memory"),
+        file_of(alloc, "b", files.second).expect(rt, "memory"),
     ];
     let held = held.expect(rt, "memory");
-    let mut shelf = MemShelf::new(held, calls.most.max(1), call_of(rt, calls.read));
-    let mut out = sink_of(rt, calls.most, calls.write);
-    let mut note = sink_of(rt, calls.most, calls.note);
-    let status = run(rt.alloc(), &words, &mut shelf, &mut out, &mut note);
-    Ran {
-        status,
-        output: out.bytes,
-        note: note.bytes,
-        calls,
-    }
-}
-
-/// Checks the status, output and note of a run.
-pub fn assert_run(
-    rt: &impl Abort,
-    line: &str,
-    ran: &Ran,
-    status: Status,
-    output: &str,
-    note: &str,
-) {
-    let is_run = ran.status == status
-        && ran.output.as_slice() == output.as_bytes()
-        && ran.note.as_slice() == note.as_bytes();
-    assert!(rt;
-        is_run,
-        "{line}, {ran} in place of {status:?} {output:?} {note:?}"
+    let mut streams = Streams::make(alloc, held, ROOM, most, failing).expect(rt, "memory");
+    let status = run(
+        alloc,
+        &words,
+        &mut streams.shelf,
+        &mut streams.output,
+        &mut streams.note,
     );
+    streams.into_ran(status)
 }
 
-/// Checks the status, output and note of a command line for these files, with several numbers of
-/// bytes per call.
+/// Checks the status, the output and the message on standard error (`note`) of a command line for
+/// these files. Runs it with several limits of bytes per read and write.
 pub fn assert_files(
     rt: &impl Host,
     line: &str,
@@ -169,8 +82,8 @@ pub fn assert_files(
     note: &str,
 ) {
     for most in &[65536, 7, 1] {
-        let ran = run_calls(rt, line, files, Calls { most: *most, ..ANY });
-        assert_run(rt, line, &ran, status, output, note);
+        let ran = run_files(rt, line, files, *most, NO_FAILURE);
+        assert_equal!(rt; ran.results(), (status, output, note), (line, *most));
     }
 }
 

@@ -1,5 +1,5 @@
 //! Tests of tables, which describe the layout of pages: the forms of their lines, and the first
-//! error of each faulty table. The page has one note.
+//! error of each faulty table. The page has one event `note`.
 
 use crate::pages::{page_of, put_note};
 use crate::runs::{Files, Host, ONE, assert_files};
@@ -9,7 +9,8 @@ use convert_table::{TableCause, TableFault};
 /// The first two lines of a table.
 const START: &str = "psi_layout 1\npage 64 16\n";
 
-/// Checks the status, output and note of a run with this table and a page with one note.
+/// Checks the status, the output and the message on standard error (`note`) of a run with this
+/// table and a page with one event `note`.
 fn assert_table(rt: &impl Host, table: &[u8], status: Status, output: &str, note: &str) {
     let mut records = Vec::new(rt.alloc());
     put_note(rt, &mut records, 5, 0xffff_ffff, b"ab\0c");
@@ -22,7 +23,8 @@ fn assert_table(rt: &impl Host, table: &[u8], status: Status, output: &str, note
     assert_files(rt, ONE, files, status, output, note);
 }
 
-/// Checks that a table is rejected at this line for this cause, and that nothing is printed.
+/// Checks that a table is rejected at this line for this cause, which is printed as `name`, and
+/// that nothing else is printed.
 fn assert_refused(rt: &impl Host, table: &[u8], line: u32, cause: TableCause, name: &str) {
     let note = format!(in rt.alloc(); "table line {line}: {name}\n").expect(rt, "memory");
     let fault = TableFault { line, cause };
@@ -41,7 +43,7 @@ fn kinds(rt: HostRuntime) {
         ("kind 7 n state:4:1\n", "1005 0 n R\n"),
         ("letter 8 T\nkind 7 n state:4:1\n", "1005 0 n T\n"),
         ("kind 7 n state:4:1\nletter 8 T\n", "1005 0 n T\n"),
-        // If two kinds have the same number, the first one is used.
+        // If two kinds have the same number, the first kind is used.
         ("kind 7 n\nkind 7 m\n", "1005 0 n\n"),
         ("kind 8 n\nkind 65535 m\n", ""),
     ] {

@@ -1,10 +1,11 @@
-//! Tests of command lines that aren't a command or that name missing files, and of the largest
-//! number of files. The files are in memory.
+//! Tests of malformed command lines, of missing files, and of the maximum number of files. The
+//! files are in memory.
 
-use crate::runs::{ANY, Calls, Host, assert_run, pages_alone, run_calls};
+use crate::runs::{Host, pages_alone, run_files};
 use convert_core::Status;
+use test_support::{Failing, NO_FAILURE, assert_equal};
 
-/// The note for a command line that isn't a command.
+/// The message on standard error for a malformed command line.
 const USAGE: &str = "usage: psi_convert events TABLE PAGES..\n";
 
 #[test]
@@ -23,16 +24,19 @@ fn words(rt: HostRuntime) {
         "--help",
     ] {
         // No file is read: the first read would fail.
-        let calls = Calls { read: 0, ..ANY };
-        let ran = run_calls(&rt, line, pages_alone(b""), calls);
-        assert_run(&rt, line, &ran, Status::Usage, "", USAGE);
+        let failing = Failing {
+            read: 0,
+            ..NO_FAILURE
+        };
+        let ran = run_files(&rt, line, pages_alone(b""), 65536, failing);
+        assert_equal!(rt; ran.results(), (Status::Usage, "", USAGE), *line);
     }
 }
 
-/// Checks that file number `file` of the command line is reported as missing.
+/// Checks that file number `file` of the command line (0 is the table) is reported as missing.
 fn assert_missing(rt: &impl Host, line: &str, file: u32, note: &str) {
-    let ran = run_calls(rt, line, pages_alone(b""), ANY);
-    assert_run(rt, line, &ran, Status::NoFile { file }, "", note);
+    let ran = run_files(rt, line, pages_alone(b""), 65536, NO_FAILURE);
+    assert_equal!(rt; ran.results(), (Status::NoFile { file }, "", note), line);
 }
 
 #[test]
@@ -42,8 +46,8 @@ fn missing_files(rt: HostRuntime) {
     assert_missing(&rt, "events t c", 1, "no file: c\n");
     assert_missing(&rt, "events t a b c d", 3, "no file: c\n");
     // The table is read before the pages.
-    let ran = run_calls(&rt, "events a c", pages_alone(b"x"), ANY);
-    assert!(&rt; ran.status.code() == 3, "{ran} in place of a table's fault");
+    let ran = run_files(&rt, "events a c", pages_alone(b"x"), 65536, NO_FAILURE);
+    assert_equal!(rt; ran.status.code(), 3, "events a c");
 }
 
 #[test]
@@ -53,9 +57,9 @@ fn many_files(rt: HostRuntime) {
     for _ in 0..4096 {
         line.push_str(" a").expect(&rt, "memory");
     }
-    let ran = run_calls(&rt, &line, pages_alone(b""), ANY);
-    assert_run(&rt, "4,096 files", &ran, Status::Done, "", "");
+    let ran = run_files(&rt, &line, pages_alone(b""), 65536, NO_FAILURE);
+    assert_equal!(rt; ran.results(), (Status::Done, "", ""), "4,096 files");
     line.push_str(" a").expect(&rt, "memory");
-    let ran = run_calls(&rt, &line, pages_alone(b""), ANY);
-    assert_run(&rt, "4,097 files", &ran, Status::Usage, "", USAGE);
+    let ran = run_files(&rt, &line, pages_alone(b""), 65536, NO_FAILURE);
+    assert_equal!(rt; ran.results(), (Status::Usage, "", USAGE), "4,097 files");
 }

@@ -9,10 +9,10 @@ use Rattle.outside.proofs.Grows.{Appends-none, Appends-then, AppendsPrefix-last,
 use Rattle.std.proofs.Common.{◌+◌, ◌≤◌, ◌<◌, length, subst, Ok, Err}
 use Rattle.std.specs.Prelude.{Result}
 use Rattle.std.proofs.lemmas.Bool.{le-ltb, lt-ltb}
-use Rattle.page_spec.specs.declared.cause.PageCause.{PageCause}
+use Rattle.page_spec.specs.declared.cause.ByteFault.{ByteFault}
 use Rattle.page_spec.specs.declared.cause.PageCause.TheVariants.{TooLong}
 use Rattle.page_spec.specs.declared.layout.Layout.{Layout}
-use Rattle.page_spec.specs.Items.{Found, Item, after_items, events_of, faulty, losses_at, page_found}
+use Rattle.page_spec.specs.Items.{Found, Item, after_items, byte_fault, events_of, faulty, losses_at, page_found}
 use Rattle.page_spec.specs.Lines.{item_text, items_text}
 use Rattle.page_spec.specs.Records.{Record, lost_before, page_time, records_of, used_of}
 use Rattle.event_lines.specs.Puts.{PutsFound}
@@ -77,7 +77,7 @@ pub one_sent : {F : Type 0} → (old mid new : Option (List ℕ)) (cpu : ℕ) (i
 one_sent old mid new cpu item before left all so is more = more_sent old mid new cpu (item ∷ []) before left all so is (rw (item_alone cpu item) more)
 
 -- a prefix of the next line, after which a write failed
-pub one_failed : (T : Type 0) (old mid new : Option (List ℕ)) (cpu : ℕ) (item : Item) (before left all : Found PageCause) (stop : PageStop) → AreSent old mid cpu before all
+pub one_failed : (T : Type 0) (old mid new : Option (List ℕ)) (cpu : ℕ) (item : Item) (before left all : Found ByteFault) (stop : PageStop) → AreSent old mid cpu before all
     → before ≡ after_items (item ∷ []) left → AppendsPrefix mid new (item_text cpu item) → stop ≡ WriteFault → PutsFound {T = T} old new cpu all (Err stop)
 one_failed T old mid new cpu item before left all stop so is prefix failed =
     subst (λ (s : PageStop). PutsFound {T = T} old new cpu all (Err s)) (sym failed)
@@ -102,31 +102,31 @@ pub both_texts : {F : Type 0} → (cpu : ℕ) (items : List Item) (rest all : Fo
 both_texts cpu items rest all is = ap (λ (f : Found _). items_text cpu f.items) is ∙ flat_map-append (item_text cpu) items rest.items
 
 -- items, and then what follows them
-pub puts_after : {T : Type 0} → (old mid new : Option (List ℕ)) (cpu : ℕ) (items : List Item) (rest all : Found PageCause) (result : Result T PageStop)
+pub puts_after : {T : Type 0} → (old mid new : Option (List ℕ)) (cpu : ℕ) (items : List Item) (rest all : Found ByteFault) (result : Result T PageStop)
     → Appends old mid (items_text cpu items) → all ≡ after_items items rest → PutsFound mid new cpu rest result → PutsFound old new cpu all result
 puts_after old mid new cpu items rest all (Ok done) first is puts =
-    (ap (λ (f : Found PageCause). f.fault) is ∙ puts.0, rw (both_texts cpu items rest all is) (Appends-then old mid new (items_text cpu items) (items_text cpu rest.items) first puts.1))
+    (ap (λ (f : Found ByteFault). f.fault) is ∙ puts.0, rw (both_texts cpu items rest all is) (Appends-then old mid new (items_text cpu items) (items_text cpu rest.items) first puts.1))
 puts_after old mid new cpu items rest all (Err (Refused why)) first is puts =
-    (ap (λ (f : Found PageCause). f.fault) is ∙ puts.0, rw (both_texts cpu items rest all is) (Appends-then old mid new (items_text cpu items) (items_text cpu rest.items) first puts.1))
+    (ap (λ (f : Found ByteFault). f.fault) is ∙ puts.0, rw (both_texts cpu items rest all is) (Appends-then old mid new (items_text cpu items) (items_text cpu rest.items) first puts.1))
 puts_after old mid new cpu items rest all (Err WriteFault) first is puts =
     rw (both_texts cpu items rest all is) (AppendsPrefix-last old mid new (items_text cpu items) (items_text cpu rest.items) first puts)
 
 -- a prefix of the first items' lines, after which a write failed
-pub first_failed : (T : Type 0) (old new : Option (List ℕ)) (cpu : ℕ) (items : List Item) (rest all : Found PageCause) (stop : PageStop) → all ≡ after_items items rest
+pub first_failed : (T : Type 0) (old new : Option (List ℕ)) (cpu : ℕ) (items : List Item) (rest all : Found ByteFault) (stop : PageStop) → all ≡ after_items items rest
     → AppendsPrefix old new (items_text cpu items) → stop ≡ WriteFault → PutsFound {T = T} old new cpu all (Err stop)
 first_failed T old new cpu items rest all stop is prefix failed =
     subst (λ (s : PageStop). PutsFound {T = T} old new cpu all (Err s)) (sym failed)
     (prefix_sent old old new cpu items all rest all (none_sent old cpu all) is prefix)
 
 -- a page whose records don't fit
-page_long : (layout : Layout) (page : List ℕ) → length page < layout.header + used_of page → page_found layout page ≡ faulty TooLong
+page_long : (layout : Layout) (page : List ℕ) → length page < layout.header + used_of page → page_found layout page ≡ faulty (byte_fault 8 TooLong)
 unfolding page_found
 page_long layout page long = rw (lt-ltb (length page) (layout.header + used_of page) long) refl
 
 -- it is rejected, and nothing was written
-pub page_refused : (T : Type 0) (has : Option (List ℕ)) (cpu : ℕ) (layout : Layout) (page : List ℕ) (why : PageCause) (stop : PageStop) → why ≡ TooLong
+pub page_refused : (T : Type 0) (has : Option (List ℕ)) (cpu : ℕ) (layout : Layout) (page : List ℕ) (why : ByteFault) (stop : PageStop) → why ≡ byte_fault 8 TooLong
     → length page < layout.header + used_of page → stop ≡ Refused why → PutsFound {T = T} has has cpu (page_found layout page) (Err stop)
 page_refused T has cpu layout page why stop is long refused =
-    let stops : stop ≡ Refused TooLong = refused ∙ ap (λ w. Refused w) is in
-    subst (λ (found : Found PageCause). PutsFound {T = T} has has cpu found (Err stop)) (sym (page_long layout page long))
-    (subst (λ (s : PageStop). PutsFound {T = T} has has cpu (faulty TooLong) (Err s)) (sym stops) (refl, Appends-none has))
+    let stops : stop ≡ Refused (byte_fault 8 TooLong) = refused ∙ ap (λ w. Refused w) is in
+    subst (λ (found : Found ByteFault). PutsFound {T = T} has has cpu found (Err stop)) (sym (page_long layout page long))
+    (subst (λ (s : PageStop). PutsFound {T = T} has has cpu (faulty (byte_fault 8 TooLong)) (Err s)) (sym stops) (refl, Appends-none has))

@@ -1,6 +1,6 @@
-//! Writes the events of a page to a sink, one line per event, while it decodes them.
+//! Decodes the events of a page, and writes one line per event to a sink.
 //!
-//! The crate doesn't allocate, and reads no file: `page_files` provides the pages.
+//! The crate doesn't allocate, and doesn't read files: the crate `page_files` reads the pages.
 #![tactic(auto)]
 
 mod line;

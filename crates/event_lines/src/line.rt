@@ -19,8 +19,8 @@ fn is_plain(byte: u8) -> bool
     32 < byte && byte < 127 && byte != b'\\'
 }
 
-// Writes one byte of a text: as an escape if it is a space, a backslash or not printable, otherwise
-// unchanged.
+// Writes one byte of a text. A space, a backslash or a byte that isn't printable is written as an
+// escape, and any other byte unchanged.
 fn put_byte<K: Sink>(out: &mut K, byte: u8) -> Result<(), WriteFailed>
     ensures bytes { PutsAll (K.has out.old) (K.has out.new) result (byte_text byte) }
     ensures cause { HasCause (K.faults out.old) (K.faults out.new) result }
@@ -53,7 +53,7 @@ fn put_bytes<K: Sink>(out: &mut K, bytes: &[u8]) -> Result<(), WriteFailed>
     Ok(())
 }
 
-// Writes a negative number; `number` is its absolute value.
+// Writes a minus sign and `number`, the absolute value of a negative number.
 #[tactic(auto, using(outside::proofs::Grows::chain))]
 fn put_minus<K: Sink>(out: &mut K, number: u64) -> Result<(), WriteFailed>
     ensures bytes { PutsAll (K.has out.old) (K.has out.new) result
@@ -65,7 +65,7 @@ fn put_minus<K: Sink>(out: &mut K, number: u64) -> Result<(), WriteFailed>
     put_number(out, number)
 }
 
-// Writes the value of a field.
+// Writes the value of a field: a number, the letter of a state, or a text with escapes.
 fn put_value<K: Sink>(out: &mut K, value: FieldValue<'_>) -> Result<(), WriteFailed>
     ensures bytes { PutsAll (K.has out.old) (K.has out.new) result
         (value_text (seen_value value.entry)) }
@@ -118,7 +118,8 @@ fn put_values<K: Sink>(
     Ok(())
 }
 
-// Writes the start of a line: the time (ns), the number of the processor, and a word.
+// Writes the start of a line: the time (ns), the number of the processor, and `word`, which is the
+// name of the event or `lost`.
 #[tactic(auto, using(outside::proofs::Grows::chain))]
 fn put_start<K: Sink>(out: &mut K, time: u64, cpu: u32, word: &[u8]) -> Result<(), WriteFailed>
     ensures bytes { PutsAll (K.has out.old) (K.has out.new) result
@@ -157,7 +158,7 @@ pub(crate) fn put_event<K: Sink>(
     put_all(out, b"\n")
 }
 
-// Writes a space, the number `count` and a newline, which end a line.
+// Writes the end of a line: a space, the number `count` and a newline.
 #[tactic(auto, using(outside::proofs::Grows::chain))]
 fn put_count<K: Sink>(out: &mut K, count: u64) -> Result<(), WriteFailed>
     ensures bytes { PutsAll (K.has out.old) (K.has out.new) result (count_text count) }
@@ -169,8 +170,8 @@ fn put_count<K: Sink>(out: &mut K, count: u64) -> Result<(), WriteFailed>
     put_all(out, b"\n")
 }
 
-/// Writes the line that reports `count` lost events on processor `cpu`; `time` (ns) is that of the
-/// page after them.
+/// Writes the line that reports `count` lost events on processor `cpu`. `time` (ns) is the time of
+/// the page before which the events were lost.
 #[tactic(auto, using(outside::proofs::Grows::chain))]
 pub(crate) fn put_lost<K: Sink>(
     out: &mut K,

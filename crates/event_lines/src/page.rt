@@ -10,24 +10,24 @@ ghost use Rattle.event_lines.specs.Puts.{HasWriteCause, PutsFound};
 use crate::line::{put_event, put_lost};
 use outside::{Sink, WriteFailed};
 use page_events::{Header, Records, next_event, read_header};
-use page_spec::{Layout, PageCause};
+use page_spec::{ByteFault, Layout};
 
-/// The reason why not all events of a page were written.
+/// The reason why writing the lines of a page stopped before the end of the page.
 #[derive(Clone, Copy, Debug, PartialEq, Eq)]
 pub enum PageStop {
-    /// The page is invalid, for this cause.
-    Refused(PageCause),
+    /// The page is invalid: the offset of the fault in the page, and its cause.
+    Refused(ByteFault),
     /// A write failed.
     WriteFault,
 }
 
-impl From<PageCause> for PageStop {
+impl From<ByteFault> for PageStop {
     ghost use Rattle.std.specs.Prelude.{◌≡◌};
     ghost use Rattle.event_lines.specs.declared.page.PageStop.TheVariants as stop;
 
     ghost from_gives = { λ why e. e ≡ stop.Refused why };
 
-    fn from(why: PageCause) -> Self {
+    fn from(why: ByteFault) -> Self {
         PageStop::Refused(why)
     }
 }
@@ -43,7 +43,8 @@ impl From<WriteFailed> for PageStop {
     }
 }
 
-// Writes one line for each event in the records, up to the first record that is too short.
+// Writes one line for each event in the records. Stops with an error at the first record that is
+// too short.
 fn put_events<'a, K: Sink>(
     layout: &'a Layout,
     cpu: u32,
@@ -87,8 +88,8 @@ fn put_losses<K: Sink>(
     }
 }
 
-// Writes the number of events that were lost before the page, if any were, and the events of its
-// records.
+// Writes the lines of a page: the number of events that were lost before the page (no line if
+// `lost` is `None`), and the events of its records.
 fn put_read<'a, K: Sink>(
     layout: &'a Layout,
     cpu: u32,

@@ -9,13 +9,13 @@ use Rattle.page_events.specs.declared.part.Part.TheVariants as part
 use Rattle.page_events.specs.declared.value.FieldValue.{FieldValue}
 use Rattle.page_events.specs.declared.value.FieldValue.TheVariants as seen
 
--- The specification's form of a decoded part.
+-- Converts a decoded part of a page to the corresponding type of page_spec.
 abbrev pub step_of : Part → Step
 step_of part.End = step.Ends
 step_of (part.Skipped time rest) = step.Skips time rest.now
-step_of (part.Found time bytes rest) = step.Gives (record_at time bytes.now) rest.now
+step_of (part.Found byte time bytes rest) = step.Gives (record_at byte time bytes.now) rest.now
 
--- The specification's form of a field's value.
+-- Converts the value of a field to the corresponding type of page_spec.
 abbrev pub seen_value : FieldValue → Value
 seen_value (seen.Count number) = value.Count number
 seen_value (seen.Minus number) = value.Minus number

@@ -1,5 +1,5 @@
-//! Reads little-endian numbers from bytes, and takes parts of bytes. Nothing here knows what the
-//! bytes mean.
+//! Reads little-endian numbers from bytes, and splits bytes. This module doesn't depend on the
+//! format of a page.
 ghost use Rattle.std.specs.Prelude.{◌≡◌, ◌≤◌, length, take, drop};
 ghost use Rattle.page_spec.specs.Fields.{half_of, long_of, number_in, size_of, word_of};
 
@@ -62,7 +62,7 @@ pub(crate) fn number(width: Width, bytes: &[u8]) -> u64
     }
 }
 
-/// Returns the bytes from offset `from` on, or nothing if there are fewer bytes.
+/// Returns the bytes after the first `from` bytes, or no bytes if there are fewer than `from`.
 #[inline(always)]
 pub(crate) fn bytes_from(bytes: &[u8], from: usize) -> &[u8]
     ensures { result.now ≡ drop from bytes.now }

@@ -9,7 +9,7 @@ ghost use Rattle.page_events.specs.Events.{FindsEvent, reading_seen};
 use crate::bytes::half;
 use crate::records::Records;
 use crate::value::has_fields;
-use page_spec::{Kind, Layout, PageCause};
+use page_spec::{ByteFault, Kind, Layout, PageCause};
 
 /// An event of a kind that the layout lists. Its record is long enough for all fields of the kind.
 #[derive(Clone, Copy)]
@@ -22,13 +22,13 @@ pub struct Event<'a> {
     pub bytes: &'a [u8],
 }
 
-/// What a record contains.
+/// The content of a record.
 pub(crate) enum Outcome<'a> {
     /// An event of a kind that the layout doesn't list.
     Unread,
-    /// Too few bytes for the number of the kind, or for the kind's fields.
+    /// A record with too few bytes for the number of the kind, or for the kind's fields.
     Short,
-    /// An event of this kind, with all its fields.
+    /// An event of this kind, with all fields of the kind.
     Read(&'a Kind),
 }
 
@@ -39,7 +39,7 @@ fn kind_with(kinds: &[Kind], number: u16) -> Option<&Kind>
     kinds.iter().find(|kind| kind.number == number)
 }
 
-// Returns what a record contains.
+// Returns the content of a record.
 fn outcome_of<'a>(kinds: &'a [Kind], bytes: &[u8]) -> Outcome<'a>
     ensures { reading_seen result ≡ reading_of kinds.now bytes.now }
 {
@@ -58,12 +58,12 @@ fn outcome_of<'a>(kinds: &'a [Kind], bytes: &[u8]) -> Outcome<'a>
     }
 }
 
-/// Removes records up to and including the next event, and returns this event. Returns `None` if no
-/// event remains, and an error if a record is too short.
+/// Removes records until it finds the next event, and returns the event. Returns `None` if no event
+/// remains. Fails at the offset of a record that is too short.
 pub fn next_event<'a>(
     layout: &'a Layout,
     records: &mut Records<'a>,
-) -> Result<Option<Event<'a>>, PageCause>
+) -> Result<Option<Event<'a>>, ByteFault>
     ensures next { FindsEvent layout.now records.old records.new result }
     ensures shorter { IfOk result (λ found.
         OnSome found (length records.new < length records.old)) }
@@ -73,7 +73,10 @@ pub fn next_event<'a>(
     'records: while let Some(found) = records.next_record() {
         match outcome_of(layout.kinds.items(), found.bytes) {
             Outcome::Unread => {}
-            Outcome::Short => return Err(PageCause::ShortRecord),
+            Outcome::Short => return Err(ByteFault {
+                byte: found.byte as u64,
+                cause: PageCause::ShortRecord,
+            }),
             Outcome::Read(kind) => {
                 return Ok(Some(Event {
                     time: found.time,

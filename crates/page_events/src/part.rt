@@ -1,5 +1,5 @@
-//! Decodes the next part of a page's data: a record, a part to skip, or the end. A part begins with
-//! a word, whose lower 5 bits are its kind.
+//! Decodes the next part of a page's data: a record, a part without an event, or the end. A part
+//! begins with a word, whose lower 5 bits are its kind.
 ghost use Rattle.std.specs.Prelude.{◌≡◌, ◌^◌, ◌<◌, ◌≤◌, length};
 ghost use Rattle.page_spec.specs.Fields.{word_of};
 ghost use Rattle.page_spec.specs.Records.{kind_step, long_step, step_at};
@@ -8,7 +8,7 @@ ghost use Rattle.page_events.specs.Parts.{step_of};
 use crate::bytes::{bytes_from, bytes_to, word};
 
 /// The next part of a page's data. `time` (ns) is the time after the part, and `rest` are the bytes
-/// after it.
+/// after the part.
 #[derive(Drop)]
 pub(crate) enum Part<'a> {
     /// No part follows.
@@ -18,28 +18,29 @@ pub(crate) enum Part<'a> {
         time: u64,
         rest: &'a [u8],
     },
-    /// The record of an event; `bytes` are its bytes.
+    /// The record of an event; `bytes` are its bytes, and `byte` is its offset in the page.
     Found {
+        byte: usize,
         time: u64,
         bytes: &'a [u8],
         rest: &'a [u8],
     },
 }
 
-/// The unit (ns) of the second word of a time: the first word has 27 bits of the time.
+/// The unit of the second word of a time: 2^27 ns, because the first word has the lower 27 bits.
 const UNIT: u64 = 1 << 27;
 
-/// One more than the largest time (ns) that an absolute time stamp has: 59 bits.
+/// The upper bound (exclusive) of an absolute time (ns): absolute times have 59 bits.
 const RANGE: u64 = 1 << 59;
 
-// Returns a part that has a second word, which is at the start of `after`. `kind` and `amount` are
-// the lower 5 and the higher 27 bits of the first word, and `time` (ns) is the time before the
-// part.
+// Decodes a part with a second word, which is at the start of `after`. `kind` and `amount` are the
+// lower 5 and the higher 27 bits of the first word, `time` (ns) is the time before the part, and
+// `byte` is the part's offset in the page.
 #[inline(always)]
-fn long_part(time: u64, kind: u32, amount: u64, after: &[u8]) -> Part<'_>
+fn long_part(byte: usize, time: u64, kind: u32, amount: u64, after: &[u8]) -> Part<'_>
     requires word { 4 ≤ length after.now }
     requires amount { amount < 2 ^ 27 }
-    ensures { step_of result ≡ long_step time kind amount (word_of after.now) after.now }
+    ensures { step_of result ≡ long_step byte time kind amount (word_of after.now) after.now }
 {
     let more = word(after);
     let length = more as usize;
@@ -47,6 +48,7 @@ fn long_part(time: u64, kind: u32, amount: u64, after: &[u8]) -> Part<'_>
     if kind == 0 {
         let bytes = bytes_to(bytes_from(after, 4), length.saturating_sub(4));
         Part::Found {
+            byte,
             time: time.wrapping_add(amount),
             bytes,
             rest: bytes_from(after, length),
@@ -73,18 +75,20 @@ fn long_part(time: u64, kind: u32, amount: u64, after: &[u8]) -> Part<'_>
     }
 }
 
-// Returns a part of any kind. `kind` and `amount` are the lower 5 and the higher 27 bits of its
-// first word, `after` are the bytes after this word, and `time` (ns) is the time before the part.
+// Decodes a part of any kind. `kind` and `amount` are the lower 5 and the higher 27 bits of its
+// first word. `after` are the bytes after this word, `time` (ns) is the time before the part, and
+// `byte` is the part's offset in the page.
 #[inline(always)]
-fn kind_part(time: u64, kind: u32, amount: u64, after: &[u8]) -> Part<'_>
+fn kind_part(byte: usize, time: u64, kind: u32, amount: u64, after: &[u8]) -> Part<'_>
     requires kind { kind < 32 }
     requires amount { amount < 2 ^ 27 }
-    ensures { step_of result ≡ kind_step time kind amount after.now }
+    ensures { step_of result ≡ kind_step byte time kind amount after.now }
 {
     if 0 < kind && kind < 29 {
         let length = 4 * kind as usize;
         let bytes = bytes_to(after, length);
         Part::Found {
+            byte,
             time: time.wrapping_add(amount),
             bytes,
             rest: bytes_from(after, length),
@@ -92,19 +96,28 @@ fn kind_part(time: u64, kind: u32, amount: u64, after: &[u8]) -> Part<'_>
     } else if after.len() < 4 {
         Part::End
     } else {
-        long_part(time, kind, amount, after)
+        long_part(byte, time, kind, amount, after)
     }
 }
 
-/// Returns the part at the start of `rest`; `time` (ns) is the time before it.
+/// Decodes the part at the start of `rest`. `rest` ends at the offset `end` of the page, and `time`
+/// (ns) is the time before the part.
 #[inline(always)]
 #[tactic(auto, unfolding(page_spec::specs::Records::step_at))]
-pub(crate) fn part_at(time: u64, rest: &[u8]) -> Part<'_>
-    ensures { step_of result ≡ step_at time rest.now }
+pub(crate) fn part_at(end: usize, time: u64, rest: &[u8]) -> Part<'_>
+    ensures { step_of result ≡ step_at end time rest.now }
 {
     if rest.len() < 4 {
         return Part::End;
     }
     let first = word(rest);
-    kind_part(time, first % 32, u64::from(first / 32), bytes_from(rest, 4))
+    // `rest` ends at `end`, so it has at most `end` bytes.
+    let byte = end.saturating_sub(rest.len());
+    kind_part(
+        byte,
+        time,
+        first % 32,
+        u64::from(first / 32),
+        bytes_from(rest, 4),
+    )
 }

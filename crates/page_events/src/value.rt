@@ -12,7 +12,7 @@ use page_spec::{Field, StateLetter, Width};
 pub enum FieldValue<'a> {
     /// A number that isn't negative.
     Count(u64),
-    /// A negative number, as its absolute value.
+    /// A negative number, represented by its absolute value.
     Minus(u64),
     /// The letter of a task's state.
     Letter(u8),
@@ -20,8 +20,8 @@ pub enum FieldValue<'a> {
     Bytes(&'a [u8]),
 }
 
-// Returns 2 to the power of the number of bits minus 1: signed numbers of this width are less than
-// it.
+// Returns `2^(bits - 1)` for a number with `bits` bits: signed numbers of this width are less than
+// the result.
 fn half_range(width: Width) -> u64
     ensures value { result ≡ 2 ^ (8 * size_of width - 1) }
 {
@@ -47,8 +47,8 @@ fn signed<'a>(width: Width, number: u64) -> FieldValue<'a>
     }
 }
 
-// Returns the letter of a task's state: that of the first row that shares a bit with `state`, or
-// `R` (running) if no row does.
+// Returns the letter of a task's state: the first letter that represents a bit of `state`, or `R`
+// (running) if no letter does.
 fn letter(letters: &[StateLetter], state: u64) -> u8
     ensures { result ≡ letter_of letters.now state }
 {
@@ -75,8 +75,9 @@ fn until_zero(bytes: &[u8]) -> &[u8]
     }
 }
 
-// Returns the text that `word` locates in `bytes`: the lower 16 bits are the text's offset (bytes),
-// and the higher 16 bits its length (bytes). The text ends before a zero byte.
+// Returns the text that `word` locates in `bytes`. The lower 16 bits of `word` are the text's
+// offset (bytes), and the higher 16 bits are its length (bytes). The text ends before its first
+// zero byte.
 fn located(word: u32, bytes: &[u8]) -> &[u8]
     ensures { result.now ≡ located word bytes.now }
 {
@@ -95,8 +96,8 @@ fn at_most(most: u32, bytes: &[u8]) -> &[u8]
     }
 }
 
-// Returns the offset (bytes) up to which a record must reach to have the field. A text may be
-// empty, so no byte of it is required.
+// Returns the length (bytes) that a record must have to contain the field. A text may be empty, so
+// only its offset counts.
 fn end_of(field: Field) -> usize
     ensures { result ≡ end_of field }
 {

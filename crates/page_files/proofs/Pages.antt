@@ -6,10 +6,10 @@ use Rattle.std.proofs.lemmas.Bool.{le-leb, le-ltb, lt-leb, lt-ltb, ltb-false, lt
 use Rattle.std.proofs.lemmas.List.{append-nil, drop-drop}
 use Rattle.outside.specs.Outside.{AppendsPrefix}
 use Rattle.outside.proofs.Grows.{AppendsPrefix-of}
-use Rattle.page_spec.specs.declared.cause.PageCause.{PageCause}
+use Rattle.page_spec.specs.declared.cause.ByteFault.{ByteFault}
 use Rattle.page_spec.specs.declared.cause.PageCause.TheVariants.{TooMany}
 use Rattle.page_spec.specs.declared.layout.Layout.{Layout}
-use Rattle.page_spec.specs.Items.{Found, Item, PageFault, after_items, fault_at, faulty, most_pages, nothing, page_found, pages_found, pages_in, pages_of, then_unless}
+use Rattle.page_spec.specs.Items.{Found, Item, PageFault, after_items, byte_fault, fault_at, faulty, most_pages, nothing, page_found, pages_found, pages_in, pages_of, then_unless}
 use Rattle.page_spec.specs.Lines.{items_text}
 use Rattle.event_lines.specs.Puts.{PutsFound}
 use Rattle.event_lines.specs.declared.page.PageStop.{PageStop}
@@ -70,7 +70,7 @@ found_first : (layout : Layout) (number : ℕ) (page : List ℕ) (pages : List (
 unfolding pages_found
 found_first layout number page pages below = rw (lt-leb most_pages number below) refl
 
-found_beyond : (layout : Layout) (number : ℕ) (page : List ℕ) (pages : List (List ℕ)) → most_pages ≤ number → pages_found layout number (page ∷ pages) ≡ faulty (fault_at number TooMany)
+found_beyond : (layout : Layout) (number : ℕ) (page : List ℕ) (pages : List (List ℕ)) → most_pages ≤ number → pages_found layout number (page ∷ pages) ≡ faulty (fault_at number (byte_fault 0 TooMany))
 unfolding pages_found
 found_beyond layout number page pages beyond = rw (le-leb most_pages number beyond) refl
 
@@ -86,7 +86,7 @@ next_page layout number page whole some below filled =
 
 -- what they have, if there are too many
 pub beyond_page : (layout : Layout) (number : ℕ) (whole : List ℕ) → 0 < layout.page → most_pages ≤ number → layout.page ≤ length (drop (number * layout.page) whole)
-    → pages_found layout number (pages_from layout.page number whole) ≡ faulty (fault_at number TooMany)
+    → pages_found layout number (pages_from layout.page number whole) ≡ faulty (fault_at number (byte_fault 0 TooMany))
 beyond_page layout number whole some beyond filled =
     ap (pages_found layout number) (one_page layout.page (drop (number * layout.page) whole) some filled)
     ∙ found_beyond layout number (take layout.page (drop (number * layout.page) whole)) (pages_of layout.page (drop layout.page (drop (number * layout.page) whole))) beyond
@@ -94,7 +94,7 @@ beyond_page layout number whole some beyond filled =
 -- ---- what was sent
 
 -- a whole page was written without a fault
-pub page_sent : (old mid new : Option (List ℕ)) (cpu number : ℕ) (found : Found PageCause) (before rest all : Found PageFault) → AreSent old mid cpu before all
+pub page_sent : (old mid new : Option (List ℕ)) (cpu number : ℕ) (found : Found ByteFault) (before rest all : Found PageFault) → AreSent old mid cpu before all
     → before ≡ then_unless found.items (option_map (fault_at number) found.fault) rest → (found.fault ≡ None) × Appends mid new (items_text cpu found.items) → AreSent old new cpu rest all
 page_sent old mid new cpu number found before rest all so is puts =
     more_sent old mid new cpu found.items before rest all so (is ∙ ap (λ fault. then_unless found.items (option_map (fault_at number) fault) rest) puts.0) puts.1
@@ -119,7 +119,7 @@ pub so_far : (old new : Option (List ℕ)) (cpu : ℕ) (left all : Found PageFau
 so_far old new cpu left all so = AppendsPrefix-of old new (items_text cpu so.sent) (items_text cpu left.items) (items_text cpu all.items) so.grew (both_texts cpu so.sent left all so.rest)
 
 -- a page ended the writing
-pub page_stops : (T : Type 0) (old mid new : Option (List ℕ)) (cpu number : ℕ) (found : Found PageCause) (before rest all : Found PageFault) (end : PageStop) → AreSent old mid cpu before all
+pub page_stops : (T : Type 0) (old mid new : Option (List ℕ)) (cpu number : ℕ) (found : Found ByteFault) (before rest all : Found PageFault) (end : PageStop) → AreSent old mid cpu before all
     → before ≡ then_unless found.items (option_map (fault_at number) found.fault) rest → PutsFound {T = Unit {0}} mid new cpu found (Err end) → PutsFile {T = T} old new cpu all (Err (stop_at number end))
 page_stops T old mid new cpu number found before rest all (stop.Refused why) so is puts =
     let faulted : before ≡ record { items = found.items; fault = Some (fault_at number why) } = is ∙ ap (λ fault. then_unless found.items (option_map (fault_at number) fault) rest) puts.0 in

@@ -11,7 +11,7 @@ use event_lines::{PageStop, put_page};
 use outside::{Shelf, ShelfFault, Sink};
 use page_spec::{Layout, PageCause};
 
-/// The largest number of pages in a file.
+/// The maximum number of pages of a file. Page numbers are therefore less than 2^32.
 const MOST_PAGES: u64 = 0xffff_ffff;
 
 /// The reason why not all events of a file were written.
@@ -21,13 +21,18 @@ pub enum FileStop {
     NoFile,
     /// A read failed.
     ReadFault,
-    /// The page with this number (from 0) is invalid, for this cause.
-    Refused { page: u64, cause: PageCause },
+    /// The page with the number `page` (from 0) is invalid for the reason `cause`. `byte` is the
+    /// offset of the fault in this page.
+    Refused {
+        page: u64,
+        byte: u64,
+        cause: PageCause,
+    },
     /// A write failed.
     WriteFault,
 }
 
-// Returns the reason for a read that failed.
+// Converts the fault of a failed read to a `FileStop`.
 fn read_stop(fault: ShelfFault) -> FileStop
     ensures { result ≡ stop_of_read fault }
 {
@@ -37,12 +42,16 @@ fn read_stop(fault: ShelfFault) -> FileStop
     }
 }
 
-// Returns the reason if page number `page` couldn't be written, given the reason for the page.
+// Converts the fault `stop` of writing page number `page` (from 0) to a `FileStop`.
 fn page_stop(page: u64, stop: PageStop) -> FileStop
     ensures { result ≡ stop_at page stop }
 {
     match stop {
-        PageStop::Refused(cause) => FileStop::Refused { page, cause },
+        PageStop::Refused(fault) => FileStop::Refused {
+            page,
+            byte: fault.byte,
+            cause: fault.cause,
+        },
         PageStop::WriteFault => FileStop::WriteFault,
     }
 }
@@ -87,6 +96,7 @@ pub fn put_file<S: Shelf, K: Sink>(
         if number == MOST_PAGES {
             return Err(FileStop::Refused {
                 page: number,
+                byte: 0,
                 cause: PageCause::TooMany,
             });
         }

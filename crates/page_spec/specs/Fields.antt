@@ -29,7 +29,7 @@ word_of bytes = from_le_bytes w32 bytes
 abbrev pub long_of : List ℕ → ℕ
 long_of bytes = from_le_bytes w64 bytes
 
--- The little-endian number of a given width at the beginning of the bytes.
+-- The little-endian number of this width in the first bytes.
 abbrev pub number_in : Width → List ℕ → ℕ
 number_in One bytes = slice_index bytes 0
 number_in Two bytes = half_of bytes
@@ -46,7 +46,7 @@ pub data Value : Type 0 where
   Letter : ℕ → Value
   Bytes : List ℕ → Value
 
--- The signed value of a number of a given width in two's complement.
+-- The signed value of a number in two's complement. `width` is the number of its bytes.
 abbrev pub signed_of : Width → ℕ → Value
 signed_of width number =
     if nat_lt number (2 ^ (8 * size_of width - 1)) then Count number else Minus (2 ^ (8 * size_of width) - number)
@@ -57,7 +57,7 @@ abbrev pub letter_of : List StateLetter → ℕ → ℕ
 letter_of letters state =
     unwrap_or (option_map (λ (row : StateLetter). row.letter) (find (λ (row : StateLetter). not (bit_and state row.bits == 0)) letters)) 82
 
--- The bytes before an optional position, or all bytes for `None`.
+-- The bytes before the index `place`, or all bytes if the index is `None`.
 abbrev pub up_to : Option ℕ → List ℕ → List ℕ
 up_to None bytes = bytes
 up_to (Some place) bytes = take place bytes
@@ -66,16 +66,16 @@ up_to (Some place) bytes = take place bytes
 abbrev pub until_zero : List ℕ → List ℕ
 until_zero bytes = up_to (position (λ byte. byte == 0) bytes) bytes
 
--- At most the first `most` bytes, or all bytes if `most` is 0.
+-- The first `most` bytes (all bytes if there are fewer), or all bytes if `most` is 0.
 abbrev pub at_most : ℕ → List ℕ → List ℕ
 at_most most bytes = if most == 0 then bytes else take most bytes
 
--- The text elsewhere in a record that the number `word` locates: its offset is in the lower half of
--- `word`, and its length is in the upper half. The text ends at its first zero byte.
+-- The text that the number `word` locates in the record `bytes`: its offset is in the lower 16 bits
+-- of `word`, and its length is in the upper 16 bits. The text ends before its first zero byte.
 abbrev pub located : ℕ → List ℕ → List ℕ
 located word bytes = until_zero (take (word / 2 ^ 16) (drop (word % 2 ^ 16) bytes))
 
--- The value of a field of the record `bytes`, given the letters of states.
+-- The value of a field of the record `bytes`. `letters` are the letters of task states.
 abbrev pub value_of : List StateLetter → List ℕ → Field → Value
 value_of letters bytes (field.Unsigned offset width) = Count (number_in width (drop offset bytes))
 value_of letters bytes (field.Signed offset width) = signed_of width (number_in width (drop offset bytes))
@@ -83,12 +83,13 @@ value_of letters bytes (field.State offset width) = Letter (letter_of letters (n
 value_of letters bytes (field.Text offset most) = Bytes (until_zero (at_most most (drop offset bytes)))
 value_of letters bytes (field.Located offset) = Bytes (located (word_of (drop offset bytes)) bytes)
 
--- The values of the fields of the record `bytes`, in order.
+-- The values of the fields of the record `bytes`, in order. `letters` are the letters of task
+-- states.
 abbrev pub values_of : List StateLetter → List ℕ → List Field → List Value
 values_of letters bytes fields = map (value_of letters bytes) fields
 
--- The least number of bytes that a record with this field has. A text begins at its offset, and may
--- be empty.
+-- The minimum number of bytes of a record with this field. A text begins at its offset, and may be
+-- empty.
 abbrev pub end_of : Field → ℕ
 end_of (field.Unsigned offset width) = offset + size_of width
 end_of (field.Signed offset width) = offset + size_of width

@@ -36,16 +36,17 @@ pub enum Field {
     Located { offset: u32 },
 }
 
-/// The letter that is printed for some bits of a task's state.
+/// A letter for a task's state, and the bits of the state that the letter represents.
 #[derive(Clone, Copy, Debug, PartialEq, Eq)]
 pub struct StateLetter {
-    /// The bits. A state has the letter if at least one of the bits is set in the state.
+    /// The bits that the letter represents. A state has the letter if at least one of these bits is
+    /// set in the state.
     pub bits: u64,
     /// The letter, as an ASCII byte.
     pub letter: u8,
 }
 
-/// A list of fields, which contracts see as a logical list.
+/// A list of fields. Contracts see it as a mathematical list.
 #[derive(Drop)]
 pub struct FieldList {
     fields: Vec<Field>,
@@ -63,7 +64,7 @@ impl Model for FieldList {
 impl FieldList {
     ghost use Rattle.std.specs.Prelude.{◌≡◌};
 
-    /// Makes a list of the fields, in order.
+    /// Creates a list of these fields, in order.
     pub fn new(fields: Vec<Field>) -> Self
         ensures { result ≡ fields.items }
     {
@@ -78,7 +79,7 @@ impl FieldList {
     }
 }
 
-/// A list of letters of states, which contracts see as a logical list.
+/// A list of letters of task states. Contracts see it as a mathematical list.
 #[derive(Drop)]
 pub struct LetterList {
     letters: Vec<StateLetter>,
@@ -96,7 +97,7 @@ impl Model for LetterList {
 impl LetterList {
     ghost use Rattle.std.specs.Prelude.{◌≡◌};
 
-    /// Makes a list of the letters, in order.
+    /// Creates a list of these letters, in order.
     pub fn new(letters: Vec<StateLetter>) -> Self
         ensures { result ≡ letters.items }
     {
@@ -122,7 +123,7 @@ pub struct Kind {
     pub fields: FieldList,
 }
 
-/// A list of kinds of events, which contracts see as a logical list.
+/// A list of kinds of events. Contracts see it as a mathematical list.
 #[derive(Drop)]
 pub struct KindList {
     kinds: Vec<Kind>,
@@ -140,7 +141,7 @@ impl Model for KindList {
 impl KindList {
     ghost use Rattle.std.specs.Prelude.{◌≡◌};
 
-    /// Makes a list of the kinds, in order.
+    /// Creates a list of these kinds, in order.
     pub fn new(kinds: Vec<Kind>) -> Self
         ensures { result ≡ kinds.items }
     {
@@ -162,9 +163,9 @@ pub struct Layout {
     pub page: u32,
     /// The size of a page's header in bytes. The records follow the header.
     pub header: u32,
-    /// The letters of states. A state is printed as the first letter that has one of its bits, or
-    /// as `R` if no letter has one.
+    /// The letters of task states. A state is printed as the first letter that represents one of
+    /// its bits, or as `R` if no letter does.
     pub letters: LetterList,
-    /// The kinds of events. If several kinds have one number, the first of them applies.
+    /// The kinds of events. If several kinds have the same number, the first kind is used.
     pub kinds: KindList,
 }

@@ -9,5 +9,5 @@
 mod cause;
 mod layout;
 
-pub use cause::PageCause;
+pub use cause::{ByteFault, PageCause};
 pub use layout::{Field, FieldList, Kind, KindList, Layout, LetterList, StateLetter, Width};

@@ -1,5 +1,5 @@
--- The end of the program `psi_convert`: its exit code, its message on standard error, and the
--- contract that the run has kept.
+-- The contract of the program `psi_convert`: its exit code, its message on standard error, its
+-- output and its reads.
 use Rattle.std.specs.Prelude.{◌≡◌, ℕ, List, ◌∷◌, true, false, codes, Option, Some}
 use Rattle.std.specs.Io.KnownBytes.{Appends, Keeps}
 use Rattle.outside.specs.Outside.{AppendsPrefix, Files, Increased, content_of}
@@ -10,27 +10,29 @@ use Rattle.convert_core.specs.Status.{code_of, status_text}
 use Rattle.convert_core.specs.declared.status.Status.{Status}
 use Rattle.convert_core.specs.declared.status.Status.TheVariants as status
 
--- The program ends with the exit code of the status `ended`. The message of the status was appended
--- to standard error, or a prefix of the message if a write to standard error failed.
+-- The program, run with the arguments `words`, ends with the exit code `exit` of the status
+-- `ended`. The content of standard error is `old` before the run and `new` after it. The message of
+-- the status was appended, or a prefix of the message if a write to standard error failed.
 pub record EndsAs (words : List (List ℕ)) (ended : Status) (exit faults_before faults_now : ℕ)
     (old new : Option (List ℕ)) : Type 0 where
   pub code : exit ≡ code_of ended
   pub prefix : AppendsPrefix old new (status_text words ended)
   pub whole : (Increased faults_before faults_now → ⊥) → Appends old new (status_text words ended)
 
--- The logs of read calls before a run and after it.
+-- The log of read calls before a run (`log`) and after the run (`log_now`).
 pub record RunReads : Type 0 where
   pub log : List ReadCall
   pub log_now : List ReadCall
 
--- Makes the record of a run's reads from its two logs.
+-- `run_reads log log_now`: builds the record of a run's reads from the two logs.
 abbrev pub run_reads : List ReadCall → List ReadCall → RunReads
 run_reads log log_now = record { log = log; log_now = log_now }
 
--- A run of the command line `words` ended with the status `ended`. For known bytes of the files,
--- the output and the status are those that `convert_of` defines. Each failure that the status
--- reports was counted, and the files were read in order. If the words aren't a command, the status
--- is Usage, and the run read and wrote nothing.
+-- A run of the command line `words` ended with the status `ended`. If the contents of the files are
+-- known, the output and the status are those that `convert_of` defines. Each failure that the
+-- status reports was counted, and the files were read in order. If the status is NoFile, the file
+-- that it names is missing. The status is Usage exactly if the words aren't a command; then the run
+-- read and wrote nothing.
 pub record RanAs (words : List (List ℕ)) (ended : Status) (files : Option Files) (before now : RunCounts) (reads : RunReads)
     (old new : Option (List ℕ)) : Type 0 where
   pub converts : (table : List ℕ) (pages : List (List ℕ)) (bytes : List ℕ) (wholes : List (List ℕ)) → is_command words ≡ true

@@ -1,7 +1,7 @@
 use Rattle.std.proofs.Common.{◌+◌, ◌*◌, ◌∙◌, Err, arith, rules, subst, sym}
 use Rattle.outside.proofs.ReadOrder.{file_then}
 use Rattle.page_spec.specs.declared.cause.PageCause.TheVariants.{TooMany}
-use Rattle.page_spec.specs.Items.{fault_at, file_found, page_found, pages_found}
+use Rattle.page_spec.specs.Items.{byte_fault, fault_at, file_found, page_found, pages_found}
 use Rattle.page_files.specs.Puts.{PutsFile}
 use Rattle.page_files.specs.declared.file.FileStop.{FileStop}
 use Rattle.page_files.proofs.Filled.{filled_short, filled_whole}
@@ -33,7 +33,7 @@ returns-then-number-eq-MOST_PAGES-clause-bytes g c = λ whole shows.
     let size = layout.page in
     let is = c.in-Ok.ensures.bytes whole (rw i.unchanged shows) in
     let filled = filled_whole whole c.fill.new.bytes (c.pages.number * size) c.in-Ok.count size (omega arith) (omega (arith, c.in-Ok.ensures.bound)) is in
-    ends_faulty _ _ c.args.cpu (fault_at c.pages.number TooMany) (pages_found layout c.pages.number (pages_from size c.pages.number whole)) (file_found layout whole) (i.sent whole shows)
+    ends_faulty _ _ c.args.cpu (fault_at c.pages.number (byte_fault 0 TooMany)) (pages_found layout c.pages.number (pages_from size c.pages.number whole)) (file_found layout whole) (i.sent whole shows)
     (beyond_page layout c.pages.number whole (omega arith) (omega arith) filled.1)
 
 pub returns-then-number-eq-MOST_PAGES-clause-order : goal.returns-then-number-eq-MOST_PAGES-clause-order
