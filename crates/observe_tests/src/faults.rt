@@ -1,9 +1,10 @@
 //! Tests of rejected traces, and of reads and writes that fail: the status, the note and the
 //! printed prefix. All traces are short.
 
-use crate::runs::{Failing, Host, NO_FAULT, NONE, assert_prints_nothing, assert_run, run_failing};
+use crate::runs::{Host, assert_prints_nothing, run_failing};
 use observe_core::ObserveStatus;
 use psi_base::Cause;
+use test_support::{Failing, NO_CALL, NO_FAILURE, as_text, assert_equal, first_bytes};
 
 /// A trace with two ticks and no task, so that no processor changes.
 const TWO_TICKS: &str = "psitrace 1 cpus=1\n2500000000 group /a\n4000000000 end\n";
@@ -14,10 +15,11 @@ const PRINTED: &str = "board observer=0 tick=2 events=0 kills=0\n\
     board observer=1 tick=2 events=0 kills=0\n\
     end 4000000000 samples=0\n";
 
-/// The number of reads: one for each byte of the trace, and one after the end.
+/// The number of reads if each read returns one byte: one for each byte of the trace, and one after
+/// the end.
 const READS: u64 = 54;
 
-/// The number of bytes of the output.
+/// The number of writes if each write takes one byte: the number of bytes of `PRINTED`.
 const WRITES: u64 = 107;
 
 /// Checks that a trace is rejected at the second line for this cause, and that the note names the
@@ -42,29 +44,24 @@ fn traces_that_are_refused(rt: HostRuntime) {
 /// the first `length` bytes of `PRINTED` are printed.
 fn assert_prefix(rt: &impl Host, failing: Failing, status: ObserveStatus, length: u64, note: &str) {
     let ran = run_failing(rt, "t 2 /a/b", TWO_TICKS, 1, failing);
-    let prefix = PRINTED
-        .as_bytes()
-        .get(..length as usize)
-        .unwrap_or(b"".as_slice());
-    let is_reported = ran.note.as_slice() == note.as_bytes();
-    let is_right = ran.status == status && ran.output.as_slice() == prefix && is_reported;
-    assert!(rt;
-        is_right,
-        "{failing:?}: {ran} in place of {status:?}, {length} bytes, {note:?}"
-    );
+    let prefix = as_text(first_bytes(PRINTED.as_bytes(), length as usize));
+    assert_equal!(rt; ran.results(), (status, prefix, note), failing);
 }
 
 #[test]
 fn each_call_fails_in_turn(rt: HostRuntime) {
-    assert_prefix(&rt, NO_FAULT, ObserveStatus::Done, WRITES, "");
+    assert_prefix(&rt, NO_FAILURE, ObserveStatus::Done, WRITES, "");
     let fault = ObserveStatus::ReadFault;
     for read in 0..READS {
-        let failing = Failing { read, ..NO_FAULT };
+        let failing = Failing { read, ..NO_FAILURE };
         assert_prefix(&rt, failing, fault, 0, "read fault\n");
     }
     let fault = ObserveStatus::WriteFault;
     for write in 0..WRITES {
-        let failing = Failing { write, ..NO_FAULT };
+        let failing = Failing {
+            write,
+            ..NO_FAILURE
+        };
         assert_prefix(&rt, failing, fault, write, "write fault\n");
     }
 }
@@ -74,9 +71,10 @@ fn each_call_fails_in_turn(rt: HostRuntime) {
 fn a_note_that_fails(rt: HostRuntime) {
     let failing = Failing {
         read: 0,
-        write: NONE,
+        write: NO_CALL,
         note: 1,
     };
     let ran = run_failing(&rt, "t 2 /", TWO_TICKS, 7, failing);
-    assert_run(&rt, "t 2 /", &ran, ObserveStatus::ReadFault, "", "read fa");
+    let expected = (ObserveStatus::ReadFault, "", "read fa");
+    assert_equal!(rt; ran.results(), expected, "a note that fails");
 }

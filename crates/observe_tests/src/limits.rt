@@ -3,6 +3,7 @@
 
 use crate::runs::{Host, assert_ends, assert_prints_nothing, run_open};
 use observe_core::ObserveStatus;
+use test_support::assert_equal;
 
 /// A trace with the largest number of ticks that eight observers of 50 processors may sample, and a
 /// trace with one more tick.
@@ -20,8 +21,9 @@ const SOME_TICKS: &str = "psitrace 1 cpus=50\n50000000000 end\n";
 #[test]
 fn as_many_as_may_be(rt: HostRuntime) {
     let ran = run_open(&rt, "t 8 /nope", MOST_TICKS);
-    let first = b"board observer=0 tick=2500 events=0 kills=0\n";
-    assert!(rt; ran.output.starts_with(first), "{ran}");
+    let first = "board observer=0 tick=2500 events=0 kills=0\n";
+    let beginning = ran.beginning(first.len());
+    assert_equal!(rt; beginning, (ObserveStatus::Done, first, ""), "the first line");
     assert_ends(&rt, "t 8 /nope", &ran, "\nend 5000000000000 samples=0\n");
 }
 
@@ -45,5 +47,5 @@ fn ten_thousand(rt: HostRuntime) {
     assert_ends(&rt, "t 8 /", &ran, "\nend 50000000000 samples=10000\n");
     // Each sample, each of the eight board states and the last line end with a newline.
     let ends = ran.output.iter().filter(|byte| **byte == b'\n').count();
-    assert_eq!(rt; ends, 10_009);
+    assert_equal!(rt; ends, 10_009, "lines");
 }

@@ -1,8 +1,8 @@
 //! Tests that each observer takes one sample on each processor at each tick. The samples of several
 //! observers are found by their numbers.
 
-use crate::gates::ONE_PROCESSOR;
-use crate::runs::{Ran, assert_ends, line_of, run_open};
+use crate::runs::{Ran, assert_ends, run_open};
+use test_support::{ONE_PROCESSOR, line_of};
 
 /// The possible texts of a sample of `ONE_PROCESSOR` after the observer's number, in the order of
 /// the number of changes.
@@ -63,7 +63,10 @@ fn is_shared(ran: &Ran) -> bool {
 fn a_sample_of_each_observer(rt: HostRuntime) {
     let ran = run_open(&rt, "t 8 /", ONE_PROCESSOR);
     assert_ends(&rt, "t 8 /", &ran, "\nend 2000000000 samples=8\n");
-    assert!(rt; is_shared(&ran), "{ran}");
+    assert!(rt;
+        is_shared(&ran),
+        "expected: a sample of each observer, actual: {ran}"
+    );
 }
 
 /// Returns whether an observer has one sample per processor and tick, for three ticks, and its last
@@ -84,6 +87,10 @@ fn processors_tick_by_tick(rt: HostRuntime) {
     let ran = run_open(&rt, "t 8 /", THREE_TICKS);
     assert_ends(&rt, "t 8 /", &ran, "\nend 6000000000 samples=48\n");
     for observer in 0..8u8 {
-        assert!(rt; is_settled(&ran.output, observer), "{observer}: {ran}");
+        let is_settled = is_settled(&ran.output, observer);
+        assert!(rt;
+            is_settled,
+            "expected: six samples of observer {observer}, actual: {ran}"
+        );
     }
 }

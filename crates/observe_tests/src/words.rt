@@ -1,12 +1,10 @@
 //! Tests of command lines that aren't a request or that name a missing file, and of the exit codes
 //! of all statuses.
 
-use crate::gates::ONE_PROCESSOR;
 use crate::runs::{Host, assert_prints_nothing};
 use observe_core::ObserveStatus;
-use psi_base::{Cause, NoMemory};
-use std::alloc::Global;
-use std::process::Abort;
+use psi_base::Cause;
+use test_support::{ONE_PROCESSOR, assert_equal, no_memory};
 
 /// Command lines that aren't the name of a trace, a number from 1 to 8 and a path.
 const NOTHING_REQUESTED: [&str; 14] = [
@@ -46,17 +44,10 @@ fn names_that_are_not_held(rt: HostRuntime) {
     assert_reported(&rt, "- 8 /a", ObserveStatus::NoFile, "no file: -\n");
 }
 
-// Returns the error of an allocation that always fails.
-fn short_of_memory(rt: &impl Abort, alloc: Global) -> NoMemory {
-    match Vec::<u8>::with_capacity(alloc, usize::MAX) {
-        Ok(_) => panic!(rt; "there is room for all bytes that can be named"),
-        Err(refused) => NoMemory::from(refused),
-    }
-}
-
 #[test]
 fn codes_of_statuses(rt: HostRuntime) {
     let cause = Cause::NoEnd;
+    let no_memory = no_memory(rt.alloc());
     let codes = [
         ObserveStatus::Done.code(),
         ObserveStatus::Usage.code(),
@@ -64,8 +55,8 @@ fn codes_of_statuses(rt: HostRuntime) {
         ObserveStatus::NoFile.code(),
         ObserveStatus::ReadFault.code(),
         ObserveStatus::WriteFault.code(),
-        ObserveStatus::NoMemory(short_of_memory(&rt, rt.alloc())).code(),
+        ObserveStatus::NoMemory(no_memory).code(),
         ObserveStatus::TooManySamples { samples: 1 }.code(),
     ];
-    assert!(rt; codes == [0, 1, 2, 4, 5, 6, 7, 8]);
+    assert_equal!(rt; codes, [0, 1, 2, 4, 5, 6, 7, 8], "exit codes");
 }

@@ -1,5 +1,6 @@
-//! A shelf and a sink in memory for tests. The shelf never fails a read, and the sink fails only if
-//! it is full. Their contracts specify the exact result of each call.
+//! A shelf (input files) and a sink (an output stream) in memory, for tests. A read of an existing
+//! file never fails, and a write fails only if the sink is full. The contracts specify the exact
+//! result of each call.
 ghost use Rattle.std.specs.Prelude.{◌≡◌, ◌+◌, ◌-◌, ◌<◌, ◌≤◌, Some, length, min, IfOk, IsErr, vec_capacity, vec_len, IsErrOf, ◌↔◌, [], ◌++◌, ◌∷◌};
 ghost use Rattle.std.specs.Io.KnownBytes.{WriteAppends};
 ghost use Rattle.outside_fakes.specs.Memory.{GivesOf};
@@ -12,14 +13,14 @@ use outside::{Call, ReadLog, Shelf, ShelfFault, Sink, Tally, WriteFailed};
 use psi_base::{NoMemory, Text};
 use std::alloc::Global;
 
-/// A shelf in memory that never fails to read a file that exists.
+/// A shelf (a set of input files) in memory. Reads of existing files never fail.
 #[derive(Drop)]
 pub struct HonestShelf {
-    /// The names and bytes of the files. If two files have one name, the first applies.
+    /// The names and bytes of the files. If two files have the same name, the first file is used.
     pub files: Vec<(Text, Text)>,
-    /// The largest number of bytes that one call returns, at least 1.
+    /// The maximum number of bytes that one call returns, at least 1.
     pub most: usize,
-    /// The number of reads of names that don't exist.
+    /// The number of reads of files that don't exist.
     pub absent: u64,
     /// The number of bytes that all reads returned.
     pub bytes_read: Tally,
@@ -29,7 +30,7 @@ pub struct HonestShelf {
 }
 
 impl HonestShelf {
-    /// Makes a shelf of the files, each of whose reads returns at most `most` bytes.
+    /// Creates a shelf with these files. Each read returns at most `most` bytes.
     pub fn new(files: Vec<(Text, Text)>, most: usize) -> HonestShelf
         requires { 0 < most }
         ensures { (result.files ≡ files) × (result.most ≡ most) × (result.absent ≡ 0)
@@ -56,8 +57,8 @@ impl Shelf for HonestShelf {
 
     ghost reads = { λ s. s.reads.calls };
 
-    /// Reads the bytes of the file from offset `at` (bytes), at most `most` and at most the length
-    /// of `into`. Returns `NoFile` if there is no file with this name.
+    /// Reads bytes of the file from offset `at` (bytes): at most `most`, and at most the length of
+    /// `into`. Returns `NoFile` if there is no file with this name.
     fn read_at(&mut self, name: &str, at: u64, into: &mut [u8]) -> Result<usize, ShelfFault>
         ensures unchanged { (self.new.files ≡ self.old.files) × (self.new.most ≡ self.old.most) }
         ensures bytes_read { self.new.bytes_read.count
@@ -90,8 +91,8 @@ impl Shelf for HonestShelf {
     }
 }
 
-/// A sink in memory that fails only if it is full. It allocates all memory when it is made, and
-/// never grows.
+/// A sink (an output stream) in memory that fails only if it is full. It allocates its memory when
+/// it is created, and never grows.
 #[derive(Drop)]
 pub struct HonestSink {
     /// The bytes that were written.
@@ -105,7 +106,7 @@ pub struct HonestSink {
 }
 
 impl HonestSink {
-    /// Makes an empty sink with a capacity of `room` bytes, which are allocated at once.
+    /// Creates an empty sink, and allocates its capacity of `room` bytes.
     pub fn new(alloc: Global, room: usize) -> Result<HonestSink, NoMemory>
         ensures { IfOk result (λ s. (s.bytes.items ≡ []) × (s.room ≡ room)
             × (s.faults ≡ 0)) }

@@ -1,8 +1,8 @@
-//! Shelves and sinks in memory, for tests; the programs don't use them. Their contracts specify the
-//! exact result of each call.
+//! Shelves (input files) and sinks (output streams) in memory, for tests; the programs don't use
+//! them. The contracts specify the exact result of each call.
 //!
-//! The calls of the [`MemShelf`] and the [`MemSink`] with given numbers fail. The [`HonestShelf`]
-//! never fails, and the [`HonestSink`] fails only if it is full.
+//! The tests choose which calls of a [`MemShelf`] and a [`MemSink`] fail. The [`HonestShelf`] never
+//! fails, and the [`HonestSink`] fails only if it is full.
 #![tactic(auto)]
 
 mod honest;

@@ -1,5 +1,5 @@
-//! A shelf and a sink in memory for tests, whose calls with given numbers fail. Their contracts
-//! specify the exact result of each call.
+//! A shelf (input files) and a sink (an output stream) in memory, for tests. A test chooses the
+//! numbers of the calls that fail. The contracts specify the exact result of each call.
 ghost use Rattle.std.specs.Prelude.{◌≡◌, ◌⊎◌, ◌+◌, ◌-◌, ◌<◌, ◌≤◌, Some, None, length, take, drop, min, IfOk, IsErr, IsTrue, MatchOption, vec_capacity, vec_len, Contains, IsErrOf, ◌↔◌, [], ◌++◌, ◌∷◌};
 ghost use Rattle.std.specs.Io.KnownBytes.{WriteAppends};
 ghost use Rattle.outside_fakes.specs.Memory.{GivesOf};
@@ -40,8 +40,8 @@ pub(crate) fn copy_part(bytes: &[u8], at: u64, most: usize, into: &mut [u8]) -> 
     count
 }
 
-// Copies a part of the file with this name, as `copy_part` does. Adds to the count of bytes read,
-// or to the count of missing files.
+// Copies bytes of the file with this name to `into`, from offset `at`: at most `most` bytes. Adds
+// the number of copied bytes to `bytes_read`, or adds 1 to `absent` if there is no such file.
 pub(crate) fn give(
     files: &[(Text, Text)],
     most: usize,
@@ -100,12 +100,12 @@ fn is_failing(fails: &[u64], call: u64, is_full: bool) -> bool
     fails.contains(&call) || is_full
 }
 
-/// A shelf in memory whose reads with given numbers fail.
+/// A shelf (a set of input files) in memory. `fails` has the numbers of the reads that fail.
 #[derive(Drop)]
 pub struct MemShelf {
-    /// The names and bytes of the files. If two files have one name, the first applies.
+    /// The names and bytes of the files. If two files have the same name, the first file is used.
     pub files: Vec<(Text, Text)>,
-    /// The largest number of bytes that one call returns, at least 1.
+    /// The maximum number of bytes that one call returns, at least 1.
     pub most: usize,
     /// The numbers of the calls that fail, from 0.
     pub fails: Vec<u64>,
@@ -113,7 +113,7 @@ pub struct MemShelf {
     pub calls: u64,
     /// The number of failed calls.
     pub faults: u64,
-    /// The number of reads of names that don't exist.
+    /// The number of reads of files that don't exist.
     pub absent: u64,
     /// The number of bytes that all reads returned.
     pub bytes_read: Tally,
@@ -123,8 +123,8 @@ pub struct MemShelf {
 }
 
 impl MemShelf {
-    /// Makes a shelf of the files. Each read returns at most `most` bytes, and the reads with the
-    /// numbers `fails` fail.
+    /// Creates a shelf with these files. Each read returns at most `most` bytes, and the reads with
+    /// the numbers `fails` fail.
     pub fn new(files: Vec<(Text, Text)>, most: usize, fails: Vec<u64>) -> MemShelf
         requires { 0 < most }
         ensures { (result.files ≡ files) × (result.most ≡ most) × (result.fails ≡ fails)
@@ -155,9 +155,9 @@ impl Shelf for MemShelf {
 
     ghost reads = { λ s. s.reads.calls };
 
-    /// Fails if the number of this call is in `fails`. Otherwise reads the bytes of the file from
-    /// offset `at` (bytes), at most `most` and at most the length of `into`, or returns `NoFile` if
-    /// there is no file with this name.
+    /// Fails if the number of this call is in `fails`. Reads bytes of the file from offset `at`
+    /// (bytes): at most `most`, and at most the length of `into`. Returns `NoFile` if there is no
+    /// file with this name.
     fn read_at(&mut self, name: &str, at: u64, into: &mut [u8]) -> Result<usize, ShelfFault>
         ensures unchanged { (self.new.files ≡ self.old.files) × (self.new.most ≡ self.old.most)
             × (self.new.fails ≡ self.old.fails) }
@@ -208,15 +208,15 @@ impl Shelf for MemShelf {
     }
 }
 
-/// A sink in memory whose writes with given numbers fail. It allocates all memory when it is made,
-/// and never grows.
+/// A sink (an output stream) in memory. `fails` has the numbers of the writes that fail. The sink
+/// allocates its memory when it is created, and never grows.
 #[derive(Drop)]
 pub struct MemSink {
     /// The bytes that were written.
     pub bytes: Vec<u8>,
     /// The capacity of the sink in bytes.
     pub room: usize,
-    /// The largest number of bytes that one call takes, at least 1.
+    /// The maximum number of bytes that one call writes, at least 1.
     pub most: usize,
     /// The numbers of the calls that fail, from 0.
     pub fails: Vec<u64>,
@@ -230,7 +230,7 @@ pub struct MemSink {
 }
 
 impl MemSink {
-    /// Makes an empty sink with a capacity of `room` bytes.
+    /// Creates an empty sink with a capacity of `room` bytes.
     pub fn new(
         alloc: Global,
         room: usize,
@@ -260,7 +260,7 @@ impl Sink for MemSink {
     ghost faults = { λ s. s.faults };
 
     /// Fails if the number of this call is in `fails`, or if `piece` isn't empty and the sink is
-    /// full. Otherwise writes as much of `piece` as fits, at most `most` bytes.
+    /// full. If the call doesn't fail, it writes as much of `piece` as fits, at most `most` bytes.
     fn write(&mut self, piece: &[u8]) -> Result<usize, WriteFailed>
         ensures unchanged { (self.new.room ≡ self.old.room) × (self.new.most ≡ self.old.most)
             × (self.new.fails ≡ self.old.fails) }

@@ -1,5 +1,5 @@
--- Laws of a trace at a given time (ns): how stall time and interrupt time grow, which groups are
--- live (in order of creation and sorted by path), and which triggers are set.
+-- Laws of a trace at one time (ns): how stall time and interrupt time grow, which groups are live
+-- (in order of creation and sorted by path), and which triggers are set.
 use Rattle.std.specs.Prelude.{◌≡◌, ℕ, ◌+◌, ◌-◌, ◌≤◌, List, length, map, take, filter, slice_get, slice_index_or, nat_le, All, IfSome, Bool, Some}
 use Rattle.std.specs.List.Sorted.{IsNonDecreasingBy}
 use Rattle.psi_base.specs.declared.event.State.{State}
@@ -15,7 +15,7 @@ use Rattle.psi_spec.specs.LegalGroups.{IsPathOrder, is_live_in}
 use Rattle.psi_spec.specs.Collected.{triggers_of}
 use Rattle.psi_spec.specs.Within.{AreTriggersWithin}
 
--- ---- stall time
+-- ---- laws of stall time
 
 -- Between two times (ns), stall time never decreases, and grows by at most the elapsed time.
 abbrev pub StallGrows : Type 0
@@ -34,11 +34,11 @@ abbrev pub NoStallAtFirst : Type 0
 NoStallAtFirst = (limits : Limits) (events : List Event) → AreLegal limits first_world events →
     (state : State) (cpu slot : ℕ) → stall state cpu slot (up_to events 0) 0 ≡ 0
 
--- ---- interrupt time
+-- ---- laws of interrupt time
 
 -- Between two times (ns), interrupt time never decreases, and grows by at most the elapsed time
--- plus one second: the interrupts of an event may have begun up to one second before the event, and
--- the interrupts of later events on the processor begin no sooner than that event.
+-- plus one second. The interrupts that an event reports may have begun up to one second before the
+-- event. Interrupts that later events on the processor report began at or after that event.
 abbrev pub IrqGrows : Type 0
 IrqGrows = (limits : Limits) (events : List Event) → AreLegal limits first_world events → limits.cpus ≤ most_cpus →
     (cpu slot at later : ℕ) → at ≤ later →
@@ -58,8 +58,8 @@ NoIrqAtFirst = (limits : Limits) (events : List Event) → AreLegal limits first
 
 -- ---- lifetimes of groups
 
--- The group was created at or before time `last` (ns). If the group was removed, its removal was at
--- or before `last` and not before its creation.
+-- `IsLife last life`: the group `life` was created at or before time `last` (ns). If the group was
+-- removed, its removal was at or before `last` and not before its creation.
 pub record IsLife (last : ℕ) (life : GroupLife) : Type 0 where
   pub made : life.made ≤ last
   pub gone : IfSome life.gone (λ gone. (life.made ≤ gone) × (gone ≤ last))
@@ -72,27 +72,28 @@ pub record AreLives (last : ℕ) (groups : List GroupLife) : Type 0 where
   pub order : IsNonDecreasingBy (λ (life : GroupLife). life.made) groups
   pub each : All (IsLife last) groups
 
--- The groups after legal events satisfy the invariant `AreLives`.
+-- The groups after legal events satisfy the invariant `AreLives`: they are in the order of
+-- creation, and were created and removed at or before the last event.
 abbrev pub LivesAreInOrder : Type 0
 LivesAreInOrder = (limits : Limits) (events : List Event) → AreLegal limits first_world events →
     AreLives (after events).last (after events).groups
 
 -- The groups after all events determine which groups were live at any time `at` (ns). A group that
--- was created and removed at one time isn't live at that time.
+-- was created and removed at the same time isn't live at that time.
 abbrev pub LivesShowLive : Type 0
 LivesShowLive = (limits : Limits) (events : List Event) → AreLegal limits first_world events → (at slot : ℕ) →
     is_live_in (after (up_to events at)).groups slot
     ≡ is_some_and (slice_get (after events).groups slot) (λ life. is_live_at life at)
 
--- The groups `some` are a prefix of the groups `all`, with equal paths, parents and creation times
--- (ns). Removal times may differ.
+-- `AreFirstOf all some`: the groups in `some` have the paths, parents and creation times (ns) of
+-- the first groups in `all`, in the same order. Removal times may differ.
 pub record AreFirstOf (all some : List GroupLife) : Type 0 where
   pub few : length some ≤ length all
   pub paths : map (λ (life : GroupLife). life.path) some ≡ take (length some) (map (λ (life : GroupLife). life.path) all)
   pub parents : parents_of some ≡ take (length some) (parents_of all)
   pub made : map (λ (life : GroupLife). life.made) some ≡ take (length some) (map (λ (life : GroupLife). life.made) all)
 
--- The groups created up to a time (ns) are a prefix of all groups of the trace.
+-- The groups created up to a time (ns) are the first groups of the trace.
 abbrev pub GroupsKeepSlots : Type 0
 GroupsKeepSlots = (limits : Limits) (events : List Event) → AreLegal limits first_world events → (at : ℕ) →
     AreFirstOf (after events).groups (after (up_to events at)).groups
@@ -107,8 +108,9 @@ is_live_slot groups at slot = is_live_at (slice_index_or groups slot root) at
 abbrev pub with_path : List GroupLife → ℕ → List ℕ × ℕ
 with_path groups slot = (path_at groups slot, slot)
 
--- An order of all slots by path, made once after all events, gives the live groups in path order at
--- every time: the slots of the order whose groups are live at that time.
+-- Sorting all groups of a trace by path once is enough. `order` has the slots of all groups, sorted
+-- by path. The live groups at a time `at` (ns), in path order, are the groups in `order` that are
+-- live at that time.
 abbrev pub OrderShowsLive : Type 0
 OrderShowsLive =
     (limits : Limits) (events : List Event) → AreLegal limits first_world events → (order : List ℕ)
@@ -116,8 +118,8 @@ OrderShowsLive =
     live_groups (after (up_to events at)).groups
     ≡ map (with_path (after events).groups) (filter (is_live_slot (after events).groups at) order)
 
--- An order of all slots by path gives the slots of the live groups in path order at every time.
--- This law is `OrderShowsLive` without the paths.
+-- `order` has the slots of all groups, sorted by path. The slots in `order` whose groups are live
+-- at a time `at` (ns) are the slots of the live groups at that time, in path order.
 abbrev pub OrderShowsSlots : Type 0
 OrderShowsSlots =
     (limits : Limits) (events : List Event) → AreLegal limits first_world events → (order : List ℕ)
@@ -125,10 +127,10 @@ OrderShowsSlots =
     map (λ (pair : List ℕ × ℕ). pair.1) (live_groups (after (up_to events at)).groups)
     ≡ filter (is_live_slot (after events).groups at) order
 
--- ---- triggers
+-- ---- laws of triggers
 
--- The triggers of a trace are within the limits: their number, the values of each trigger, and the
--- slot of the group that each trigger watches, which exists.
+-- The triggers of a trace are within the limits: their number is limited, the values of each
+-- trigger are in range, and the group that a trigger watches exists.
 abbrev pub TriggersAreWithin : Type 0
 TriggersAreWithin = (limits : Limits) (events : List Event) → AreLegal limits first_world events →
     AreTriggersWithin limits.latest (length (after events).groups) (triggers_of events)
@@ -138,14 +140,14 @@ abbrev pub TriggersAreInOrder : Type 0
 TriggersAreInOrder = (limits : Limits) (events : List Event) → AreLegal limits first_world events →
     IsNonDecreasingBy (λ (trigger : TriggerSpec). trigger.at) (triggers_of events)
 
--- The triggers that the events up to a time (ns) set are the triggers of the trace that are set at
--- or before that time.
+-- The triggers that the events up to a time (ns) set are the triggers of the whole trace that are
+-- set at or before that time.
 abbrev pub TriggersUpTo : Type 0
 TriggersUpTo = (limits : Limits) (events : List Event) → AreLegal limits first_world events → (at : ℕ) →
     triggers_of (up_to events at) ≡ filter (λ (trigger : TriggerSpec). nat_le trigger.at at) (triggers_of events)
 
--- The group was created at or before time `at` (ns), and wasn't removed before `at`. The removal
--- may be at `at`.
+-- `IsThere life at`: the group `life` was created at or before time `at` (ns), and wasn't removed
+-- before `at`. It may be removed at `at`.
 pub record IsThere (life : GroupLife) (at : ℕ) : Type 0 where
   pub made : life.made ≤ at
   pub gone : IfSome life.gone (λ gone. at ≤ gone)

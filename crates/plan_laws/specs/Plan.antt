@@ -1,5 +1,5 @@
--- The plan of one processor: the changes that a trace makes on it. A plan determines the states of
--- each group after its first `k` changes, and the clocks of each group.
+-- Defines the plan of a processor, which is the list of the changes that a trace makes on it. A
+-- plan determines the states and the clocks of each group after the first `k` changes.
 use Rattle.std.specs.Prelude.{◌≡◌, ℕ, ◌+◌, ◌-◌, ◌≤◌, ◌<◌, List, [], ◌∷◌, ◌++◌, length, sum, map, take, filter, slice_get, slice_index_or, nat_le, ◌==◌, ◌&&◌, Bool, true, false, if◌then◌else◌, Option, None, Some}
 use Rattle.std.specs.List.{range_with_len}
 use Rattle.psi_base.specs.declared.event.Slot.{Slot}
@@ -18,9 +18,10 @@ use Rattle.psi_counts.specs.Touch.{AreAtMost, Follows, HasSlotsBelow, IsOfOne, c
 use Rattle.psi_spec.specs.Changes.{changes_of, count_at, times_after, touches, until_change}
 use Rattle.psi_counts.specs.Legal.{changes_from, added, taken}
 
--- ---- what events change on a processor
+-- ---- the changes that events make on a processor
 
--- The change that an optional event makes on processor `cpu` in world `w`, or `None`.
+-- The change that an optional event makes on processor `cpu`, or `None`. `w` is the world (the
+-- tasks and groups) before the event.
 abbrev pub change_by : ℕ → World → Option Event → Option Change
 change_by cpu w None = None
 change_by cpu w (Some event) = change_of w event cpu
@@ -29,7 +30,7 @@ change_by cpu w (Some event) = change_of w event cpu
 abbrev pub change_at : ℕ → List Event → ℕ → Option Change
 change_at cpu events i = change_by cpu (after (take (i - 1) events)) (slice_get events (i - 1))
 
--- ---- plans
+-- ---- the plan of a processor
 
 -- The plan of a processor: its changes in order, and the parent of each slot.
 pub record PlanView : Type 0 where
@@ -47,15 +48,15 @@ plan_of cpu events = record { changes = changes_from cpu first_world events; par
 
 -- ---- the state after some changes
 
--- The sum of the counts that the first `k` changes add to the group in slot `slot`.
+-- The sum of the task counts that the first `k` changes add to the group in slot `slot`.
 abbrev pub added_after : PlanView → ℕ → ℕ → Counts
 added_after plan slot k = added plan.parents slot (take k plan.changes)
 
--- The sum of the counts that the first `k` changes subtract from the group in slot `slot`.
+-- The sum of the task counts that the first `k` changes subtract from the group in slot `slot`.
 abbrev pub taken_after : PlanView → ℕ → ℕ → Counts
 taken_after plan slot k = taken plan.parents slot (take k plan.changes)
 
--- The difference of two counts, field by field. `fewer` must be at most `more` in each field.
+-- The difference `more - fewer` of each of the four task counts. Requires `fewer <= more`.
 abbrev pub less : Counts → Counts → Counts
 less more fewer =
     record {
@@ -65,22 +66,22 @@ less more fewer =
       stalled_running = more.stalled_running - fewer.stalled_running;
     }
 
--- The counts of the group in slot `slot` after the first `k` changes: added minus subtracted.
+-- The task counts of the group in slot `slot` after the first `k` changes: added minus subtracted.
 abbrev pub counts_after : PlanView → ℕ → ℕ → Counts
 counts_after plan slot k = less (added_after plan slot k) (taken_after plan slot k)
 
--- `taken` is at most `added`, and the difference is at most 65,536, the limit of live tasks.
+-- `taken <= added <= taken + 65,536`, in which 65,536 is the maximum number of live tasks.
 abbrev pub Leaves : ℕ → ℕ → Type 0
 Leaves taken added = (taken ≤ added) × (added ≤ taken + most_tasks)
 
--- `Leaves` holds for each of the four counts of `taken` and `added`.
+-- For each of the four task counts, `taken <= added`, and the difference is at most 65,536.
 pub record LeavesFew (taken added : Counts) : Type 0 where
   pub io : Leaves taken.io added.io
   pub stalled : Leaves taken.stalled added.stalled
   pub running : Leaves taken.running added.running
   pub stalled_running : Leaves taken.stalled_running added.stalled_running
 
--- After each prefix of the changes, each count of each group is from 0 to 65,536.
+-- After each prefix of the changes, each task count of each group is from 0 to 65,536.
 abbrev pub FitsPlan : PlanView → Type 0
 FitsPlan plan = (slot k : ℕ) → k ≤ length plan.changes → LeavesFew (taken_after plan slot k) (added_after plan slot k)
 
@@ -89,8 +90,8 @@ FitsPlan plan = (slot k : ℕ) → k ≤ length plan.changes → LeavesFew (take
 abbrev pub current_after : PlanView → ℕ → Option (Slot × Bool)
 current_after plan k = slice_index_or (None ∷ map (λ (change : Change). change.current) plan.changes) k None
 
--- Whether the accounting of the group in slot `slot` is on after the changes, given whether it is
--- on before them (`on`).
+-- Whether the accounting of the group in slot `slot` is on after the changes. `on` is whether it is
+-- on before the changes.
 abbrev pub on_from : ℕ → Bool → List Change → Bool
 on_from slot on [] = on
 on_from slot on (change ∷ changes) = on_from slot (on_with slot on change.account) changes
@@ -101,13 +102,11 @@ abbrev pub on_after : PlanView → ℕ → ℕ → Bool
 on_after plan slot k = on_from slot true (take k plan.changes)
 
 -- Whether the group in slot `slot` is in `state` after the first `k` changes: its accounting is on,
--- and the state follows from the counts and the running task after these changes.
+-- and the state follows from its task counts and from the running task after these changes.
 unfoldable pub holds_after : State → PlanView → ℕ → ℕ → Bool
 holds_after state plan slot k =
     on_after plan slot k && shows state (counts_after plan slot k) (is_current_in plan.parents slot (current_after plan k))
     (is_current_stalled (current_after plan k))
-
--- ---- planned time
 
 -- The time (ns) of change number `k` (from 1), or 0 for k = 0.
 abbrev pub last_change : PlanView → ℕ → ℕ
@@ -121,7 +120,7 @@ changes_up_to plan at = length (filter (λ (change : Change). nat_le change.at a
 abbrev pub AreInOrder : PlanView → Type 0
 AreInOrder plan = (k : ℕ) → k < length plan.changes → last_change plan k ≤ last_change plan (k + 1)
 
--- The interrupt time (ns) on the processor in the first `k` changes, for any running task.
+-- The total interrupt time (ns) of the first `k` changes, whatever tasks were running.
 abbrev pub irq_after : PlanView → ℕ → ℕ
 irq_after plan k = sum (map (λ (change : Change). change.irq) (take k plan.changes))
 
@@ -145,12 +144,12 @@ pub record IsPlan (plan : PlanView) : Type 0 where
   pub older : AreOlder plan.parents
   pub parented : HaveParents plan.parents
 
--- The time (ns) of change number `j` (from 1) if `j` is at most `k`; otherwise `at`.
+-- The time (ns) of change number `j` (from 1) if `j` is at most `k`, and `at` for a greater `j`.
 abbrev pub change_moment : PlanView → ℕ → ℕ → ℕ → ℕ
 change_moment plan k at j = slice_index_or (map (λ (change : Change). change.at) (take k plan.changes)) (j - 1) at
 
--- The time (ns) from change `j` to the next of the first `k` changes (or to time `at` after the
--- last of them) if the group in slot `slot` is in `state` after change `j`; otherwise 0.
+-- The time (ns) from change `j` to change `j + 1` (or to time `at` if j = k) if the group in slot
+-- `slot` is in `state` after change `j`, and 0 otherwise.
 abbrev pub planned_after : State → PlanView → ℕ → ℕ → ℕ → ℕ → ℕ
 planned_after state plan slot k at j =
     if holds_after state plan slot j then change_moment plan k at (j + 1) - change_moment plan k at j else 0
@@ -160,11 +159,9 @@ planned_after state plan slot k at j =
 unfoldable pub planned_time : State → PlanView → ℕ → ℕ → ℕ → ℕ
 planned_time state plan slot k at = sum (map (planned_after state plan slot k at) (range_with_len 1 k))
 
--- ---- planned interrupt time
-
--- The interrupt time (ns) of the group in slot `slot` in the changes, given whether the group's
--- accounting is on before them (`on`). It is the sum of the interrupt times of the changes before
--- which the accounting is on, and whose running task is in the group or in a descendant.
+-- The interrupt time (ns) of the group in slot `slot` in the changes. A change counts if the
+-- group's accounting is on before the change, and if the change's running task is in the group or
+-- in a descendant. `on` is whether the accounting is on before the first change.
 abbrev pub irq_over : List (Option ℕ) → ℕ → Bool → List Change → ℕ
 irq_over parents slot on [] = 0
 irq_over parents slot on (change ∷ changes) =
@@ -174,11 +171,12 @@ irq_over parents slot on (change ∷ changes) =
 unfoldable pub planned_irq : PlanView → ℕ → ℕ → ℕ
 planned_irq plan slot k = irq_over plan.parents slot true (take k plan.changes)
 
--- ---- clocks of a slot
+-- ---- the clock of a group
 
 -- `clock` is a clock of the group in slot `slot` after the first `k` changes of a plan: it is
--- well-formed (nine words), has the group's states, and gives the planned times. It may have
--- started before change `k`, if the changes since then left the states unchanged.
+-- well-formed (nine words), contains the group's states, and gives the times computed from the
+-- changes. It may have started before change `k`, if the changes since then left the states
+-- unchanged.
 pub record IsClock (clock : ClockView) (plan : PlanView) (slot k : ℕ) : Type 0 where
   pub within : k ≤ length plan.changes
   pub whole : IsWholeClock clock
@@ -186,21 +184,22 @@ pub record IsClock (clock : ClockView) (plan : PlanView) (slot k : ℕ) : Type 0
   pub mask : (state : State) → mask_holds clock.mask state ≡ holds_after state plan slot k
   pub times : (state : State) (at : ℕ) → last_change plan k ≤ at → opened_time clock at state ≡ planned_time state plan slot k at
 
--- ---- slots that a change doesn't affect
+-- ---- groups that a change doesn't affect
 
--- Whether the optional counts are counts of a task in the group in slot `slot` or in a descendant.
+-- Whether optional task counts are present and belong to a task in the group in slot `slot` or in a
+-- descendant.
 abbrev pub is_part_in : List (Option ℕ) → ℕ → Option (Slot × Counts) → Bool
 is_part_in parents slot None = false
 is_part_in parents slot (Some part) = is_under parents part.0.0 slot
 
--- Whether an optional switch of accounting is a switch of the group in slot `slot`.
+-- Whether `account`, which turns a group's accounting on or off, is for the group in `slot`.
 abbrev pub is_account_of : ℕ → Option (Slot × Bool) → Bool
 is_account_of slot None = false
 is_account_of slot (Some account) = account.0.0 == slot
 
--- Change k + 1 doesn't affect the group in slot `slot`: neither the task whose counts the change
--- affects nor the tasks that run before and after the change are in the group or in a descendant,
--- and the group's accounting isn't switched.
+-- Change `k + 1` doesn't affect the group in slot `slot`. The group and its descendants contain
+-- neither the task whose counts change nor the tasks that run before and after the change. The
+-- group's accounting isn't turned on or off.
 pub record IsAside (plan : PlanView) (slot k : ℕ) (change : Change) : Type 0 where
   pub minus : is_part_in plan.parents slot change.minus ≡ false
   pub plus : is_part_in plan.parents slot change.plus ≡ false
@@ -208,16 +207,16 @@ pub record IsAside (plan : PlanView) (slot k : ℕ) (change : Change) : Type 0 w
   pub current : is_current_in plan.parents slot change.current ≡ false
   pub account : is_account_of slot change.account ≡ false
 
--- ---- laws
+-- ---- laws of plans and clocks
 
--- The events that touch a processor make its changes, in order, at the times of these events.
+-- Each event that touches a processor makes one change on it, in order and at the event's time.
 abbrev pub ChangesAreNumbered : Type 0
 ChangesAreNumbered = (cpu : ℕ) (events : List Event) →
     (map (λ change. Some change) (changes_from cpu first_world events) ≡ map (change_at cpu events) (changes_of cpu events))
     × (map (λ (change : Change). change.at) (changes_from cpu first_world events) ≡ map (moment_of events 0) (changes_of cpu events))
     × (length (changes_from cpu first_world events) ≡ length (changes_of cpu events))
 
--- The events up to change `k` make exactly the first `k` changes, and end at its time.
+-- The events up to change `k` make the first `k` changes, and end at the time of change `k`.
 abbrev pub ChangesUntil : Type 0
 ChangesUntil = (cpu : ℕ) (events : List Event) (k : ℕ) → k ≤ length (changes_of cpu events) →
     (changes_from cpu first_world (until_change cpu events k) ≡ take k (changes_from cpu first_world events))
@@ -231,14 +230,15 @@ PlanShowsStates =
     → k ≤ length (changes_of cpu events) →
     holds_after state (plan_of cpu events) slot k ≡ holds state cpu slot (after (until_change cpu events k))
 
--- The planned time after `k` changes is the stall time of the events up to change `k`.
+-- The time in a state that is computed from the first `k` changes is the stall time for the events
+-- up to change `k`.
 abbrev pub PlannedIsStall : Type 0
 PlannedIsStall =
     (limits : Limits) (events : List Event) → AreLegal limits first_world events → (state : State) (cpu slot k at : ℕ)
     → k ≤ length (changes_of cpu events) → last_change (plan_of cpu events) k ≤ at →
     planned_time state (plan_of cpu events) slot k at ≡ stall state cpu slot (until_change cpu events k) at
 
--- A group's stall time on a processor is the stall time of the events up to the processor's last
+-- A group's stall time on a processor is the stall time for the events up to the processor's last
 -- change, because later events touch only other processors.
 abbrev pub StallByOwnChanges : Type 0
 StallByOwnChanges =
@@ -253,7 +253,7 @@ StatesStay =
     → (state : State) (cpu slot : ℕ) → touches (after events) (Some event) cpu ≡ false →
     holds state cpu slot (after (events ++ event ∷ [])) ≡ holds state cpu slot (after events)
 
--- The stall time up to a time (ns) is the stall time of the events up to the processor's last
+-- The stall time up to a time (ns) is the stall time for the events up to the processor's last
 -- change at or before that time.
 abbrev pub StallUpTo : Type 0
 StallUpTo = (limits : Limits) (events : List Event) → AreLegal limits first_world events → (state : State) (cpu slot at : ℕ) →
@@ -267,32 +267,32 @@ CountsByPlan = (limits : Limits) (events : List Event) → AreLegal limits first
     × (last_change (plan_of cpu events) (count_at cpu events at) ≤ at)
 
 -- The plan of legal events satisfies `IsPlan` if the limit of times is at most 60,000,000 s. There
--- must be at most 64 processors, because the world stores the time of the last `irq` line only for
--- them.
+-- must be at most 64 processors, because the time of the last `irq` line is stored only for them.
 abbrev pub PlanIsWhole : Type 0
 PlanIsWhole =
     (limits : Limits) (events : List Event) → AreLegal limits first_world events → limits.latest ≤ last_moment
     → limits.cpus ≤ most_cpus → (cpu : ℕ) → IsPlan (plan_of cpu events)
 
--- Change k + 1 extends planned time by the time since it, if the group is in the state after it.
+-- After change `k + 1`, the computed time in a state grows only while the group is in the state.
 abbrev pub PlannedByChange : Type 0
 PlannedByChange = (state : State) (plan : PlanView) (slot k at : ℕ) → k < length plan.changes →
     planned_time state plan slot (k + 1) at ≡ planned_time state plan slot k (last_change plan (k + 1))
     + (if holds_after state plan slot (k + 1) then at - last_change plan (k + 1) else 0)
 
--- The zero clock is a clock of each slot before the first change.
+-- Before the first change, the clock that consists of zeros is a valid clock of each group.
 abbrev pub ZeroIsClock : Type 0
 ZeroIsClock = (plan : PlanView) (slot : ℕ) → IsClock zero_clock plan slot 0
 
--- The clock `next` is a clock of a slot after k + 1 changes if it is well-formed, follows a clock
--- `one` of the slot after `k` changes, and has the slot's states after change k + 1.
+-- The clock `next` is valid for a group after change `k + 1` under three conditions: it is
+-- well-formed, it follows a clock `one` that is valid for the group after change `k`, and it
+-- contains the group's states after change `k + 1`.
 abbrev pub FollowedIsClock : Type 0
 FollowedIsClock =
     (one next : ClockView) (plan : PlanView) (slot k : ℕ) → IsClock one plan slot k → k < length plan.changes
     → last_change plan k ≤ last_change plan (k + 1) → IsWholeClock next → ClockFollows one (last_change plan (k + 1)) next
     → ((state : State) → mask_holds next.mask state ≡ holds_after state plan slot (k + 1)) → IsClock next plan slot (k + 1)
 
--- A clock of a slot can be advanced to any time (ns) at or after the last change.
+-- A clock of a group can be advanced to any time (ns) at or after the last change.
 abbrev pub ClockIsInTime : Type 0
 ClockIsInTime =
     (clock : ClockView) (plan : PlanView) (slot k at : ℕ) → IsPlan plan → IsClock clock plan slot k → last_change plan k ≤ at
@@ -302,14 +302,14 @@ ClockIsInTime =
 abbrev pub EmptyIsPlan : Type 0
 EmptyIsPlan = IsPlan no_plan
 
--- A clock of a slot is also a clock of it after a change that leaves its states unchanged.
+-- A clock of a group remains valid after a change that leaves the group's states unchanged.
 abbrev pub KeptIsClock : Type 0
 KeptIsClock =
     (clock : ClockView) (plan : PlanView) (slot k : ℕ) → IsClock clock plan slot k → k < length plan.changes
     → last_change plan k ≤ last_change plan (k + 1) →
     ((state : State) → holds_after state plan slot (k + 1) ≡ holds_after state plan slot k) → IsClock clock plan slot (k + 1)
 
--- If the counts of a plan fit, a change subtracts and adds its counts to the counts before it.
+-- If a plan's counts fit, a change subtracts `minus` from a group's task counts and adds `plus`.
 abbrev pub CountsByChange : Type 0
 CountsByChange = (plan : PlanView) → FitsPlan plan → (slot k : ℕ) (change : Change) → slice_get plan.changes k ≡ Some change →
     Follows (counts_after plan slot k) (on_chain plan.parents slot change.minus) (on_chain plan.parents slot change.plus)
@@ -320,22 +320,22 @@ abbrev pub PlanCountsAreFew : Type 0
 PlanCountsAreFew =
     (plan : PlanView) → FitsPlan plan → (slot k : ℕ) → k ≤ length plan.changes → AreAtMost most_tasks (counts_after plan slot k)
 
--- A change's switch of accounting determines whether accounting is on after the change.
+-- A change turns a group's accounting on or off, or leaves it unchanged (`on_with`).
 abbrev pub OnByChange : Type 0
 OnByChange = (plan : PlanView) (slot k : ℕ) (change : Change) → slice_get plan.changes k ≡ Some change →
     on_after plan slot (k + 1) ≡ on_with slot (on_after plan slot k) change.account
 
--- The accounting of each slot is on before the first change.
+-- The accounting of each group is on before the first change.
 abbrev pub OnAtFirst : Type 0
 OnAtFirst = (plan : PlanView) (slot : ℕ) → on_after plan slot 0 ≡ true
 
--- The running task and the last time of a plan after a change are those of the change.
+-- A change determines the running task and the last time of a plan after the change.
 abbrev pub CurrentByChange : Type 0
 CurrentByChange =
     (plan : PlanView) (k : ℕ) (change : Change) → slice_get plan.changes k ≡ Some change
     → (current_after plan (k + 1) ≡ change.current) × (last_change plan (k + 1) ≡ change.at)
 
--- A change that doesn't affect a slot leaves the slot's states unchanged.
+-- A change that doesn't affect a group leaves the group's states unchanged.
 abbrev pub AsideStays : Type 0
 AsideStays =
     (state : State) (plan : PlanView) (slot k : ℕ) (change : Change) → slice_get plan.changes k ≡ Some change → IsAside plan slot k change →
@@ -347,53 +347,53 @@ PlaceOfMoment =
     (plan : PlanView) → AreInOrder plan → (k at : ℕ) → k ≤ length plan.changes → last_change plan k ≤ at
     → (k < length plan.changes → at < last_change plan (k + 1)) → changes_up_to plan at ≡ k
 
--- ---- planned times
-
 -- The times (ns) that the group in slot `slot` was in each of the seven states up to time `at`,
 -- computed from the first `k` changes, in the order of the states.
 abbrev pub planned : PlanView → ℕ → ℕ → ℕ → List ℕ
 planned plan slot k at = map (λ state. planned_time state plan slot k at) states
 
--- The times that a clock of a slot after `k` changes shows at time `at` (ns) are the planned times.
+-- A group's clock after `k` changes shows the times that are computed from these changes.
 abbrev pub ClockShowsPlanned : Type 0
 ClockShowsPlanned =
     (clock : ClockView) (plan : PlanView) (slot k at : ℕ) → IsClock clock plan slot k → last_change plan k ≤ at
     → opened clock at ≡ planned plan slot k at
 
--- The planned times for the changes up to a time (ns) are the stall times up to that time.
+-- The times in the states that are computed from the changes up to a time (ns) are the stall times
+-- up to that time.
 abbrev pub PlannedUntil : Type 0
 PlannedUntil = (limits : Limits) (events : List Event) → AreLegal limits first_world events → (cpu slot at : ℕ) →
     planned (plan_of cpu events) slot (changes_up_to (plan_of cpu events) at) at
     ≡ map (λ state. stall state cpu slot (up_to events at) at) states
 
--- The planned times after `k` changes are psi_spec's `times_after` for the processor.
+-- The times in the states that are computed from the first `k` changes are the group's stall times
+-- (`times_after` of psi_spec).
 abbrev pub PlannedAfter : Type 0
 PlannedAfter = (limits : Limits) (events : List Event) → AreLegal limits first_world events → (cpu slot k at : ℕ) →
     k ≤ length (changes_of cpu events) → last_change (plan_of cpu events) k ≤ at →
     planned (plan_of cpu events) slot k at ≡ times_after cpu slot events k at
 
--- ---- planned interrupt times
-
--- The planned interrupt time before the first change is 0.
+-- Before the first change, the interrupt time that is computed from the plan is 0.
 abbrev pub NoPlannedIrq : Type 0
 NoPlannedIrq = (plan : PlanView) (slot : ℕ) → planned_irq plan slot 0 ≡ 0
 
--- Each change adds `irq_in` to a group's planned interrupt time if the group's accounting is on.
+-- A change adds its interrupt time (`irq_in`) if the group's accounting is on before the change.
 abbrev pub PlannedIrqByChange : Type 0
 PlannedIrqByChange = (plan : PlanView) (slot k : ℕ) (change : Change) → slice_get plan.changes k ≡ Some change →
     planned_irq plan slot (k + 1) ≡ planned_irq plan slot k + (if on_after plan slot k then irq_in plan.parents slot change else 0)
 
--- Planned interrupt time is at most the time of the last change.
+-- The interrupt time that is computed from the first `k` changes is at most the time of change `k`.
 abbrev pub PlannedIrqFits : Type 0
 PlannedIrqFits = (plan : PlanView) → IrqsFit plan → (slot k : ℕ) → k ≤ length plan.changes → planned_irq plan slot k ≤ last_change plan k
 
--- The planned interrupt time after `k` changes is that of the events up to change `k`.
+-- The interrupt time that is computed from the first `k` changes is the interrupt time for the
+-- events up to change `k`.
 abbrev pub PlannedIrqIsIrq : Type 0
 PlannedIrqIsIrq =
     (limits : Limits) (events : List Event) → AreLegal limits first_world events → (cpu slot k : ℕ) → k ≤ length (changes_of cpu events) →
     planned_irq (plan_of cpu events) slot k ≡ irq_time cpu slot (until_change cpu events k)
 
--- The planned interrupt time for the changes up to a time (ns) is that of the events up to it.
+-- The interrupt time that is computed from the changes up to a time (ns) is the interrupt time up
+-- to that time.
 abbrev pub PlannedIrqUntil : Type 0
 PlannedIrqUntil = (limits : Limits) (events : List Event) → AreLegal limits first_world events → (cpu slot at : ℕ) →
     planned_irq (plan_of cpu events) slot (changes_up_to (plan_of cpu events) at) ≡ irq_time cpu slot (up_to events at)

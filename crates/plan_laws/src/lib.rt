@@ -1,11 +1,11 @@
-//! Laws of plans: a processor's stall time and interrupt time, which psi_spec defines over all
-//! tasks of a trace, follow from the changes of that processor alone.
+//! Laws of plans: psi_spec defines a processor's stall time and interrupt time over all tasks of a
+//! trace, but they follow from the changes of that processor alone.
 //!
-//! In `specs/`: `Plan` (the plan of a processor, which is the list of its changes, and the clocks
-//! that follow from the plan), `Moments` (properties of a trace at a given time).
+//! In `specs/`, `Plan` defines the plan of a processor (the list of its changes), and the clocks
+//! that a plan determines. `Moments` contains properties of a trace at one time.
 //!
-//! This crate has definitions and laws, but no code that runs: proc_plan derives plans from a
-//! trace, and clock_row and slot_clocks advance clocks by plans.
+//! This crate has definitions and laws, but no code that runs. The crate proc_plan computes the
+//! plans of a trace. The crates clock_row and slot_clocks advance clocks with them.
 #![tactic(auto)]
 
 mod moments;

@@ -12,8 +12,7 @@ pub fn law_growth()
 
 /// Between two times, interrupt time never decreases, and grows by at most the elapsed time plus
 /// one second. The interrupt time up to a time is at most that time, and is 0 at time 0. The laws
-/// require at most 64 processors, because the world stores the time of the last `irq` line only for
-/// them.
+/// require at most 64 processors, because the time of the last `irq` line is stored only for them.
 pub fn law_irq_growth()
     ensures grows { IrqGrows }
     ensures within { IrqIsWithin }
@@ -29,9 +28,9 @@ pub fn law_lives()
     ensures slots { GroupsKeepSlots }
 {}
 
-/// An order of all slots by path gives the live groups in path order at every time: the slots of
-/// the order whose groups are live at that time. At most one live group has a given path, so the
-/// order of slots with equal paths doesn't matter.
+/// Sorting all groups of a trace by path once is enough. The live groups at any time, in path
+/// order, are the groups of this order that are live at that time. At most one live group has a
+/// given path, so the order of groups with equal paths doesn't matter.
 pub fn law_path_order()
     ensures live { OrderShowsLive }
     ensures slots { OrderShowsSlots }

@@ -8,9 +8,10 @@ use Rattle.aggregate.specs.Table.{HasSizes}
 use Rattle.tick_engine.specs.Engine.{EngineView}
 use Rattle.tick_engine.specs.Tables.{tick_at}
 
--- The growth of one processor's times between two ticks, the later of which is at `at` (ns): no
--- time decreased, a state's time grew by at most `most` (ns), interrupt time grew by at most a
--- second more than `most`, and interrupt time is at most `at`.
+-- `GrewWithin most at before now`: the times of one group on one processor grew from `before` to
+-- `now` between two ticks. `at` (ns) is the time of the second tick. The bounds are: no time
+-- decreased, a state's time grew by at most `most` (ns), interrupt time grew by at most a second
+-- more than `most`, and interrupt time is at most `at`.
 pub record GrewWithin (most at : ℕ) (before now : List ℕ) : Type 0 where
   pub kept : (place : ℕ) → slice_index before place ≤ slice_index now place
   pub grown : (place : ℕ) → place < irq_place → slice_index now place ≤ slice_index before place + most
@@ -31,8 +32,8 @@ pub record TableGrewWithin (most at : ℕ) (before now : List (List (List ℕ)))
   pub irq_grown : (slot cpu : ℕ) → time_in now slot cpu irq_place ≤ time_in before slot cpu irq_place + most + longest_irq
   pub irq_early : (slot cpu : ℕ) → time_in now slot cpu irq_place ≤ at
 
--- The engine has made the tick at `at` (ns) with the table `last`. Both tables have one entry for
--- each group and processor.
+-- The last tick of the engine was at `at` (ns), with the table `last`. The table `next` is for the
+-- next tick. Both tables have one entry for each group and processor.
 pub record IsMachine (cpus slots at : ℕ) (last next : List (List (List ℕ))) (engine : EngineView) : Type 0 where
   pub cpus_are : engine.cpus ≡ cpus
   pub slots_are : length engine.groups ≡ slots

@@ -8,8 +8,6 @@
 #[cfg(test)]
 mod arithmetic;
 #[cfg(test)]
-mod check;
-#[cfg(test)]
 mod engine;
 #[cfg(test)]
 mod text;

@@ -6,8 +6,6 @@
 #[cfg(test)]
 mod base;
 #[cfg(test)]
-mod checks;
-#[cfg(test)]
 mod trace;
 #[cfg(test)]
 mod words;

@@ -2,17 +2,17 @@
 //! invalid ones, which are rejected.
 mod rows;
 
-use crate::checks::{is, shown};
 use crate::words::rows::{ACCEPTED, REFUSED};
 use psi_base::{Fault, Path, Text};
 use psi_words::read_words;
 use run_spec::{Command, Options, Shape};
 use std::alloc::Global;
 use std::process::Abort;
+use test_support::{as_text, assert_equal, words_of};
 
 fn name_shown(name: &Option<Text>) -> &str {
     match name {
-        Some(name) => shown(name.bytes()),
+        Some(name) => as_text(name.bytes()),
         None => "none",
     }
 }
@@ -20,7 +20,7 @@ fn name_shown(name: &Option<Text>) -> &str {
 // Returns `+` and the name of the drop-in file, or empty texts if no drop-in file is named.
 fn over_shown(drop_in: &Option<Text>) -> (&str, &str) {
     match drop_in {
-        Some(name) => ("+", shown(name.bytes())),
+        Some(name) => ("+", as_text(name.bytes())),
         None => ("", ""),
     }
 }
@@ -54,13 +54,13 @@ fn shape_shown(rt: &impl Abort, alloc: Global, shape: &Shape) -> String {
 // Formats a command as text, with all its fields.
 fn command_shown(rt: &impl Abort, alloc: Global, command: &Command) -> String {
     let text = match command {
-        Command::Stall { trace } => format!(in alloc; "stall {}", shown(trace.bytes())),
+        Command::Stall { trace } => format!(in alloc; "stall {}", as_text(trace.bytes())),
         Command::Check { trace, tick_ms } => {
-            format!(in alloc; "check {} {tick_ms}", shown(trace.bytes()))
+            format!(in alloc; "check {} {tick_ms}", as_text(trace.bytes()))
         }
         Command::Replay { trace, options } => {
             let options = options_shown(rt, alloc, options);
-            format!(in alloc; "replay {} {options}", shown(trace.bytes()))
+            format!(in alloc; "replay {} {options}", as_text(trace.bytes()))
         }
         Command::Gen { shape } => {
             let shape = shape_shown(rt, alloc, shape);
@@ -71,35 +71,31 @@ fn command_shown(rt: &impl Abort, alloc: Global, command: &Command) -> String {
             format!(in alloc; "stress {shape} {workers}")
         }
         Command::Import { file, cpus } => {
-            format!(in alloc; "import {} {cpus}", shown(file.bytes()))
+            format!(in alloc; "import {} {cpus}", as_text(file.bytes()))
         }
         Command::Rules { file, drop_in } => {
             let (plus, drop_in) = over_shown(drop_in);
-            format!(in alloc; "rules {}{plus}{drop_in}", shown(file.bytes()))
+            format!(in alloc; "rules {}{plus}{drop_in}", as_text(file.bytes()))
         }
         Command::Whatif { trace, options } => {
             let options = options_shown(rt, alloc, options);
-            format!(in alloc; "whatif {} {options}", shown(trace.bytes()))
+            format!(in alloc; "whatif {} {options}", as_text(trace.bytes()))
         }
     };
     text.expect(rt, "memory")
 }
 
 // Splits a line into words at `|`; `(none)` has no words.
-fn words_of(rt: &impl Abort, alloc: Global, line: &str) -> Vec<String> {
-    let mut words = Vec::new(alloc);
-    if line != "(none)" {
-        for word in line.split('|') {
-            let word = String::from_str(alloc, word).expect(rt, "memory");
-            words.push(word).expect(rt, "memory");
-        }
+fn words_at_bars(rt: &impl Abort, alloc: Global, line: &str) -> Vec<String> {
+    if line == "(none)" {
+        return Vec::new(alloc);
     }
-    words
+    words_of(alloc, line, '|').expect(rt, "memory")
 }
 
 // Formats the command that the words of a line form, or the error if they form none.
 fn answer(rt: &impl Abort, alloc: Global, line: &str) -> String {
-    let words = words_of(rt, alloc, line);
+    let words = words_at_bars(rt, alloc, line);
     match read_words(alloc, words.as_slice()) {
         Ok(command) => command_shown(rt, alloc, &command),
         Err(Fault::Refused(_)) => String::from_str(alloc, "refused").expect(rt, "memory"),
@@ -108,22 +104,22 @@ fn answer(rt: &impl Abort, alloc: Global, line: &str) -> String {
 }
 
 // Checks the result for the words of a line.
-fn answers(rt: &impl Abort, alloc: Global, line: &str, wanted: &str) {
+fn assert_answer(rt: &impl Abort, alloc: Global, line: &str, wanted: &str) {
     let answer = answer(rt, alloc, line);
-    is(rt, answer.as_str(), wanted, line);
+    assert_equal!(rt; answer.as_str(), wanted, line);
 }
 
 #[test]
 fn accepts(rt: HostRuntime) {
     for row in ACCEPTED.lines() {
         let (line, wanted) = row.split_once(" => ").expect(&rt, row);
-        answers(&rt, rt.alloc(), line, wanted);
+        assert_answer(&rt, rt.alloc(), line, wanted);
     }
 }
 
 #[test]
 fn refuses(rt: HostRuntime) {
     for line in REFUSED.lines() {
-        answers(&rt, rt.alloc(), line, "refused");
+        assert_answer(&rt, rt.alloc(), line, "refused");
     }
 }

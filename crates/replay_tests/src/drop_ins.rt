@@ -1,9 +1,10 @@
 //! Tests of drop-in files that are applied to rules: their effects, and the messages if they are
-//! rejected.
+//! rejected. A part is a ruleset of a drop-in file.
 
-use crate::runs::{Failing, Files, Host, NO_FAULT, Ran, assert_run, run_files};
+use crate::runs::{Files, Host, Ran, run_files};
 use replay_core::Status;
 use std::process::Abort;
+use test_support::{Failing, NO_FAILURE, assert_equal};
 
 /// A trace with a group of one task. The group is killed at each evaluation, unless the ruleset's
 /// post-action delay is running.
@@ -57,24 +58,19 @@ fn run_over(rt: &impl Host, line: &str, rules: &str, parts: &[&str]) -> Ran {
         rules,
         drop_in: &drop_in,
     };
-    run_files(rt, line, files, 65536, NO_FAULT)
+    run_files(rt, line, files, 65536, NO_FAILURE)
 }
 
 /// Checks that a run succeeded, and that its output begins with `first` and ends with `last`.
 fn assert_done(rt: &impl Abort, ran: &Ran, first: &str, last: &str) {
-    let is_done = ran.status.code() == 0
-        && ran.output.starts_with(first.as_bytes())
-        && ran.output.ends_with(last.as_bytes())
-        && ran.note.is_empty();
-    assert!(rt; is_done, "{ran} in place of {first:?} to {last:?}");
+    assert_equal!(rt; ran.beginning(first.len()), (Status::Done, first, ""), "the beginning");
+    assert_equal!(rt; ran.ending(last.len()), (Status::Done, last, ""), "the end");
 }
 
 /// Checks that a run ended with this exit code and this note, and printed nothing.
 fn assert_reported(rt: &impl Abort, line: &str, ran: &Ran, code: u8, note: &str) {
-    let is_reported = ran.status.code() == code
-        && ran.output.is_empty()
-        && ran.note.as_slice() == note.as_bytes();
-    assert!(rt; is_reported, "{line}, {ran} in place of {code} {note:?}");
+    let (status, output, printed) = ran.results();
+    assert_equal!(rt; (status.code(), output, printed), (code, "", note), line);
 }
 
 /// Checks the last line of a replay with the rules `KILLS` and these drop-in parts.
@@ -163,17 +159,17 @@ fn assert_fault(rt: &impl Host, line: &str, failing: Failing, code: u8, note: &s
 #[test]
 fn printed_rules(rt: HostRuntime) {
     for line in &["rules r", "rules r --drop-in d"] {
-        let ran = run_files(&rt, line, RULES_ALONE, 65536, NO_FAULT);
-        assert_run(&rt, line, &ran, Status::Done, PRINTED, "");
+        let ran = run_files(&rt, line, RULES_ALONE, 65536, NO_FAILURE);
+        assert_equal!(rt; ran.results(), (Status::Done, PRINTED, ""), *line);
     }
-    // Each file takes two reads: one returns its bytes, and one returns its end.
+    // Each file takes two reads: the first returns its bytes, and the second finds its end.
     for read in 0..4 {
-        let failing = Failing { read, ..NO_FAULT };
+        let failing = Failing { read, ..NO_FAILURE };
         assert_fault(&rt, "rules r --drop-in d", failing, 5, "read fault\n");
     }
     let failing = Failing {
         write: 0,
-        ..NO_FAULT
+        ..NO_FAILURE
     };
     assert_fault(&rt, "rules r", failing, 6, "write fault\n");
 }

@@ -1,16 +1,19 @@
 //! Tests of replays in which each read and each write fails in turn. The traces have one kill and
 //! one live sample, and are read in small pieces.
 
-use crate::gates::{LIVE_LINES, ONE_PROCESSOR};
+use crate::gates::LIVE_LINES;
 use crate::replays::REPLAYED;
-use crate::runs::{Failing, Files, Host, NO_FAULT, NONE, ONE_WAIT, Ran, run_files, trace_alone};
+use crate::runs::{Files, Host, ONE_WAIT, Ran, run_files, trace_alone};
 use replay_core::Status;
+use test_support::{
+    Failing, NO_CALL, NO_FAILURE, ONE_PROCESSOR, as_text, assert_equal, first_bytes, last_bytes,
+};
 
-/// The largest number of bytes per read or write.
+/// The maximum number of bytes per read or write.
 const MOST: usize = 7;
 
-/// A trace with a group that has more memory than the rules allow from the first evaluation on, at
-/// 5 s.
+/// A trace with a group that always uses more memory than the rules allow. The first evaluation is
+/// at 5 s.
 const LOADED: &str = "psitrace 1 cpus=1\n\
     0 group /s\n\
     0 group /s/a\n\
@@ -55,43 +58,52 @@ fn is_unread(ran: &Ran) -> bool {
 
 /// Runs a replay in which read number `read` fails. Returns true if the run makes fewer reads and
 /// therefore succeeds. Otherwise checks that the run ends with the failed read, and returns false.
-fn is_read(rt: &impl Host, replay: &Replay, read: u64) -> bool {
-    let failing = Failing { read, ..NO_FAULT };
+fn assert_read_fails(rt: &impl Host, replay: &Replay, read: u64) -> bool {
+    let failing = Failing { read, ..NO_FAILURE };
     let ran = run_files(rt, replay.line, replay.files, MOST, failing);
     let is_whole = replay.is_whole(&ran);
-    assert!(rt; is_whole || is_unread(&ran), "{}, {ran}", replay.line);
+    assert!(rt;
+        is_whole || is_unread(&ran),
+        "{}, read {read}, expected: the whole output or a read fault, actual: {ran}",
+        replay.line
+    );
     is_whole
 }
 
 /// Runs a replay in which write number `write` fails. Returns true if the run makes fewer writes
 /// and therefore succeeds. Otherwise checks that the run ends with the failed write, and returns
 /// false.
-fn is_written(rt: &impl Host, replay: &Replay, write: u64) -> bool {
-    let failing = Failing { write, ..NO_FAULT };
+fn assert_write_fails(rt: &impl Host, replay: &Replay, write: u64) -> bool {
+    let failing = Failing {
+        write,
+        ..NO_FAILURE
+    };
     let ran = run_files(rt, replay.line, replay.files, MOST, failing);
     let is_whole = replay.is_whole(&ran);
     assert!(rt;
         is_whole || replay.is_prefix_of(&ran),
-        "{}, {ran}",
+        "{}, write {write}, expected: the whole output or a write fault, actual: {ran}",
         replay.line
     );
     is_whole
 }
 
-/// Returns the number of reads of a replay. Checks that the run fails if any one of them fails.
-fn reads_of(rt: &impl Host, replay: &Replay) -> u64 {
-    for read in 0..NONE {
-        if is_read(rt, replay, read) {
+/// Returns the number of reads of a replay. Checks for each read that the run fails if this read
+/// fails.
+fn count_reads(rt: &impl Host, replay: &Replay) -> u64 {
+    for read in 0..NO_CALL {
+        if assert_read_fails(rt, replay, read) {
             return read;
         }
     }
     panic!(rt; "{}: each read fails", replay.line)
 }
 
-/// Returns the number of writes of a replay. Checks that the run fails if any one of them fails.
-fn writes_of(rt: &impl Host, replay: &Replay) -> u64 {
-    for write in 0..NONE {
-        if is_written(rt, replay, write) {
+/// Returns the number of writes of a replay. Checks for each write that the run fails if this write
+/// fails.
+fn count_writes(rt: &impl Host, replay: &Replay) -> u64 {
+    for write in 0..NO_CALL {
+        if assert_write_fails(rt, replay, write) {
             return write;
         }
     }
@@ -114,16 +126,16 @@ fn assert_each_call_fails(rt: &impl Host, line: &str, files: Files, outputs: &[V
         outputs,
     };
     let printed = outputs.first().map_or(0, |output| output.len());
-    assert_enough(rt, line, reads_of(rt, &replay), files.trace.len());
-    assert_enough(rt, line, writes_of(rt, &replay), printed);
+    assert_enough(rt, line, count_reads(rt, &replay), files.trace.len());
+    assert_enough(rt, line, count_writes(rt, &replay), printed);
 }
 
 /// Returns the output of a command line if no call fails.
 fn printed(rt: &impl Host, line: &str, files: Files) -> Vec<u8> {
-    run_files(rt, line, files, 65536, NO_FAULT).output
+    run_files(rt, line, files, 65536, NO_FAILURE).output
 }
 
-/// Returns a list with this one output.
+/// Returns a list that contains only `output`.
 fn one_output(rt: &impl Host, output: Vec<u8>) -> Vec<Vec<u8>> {
     vec![in rt.alloc(); output].expect(rt, "memory")
 }
@@ -155,9 +167,11 @@ fn one_kill(rt: HostRuntime) {
         ..trace_alone(LOADED.as_bytes())
     };
     let whole = printed(&rt, line, files);
-    let first = b"kill 20000000000 ruleset=0 action=0 /s/a\nreport 22000000000 / io\n";
-    assert!(rt; whole.starts_with(first));
-    assert!(rt; whole.ends_with(b"\nend 22000000000 ticks=22 events=0 kills=1\n"));
+    let first = "kill 20000000000 ruleset=0 action=0 /s/a\nreport 22000000000 / io\n";
+    let beginning = as_text(first_bytes(&whole, first.len()));
+    assert_equal!(rt; beginning, first, "the beginning");
+    let last = "\nend 22000000000 ticks=22 events=0 kills=1\n";
+    assert_equal!(rt; as_text(last_bytes(&whole, last.len())), last, "the end");
     assert_each_call_fails(&rt, line, files, &one_output(&rt, whole));
 }
 
@@ -167,7 +181,8 @@ fn one_kill(rt: HostRuntime) {
 fn one_live_line(rt: HostRuntime) {
     let files = trace_alone(ONE_PROCESSOR.as_bytes());
     let plain = printed(&rt, "replay t", files);
-    assert!(rt; plain.ends_with(b"\nend 2000000000 ticks=1 events=0 kills=0\n"));
+    let last = "\nend 2000000000 ticks=1 events=0 kills=0\n";
+    assert_equal!(rt; as_text(last_bytes(&plain, last.len())), last, "the end");
     let outputs = with_live_lines(&rt, &plain);
     assert_each_call_fails(&rt, "replay t --live /", files, &outputs);
 }

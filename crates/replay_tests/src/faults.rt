@@ -1,12 +1,10 @@
 //! Tests of reads and writes that fail, and of the status and note that report them. The command is
 //! `stall` on small traces.
 
-use crate::runs::{
-    Failing, Host, NONE, ONE_WAIT, assert_prints_nothing, assert_prints_prefix, assert_run,
-    run_trace,
-};
+use crate::runs::{Host, ONE_WAIT, assert_prints_nothing, assert_prints_prefix, run_trace};
 use psi_base::Cause;
 use replay_core::Status;
+use test_support::{Failing, NO_CALL, assert_equal};
 
 const SUMS: &str = "stall cpu=0 / 2000000000 2000000000 0 0 0 0 2000000000\n";
 
@@ -64,9 +62,10 @@ fn writes_that_fail(rt: HostRuntime) {
     // A failed write to the note doesn't change the status.
     let failing = Failing {
         read: 0,
-        write: NONE,
+        write: NO_CALL,
         note: 1,
     };
     let ran = run_trace(&rt, "stall t", ONE_WAIT, 7, failing);
-    assert_run(&rt, "stall t", &ran, Status::ReadFault, "", "read fa");
+    let expected = (Status::ReadFault, "", "read fa");
+    assert_equal!(rt; ran.results(), expected, "a note that fails");
 }

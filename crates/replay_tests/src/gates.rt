@@ -1,23 +1,11 @@
 //! Tests that the threads of a replay run at the same time: a gate blocks each thread until another
 //! thread has arrived.
 
-use crate::runs::{Host, assert_run, run_gated, run_open};
+use crate::runs::{Host, run_gated, run_open};
 use outside::Gate;
 use psi_base::Cpu;
 use replay_core::Status;
-use std::sync::atomic::AtomicBool;
-use std::sync::atomic::Ordering::SeqCst;
-
-/// The number of times that a thread checks for another thread before it gives up.
-const TURNS: u32 = 200_000_000;
-
-/// A trace of one processor. Its task runs, waits for IO for a second, and is ready until the end.
-pub const ONE_PROCESSOR: &str = "psitrace 1 cpus=1\n\
-    0 fork 1 / 0\n\
-    0 switch 0 1 idle\n\
-    500000000 switch 0 0 iowait\n\
-    1500000000 wake 1 0\n\
-    2000000000 end\n";
+use test_support::{ONE_PROCESSOR, SampleBetween, Signal, as_text, assert_equal, line_of};
 
 /// The possible live lines of `ONE_PROCESSOR`, by the number of changes made.
 pub const LIVE_LINES: [&str; 5] = [
@@ -54,19 +42,8 @@ const REPORTED: &str = "report 2000000000 / io\n\
 /// A gate at which each of processors 0 and 1 waits, at its first change, for the other.
 #[derive(Drop)]
 struct Meeting {
-    first: AtomicBool,
-    second: AtomicBool,
-    is_missed: AtomicBool,
-}
-
-/// Waits until another thread has set `other`. Sets `is_missed` if no thread does.
-fn wait_for(other: &AtomicBool, is_missed: &AtomicBool) {
-    for _ in 0..TURNS {
-        if other.load(SeqCst) {
-            return;
-        }
-    }
-    is_missed.store(true, SeqCst);
+    first: Signal,
+    second: Signal,
 }
 
 impl Gate for Meeting {
@@ -75,11 +52,11 @@ impl Gate for Meeting {
             return;
         }
         if cpu.0 == 0 {
-            self.first.store(true, SeqCst);
-            wait_for(&self.second, &self.is_missed);
+            self.first.send();
+            self.second.wait();
         } else {
-            self.second.store(true, SeqCst);
-            wait_for(&self.first, &self.is_missed);
+            self.second.send();
+            self.first.wait();
         }
     }
 
@@ -91,65 +68,13 @@ impl Gate for Meeting {
 #[test]
 fn workers_meet(rt: HostRuntime) {
     let gate = Meeting {
-        first: AtomicBool::new(false),
-        second: AtomicBool::new(false),
-        is_missed: AtomicBool::new(false),
+        first: Signal::new(),
+        second: Signal::new(),
     };
     let ran = run_gated(&rt, "replay t", TWO_PROCESSORS, &gate);
-    assert_run(&rt, "replay t", &ran, Status::Done, REPORTED, "");
-    assert!(rt; gate.first.load(SeqCst) && gate.second.load(SeqCst));
-    assert!(rt; !gate.is_missed.load(SeqCst), "a worker waited in vain");
-}
-
-/// A gate that forces an order on processor `cpu`: its first sample is taken after change `count`,
-/// and its next change is made after that sample.
-#[derive(Drop)]
-struct Between {
-    cpu: Cpu,
-    count: u64,
-    is_moved: AtomicBool,
-    is_sampled: AtomicBool,
-    is_missed: AtomicBool,
-}
-
-impl Between {
-    fn new(cpu: u32, count: u64) -> Between {
-        Between {
-            cpu: Cpu(cpu),
-            count,
-            is_moved: AtomicBool::new(false),
-            is_sampled: AtomicBool::new(false),
-            is_missed: AtomicBool::new(false),
-        }
-    }
-}
-
-impl Gate for Between {
-    fn moved(&self, cpu: Cpu, count: u64) {
-        if cpu == self.cpu && count == self.count {
-            self.is_moved.store(true, SeqCst);
-            wait_for(&self.is_sampled, &self.is_missed);
-        }
-    }
-
-    fn before_sample(&self, cpu: Cpu, index: u32) {
-        if cpu == self.cpu && index == 0 {
-            wait_for(&self.is_moved, &self.is_missed);
-        }
-    }
-
-    fn sampled(&self, cpu: Cpu, _count: u64) {
-        if cpu == self.cpu {
-            self.is_sampled.store(true, SeqCst);
-        }
-    }
-}
-
-/// Returns line `number` of a text, counted from 0.
-fn line_of(text: &[u8], number: usize) -> &[u8] {
-    text.split(|byte| *byte == b'\n')
-        .nth(number)
-        .unwrap_or(b"".as_slice())
+    assert_equal!(rt; ran.results(), (Status::Done, REPORTED, ""), "replay t");
+    let are_met = [gate.first.is_met(), gate.second.is_met()];
+    assert_equal!(rt; are_met, [true, true], "no worker waited in vain");
 }
 
 /// Checks that a command line prints the expected live line if the gate forces the first sample of
@@ -158,15 +83,14 @@ fn assert_samples_between(
     rt: &impl Host,
     line: &str,
     trace: &str,
-    gate: &Between,
+    gate: &SampleBetween,
     number: usize,
     live: &str,
 ) {
     let ran = run_gated(rt, line, trace, gate);
-    let is_met = gate.is_sampled.load(SeqCst) && !gate.is_missed.load(SeqCst);
-    let is_line = line_of(&ran.output, number) == live.as_bytes();
-    let is_right = is_met && ran.status == Status::Done && is_line;
-    assert!(rt; is_right, "{line}, {ran} in place of {live:?}");
+    let printed = (ran.status, as_text(line_of(&ran.output, number)));
+    assert_equal!(rt; printed, (Status::Done, live), line);
+    assert!(rt; gate.is_met(), "{line}: a thread waited in vain");
 }
 
 #[test]
@@ -176,7 +100,7 @@ fn samples_while_workers_run(rt: HostRuntime) {
         &rt,
         line,
         ONE_PROCESSOR,
-        &Between::new(0, 3),
+        &SampleBetween::new(Cpu(0), 3),
         0,
         LIVE_LINES[3],
     );
@@ -185,7 +109,8 @@ fn samples_while_workers_run(rt: HostRuntime) {
         "replay t --live / --workers 1",
         "replay t --live / --workers 64",
     ] {
-        assert_samples_between(&rt, line, TWO_PROCESSORS, &Between::new(1, 2), 1, other);
+        let gate = SampleBetween::new(Cpu(1), 2);
+        assert_samples_between(&rt, line, TWO_PROCESSORS, &gate, 1, other);
     }
 }
 
@@ -213,7 +138,11 @@ fn begins_live(output: &[u8], count: usize, end: &[u8]) -> bool {
 /// live samples.
 fn assert_begins_live(rt: &impl Host, line: &str, count: usize, plain: &[u8]) {
     let ran = run_open(rt, line, ONE_PROCESSOR);
-    assert!(rt; begins_live(&ran.output, count, plain), "{line}, {ran}");
+    assert!(rt;
+        begins_live(&ran.output, count, plain),
+        "{line}, expected: {count} live lines and {:?}, actual: {ran}",
+        as_text(plain)
+    );
 }
 
 #[test]
@@ -222,5 +151,5 @@ fn samples_any_change(rt: HostRuntime) {
     assert_begins_live(&rt, "replay t --live /", 1, &plain.output);
     assert_begins_live(&rt, "replay t --live / --live-count 16", 16, &plain.output);
     let nope = run_open(&rt, "replay t --live /nope", ONE_PROCESSOR);
-    assert!(rt; nope.output == plain.output, "{nope} in place of {plain}");
+    assert_equal!(rt; nope.results(), plain.results(), "a group that doesn't exist");
 }

@@ -5,33 +5,16 @@ use crate::runs::{Host, Ran, run_gated};
 use outside::Gate;
 use psi_base::{Cpu, read_number};
 use replay_core::Status;
+use std::sync::atomic::AtomicU64;
 use std::sync::atomic::Ordering::SeqCst;
-use std::sync::atomic::{AtomicBool, AtomicU64};
+use test_support::{CHANGES, ChangeCounts, THREE_TICKS, assert_equal};
 
-/// A trace of two processors and three ticks. The root group is live at each tick, and nothing
-/// changes in the second interval.
-const THREE_TICKS: &str = "psitrace 1 cpus=2\n\
-    0 fork 1 / 0\n\
-    0 fork 2 / 1\n\
-    0 switch 0 1 idle\n\
-    500000000 switch 0 0 iowait\n\
-    1000000000 switch 1 2 idle\n\
-    1500000000 wake 1 0\n\
-    4500000000 switch 0 1 idle\n\
-    5000000000 switch 1 0 sleep\n\
-    6000000000 end\n";
-
-/// The number of changes of each processor in `THREE_TICKS`.
-const CHANGES: [u64; 2] = [5, 3];
-
-/// The largest number of samples of a processor that can be stored.
+/// The maximum number of samples of a processor that can be stored.
 const ROOM: usize = 16;
 
-/// The calls of the gate for one processor.
+/// The calls of the gate for the samples of one processor.
 #[derive(Drop)]
 struct Notice {
-    /// The number of calls for a change.
-    moved: AtomicU64,
     /// The number of calls before a sample.
     requested: AtomicU64,
     /// The number of calls after a sample.
@@ -47,7 +30,6 @@ impl Notice {
             counts.push(AtomicU64::new(0)).expect(rt, "memory");
         }
         Notice {
-            moved: AtomicU64::new(0),
             requested: AtomicU64::new(0),
             sampled: AtomicU64::new(0),
             counts,
@@ -64,34 +46,20 @@ impl Notice {
 /// A gate that counts its calls for each processor, and records whether a call was unexpected.
 #[derive(Drop)]
 struct Counting {
+    changes: ChangeCounts,
     known: Vec<Notice>,
     /// The number of samples of a processor in an interval.
     each: u64,
-    is_wrong: AtomicBool,
 }
 
 impl Counting {
     fn new(rt: &impl Host, each: u64) -> Counting {
         let known = vec![in rt.alloc(); Notice::new(rt), Notice::new(rt)];
         Counting {
+            changes: ChangeCounts::new(),
             known: known.expect(rt, "memory"),
             each,
-            is_wrong: AtomicBool::new(false),
         }
-    }
-
-    /// Records an unexpected call, unless `is_right` is true.
-    fn note(&self, is_right: Option<bool>) {
-        if is_right != Some(true) {
-            self.is_wrong.store(true, SeqCst);
-        }
-    }
-
-    /// Returns whether change number `count` of a processor follows the previous change.
-    fn is_next_change(&self, cpu: Cpu, count: u64) -> Option<bool> {
-        let known = self.known.get(cpu.0 as usize)?;
-        let before = known.moved.fetch_add(1, SeqCst);
-        Some(before < count && count - before == 1)
     }
 
     /// Returns whether sample `index` of a processor is the next sample of its interval, and the
@@ -116,15 +84,15 @@ impl Counting {
 
 impl Gate for Counting {
     fn moved(&self, cpu: Cpu, count: u64) {
-        self.note(self.is_next_change(cpu, count));
+        self.changes.add(cpu, count);
     }
 
     fn before_sample(&self, cpu: Cpu, index: u32) {
-        self.note(self.is_next_sample(cpu, index));
+        self.changes.record(self.is_next_sample(cpu, index));
     }
 
     fn sampled(&self, cpu: Cpu, count: u64) {
-        self.note(self.is_requested(cpu, count));
+        self.changes.record(self.is_requested(cpu, count));
     }
 }
 
@@ -154,23 +122,23 @@ fn are_lines(ran: &Ran, cpu: u8, known: &Notice, samples: usize) -> bool {
             .all(|(number, count)| known.count_at(number) == Some(count))
 }
 
-/// Returns whether the gate was called for all changes of a run, and for `samples` samples of each
-/// processor.
-fn is_reported(ran: &Ran, gate: &Counting, samples: usize) -> bool {
-    ran.status == Status::Done
-        && !gate.is_wrong.load(SeqCst)
-        && gate.known.iter().enumerate().all(|(cpu, known)| {
-            CHANGES.get(cpu) == Some(&known.moved.load(SeqCst))
-                && are_lines(ran, cpu as u8, known, samples)
-        })
-}
-
-/// Checks that the gate of a run is called for each change, and for `samples` samples of each
-/// processor, `each` of them in an interval.
-fn assert_reported(rt: &impl Host, line: &str, each: u64, samples: usize) {
-    let gate = Counting::new(rt, each);
+/// Checks that a run calls its gate for each change, and for `samples` samples of each processor.
+/// Between two ticks a processor has `per_interval` samples.
+fn assert_reported(rt: &impl Host, line: &str, per_interval: u64, samples: usize) {
+    let gate = Counting::new(rt, per_interval);
     let ran = run_gated(rt, line, THREE_TICKS, &gate);
-    assert!(rt; is_reported(&ran, &gate, samples), "{line}, {ran}");
+    let found = (ran.status, gate.changes.counts());
+    assert_equal!(rt; found, (Status::Done, CHANGES), line);
+    assert!(rt;
+        gate.changes.are_right(),
+        "{line}: an unexpected call, {ran}"
+    );
+    for (cpu, known) in (0..2).zip(&gate.known) {
+        assert!(rt;
+            are_lines(&ran, cpu, known, samples),
+            "{line}, expected: {samples} reported samples of cpu {cpu}, actual: {ran}"
+        );
+    }
 }
 
 // The calls don't depend on the number of workers.

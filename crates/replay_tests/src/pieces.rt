@@ -10,9 +10,9 @@ use std::process::Abort;
 /// - a task waits for IO until the end;
 /// - a task waits for IO only for a short time;
 /// - one of two tasks waits for IO while the other runs;
-/// - the running one of two tasks is in a memory stall, so memory full holds;
+/// - of two tasks, the running task is in a memory stall, so memory full holds;
 /// - a task waits on one processor and wakes on another;
-/// - the running one of two tasks moves up to the root, and the ready one migrates to another
+/// - of two tasks, the running task moves up to the root, and the ready task migrates to another
 ///   processor;
 /// - a group is removed and created again, and a waiting task moves into the new group;
 /// - tasks of two groups compete for one processor: the group of the ready task doesn't run, so CPU

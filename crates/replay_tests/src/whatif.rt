@@ -1,8 +1,9 @@
 //! Tests of `whatif`, which replays a trace without the victims of kills: the kills that it prints,
 //! and its failures.
 
-use crate::runs::{Failing, Files, Host, NO_FAULT, Ran, assert_run, run_files};
+use crate::runs::{Files, Host, Ran, run_files};
 use replay_core::Status;
+use test_support::{Failing, NO_FAILURE, as_text, assert_equal};
 
 const WHATIF: &str = "whatif t --rules r --tick-ms 1000 --report-s 0";
 
@@ -73,12 +74,12 @@ fn has_kills(output: &[u8], kills: &str, end: &str) -> bool {
 /// Checks that the output of `whatif` begins with the lines `kills`, has no other kill, and ends
 /// with the line `end`.
 fn assert_shows(rt: &impl Host, trace: &str, rules: &str, kills: &str, end: &str) {
-    let ran = run_over(rt, WHATIF, trace, rules, NO_FAULT);
+    let ran = run_over(rt, WHATIF, trace, rules, NO_FAILURE);
     let is_done = ran.status == Status::Done && ran.note.is_empty();
     let is_reported = has_kills(&ran.output, kills, end);
     assert!(rt;
         is_done && is_reported,
-        "{ran} in place of {kills:?} to {end:?}"
+        "expected: {kills:?} to {end:?}, actual: {ran}"
     );
 }
 
@@ -124,27 +125,28 @@ fn at_the_last_tick(rt: HostRuntime) {
 fn as_replay_without_kills(rt: HostRuntime) {
     let replay = "replay t --rules r --tick-ms 1000 --report-s 0 --interval-s 3600";
     let whatif = "whatif t --rules r --tick-ms 1000 --report-s 0 --interval-s 3600 --drop-in d";
-    let wanted = run_over(&rt, replay, TWO, KILLS, NO_FAULT);
-    let ran = run_over(&rt, whatif, TWO, KILLS, NO_FAULT);
-    assert_eq!(rt; ran.status, Status::Done);
-    assert!(rt; !ran.output.is_empty() && ran.output.as_slice() == wanted.output.as_slice());
+    let wanted = run_over(&rt, replay, TWO, KILLS, NO_FAILURE);
+    let ran = run_over(&rt, whatif, TWO, KILLS, NO_FAILURE);
+    let output = as_text(&wanted.output);
+    assert_equal!(rt; ran.results(), (Status::Done, output, ""), whatif);
+    assert!(rt; !ran.output.is_empty(), "whatif prints nothing");
 }
 
 /// Checks that `whatif` prints nothing if a call fails, and ends with this status and note.
 fn assert_fault(rt: &impl Host, failing: Failing, status: Status, note: &str) {
     let ran = run_over(rt, WHATIF, ONE, KILLS, failing);
-    assert_run(rt, WHATIF, &ran, status, "", note);
+    assert_equal!(rt; ran.results(), (status, "", note), failing);
 }
 
 #[test]
 fn faults(rt: HostRuntime) {
     for read in 0..2 {
-        let failing = Failing { read, ..NO_FAULT };
+        let failing = Failing { read, ..NO_FAILURE };
         assert_fault(&rt, failing, Status::ReadFault, "read fault\n");
     }
     let failing = Failing {
         write: 0,
-        ..NO_FAULT
+        ..NO_FAILURE
     };
     assert_fault(&rt, failing, Status::WriteFault, "write fault\n");
 }

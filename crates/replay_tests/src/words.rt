@@ -1,14 +1,13 @@
 //! Tests of command lines that aren't a command or that name a missing file, and of the exit codes
 //! of all statuses.
 
-use crate::runs::{Host, NONE, ONE_WAIT, assert_prints_nothing};
+use crate::runs::{Host, ONE_WAIT, assert_prints_nothing};
 use dropin_rules::{DropCause, DropFault};
 use import_spec::ImportCause;
-use psi_base::{Cause, NoMemory};
+use psi_base::Cause;
 use replay_core::{Status, Which};
 use ruleset_json::Place;
-use std::alloc::Global;
-use std::process::Abort;
+use test_support::{NO_CALL, assert_equal, no_memory};
 
 const NO_FILE: Status = Status::NoFile {
     which: Which::TraceFile,
@@ -16,7 +15,7 @@ const NO_FILE: Status = Status::NoFile {
 
 /// Checks that a command line prints nothing, and ends with this status and note.
 fn assert_reported(rt: &impl Host, line: &str, status: Status, note: &str) {
-    assert_prints_nothing(rt, line, ONE_WAIT, 7, NONE, status, note);
+    assert_prints_nothing(rt, line, ONE_WAIT, 7, NO_CALL, status, note);
 }
 
 // The shelf in memory has no files with the names `u` and `-`.
@@ -30,17 +29,10 @@ fn words_and_names(rt: HostRuntime) {
     assert_reported(&rt, "stall -", NO_FILE, "no file: -\n");
 }
 
-// Returns the error of an allocation that always fails.
-fn short_of_memory(rt: &impl Abort, alloc: Global) -> NoMemory {
-    match Vec::<u8>::with_capacity(alloc, usize::MAX) {
-        Ok(_) => panic!(rt; "there is room for all bytes that can be named"),
-        Err(refused) => NoMemory::from(refused),
-    }
-}
-
 #[test]
 fn codes_of_statuses(rt: HostRuntime) {
     let cause = Cause::NoEnd;
+    let no_memory = no_memory(rt.alloc());
     let codes = [
         Status::Done.code(),
         Status::Usage.code(),
@@ -48,7 +40,7 @@ fn codes_of_statuses(rt: HostRuntime) {
         NO_FILE.code(),
         Status::ReadFault.code(),
         Status::WriteFault.code(),
-        Status::NoMemory(short_of_memory(&rt, rt.alloc())).code(),
+        Status::NoMemory(no_memory).code(),
         Status::Import {
             line: 1,
             cause: ImportCause::Cut,
@@ -63,5 +55,5 @@ fn codes_of_statuses(rt: HostRuntime) {
         .code(),
         Status::TooLarge { events: 4_000_001 }.code(),
     ];
-    assert!(rt; codes == [0, 1, 2, 4, 5, 6, 7, 8, 9, 10]);
+    assert_equal!(rt; codes, [0, 1, 2, 4, 5, 6, 7, 8, 9, 10], "exit codes");
 }

@@ -1,5 +1,5 @@
-//! Helpers for the tests: range checks that establish the preconditions of the tested calls, and a
-//! check of texts.
+//! Predicates that check whether values are in range. Their contracts establish the preconditions
+//! of the tested calls.
 
 ghost use Rattle.std.specs.Prelude.{◌≡◌, ◌<◌, ◌≤◌, All, length, true};
 ghost use Rattle.pressure_spec.specs.Within.{IsRow};
@@ -10,13 +10,11 @@ ghost use Rattle.detectors.specs.Views.{ComesLast};
 use detectors::{GroupReading, HostReading, Reading};
 use psi_base::Res;
 use ruleset_json::{Action, After, Size};
-use std::fmt::Display;
-use std::process::Abort;
 
-/// The largest number of bytes or scans in a sample: 2^60.
+/// The maximum number of bytes or scans in a sample: 2^60.
 pub const MOST: u64 = 1 << 60;
 
-/// The greatest average in fixed point: 100 percent.
+/// The greatest average, 100 percent, in fixed point (2,048 is one percent).
 const WHOLE: u64 = 204_800;
 
 /// Returns whether a sample of the host is in range.
@@ -26,7 +24,7 @@ pub fn is_host(host: &HostReading) -> bool
     host.mem_total <= MOST && host.swap_total <= MOST && host.swap_free <= MOST
 }
 
-/// Returns whether a row of averages is in range.
+/// Returns whether each of a state's averages is at most 100 percent.
 fn is_row(row: &[u64; 3]) -> bool
     ensures { result ≡ true → IsRow row.now }
 {
@@ -38,7 +36,7 @@ fn is_row(row: &[u64; 3]) -> bool
     true
 }
 
-/// Returns whether all rows of averages are in range.
+/// Returns whether the averages of all states are at most 100 percent.
 fn are_rows(rows: &[[u64; 3]]) -> bool
     ensures { result ≡ true → All IsRow rows.now }
 {
@@ -118,9 +116,4 @@ pub fn is_action(action: &Action) -> bool
         } => is_stallable(*resource) && is_time(after),
         Action::PgScan { after, .. } => is_time(after),
     }
-}
-
-/// Checks that `found` is the text `wanted`. `case` names the case in the message.
-pub fn is_text(rt: &impl Abort, found: &str, wanted: &str, case: impl Display + Drop) {
-    assert_eq!(rt; found, wanted, "at {case}");
 }

@@ -1,8 +1,9 @@
-//! Tests of detectors: each test gives a detector several readings in turn, each with the expected
-//! answer. The numbers follow from the rules of detectors.
+//! Tests of detectors: each test passes several readings to a detector, and compares the result
+//! after each reading with the expected result. A reading has the values of the host and of all
+//! live groups at one evaluation of the rules.
 
 use crate::checks::MOST;
-use crate::readings::{NO_HOST, SECOND, bare_group, life, scanned, using};
+use crate::readings::{NO_HOST, bare_group, life, scanned, using};
 use crate::rig::Rig;
 use detectors::{Detector, GroupReading, HostReading};
 use path_match::Patterns;
@@ -11,9 +12,10 @@ use psi_spec::GroupLife;
 use ruleset_json::{DetectorSpec, Size};
 use std::alloc::Global;
 use std::process::Abort;
+use test_support::{SECOND, assert_equal};
 
-/// A reading and the expected answer: the time (s), the host, the groups, and whether the detector
-/// returns true.
+/// A reading and the expected result: the time (s), the host, the groups, and whether the detector
+/// is true.
 #[derive(Clone, Copy)]
 struct Case {
     at_s: u32,
@@ -22,7 +24,8 @@ struct Case {
     is_true: bool,
 }
 
-/// Makes a group with these IO full averages over 10 s and over 60 s.
+/// Makes a group with these IO `full` averages over 10 s and over 60 s, in fixed point (2,048 is
+/// one percent).
 fn pressed(slot: u32, ten: u64, sixty: u64) -> Option<GroupReading> {
     let mut group = bare_group(slot);
     group.averages[State::IoFull as usize] = [ten, sixty, 0];
@@ -70,7 +73,8 @@ fn swapped(at_s: u32, swap_total: u64, swap_free: u64, is_true: bool) -> Case {
     }
 }
 
-/// Makes four groups: the root, two of its children, and a child of the first child.
+/// Makes the groups `/`, `/a`, `/b` and `/a/x`, in the order of slots. The tests don't need their
+/// parents.
 fn groups(rt: &impl Abort, alloc: Global) -> [GroupLife; 4] {
     [
         life(rt, alloc, "/", None),
@@ -85,24 +89,20 @@ fn patterns(rt: &impl Abort, alloc: Global, text: &str) -> Patterns {
     Patterns::read(alloc, text).expect(rt, text)
 }
 
-/// Checks a detector's answer in each case, in order.
-fn answers(rt: &impl Abort, alloc: Global, spec: &DetectorSpec, rows: &[Case]) {
+/// Checks whether a detector is true in each case, in order.
+fn assert_answers(rt: &impl Abort, alloc: Global, spec: &DetectorSpec, rows: &[Case]) {
     let mut rig = Rig::make(rt, alloc, &groups(rt, alloc));
     let detector = Detector::new(alloc, spec, rig.reading.lives().len() as u32);
     let mut detector = detector.expect(rt, "memory");
     'rows: for row in rows {
         rig.read(rt, u64::from(row.at_s) * SECOND, row.host, &row.groups);
-        assert_eq!(rt;
-            detector.step(&rig.reading),
-            row.is_true,
-            "at {} s",
-            row.at_s
-        );
+        let is_true = detector.step(&rig.reading);
+        assert_equal!(rt; is_true, row.is_true, ("seconds", row.at_s));
     }
 }
 
-// Makes a detector that is true if IO pressure over 10 s has been above 40 percent (81,920 in fixed
-// point) for `duration_s` seconds.
+// Makes a detector that is true if `full` IO pressure over 10 s has been above 40 percent (81,920
+// in fixed point) for `duration_s` seconds.
 fn pressure_above(rt: &impl Abort, alloc: Global, text: &str, duration_s: u32) -> DetectorSpec {
     DetectorSpec::PressureAbove {
         cgroup: patterns(rt, alloc, text),
@@ -112,8 +112,9 @@ fn pressure_above(rt: &impl Abort, alloc: Global, text: &str, duration_s: u32) -
     }
 }
 
-// Makes a detector that is true if IO pressure over 60 s has been above 40 percent for `duration_s`
-// seconds, and IO pressure over 10 s is at least 0.85 of its previous value.
+// Makes a detector that is true if three conditions hold. The `full` IO pressure over 60 s has been
+// above 40 percent for `duration_s` seconds. The `full` IO pressure over 10 s is above 40 percent
+// now, and it is at least 0.85 of its value at the previous reading.
 fn pressure_rising(rt: &impl Abort, alloc: Global, text: &str, duration_s: u32) -> DetectorSpec {
     DetectorSpec::PressureRisingBeyond {
         cgroup: patterns(rt, alloc, text),
@@ -160,7 +161,7 @@ fn pressure_holds_for_its_duration(rt: HostRuntime) {
         row(35, [pressed(1, 90_000, 0), None], true),
     ];
     let spec = pressure_above(&rt, rt.alloc(), "a", 10);
-    answers(&rt, rt.alloc(), &spec, &rows);
+    assert_answers(&rt, rt.alloc(), &spec, &rows);
 }
 
 #[test]
@@ -172,7 +173,7 @@ fn pressure_is_the_greatest_of_the_matches(rt: HostRuntime) {
         row(20, [None, None], false),
     ];
     let spec = pressure_above(&rt, rt.alloc(), "a,b", 0);
-    answers(&rt, rt.alloc(), &spec, &rows);
+    assert_answers(&rt, rt.alloc(), &spec, &rows);
 }
 
 #[test]
@@ -189,7 +190,7 @@ fn pressure_of_memory(rt: HostRuntime) {
         row(5, [pressed(1, 90_000, 90_000), None], false),
         row(10, [Some(seen), None], true),
     ];
-    answers(&rt, rt.alloc(), &spec, &rows);
+    assert_answers(&rt, rt.alloc(), &spec, &rows);
 }
 
 #[test]
@@ -199,7 +200,7 @@ fn pressure_rises(rt: HostRuntime) {
         row(10, [pressed(1, 85_000, 91_000), None], true),
     ];
     let spec = pressure_rising(&rt, rt.alloc(), "a", 5);
-    answers(&rt, rt.alloc(), &spec, &rows);
+    assert_answers(&rt, rt.alloc(), &spec, &rows);
 }
 
 #[test]
@@ -209,7 +210,7 @@ fn pressure_falls_too_fast(rt: HostRuntime) {
         row(10, [pressed(1, 84_999, 91_000), None], false),
     ];
     let spec = pressure_rising(&rt, rt.alloc(), "a", 5);
-    answers(&rt, rt.alloc(), &spec, &rows);
+    assert_answers(&rt, rt.alloc(), &spec, &rows);
 }
 
 #[test]
@@ -227,7 +228,7 @@ fn pressure_rises_from_the_matches_before(rt: HostRuntime) {
         row(30, [pressed(1, 81_921, 81_920), None], false),
     ];
     let spec = pressure_rising(&rt, rt.alloc(), "a,b", 0);
-    answers(&rt, rt.alloc(), &spec, &rows);
+    assert_answers(&rt, rt.alloc(), &spec, &rows);
 }
 
 // ---- memory
@@ -241,7 +242,7 @@ fn memory_above_a_percentage(rt: HostRuntime) {
         filled(20, 0, 1, true),
     ];
     let spec = memory_above(&rt, rt.alloc(), "a", Size::Percent(50));
-    answers(&rt, rt.alloc(), &spec, &rows);
+    assert_answers(&rt, rt.alloc(), &spec, &rows);
 }
 
 #[test]
@@ -251,7 +252,7 @@ fn memory_above_the_most(rt: HostRuntime) {
         filled(10, MOST - 1, MOST, true),
     ];
     let spec = memory_above(&rt, rt.alloc(), "a", Size::Percent(100));
-    answers(&rt, rt.alloc(), &spec, &rows);
+    assert_answers(&rt, rt.alloc(), &spec, &rows);
 }
 
 #[test]
@@ -264,7 +265,7 @@ fn memory_above_bytes(rt: HostRuntime) {
         row(25, [None, None], false),
     ];
     let spec = memory_above(&rt, rt.alloc(), "a,b", Size::Bytes(1536));
-    answers(&rt, rt.alloc(), &spec, &rows);
+    assert_answers(&rt, rt.alloc(), &spec, &rows);
 }
 
 #[test]
@@ -276,7 +277,7 @@ fn pages_were_scanned(rt: HostRuntime) {
         row(20, [scanned(1, 101), None], false),
     ];
     let spec = memory_reclaim(&rt, rt.alloc(), "a");
-    answers(&rt, rt.alloc(), &spec, &rows);
+    assert_answers(&rt, rt.alloc(), &spec, &rows);
 }
 
 #[test]
@@ -291,7 +292,7 @@ fn pages_of_groups_that_come_and_go(rt: HostRuntime) {
         row(41, [scanned(0, 2), scanned(3, 2)], false),
     ];
     let spec = memory_reclaim(&rt, rt.alloc(), "a,b");
-    answers(&rt, rt.alloc(), &spec, &rows);
+    assert_answers(&rt, rt.alloc(), &spec, &rows);
 }
 
 // ---- the host
@@ -305,7 +306,7 @@ fn swap_is_short(rt: HostRuntime) {
         swapped(20, MOST, MOST, false),
     ];
     let spec = DetectorSpec::SwapFree { threshold_pct: 15 };
-    answers(&rt, rt.alloc(), &spec, &rows);
+    assert_answers(&rt, rt.alloc(), &spec, &rows);
 }
 
 #[test]
@@ -315,7 +316,7 @@ fn swap_is_short_at_the_most(rt: HostRuntime) {
         swapped(10, MOST, MOST - 1, true),
     ];
     let spec = DetectorSpec::SwapFree { threshold_pct: 100 };
-    answers(&rt, rt.alloc(), &spec, &rows);
+    assert_answers(&rt, rt.alloc(), &spec, &rows);
 }
 
 // ---- matches
@@ -329,7 +330,7 @@ fn there_is_a_match(rt: HostRuntime) {
         row(20, [using(3, 1), None], false),
     ];
     let spec = exists(&rt, rt.alloc(), "a,b", false);
-    answers(&rt, rt.alloc(), &spec, &rows);
+    assert_answers(&rt, rt.alloc(), &spec, &rows);
 }
 
 #[test]
@@ -340,5 +341,5 @@ fn there_is_no_match(rt: HostRuntime) {
         row(15, [using(0, 1), using(3, 1)], true),
     ];
     let spec = exists(&rt, rt.alloc(), "a,b", true);
-    answers(&rt, rt.alloc(), &spec, &rows);
+    assert_answers(&rt, rt.alloc(), &spec, &rows);
 }

@@ -1,8 +1,8 @@
-//! Tests of whole rules: each test gives rules several readings in turn, each with the expected
-//! kills. The kills follow from the rules of action chains and of post-action delays.
+//! Tests of whole rules: each test passes several readings to the rules, and compares the kills
+//! after each reading with the expected kills. The expected kills follow from the order of actions
+//! and from the delays after kills.
 
-use crate::checks::is_text;
-use crate::readings::{NO_HOST, SECOND, life, using};
+use crate::readings::{NO_HOST, life, using};
 use crate::rig::Rig;
 use crate::rules::shown::{put, quoted};
 use detectors::GroupReading;
@@ -12,18 +12,19 @@ use psi_spec::GroupLife;
 use ruleset_json::{Rules, read};
 use std::alloc::Global;
 use std::process::Abort;
+use test_support::{SECOND, assert_equal};
 
 /// A reading, five seconds after the previous one, and the expected kills. The reading has the
 /// memory (bytes) of the group `/a`, or `None` if the group isn't live. The kills are a text with
-/// the time (s), ruleset, action and slot of each.
+/// the time (s), ruleset, action and slot of each kill.
 type Case = (Option<u64>, &'static str);
 
-/// Makes two groups: the root and one child.
+/// Makes the groups `/` and `/a`, in the order of slots. The tests don't need their parents.
 fn groups(rt: &impl Abort, alloc: Global) -> [GroupLife; 2] {
     [life(rt, alloc, "/", None), life(rt, alloc, "/a", None)]
 }
 
-/// Parses the rules of a text in which `'` replaces `"`.
+/// Parses a rules file, in which `'` replaces each double quote.
 fn rules(rt: &impl Abort, alloc: Global, text: &str) -> Rules {
     let text = quoted(rt, alloc, text);
     read(alloc, text.as_bytes()).expect(rt, "rules")
@@ -37,7 +38,7 @@ fn group(current: &Option<u64>) -> Option<GroupReading> {
     }
 }
 
-/// Formats kills as a text.
+/// Formats kills as a text: the time (s), ruleset, action and slot of each kill.
 fn shown(rt: &impl Abort, alloc: Global, kills: &[Kill]) -> String {
     let mut text = String::new(alloc);
     for kill in kills {
@@ -49,7 +50,7 @@ fn shown(rt: &impl Abort, alloc: Global, kills: &[Kill]) -> String {
 }
 
 /// Checks the kills after each reading, in order.
-fn kills(rt: &impl Abort, alloc: Global, text: &str, rows: &[Case]) {
+fn assert_kills(rt: &impl Abort, alloc: Global, text: &str, rows: &[Case]) {
     let mut rig = Rig::make(rt, alloc, &groups(rt, alloc));
     let killer = Killer::make(alloc, rules(rt, alloc, text), rig.reading.lives());
     let mut killer = killer.expect(rt, "memory");
@@ -58,7 +59,8 @@ fn kills(rt: &impl Abort, alloc: Global, text: &str, rows: &[Case]) {
         now = now.saturating_add(5 * SECOND);
         rig.read(rt, now, NO_HOST, &[group(current)]);
         killer.evaluate(&rig.reading);
-        is_text(rt, &shown(rt, alloc, killer.kills()), wanted, now);
+        let kills = shown(rt, alloc, killer.kills());
+        assert_equal!(rt; kills.as_str(), *wanted, now);
     }
 }
 
@@ -70,7 +72,7 @@ const CHAIN: &str =
 
 #[test]
 fn chain_goes_on_and_ends(rt: HostRuntime) {
-    kills(
+    assert_kills(
         &rt,
         rt.alloc(),
         CHAIN,
@@ -93,7 +95,7 @@ const RESTS: &str = "{'rulesets':[{'name':'r','post_action_delay':15,
 
 #[test]
 fn rulesets_rest_for_their_delays(rt: HostRuntime) {
-    kills(
+    assert_kills(
         &rt,
         rt.alloc(),
         RESTS,
@@ -116,7 +118,7 @@ const SECOND_KILLS: &str =
 
 #[test]
 fn delay_is_of_the_action_that_killed(rt: HostRuntime) {
-    kills(
+    assert_kills(
         &rt,
         rt.alloc(),
         SECOND_KILLS,
@@ -134,7 +136,7 @@ const SEES_ALL: &str = "{'rulesets':[{'name':'r','post_action_delay':15,'detecto
 
 #[test]
 fn resting_ruleset_sees_readings(rt: HostRuntime) {
-    kills(
+    assert_kills(
         &rt,
         rt.alloc(),
         SEES_ALL,
@@ -157,7 +159,7 @@ const AFTER_FALSE: &str = "{'rulesets':[{'name':'r','detectors':[['g',
 
 #[test]
 fn detector_after_a_false_one_sees_readings(rt: HostRuntime) {
-    kills(
+    assert_kills(
         &rt,
         rt.alloc(),
         AFTER_FALSE,
@@ -172,7 +174,7 @@ const NO_DETECTORS: &str = "{'rulesets':[{'name':'r','detectors':[],
 
 #[test]
 fn empty_group_always_holds(rt: HostRuntime) {
-    kills(
+    assert_kills(
         &rt,
         rt.alloc(),
         NO_DETECTORS,

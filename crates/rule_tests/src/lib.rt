@@ -1,7 +1,7 @@
 //! Tests of rules: rules files and the patterns in them, detectors, victims and kills.
 //!
-//! Readings are written by hand, without a trace. Rules in whole replays are tested in
-//! replay_tests.
+//! The tests build readings (the values of the host and of all groups at one evaluation) directly,
+//! without a trace. Rules in whole replays are tested in replay_tests.
 #![tactic(auto)]
 
 #[cfg(test)]

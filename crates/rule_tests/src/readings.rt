@@ -1,32 +1,24 @@
-//! Helpers that make parts of readings: hosts, groups and the lives of groups. A test sets only the
-//! values that matter to it.
+//! Helpers that make the parts of readings: the host and the groups, and the groups' paths. A test
+//! sets only the values that matter to it.
 use detectors::{GroupReading, HostReading};
 use pressure_spec::QUANTITIES;
-use psi_base::{Ns, Path, Preference, Slot};
+use psi_base::{Preference, Slot};
 use psi_spec::GroupLife;
 use std::alloc::Global;
 use std::process::Abort;
+use test_support::path_of;
 
-/// One second (ns).
-pub const SECOND: Ns = 1_000_000_000;
-
-/// A host without a sample.
+/// The values of a host for which the trace has no sample.
 pub const NO_HOST: HostReading = HostReading {
     mem_total: 0,
     swap_total: 0,
     swap_free: 0,
 };
 
-/// Parses a path.
-pub fn path(rt: &impl Abort, alloc: Global, text: &str) -> Path {
-    let path = Path::read(alloc, text.as_bytes()).expect(rt, "memory");
-    path.expect(rt, text)
-}
-
-/// Makes the life of a group that was created at 0 ns and is still live.
+/// Makes the record of a group that is created at 0 ns and never removed. `text` is its path.
 pub fn life(rt: &impl Abort, alloc: Global, text: &str, parent: Option<Slot>) -> GroupLife {
     GroupLife {
-        path: path(rt, alloc, text),
+        path: path_of(alloc, text).expect(rt, text),
         parent,
         made: 0,
         gone: None,
@@ -34,7 +26,7 @@ pub fn life(rt: &impl Abort, alloc: Global, text: &str, parent: Option<Slot>) ->
     }
 }
 
-/// Makes a group with tasks, whose other values are zero.
+/// Makes a group that has tasks and no kill preference, and whose other values are zero.
 pub fn bare_group(slot: u32) -> GroupReading {
     GroupReading {
         slot: Slot(slot),
@@ -54,7 +46,7 @@ pub fn using(slot: u32, current: u64) -> Option<GroupReading> {
     Some(group)
 }
 
-/// Makes a group with `scan` page scans.
+/// Makes a group with `scan` scanned pages.
 pub fn scanned(slot: u32, scan: u64) -> Option<GroupReading> {
     let mut group = bare_group(slot);
     group.scan = scan;

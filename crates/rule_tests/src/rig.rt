@@ -1,4 +1,4 @@
-//! A rig for the tests: one reading that a test fills again and again, at increasing times. It
+//! A rig for the tests: a reading that a test fills several times, at increasing times. The rig
 //! checks that the values are in range.
 ghost use Rattle.std.specs.Prelude.{◌≡◌, None, Some};
 ghost use Rattle.detectors.specs.Views.{IsAfter};
@@ -10,7 +10,7 @@ use psi_spec::GroupLife;
 use std::alloc::Global;
 use std::process::Abort;
 
-/// A reading and its time (ns), or `None` before the first reading.
+/// A reading, and the time (ns) at which it was last filled, or `None` if it wasn't filled yet.
 #[derive(Drop)]
 pub struct Rig {
     pub reading: Reading,
@@ -36,7 +36,7 @@ fn put_groups(rt: &impl Abort, reading: &mut Reading, groups: &[Option<GroupRead
 }
 
 impl Rig {
-    /// Makes a rig for groups with these lives, before the first reading.
+    /// Makes a rig for the groups `lives`, indexed by slot. Its reading isn't filled yet.
     pub fn make(rt: &impl Abort, alloc: Global, lives: &[GroupLife]) -> Rig
         ensures lives { result.reading.lives ≡ lives.now }
         ensures last { result.last ≡ None }
@@ -48,8 +48,8 @@ impl Rig {
         }
     }
 
-    /// Fills the reading at a later time `at` (ns), with the host and the groups in the byte order
-    /// of their paths.
+    /// Fills the reading at a later time `at` (ns) with the host and the groups. The groups are in
+    /// the byte order of their paths; `None` is a group that isn't live.
     pub fn read(
         &mut self,
         rt: &impl Abort,

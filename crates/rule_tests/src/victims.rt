@@ -1,10 +1,11 @@
-//! Tests of the choice of a victim: each test gives an action several readings, and has the
-//! expected victim at the last one. The numbers follow from the rules of victims.
+//! Tests of the choice of a victim. Each test passes several readings to an action, and compares
+//! the victim at the last reading with the expected group. A reading has the values of the host and
+//! of all live groups at one evaluation of the rules.
 
 ghost use Rattle.std.specs.Prelude.{◌≡◌, length};
 
 use crate::checks::{MOST, is_action};
-use crate::readings::{NO_HOST, SECOND, bare_group, life, scanned, using};
+use crate::readings::{NO_HOST, bare_group, life, scanned, using};
 use crate::rig::Rig;
 use detectors::{GroupReading, Reading};
 use path_match::Patterns;
@@ -13,12 +14,14 @@ use psi_spec::GroupLife;
 use ruleset_json::{Action, After, Size};
 use std::alloc::Global;
 use std::process::Abort;
+use test_support::{SECOND, assert_equal};
 use victim_rank::{MatchTable, Past, victim};
 
-/// A reading: the groups in the byte order of their paths, with `None` for a group that isn't live.
+/// The groups of a reading in the byte order of their paths, with `None` for a group that isn't
+/// live.
 type Row = [Option<GroupReading>; 3];
 
-/// Makes a group that uses `current` bytes of memory and has a preference.
+/// Makes a group that uses `current` bytes of memory and has this kill preference.
 fn preferring(slot: u32, current: u64, preference: Preference) -> Option<GroupReading> {
     let mut group = bare_group(slot);
     group.current = current;
@@ -41,15 +44,16 @@ fn swapping(slot: u32, swap: u64) -> Option<GroupReading> {
     Some(group)
 }
 
-/// Makes a group with these memory full averages over 10 s and over 60 s.
+/// Makes a group with these memory `full` averages over 10 s and over 60 s, in fixed point (2,048
+/// is one percent).
 fn pressed(slot: u32, ten: u64, sixty: u64) -> Option<GroupReading> {
     let mut group = bare_group(slot);
     group.averages[State::MemFull as usize] = [ten, sixty, 0];
     Some(group)
 }
 
-/// Makes six groups: the root, three of its children, and two children of the first child. The
-/// paths of the latter come before those of the second and third child.
+/// Makes six groups in the order of slots: the root, three of its children, and two children of the
+/// first child. In the byte order of paths, the last two come before the second and third child.
 fn lives(rt: &impl Abort, alloc: Global) -> [GroupLife; 6] {
     [
         life(rt, alloc, "/", None),
@@ -61,7 +65,8 @@ fn lives(rt: &impl Abort, alloc: Global) -> [GroupLife; 6] {
     ]
 }
 
-/// Makes the options for what follows an action: no delay, and a recursive choice if `recursive`.
+/// Makes the settings that every action has: no delay, and a recursive choice if `recursive` is
+/// true.
 fn after(recursive: bool) -> After {
     After {
         recursive,
@@ -110,8 +115,9 @@ fn pg_scan(rt: &impl Abort, alloc: Global) -> Action {
     }
 }
 
-/// Checks that the action's victim at a reading is the group in slot `wanted`, or none.
-fn is_victim(
+/// Checks that the action's victim at a reading is the group in slot `wanted`, or that there is no
+/// victim if `wanted` is `None`.
+fn assert_victim(
     rt: &impl Abort,
     alloc: Global,
     action: &Action,
@@ -124,12 +130,19 @@ fn is_victim(
     assert!(rt; is_action(action), "the action is out of range");
     let lives = reading.lives();
     let table = MatchTable::of(alloc, action, lives).expect(rt, "memory");
-    assert_eq!(rt; victim(action, &table, reading, past, lives), wanted);
+    let victim = victim(action, &table, reading, past, lives);
+    assert_equal!(rt; victim, wanted, "the slot of the victim");
 }
 
 /// Checks that the action's victim at the last of these readings is the group in slot `wanted`, or
-/// none.
-fn kills(rt: &impl Abort, alloc: Global, action: &Action, rows: &[Row], wanted: Option<Slot>) {
+/// that there is no victim if `wanted` is `None`.
+fn assert_kills(
+    rt: &impl Abort,
+    alloc: Global,
+    action: &Action,
+    rows: &[Row],
+    wanted: Option<Slot>,
+) {
     let mut rig = Rig::make(rt, alloc, &lives(rt, alloc));
     let past = Past::make(alloc, rig.reading.lives().len() as u32);
     let mut past = past.expect(rt, "memory");
@@ -139,26 +152,26 @@ fn kills(rt: &impl Abort, alloc: Global, action: &Action, rows: &[Row], wanted: 
         now = now.saturating_add(5 * SECOND);
         rig.read(rt, now, NO_HOST, row);
     }
-    is_victim(rt, alloc, action, &rig.reading, &past, wanted);
+    assert_victim(rt, alloc, action, &rig.reading, &past, wanted);
 }
 
 // ---- size or growth
 
 // No group has half of the total of 108. The second group grew from a mean of 30 to 38, by a factor
-// of 1.27.
+// of 1.27. Without earlier readings, the largest group is chosen.
 #[test]
 fn growth_is_over_the_mean_of_the_past(rt: HostRuntime) {
     let before = [using(1, 40), using(2, 30), using(3, 30)];
     let now = [using(1, 40), using(2, 38), using(3, 30)];
     let action = size_or_growth(&rt, rt.alloc(), 0, false);
-    kills(
+    assert_kills(
         &rt,
         rt.alloc(),
         &action,
         &[before, before, before, now],
         Some(Slot(2)),
     );
-    kills(&rt, rt.alloc(), &action, &[now], Some(Slot(1)));
+    assert_kills(&rt, rt.alloc(), &action, &[now], Some(Slot(1)));
 }
 
 // A reading at which the group wasn't live doesn't count, nor does the fifth size before the
@@ -171,14 +184,14 @@ fn the_past_has_four_sizes(rt: HostRuntime) {
     let gone = [using(1, 40), None, using(3, 40)];
     let now = [using(1, 40), using(2, 37), using(3, 40)];
     let action = size_or_growth(&rt, rt.alloc(), 0, false);
-    kills(
+    assert_kills(
         &rt,
         rt.alloc(),
         &action,
         &[first, before, before, gone, before, before, now],
         Some(Slot(1)),
     );
-    kills(
+    assert_kills(
         &rt,
         rt.alloc(),
         &action,
@@ -187,20 +200,20 @@ fn the_past_has_four_sizes(rt: HostRuntime) {
     );
 }
 
-// One of three groups is above percentile 80 (0.6, rounded up), so the group that grew isn't
-// considered.
+// Of three groups, 20 percent (0.6, rounded up to one group) are above percentile 80, so the group
+// that grew isn't considered. Two groups are above percentile 60.
 #[test]
 fn the_percentile_is_rounded_up(rt: HostRuntime) {
     let before = [using(1, 40), using(2, 30), using(3, 30)];
     let now = [using(1, 40), using(2, 39), using(3, 30)];
-    kills(
+    assert_kills(
         &rt,
         rt.alloc(),
         &size_or_growth(&rt, rt.alloc(), 80, false),
         &[before, now],
         Some(Slot(1)),
     );
-    kills(
+    assert_kills(
         &rt,
         rt.alloc(),
         &size_or_growth(&rt, rt.alloc(), 60, false),
@@ -209,8 +222,8 @@ fn the_percentile_is_rounded_up(rt: HostRuntime) {
     );
 }
 
-// A group with half of the total is chosen although another group grew. If the total is 0, each
-// group has its share, and the group with the first path is chosen.
+// A group with half of the total is chosen although another group grew. If the total is 0, every
+// group has half of it, and the group with the first path is chosen.
 #[test]
 fn half_of_all_is_large(rt: HostRuntime) {
     let before = [using(1, 50), using(2, 10), None];
@@ -218,9 +231,9 @@ fn half_of_all_is_large(rt: HostRuntime) {
     let nothing = [using(1, 0), using(2, 0), using(3, 0)];
     let most = [using(1, MOST), using(2, MOST), using(3, MOST)];
     let action = size_or_growth(&rt, rt.alloc(), 0, false);
-    kills(&rt, rt.alloc(), &action, &[before, now], Some(Slot(1)));
-    kills(&rt, rt.alloc(), &action, &[nothing], Some(Slot(1)));
-    kills(
+    assert_kills(&rt, rt.alloc(), &action, &[before, now], Some(Slot(1)));
+    assert_kills(&rt, rt.alloc(), &action, &[nothing], Some(Slot(1)));
+    assert_kills(
         &rt,
         rt.alloc(),
         &action,
@@ -245,10 +258,10 @@ fn preference_comes_first(rt: HostRuntime) {
     ];
     let tasks = [empty(1, 60), using(2, 20), using(3, 20)];
     let action = size_or_growth(&rt, rt.alloc(), 0, false);
-    kills(&rt, rt.alloc(), &action, &[avoided], Some(Slot(3)));
-    kills(&rt, rt.alloc(), &action, &[preferred], Some(Slot(3)));
-    kills(&rt, rt.alloc(), &action, &[tasks], Some(Slot(2)));
-    kills(&rt, rt.alloc(), &action, &[[None, None, None]], None);
+    assert_kills(&rt, rt.alloc(), &action, &[avoided], Some(Slot(3)));
+    assert_kills(&rt, rt.alloc(), &action, &[preferred], Some(Slot(3)));
+    assert_kills(&rt, rt.alloc(), &action, &[tasks], Some(Slot(2)));
+    assert_kills(&rt, rt.alloc(), &action, &[[None, None, None]], None);
 }
 
 // ---- swap, pressure and scans
@@ -257,28 +270,28 @@ fn preference_comes_first(rt: HostRuntime) {
 fn swap_at_the_threshold_is_enough(rt: HostRuntime) {
     let none = [swapping(1, 0), swapping(2, 0), None];
     let some = [swapping(1, 9), swapping(2, 10), swapping(3, 10)];
-    kills(
+    assert_kills(
         &rt,
         rt.alloc(),
         &swap_usage(&rt, rt.alloc(), Size::Bytes(0)),
         &[none],
         Some(Slot(1)),
     );
-    kills(
+    assert_kills(
         &rt,
         rt.alloc(),
         &swap_usage(&rt, rt.alloc(), Size::Percent(50)),
         &[none],
         Some(Slot(1)),
     );
-    kills(
+    assert_kills(
         &rt,
         rt.alloc(),
         &swap_usage(&rt, rt.alloc(), Size::Bytes(10)),
         &[some],
         Some(Slot(2)),
     );
-    kills(
+    assert_kills(
         &rt,
         rt.alloc(),
         &swap_usage(&rt, rt.alloc(), Size::Bytes(11)),
@@ -291,14 +304,14 @@ fn swap_at_the_threshold_is_enough(rt: HostRuntime) {
 fn pressure_and_scans_are_above_zero(rt: HostRuntime) {
     let none = [pressed(1, 0, 0), pressed(2, 0, 0), None];
     let some = [pressed(1, 3, 3), pressed(2, 0, 7), pressed(3, 6, 0)];
-    kills(
+    assert_kills(
         &rt,
         rt.alloc(),
         &pressure(&rt, rt.alloc(), false),
         &[none],
         None,
     );
-    kills(
+    assert_kills(
         &rt,
         rt.alloc(),
         &pressure(&rt, rt.alloc(), false),
@@ -307,8 +320,8 @@ fn pressure_and_scans_are_above_zero(rt: HostRuntime) {
     );
     let before = [scanned(1, 5), scanned(2, 5), None];
     let now = [scanned(1, 6), scanned(2, 7), scanned(3, 90)];
-    kills(&rt, rt.alloc(), &pg_scan(&rt, rt.alloc()), &[before], None);
-    kills(
+    assert_kills(&rt, rt.alloc(), &pg_scan(&rt, rt.alloc()), &[before], None);
+    assert_kills(
         &rt,
         rt.alloc(),
         &pg_scan(&rt, rt.alloc()),
@@ -324,14 +337,14 @@ fn pressure_and_scans_are_above_zero(rt: HostRuntime) {
 #[test]
 fn recursive_goes_down(rt: HostRuntime) {
     let sizes = [using(1, 60), using(4, 20), using(5, 40)];
-    kills(
+    assert_kills(
         &rt,
         rt.alloc(),
         &size_or_growth(&rt, rt.alloc(), 0, true),
         &[sizes],
         Some(Slot(5)),
     );
-    kills(
+    assert_kills(
         &rt,
         rt.alloc(),
         &size_or_growth(&rt, rt.alloc(), 0, false),
@@ -339,7 +352,7 @@ fn recursive_goes_down(rt: HostRuntime) {
         Some(Slot(1)),
     );
     let pressures = [pressed(1, 9, 9), pressed(4, 0, 0), pressed(5, 0, 0)];
-    kills(
+    assert_kills(
         &rt,
         rt.alloc(),
         &pressure(&rt, rt.alloc(), true),

@@ -1,4 +1,5 @@
--- The ticks of a replay, and what the next tick adds to the output and the numbers of a replay.
+-- States laws about the next tick of a replay: what it adds to the list of ticks, to the output,
+-- and to the numbers of signals of triggers and of kills.
 use Rattle.std.specs.Prelude.{◌≡◌, ℕ, ◌+◌, ◌<◌, ◌≤◌, List, [], ◌∷◌, ◌++◌, length}
 use Rattle.psi_base.specs.declared.event.Event.{Event}
 use Rattle.psi_spec.specs.Refusal.{AreLegal}
@@ -10,12 +11,14 @@ use Rattle.pressure_spec.specs.NextTick.{IsNextTick, last_tick, no_tick}
 use Rattle.run_spec.specs.Replay.{Beside, Timing, fired_in, kills_in, kills_until, signals_until, tick_text, ticks_text}
 use Rattle.ruleset_json.specs.declared.types.Rule.{Rule}
 
--- The state before the first tick, for `cpus` processors and for all groups that the events create.
+-- `before_ticks cpus events`: the state before the first tick, for `cpus` processors and all groups
+-- that the events create.
 abbrev pub before_ticks : ℕ → List Event → Tick
 before_ticks cpus events = no_tick cpus (length (after events).groups)
 
--- Each tick of legal events is a valid successor of the previous tick. The law requires at most
--- `most_cpus` processors, because the world stores the time of the last `irq` line only for them.
+-- For legal events, each tick is a valid successor of the previous tick. The law requires at most
+-- `most_cpus` processors, because the scheduler state has the time of the last `irq` line only for
+-- that number of processors.
 abbrev pub TicksFollow : Type 0
 TicksFollow =
     (limits : Limits) (cpus : ℕ) (events : List Event) (length i : ℕ) → AreLegal limits first_world events → limits.cpus ≤ most_cpus →
@@ -27,8 +30,8 @@ abbrev pub TicksMore : Type 0
 TicksMore = (cpus : ℕ) (events : List Event) (length i : ℕ) →
     ticks_of cpus events length (i + 1) ≡ ticks_of cpus events length i ++ tick_of cpus events length (i + 1) ∷ []
 
--- The number of signals at the first i + 1 ticks is the number at the first `i` ticks plus the
--- number at tick i + 1.
+-- The number of trigger signals at the first i + 1 ticks is the number at the first `i` ticks plus
+-- the number at tick i + 1.
 abbrev pub SignalsMore : Type 0
 SignalsMore = (trace : Trace) (timing : Timing) (i : ℕ) →
     signals_until trace timing (i + 1) ≡ signals_until trace timing i + length (fired_in trace timing (i + 1))

@@ -1,17 +1,17 @@
-//! Laws of the output of a replay: how it grows tick by tick.
-//! Each function has an empty body: its contract is the law.
+//! Laws of the output of a replay, which grows tick by tick. Each function has an empty body: its
+//! contract is the law.
 ghost use Rattle.run_laws.specs.Live.{NoTextAtFirst, OneTextMore, OneTextUnwatched, SlotByLives, TextsGoOn, WholeText};
 ghost use Rattle.run_laws.specs.Reports.{ReportsByOrder};
 ghost use Rattle.run_laws.specs.Ticking.{KillsMore, SignalsMore, TextMore, TicksFollow, TicksMore};
 
-/// Each tick of an accepted trace is a valid successor of the previous tick: no time decreases, a
-/// state's time grows by at most the time between the ticks, and interrupt time by at most a second
-/// more.
+/// Each tick of an accepted trace is a valid successor of the previous tick. No time decreases. The
+/// time in a state grows by at most the time between the two ticks, and interrupt time grows by at
+/// most one second more than that.
 pub fn law_next_tick()
     ensures { TicksFollow }
 {}
 
-/// What the next tick adds: its table, signals, kills and lines are appended to those of the
+/// The next tick appends its table, its trigger signals, its kills and its lines to those of the
 /// previous ticks.
 pub fn law_one_tick_more()
     ensures ticks { TicksMore }
@@ -20,20 +20,20 @@ pub fn law_one_tick_more()
     ensures text { TextMore }
 {}
 
-/// The reports of a tick are the reports on the groups that are live at the tick, in any order of
-/// all slots that sorts them by path.
+/// The reports of a tick can be computed slot by slot in any order of all slots that sorts them by
+/// path.
 pub fn law_reports()
     ensures { ReportsByOrder }
 {}
 
-/// The groups after all events determine which slot a path has at each time.
+/// The list of all groups at the end of a trace determines which slot a path has at each time.
 pub fn law_live_slot()
     ensures { SlotByLives }
 {}
 
-/// Laws of the output with live lines: there is no line before the first tick; the next tick
-/// appends its lines; after all ticks the last line completes the output; and the lines of the
-/// first ticks can always be continued to a complete output.
+/// Laws of the output with live lines. There is no output before the first tick. The next tick
+/// appends its lines. After all ticks the last line completes the output. The output of the first
+/// ticks can always be extended to a complete output.
 pub fn law_live_texts()
     ensures more { OneTextMore }
     ensures whole { WholeText }
@@ -41,7 +41,7 @@ pub fn law_live_texts()
     ensures none { NoTextAtFirst }
 {}
 
-/// There is exactly one possible output if no group is watched.
+/// If no group is watched, there is exactly one possible output.
 pub fn law_unwatched()
     ensures { OneTextUnwatched }
 {}

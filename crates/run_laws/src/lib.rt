@@ -1,8 +1,8 @@
-//! Laws of a replay's output: how it grows tick by tick, and how the reports of a tick are printed
-//! in a fixed order of all slots.
+//! Laws of a replay's output: it grows tick by tick, and the reports of a tick can be computed in a
+//! fixed order of all slots.
 //!
-//! The laws relate definitions only. The code that prints is in replay_ticks and the crates above
-//! it.
+//! The laws relate definitions only. The code that prints is in replay_ticks and in the crates that
+//! use it.
 #![tactic(auto)]
 
 mod laws;

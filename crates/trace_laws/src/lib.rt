@@ -1,7 +1,7 @@
-//! Laws of the grammar and of whole traces, which psi_spec defines. The crates that parse lines,
-//! generate traces or run commands use these laws.
+//! Laws of the grammar of traces and of whole traces, which psi_spec defines. The crates that parse
+//! lines, generate traces or run commands use these laws.
 //!
-//! Crates that only process parsed events don't depend on this crate.
+//! Crates that only read parsed events don't depend on this crate.
 #![tactic(auto)]
 
 mod grammar;

@@ -1,5 +1,5 @@
-//! Helpers that several modules share: traces, functions that make events and plans from lines, and
-//! an assertion of equality.
+//! Helpers that several modules share: traces, and functions that parse the lines of a trace or
+//! build its plans.
 
 ghost use Rattle.std.specs.Prelude.{◌≡◌, ◌≤◌, length, IfOk};
 ghost use Rattle.psi_spec.specs.Trace.{AllFit, IsCpuCount};
@@ -9,7 +9,6 @@ use proc_plan::Plans;
 use psi_base::{Cause, Event, Fault, Ns};
 use psi_trace::read_event;
 use std::alloc::Global;
-use std::fmt::Debug;
 use std::process::Abort;
 
 /// A trace of one task, which waits for IO for one second and then for a processor.
@@ -21,8 +20,8 @@ pub const WAITS: [&[u8]; 5] = [
     b"2000000000 end",
 ];
 
-/// A trace of one task in the root group, which runs for two seconds, a quarter of a second of them
-/// with interrupts. Later interrupts, when no task runs, count for no group.
+/// A trace of one task in the root group, which runs for two seconds. Interrupts take a quarter of
+/// a second of that time. The interrupts after the task stops running are charged to no group.
 pub const INTERRUPTS: [&[u8]; 6] = [
     b"0 fork 1 / 0",
     b"0 switch 0 1 idle",
@@ -53,18 +52,4 @@ pub fn plans_of(rt: &impl Abort, alloc: Global, cpus: u32, latest: Ns, lines: &[
 {
     let events = events_of(alloc, lines).expect(rt, "events");
     Plans::build(alloc, cpus, latest, &events).expect(rt, "plans")
-}
-
-/// Aborts the test if `found` isn't `wanted`, and prints `case`. A function is used because a
-/// formatted check is expensive to prove at each call.
-pub fn is<T: Copy + PartialEq + Debug, C: Copy + Debug>(
-    rt: &impl Abort,
-    found: T,
-    wanted: T,
-    case: C,
-) {
-    assert!(rt;
-        found == wanted,
-        "{case:?}: found {found:?}, wanted {wanted:?}"
-    );
 }

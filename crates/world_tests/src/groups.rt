@@ -1,33 +1,29 @@
 //! Tests of the tree of groups: creation, removal, switches of accounting, and the orders in which
 //! groups are listed. Tasks aren't involved.
 
-use crate::events::is;
 use group_tree::Tree;
-use psi_base::{Cause, Fault, Ns, Path, Slot};
+use psi_base::{Cause, Fault, Ns, Slot};
+use psi_spec::GroupLife;
 use std::alloc::Global;
 use std::process::Abort;
+use test_support::{assert_equal, path_of};
 
-fn path(rt: &impl Abort, alloc: Global, text: &str) -> Path {
-    let read = Path::read(alloc, text.as_bytes()).expect(rt, "memory");
-    read.expect(rt, "a path")
-}
-
-/// Creates a group, or returns the cause for which it is rejected. Checks that `add_cause` predicts
-/// the result.
+/// Creates a group with the path `text`. Returns its slot, or the cause if the tree rejects the
+/// group. Checks that `add_cause` predicts the cause.
 fn add(rt: &impl Abort, alloc: Global, tree: &mut Tree, text: &str, at: Ns) -> Result<Slot, Cause> {
-    let path = path(rt, alloc, text);
+    let path = path_of(alloc, text).expect(rt, text);
     let predicted = tree.add_cause(&path);
     let outcome = match tree.add(&path, at) {
         Ok(slot) => Ok(slot),
         Err(Fault::Refused(cause)) => Err(cause),
         Err(Fault::NoMemory(none)) => panic!(rt; "{none:?}"),
     };
-    is(rt, outcome.err(), predicted, text);
+    assert_equal!(rt; outcome.err(), predicted, text);
     outcome
 }
 
-/// Removes a group, or returns the cause for which this is rejected. Checks that `remove_cause`
-/// predicts the result.
+/// Removes the group with the path `text`. Returns its slot, or the cause if the tree rejects the
+/// removal. Checks that `remove_cause` predicts the cause.
 fn remove(
     rt: &impl Abort,
     alloc: Global,
@@ -35,15 +31,16 @@ fn remove(
     text: &str,
     at: Ns,
 ) -> Result<Slot, Cause> {
-    let path = path(rt, alloc, text);
+    let path = path_of(alloc, text).expect(rt, text);
     let predicted = tree.remove_cause(&path);
     let outcome = tree.remove(&path, at);
-    is(rt, outcome.err(), predicted, text);
+    assert_equal!(rt; outcome.err(), predicted, text);
     outcome
 }
 
-/// Switches a group's accounting, or returns the cause for which this is rejected. Checks that
-/// `pressure_cause` predicts the result.
+/// Switches the pressure accounting of the group with the path `text` on or off. Returns the slot
+/// of the group, or the cause if the tree rejects the switch. Checks that `pressure_cause` predicts
+/// the cause.
 fn switch(
     rt: &impl Abort,
     alloc: Global,
@@ -51,10 +48,10 @@ fn switch(
     text: &str,
     on: bool,
 ) -> Result<Slot, Cause> {
-    let path = path(rt, alloc, text);
+    let path = path_of(alloc, text).expect(rt, text);
     let predicted = tree.pressure_cause(&path);
     let outcome = tree.switch(&path, on);
-    is(rt, outcome.err(), predicted, text);
+    assert_equal!(rt; outcome.err(), predicted, text);
     outcome
 }
 
@@ -86,19 +83,27 @@ const LIVES: [(&str, Option<Slot>, Ns, Option<Ns>); 8] = [
     ("/a/b/c", Some(Slot(5)), 3, None),
 ];
 
-// A path that is created again gets a new slot; the slot of the removed group is unchanged.
+/// Checks that a group has the path, the parent, and the times (ns) of creation and removal in
+/// `want`.
+fn assert_life(rt: &impl Abort, life: &GroupLife, want: &(&str, Option<Slot>, Ns, Option<Ns>)) {
+    let (path, parent, made, gone) = *want;
+    assert_equal!(rt; life.path.text(), path, made);
+    assert_equal!(rt; (life.parent, life.made, life.gone), (parent, made, gone), path);
+}
+
+// A group that is created with the path of a removed group gets a new slot. The slot of the removed
+// group is unchanged.
 #[test]
 fn lives_of_groups(rt: HostRuntime) {
     let tree = small_forest(&rt, rt.alloc());
-    is(&rt, tree.len(), LIVES.len(), "groups");
+    assert_equal!(rt; tree.len(), LIVES.len(), "groups");
     for (life, want) in tree.lives().iter().zip(&LIVES) {
-        let found = (life.path.text(), life.parent, life.made, life.gone);
-        is(&rt, found, *want, want.0);
+        assert_life(&rt, life, want);
     }
 }
 
-// A switch of accounting affects the live group with the path, but no removed group with the same
-// path, no ancestor and no descendant. Accounting is on for a new group.
+// A switch of accounting affects only the live group with the path. Removed groups with the same
+// path, ancestors and descendants are unchanged. Accounting is on for a new group.
 #[test]
 fn accounts_of_groups(rt: HostRuntime) {
     let mut tree = small_forest(&rt, rt.alloc());
@@ -112,11 +117,17 @@ fn accounts_of_groups(rt: HostRuntime) {
         ("/b", true, Ok(Slot(3))),
     ] {
         let outcome = switch(&rt, rt.alloc(), &mut tree, text, on);
-        is(&rt, outcome, want, text);
+        assert_equal!(rt; outcome, want, text);
     }
     add(&rt, rt.alloc(), &mut tree, "/a/d", 4).expect(&rt, "/a/d");
-    let on = tree.lives().iter().map(|life| life.on);
-    assert!(rt; on.eq([true, true, true, true, false, true, true, false, true]));
+    let on: Vec<bool> = tree
+        .lives()
+        .iter()
+        .map(|life| life.on)
+        .collect(rt.alloc())
+        .expect(&rt, "memory");
+    let want = [true, true, true, true, false, true, true, false, true];
+    assert_equal!(rt; on.as_slice(), want.as_slice(), "accounting is on");
 }
 
 #[test]
@@ -128,7 +139,7 @@ fn refused_groups(rt: HostRuntime) {
         ("/c/d", Cause::NoParent),
     ] {
         let outcome = add(&rt, rt.alloc(), &mut tree, text, 4);
-        is(&rt, outcome, Err(want), text);
+        assert_equal!(rt; outcome, Err(want), text);
     }
     for &(text, want) in &[
         ("/", Err(Cause::GroupBusy)),
@@ -139,7 +150,7 @@ fn refused_groups(rt: HostRuntime) {
         ("/a/b", Ok(Slot(5))),
     ] {
         let outcome = remove(&rt, rt.alloc(), &mut tree, text, 4);
-        is(&rt, outcome, want, text);
+        assert_equal!(rt; outcome, want, text);
     }
 }
 
@@ -152,23 +163,24 @@ fn found_groups(rt: HostRuntime) {
         ("/a/b", Some(Slot(5))),
         ("/c", None),
     ] {
-        is(&rt, tree.find(&path(&rt, rt.alloc(), text)), want, text);
+        let path = path_of(rt.alloc(), text).expect(&rt, text);
+        assert_equal!(rt; tree.find(&path), want, text);
     }
 }
 
 /// Checks that `want` is the chain of slots from the group `slot` to the root.
-fn has_above(rt: &impl Abort, alloc: Global, tree: &Tree, slot: Slot, want: &[Slot]) {
+fn assert_chain(rt: &impl Abort, alloc: Global, tree: &Tree, slot: Slot, want: &[Slot]) {
     assert!(rt; (slot.0 as usize) < tree.len());
     let up: Vec<Slot> = tree.chain(slot).collect(alloc).expect(rt, "memory");
-    is(rt, up.as_slice(), want, "above");
+    assert_equal!(rt; up.as_slice(), want, "above");
 }
 
 #[test]
 fn groups_above(rt: HostRuntime) {
     let tree = small_forest(&rt, rt.alloc());
     let up = [Slot(7), Slot(5), Slot(4), Slot(0)];
-    has_above(&rt, rt.alloc(), &tree, Slot(7), &up);
-    has_above(&rt, rt.alloc(), &tree, Slot(0), &[Slot(0)]);
+    assert_chain(&rt, rt.alloc(), &tree, Slot(7), &up);
+    assert_chain(&rt, rt.alloc(), &tree, Slot(0), &[Slot(0)]);
     for &(low, high, want) in &[
         (7, 4, true),
         (7, 7, true),
@@ -179,25 +191,25 @@ fn groups_above(rt: HostRuntime) {
         (9, 0, false),
     ] {
         let is_under = tree.is_under(Slot(low), Slot(high));
-        is(&rt, is_under, want, (low, high));
+        assert_equal!(rt; is_under, want, (low, high));
     }
 }
 
-// The live groups are in the byte order of their paths, in which `.` comes before `/`.
+// Live groups are listed in the byte order of their paths, in which `.` comes before `/`.
 #[test]
 fn live_groups_by_path(rt: HostRuntime) {
     let tree = small_forest(&rt, rt.alloc());
     let order = tree.live_order(rt.alloc()).expect(&rt, "memory");
     let want = [Slot(0), Slot(4), Slot(6), Slot(5), Slot(7), Slot(3)];
-    is(&rt, order.as_slice(), want.as_slice(), "order");
+    assert_equal!(rt; order.as_slice(), want.as_slice(), "order");
 }
 
-/// Checks the paths of the groups in these slots.
-fn have_paths(rt: &impl Abort, tree: &Tree, slots: &[Slot], paths: &[&str]) {
-    is(rt, slots.len(), paths.len(), "groups");
+/// Checks that the groups in `slots` have the paths `paths`, in order.
+fn assert_paths(rt: &impl Abort, tree: &Tree, slots: &[Slot], paths: &[&str]) {
+    assert_equal!(rt; slots.len(), paths.len(), "groups");
     for (slot, path) in slots.iter().zip(paths) {
         let life = tree.lives().get(slot.0 as usize).expect(rt, path);
-        is(rt, life.path.text(), *path, *slot);
+        assert_equal!(rt; life.path.text(), *path, *slot);
     }
 }
 
@@ -207,25 +219,25 @@ fn all_groups_by_path(rt: HostRuntime) {
     let tree = small_forest(&rt, rt.alloc());
     let order = tree.path_order(rt.alloc()).expect(&rt, "memory");
     let want = ["/", "/a", "/a", "/a.b", "/a/b", "/a/b", "/a/b/c", "/b"];
-    have_paths(&rt, &tree, &order, &want);
+    assert_paths(&rt, &tree, &order, &want);
 }
 
-/// Creates and removes the group `/g`, and checks that its slot is `slot`.
-fn made_and_gone(rt: &impl Abort, alloc: Global, tree: &mut Tree, slot: Slot) {
-    is(rt, add(rt, alloc, tree, "/g", 1), Ok(slot), "made");
-    is(rt, remove(rt, alloc, tree, "/g", 1), Ok(slot), "gone");
+/// Creates the group `/g` and removes it. Checks that both calls return `slot`.
+fn assert_made_and_removed(rt: &impl Abort, alloc: Global, tree: &mut Tree, slot: Slot) {
+    assert_equal!(rt; add(rt, alloc, tree, "/g", 1), Ok(slot), "made");
+    assert_equal!(rt; remove(rt, alloc, tree, "/g", 1), Ok(slot), "gone");
 }
 
-// At most 1,024 groups can be created, including the root. This limit is checked before any other
-// cause.
+// A trace may create at most 1,024 groups, including the root. This limit is checked before any
+// other cause.
 #[test]
 fn at_most_1024_groups(rt: HostRuntime) {
     let mut tree = Tree::new(rt.alloc()).expect(&rt, "memory");
     for slot in 1..1024u32 {
-        made_and_gone(&rt, rt.alloc(), &mut tree, Slot(slot));
+        assert_made_and_removed(&rt, rt.alloc(), &mut tree, Slot(slot));
     }
     for text in &["/g", "/", "/x/y"] {
         let outcome = add(&rt, rt.alloc(), &mut tree, text, 2);
-        is(&rt, outcome, Err(Cause::TooManyGroups), text);
+        assert_equal!(rt; outcome, Err(Cause::TooManyGroups), text);
     }
 }

@@ -1,7 +1,7 @@
-//! Tests of the state that a trace describes, and of its plans: the table of tasks, the groups,
-//! clocks, plans and what follows them, rows of clocks, and the journals and boards of observers.
+//! Tests of the table of tasks, the groups, the clocks and plans of processors, clock rows, and the
+//! journals and boards of observers.
 //!
-//! Expected values are written by hand or come from clocks of a single thread. Ticks, text and
+//! Expected values are written by hand or computed with clocks in a single thread. Ticks, text and
 //! rules are tested in other crates (pressure_tests, rule_tests).
 #![tactic(auto)]
 

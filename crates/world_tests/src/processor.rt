@@ -13,9 +13,7 @@ use psi_counts::{Change, Counts};
 use slot_clocks::{PackedChange, SlotClocks};
 use std::alloc::Global;
 use std::test::Fail;
-
-/// The last time (ns) that a clock supports.
-const LAST_MOMENT: Ns = 60_000_000_000_000_000;
+use test_support::LAST_MOMENT;
 
 /// A processor with tasks in groups. `tasks` has the group and the counts of each task, or `None`
 /// for a task that isn't live.
@@ -43,8 +41,8 @@ fn are_older(parents: &[Option<Slot>]) -> bool
     true
 }
 
-// Returns whether the task isn't live, or is in one of the first `groups` slots and adds at most
-// one to each count.
+// Returns whether the task isn't live, or its group is one of the first `groups` groups and each of
+// its counts is at most 1.
 fn is_task(task: Option<(Slot, Counts)>, groups: usize) -> bool
     ensures { IsTrue result → IsTask groups task }
 {
@@ -60,7 +58,8 @@ fn is_task(task: Option<(Slot, Counts)>, groups: usize) -> bool
     }
 }
 
-// Returns whether no task runs, or the running task is in one of the first `groups` slots.
+// Returns whether no task runs, or the group of the running task is one of the first `groups`
+// groups.
 fn is_slot(current: Option<(Slot, bool)>, groups: usize) -> bool
     ensures { IsTrue result → IsSlot groups current }
 {
@@ -72,6 +71,8 @@ fn is_slot(current: Option<(Slot, bool)>, groups: usize) -> bool
 
 impl Processor {
     /// Creates a processor with `tasks` tasks, none of them live, and groups with these parents.
+    /// Fails if there are more than 1,000 tasks or 1,024 groups, if a parent's slot isn't smaller
+    /// than the slot of its child, or if memory runs out.
     pub fn new(alloc: Global, parents: Vec<Option<Slot>>, tasks: usize) -> Result<Processor, Fail> {
         if tasks > 1000 || parents.len() > 1024 || !are_older(&parents) {
             return Err(Fail::new("there are too many tasks or groups, or a parent comes late"));
@@ -90,9 +91,9 @@ impl Processor {
         })
     }
 
-    /// Makes a change: sets the group and the counts of one task, and the running task. Returns
-    /// false, without a change, if the task or a group doesn't exist, or if `at` is before the last
-    /// change.
+    /// Makes a change at time `at` (ns): sets the group and the counts of one task, and the running
+    /// task. Returns false, without a change, if the task or a group doesn't exist, if a count is
+    /// above 1, or if `at` is before the last change or beyond the limit of clocks.
     pub fn change(
         &mut self,
         at: Ns,

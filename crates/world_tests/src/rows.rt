@@ -1,5 +1,5 @@
-//! Tests of clock rows, which one writer and several readers share: in one thread, and with a
-//! reader and a writer in two threads.
+//! Tests of clock rows. A clock row contains the clocks of a processor, which one writer and
+//! several readers share. In these tests, writer and reader are in one thread or in two threads.
 mod alone;
 mod irqs;
 mod live;

@@ -1,14 +1,14 @@
 //! Tests of the clocks of four groups on one processor, change by change: tasks run, stall, wait,
 //! move and exit.
 
-use crate::events::is;
 use crate::processor::Processor;
 use psi_base::{Ns, Slot};
 use psi_counts::Counts;
 use std::alloc::Global;
 use std::process::Abort;
+use test_support::assert_equal;
 
-/// The counts of one task that is ready or running.
+/// The counts that one ready or running task adds to its group.
 const READY: Counts = Counts {
     io: 0,
     stalled: 0,
@@ -16,7 +16,7 @@ const READY: Counts = Counts {
     stalled_running: 0,
 };
 
-/// The counts of one task that is ready or running, in a memory stall.
+/// The counts that one ready or running task in a memory stall adds to its group.
 const READY_IN_STALL: Counts = Counts {
     io: 0,
     stalled: 1,
@@ -24,7 +24,7 @@ const READY_IN_STALL: Counts = Counts {
     stalled_running: 1,
 };
 
-/// The counts of one task that waits for IO, in a memory stall.
+/// The counts that one task adds to its group if it waits for IO in a memory stall.
 const WAITS_IN_STALL: Counts = Counts {
     io: 1,
     stalled: 1,
@@ -36,7 +36,8 @@ const WAITS_IN_STALL: Counts = Counts {
 #[derive(Clone, Copy)]
 struct Row {
     at: Ns,
-    /// The number of the task that changes, and its group and counts after the change.
+    /// The number of the task that changes. `now` is its group and counts after the change, or
+    /// `None` if the task isn't live.
     task: usize,
     now: Option<(Slot, Counts)>,
     /// The group of the running task, and whether that task is in a memory stall. `None` if the
@@ -65,7 +66,8 @@ const ROWS: [Row; 7] = [
             ZERO,
         ],
     },
-    // The idle processor switches to task 0, which changes no count.
+    // The idle processor switches to task 0. No count changes, so the row names task 2, which is
+    // never live.
     Row {
         at: 20,
         task: 2,
@@ -91,8 +93,8 @@ const ROWS: [Row; 7] = [
             ZERO,
         ],
     },
-    // Task 1 is created in /a. Memory full holds because the running task is in a stall; the counts
-    // alone would exclude it.
+    // Task 1 is created in /a. The group is still in the state memory full, because the running
+    // task is in a stall; the counts alone don't imply that state.
     Row {
         at: 50,
         task: 1,
@@ -171,17 +173,12 @@ fn changes_of_a_processor(rt: HostRuntime) {
     let mut processor = processor(&rt, rt.alloc(), parents, 3);
     for row in &ROWS {
         let is_made = processor.change(row.at, row.task, row.now, row.current);
-        is(&rt, is_made, true, row.at);
-        is(&rt, words(&processor), row.clocks, row.at);
+        assert_equal!(rt; is_made, true, row.at);
+        assert_equal!(rt; words(&processor), row.clocks, row.at);
     }
-    // The times up to 170 ns, after the last change.
+    // The times in the states up to 170 ns, which is after the last change.
     let opened = processor.opened(Slot(2), 170);
-    is(
-        &rt,
-        opened,
-        Some([100, 100, 135, 135, 10, 10, 160]),
-        "opened",
-    );
+    assert_equal!(rt; opened, Some([100, 100, 135, 135, 10, 10, 160]), "opened");
 }
 
 /// Returns the parents of a hundred groups, each of which is a child of the previous one.
@@ -194,24 +191,25 @@ fn nested(rt: &impl Abort, alloc: Global) -> Vec<Option<Slot>> {
     parents
 }
 
-/// Checks that in each group except the root a task has been waiting for the processor since 7 ns.
-fn wait_since_seven(rt: &impl Abort, processor: &Processor) {
+/// Checks that each group except the root has had a task waiting for the processor since 7 ns.
+fn assert_waiting_since_seven(rt: &impl Abort, processor: &Processor) {
     for slot in 1..100u32 {
         let words = processor.clock(Slot(slot)).to_words();
-        is(rt, words, [0, 0, 0, 0, 0, 0, 0, 0b111_0000, 7], Slot(slot));
+        assert_equal!(rt; words, [0, 0, 0, 0, 0, 0, 0, 0b111_0000, 7], Slot(slot));
     }
 }
 
-// One change affects all groups of the chain at once. A slot out of range has the zero clock.
+// One change affects a group and all its ancestors. A change of a group that doesn't exist is
+// rejected, and the clock of such a slot is zero.
 #[test]
 fn groups_that_a_change_first_reaches(rt: HostRuntime) {
     let parents = nested(&rt, rt.alloc());
     let mut processor = processor(&rt, rt.alloc(), parents, 1);
     assert!(rt; processor.change(5, 0, Some((Slot(0), READY)), None));
     assert!(rt; !processor.change(5, 0, Some((Slot(100), READY)), None));
-    is(&rt, processor.clock(Slot(99)).start, 0, Slot(99));
+    assert_equal!(rt; processor.clock(Slot(99)).start, 0, Slot(99));
     assert!(rt; processor.change(7, 0, Some((Slot(99), READY)), None));
-    is(&rt, processor.clock(Slot(0)).start, 5, Slot(0));
-    wait_since_seven(&rt, &processor);
-    is(&rt, processor.clock(Slot(100)).to_words(), ZERO, Slot(100));
+    assert_equal!(rt; processor.clock(Slot(0)).start, 5, Slot(0));
+    assert_waiting_since_seven(&rt, &processor);
+    assert_equal!(rt; processor.clock(Slot(100)).to_words(), ZERO, Slot(100));
 }

@@ -1,5 +1,4 @@
-//! A helper for the tests: the clocks of a processor after a number of changes of its plan, made in
-//! a single thread.
+//! A helper for the tests that computes the clocks of a processor in a single thread.
 
 ghost use Rattle.std.specs.Prelude.{◌≡◌, ◌≤◌, length, IfOk};
 
@@ -7,8 +6,8 @@ use proc_plan::{PlainClocks, Plan, ProcClocks};
 use psi_base::NoMemory;
 use std::alloc::Global;
 
-/// Returns clocks of the first `slots` slots after `changes` changes of a plan. The clocks belong
-/// to a single thread.
+/// Returns clocks of the first `slots` slots after `changes` changes of a plan. The clocks aren't
+/// shared with other threads.
 pub fn clocks_after<'a>(
     alloc: Global,
     plan: &'a Plan,

@@ -1,16 +1,16 @@
-//! Tests of the side watch, which follows memory samples, preferences and task counts. One watch
-//! follows a whole trace.
+//! Tests of the side watch, which follows the memory samples, preferences and task counts of groups
+//! through a trace.
 
-use crate::events::{is, plans_of};
-use kill_spec::HostReading;
+use crate::events::plans_of;
 use proc_plan::Plans;
 use psi_base::{Preference, Slot};
 use side_watch::{GroupMemory, SideWatch};
 use std::alloc::Global;
 use std::process::Abort;
+use test_support::assert_equal;
 
-/// A trace in which a task of a nested group moves up and exits, and a path is removed and created
-/// again.
+/// A trace in which a task moves from a nested group to the parent and exits. The nested group is
+/// removed and created again.
 const LINES: [&[u8]; 16] = [
     b"1 group /a",
     b"1 group /a/b",
@@ -63,6 +63,12 @@ fn memory(current: u64, swap: u64, scan: u64) -> GroupMemory {
     }
 }
 
+/// Returns the host's total memory, total swap and free swap, in bytes.
+fn host(watch: &SideWatch) -> [u64; 3] {
+    let host = watch.host();
+    [host.mem_total, host.swap_total, host.swap_free]
+}
+
 /// The values of a group without a memory sample.
 const NONE: GroupMemory = GroupMemory {
     current: 0,
@@ -70,66 +76,54 @@ const NONE: GroupMemory = GroupMemory {
     scan: 0,
 };
 
-const NO_HOST: HostReading = HostReading {
-    mem_total: 0,
-    swap_total: 0,
-    swap_free: 0,
-};
-
-const HOST: HostReading = HostReading {
-    mem_total: 1000,
-    swap_total: 500,
-    swap_free: 250,
-};
-
-// At 1 ns no task is live. At 3 ns the task also counts for each ancestor, and the later of two
-// samples at this time is used. The host is sampled at 5 ns.
-fn first_moments(rt: &impl Abort, watch: &mut SideWatch, plans: &Plans) {
+// At 1 ns no task is live. At 3 ns one task is live: its group and all ancestors are populated. Of
+// the two samples at 3 ns, the later sample is used. The host has no sample before 5 ns.
+fn assert_first_times(rt: &impl Abort, watch: &mut SideWatch, plans: &Plans) {
     let plain = Preference::Plain;
     watch.advance(plans.sides(), 1);
-    is(rt, populated(watch), [false; 4], "populated at 1");
-    is(rt, preferences(watch), [plain; 4], "preferences at 1");
-    is(rt, memories(watch), [NONE; 2], "memories at 1");
+    assert_equal!(rt; populated(watch), [false; 4], "populated at 1");
+    assert_equal!(rt; preferences(watch), [plain; 4], "preferences at 1");
+    assert_equal!(rt; memories(watch), [NONE; 2], "memories at 1");
 
     watch.advance(plans.sides(), 3);
     let alive = [true, true, true, false];
-    is(rt, populated(watch), alive, "populated at 3");
+    assert_equal!(rt; populated(watch), alive, "populated at 3");
     let known = [memory(100, 200, 9), NONE];
-    is(rt, memories(watch), known, "memories at 3");
+    assert_equal!(rt; memories(watch), known, "memories at 3");
 
     watch.advance(plans.sides(), 4);
-    is(rt, watch.host(), NO_HOST, "the host at 4");
+    assert_equal!(rt; host(watch), [0, 0, 0], "the host at 4");
 }
 
-// At 8 ns the path has a new group, which has no sample. At 12 ns the task has exited.
-fn last_moments(rt: &impl Abort, watch: &mut SideWatch, plans: &Plans) {
+// At 8 ns the path `/a/b` has a new group without a sample. At 12 ns the task has exited.
+fn assert_last_times(rt: &impl Abort, watch: &mut SideWatch, plans: &Plans) {
     let [plain, avoid, prefer] = [Preference::Plain, Preference::Avoid, Preference::Prefer];
     watch.advance(plans.sides(), 8);
-    is(rt, watch.host(), HOST, "the host at 8");
+    assert_equal!(rt; host(watch), [1000, 500, 250], "the host at 8");
     let alive = [true, true, false, false];
-    is(rt, populated(watch), alive, "populated at 8");
+    assert_equal!(rt; populated(watch), alive, "populated at 8");
     let preferred = [plain, avoid, prefer, plain];
-    is(rt, preferences(watch), preferred, "preferences at 8");
+    assert_equal!(rt; preferences(watch), preferred, "preferences at 8");
     let known = [memory(100, 200, 9), NONE];
-    is(rt, memories(watch), known, "memories at 8");
+    assert_equal!(rt; memories(watch), known, "memories at 8");
 
     watch.advance(plans.sides(), 12);
-    is(rt, populated(watch), [false; 4], "populated at 12");
+    assert_equal!(rt; populated(watch), [false; 4], "populated at 12");
     let preferred = [plain, plain, prefer, plain];
-    is(rt, preferences(watch), preferred, "preferences at 12");
+    assert_equal!(rt; preferences(watch), preferred, "preferences at 12");
     let known = [memory(100, 200, 9), memory(1, 2, 3)];
-    is(rt, memories(watch), known, "memories at 12");
+    assert_equal!(rt; memories(watch), known, "memories at 12");
 }
 
-// Follows the trace from its start to its end with one watch.
-fn at_all_moments(rt: &impl Abort, alloc: Global, plans: &Plans) {
+// Checks all times of the trace in order, with a single watch.
+fn assert_all_times(rt: &impl Abort, alloc: Global, plans: &Plans) {
     let mut watch = SideWatch::make(alloc, plans.lives()).expect(rt, "memory");
-    first_moments(rt, &mut watch, plans);
-    last_moments(rt, &mut watch, plans);
+    assert_first_times(rt, &mut watch, plans);
+    assert_last_times(rt, &mut watch, plans);
 }
 
 #[test]
 fn moments_of_a_trace(rt: HostRuntime) {
     let plans = plans_of(&rt, rt.alloc(), 1, 12, &LINES);
-    at_all_moments(&rt, rt.alloc(), &plans);
+    assert_all_times(&rt, rt.alloc(), &plans);
 }

@@ -1,14 +1,15 @@
-//! Tests of the removal of a kill's victim from a trace: the lines that remain of small traces of
+//! Tests of removing the victim of a kill from a trace: the lines that remain of small traces with
 //! two processors.
 
 ghost use Rattle.psi_spec.specs.Trace.{AllFit};
 
-use crate::events::{events_of, is};
+use crate::events::events_of;
 use proc_plan::Plans;
 use psi_base::{Event, Slot};
 use psi_trace::write_event;
 use std::alloc::Global;
 use std::process::Abort;
+use test_support::assert_equal;
 use whatif_trace::without;
 
 /// The number of processors of each trace.
@@ -17,7 +18,7 @@ const CPUS: u32 = 2;
 /// The latest time (ns) of a trace.
 const LATEST: u64 = 2_000_000_000_000_000;
 
-/// A trace with a single ready task, in the victim.
+/// A trace with a single task, which is ready and in the group of the victim, `/s/a`.
 const READY: [&[u8]; 4] = [
     b"0 group /s",
     b"0 group /s/a",
@@ -25,7 +26,8 @@ const READY: [&[u8]; 4] = [
     b"36 end",
 ];
 
-/// What remains of `READY`: the killed task is switched in and exits.
+/// The lines that remain of `READY` after a kill at 5 ns: at 6 ns the killed task is switched in
+/// and exits.
 const READY_LEFT: [&[u8]; 6] = [
     b"0 group /s",
     b"0 group /s/a",
@@ -35,9 +37,9 @@ const READY_LEFT: [&[u8]; 6] = [
     b"36 end",
 ];
 
-/// A trace with four tasks of the victim: one waits, one runs in a stall, one is blocked in a stall
-/// and one is ready. A task of the root also runs, and is switched out for two of them. The process
-/// ID of one task is used again later, for a task of the root.
+/// A trace with four tasks of the victim at 10 ns: task 1 waits for IO, task 2 runs in a stall,
+/// task 3 is blocked in a stall, and task 4 is ready. Task 5 of the root runs, and is switched out
+/// for the exits of tasks 3 and 4. Later, a task of the root reuses the PID 1.
 const MANY: [&[u8]; 22] = [
     b"0 group /s",
     b"0 group /s/a",
@@ -63,7 +65,8 @@ const MANY: [&[u8]; 22] = [
     b"29 end",
 ];
 
-/// What remains of `MANY`: the exits of the four tasks at 11 ns, and the remaining later lines.
+/// The lines that remain of `MANY` after a kill at 10 ns: the exits of the four tasks at 11 ns, and
+/// the later lines without these tasks.
 const MANY_LEFT: [&[u8]; 31] = [
     b"0 group /s",
     b"0 group /s/a",
@@ -112,7 +115,7 @@ fn text_of(rt: &impl Abort, alloc: Global, events: &[Event]) -> Vec<u8>
     text
 }
 
-/// Returns the lines that remain without the tasks of the group `victim` at `at` (ns).
+/// Returns the lines that remain if the tasks of the group `victim` are killed at time `at` (ns).
 fn left_of(rt: &impl Abort, alloc: Global, lines: &[&[u8]], at: u64, victim: Slot) -> Vec<u8> {
     let events = events_of(alloc, lines).expect(rt, "events");
     drop(Plans::build(alloc, CPUS, LATEST, &events).expect(rt, "a legal trace"));
@@ -120,26 +123,33 @@ fn left_of(rt: &impl Abort, alloc: Global, lines: &[&[u8]], at: u64, victim: Slo
     text_of(rt, alloc, &left)
 }
 
-/// Checks that exactly the lines `want` remain without the tasks of the group `victim` at `at`
-/// (ns).
-fn leaves(rt: &impl Abort, alloc: Global, lines: &[&[u8]], at: u64, victim: Slot, want: &[&[u8]]) {
+/// Checks that exactly the lines `want` remain if the tasks of the group `victim` are killed at
+/// time `at` (ns).
+fn assert_left(
+    rt: &impl Abort,
+    alloc: Global,
+    lines: &[&[u8]],
+    at: u64,
+    victim: Slot,
+    want: &[&[u8]],
+) {
     let wanted = events_of(alloc, want).expect(rt, "events");
     let wanted = text_of(rt, alloc, &wanted);
     let left = left_of(rt, alloc, lines, at, victim);
-    is(rt, left.as_slice(), wanted.as_slice(), at);
+    assert_equal!(rt; left.as_slice(), wanted.as_slice(), at);
 }
 
 #[test]
 fn a_ready_task(rt: HostRuntime) {
-    leaves(&rt, rt.alloc(), &READY, 5, Slot(2), &READY_LEFT);
+    assert_left(&rt, rt.alloc(), &READY, 5, Slot(2), &READY_LEFT);
 }
 
 #[test]
 fn the_end_moment(rt: HostRuntime) {
-    leaves(&rt, rt.alloc(), &READY, 36, Slot(2), &READY);
+    assert_left(&rt, rt.alloc(), &READY, 36, Slot(2), &READY);
 }
 
 #[test]
 fn tasks_of_every_kind(rt: HostRuntime) {
-    leaves(&rt, rt.alloc(), &MANY, 10, Slot(2), &MANY_LEFT);
+    assert_left(&rt, rt.alloc(), &MANY, 10, Slot(2), &MANY_LEFT);
 }

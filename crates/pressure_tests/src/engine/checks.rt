@@ -1,5 +1,5 @@
-//! Range checks for the tests. They establish the preconditions of the calls of the engine: lives,
-//! triggers and growing times.
+//! Range checks of the groups, the triggers and the growth of times. They establish the
+//! preconditions of the calls of the engine.
 
 ghost use Rattle.std.specs.Prelude.{◌≡◌, ℕ, [], All, length, slice_index_or, true};
 ghost use Rattle.psi_spec.specs.Within.{IsTriggerWithin};
@@ -11,14 +11,12 @@ use aggregate::Rows;
 use pressure_spec::{TIMES, Times};
 use psi_base::{Ns, Slot, TriggerSpec};
 use psi_spec::GroupLife;
-
-/// The last time (ns) that the engine supports.
-pub const LAST_MOMENT: Ns = 60_000_000_000_000_000;
+use test_support::LAST_MOMENT;
 
 /// The interrupt time of an interval may be longer than the interval by this time (ns).
 const LONGEST_IRQ: Ns = 1_000_000_000;
 
-/// The index of the interrupt time among the times of a processor.
+/// The index of the interrupt time among the times of a group on a processor.
 const IRQ: usize = TIMES - 1;
 
 /// Returns whether a group's times of creation and removal are at most `LAST_MOMENT`.
@@ -44,7 +42,8 @@ pub fn are_lives(lives: &[GroupLife]) -> bool
     true
 }
 
-/// Returns whether a trigger is in range for a trace with `slots` groups.
+/// Returns whether the time, the slot, the threshold and the window of a trigger are in range for a
+/// trace with `slots` groups.
 fn is_trigger(trigger: &TriggerSpec, slots: usize) -> bool
     ensures { result ≡ true → IsTriggerWithin last_moment slots trigger.now }
 {
@@ -54,7 +53,7 @@ fn is_trigger(trigger: &TriggerSpec, slots: usize) -> bool
     trigger.at <= LAST_MOMENT && (trigger.slot.0 as usize) < slots && in_range
 }
 
-/// Returns whether all triggers are in range for a trace with `slots` groups.
+/// Returns whether all triggers are in range (`is_trigger`) for a trace with `slots` groups.
 pub fn are_triggers(triggers: &[TriggerSpec], slots: usize) -> bool
     ensures { result ≡ true →
         All (λ trigger. IsTriggerWithin last_moment slots trigger) triggers.now }
@@ -67,9 +66,9 @@ pub fn are_triggers(triggers: &[TriggerSpec], slots: usize) -> bool
     true
 }
 
-/// Returns whether one processor's times grew within the bounds: no time decreased, no state's time
-/// grew by more than `most` (ns), interrupt time grew by at most a second more than `most`, and
-/// interrupt time is at most `at` (ns).
+/// Returns whether the times of one group on one processor grew within the bounds: no time
+/// decreased, no state's time grew by more than `most` (ns), interrupt time grew by at most a
+/// second more than `most`, and interrupt time is at most `at` (ns).
 fn grew_within(most: Ns, at: Ns, before: &Times, now: &Times) -> bool
     ensures { result ≡ true → GrewWithin most at before.now now.now }
 {

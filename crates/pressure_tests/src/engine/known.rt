@@ -19,16 +19,17 @@ fn are(numbers: &[u64], text: &str) -> bool {
 }
 
 /// Checks that the totals of the group in `slot` are the numbers in `text`.
-pub fn has_totals(rt: &impl Abort, machine: &Machine, slot: u32, text: &str) {
+pub fn assert_totals(rt: &impl Abort, machine: &Machine, slot: u32, text: &str) {
     let totals = machine.totals(rt, slot);
     let at = machine.at();
     assert!(rt;
         are(&totals, text),
-        "group {slot} at {at} ns has {totals:?} in place of {text}"
+        "group {slot} at {at} ns, expected: {text}, actual: {totals:?}"
     );
 }
 
-/// Returns whether `text` has exactly these averages: one part per quantity, separated by commas.
+/// Returns whether `text` has exactly these averages: each part has the three averages of a state
+/// or of interrupts, and commas separate the parts.
 fn are_averages(averages: &AverageRows, text: &str) -> bool {
     let mut parts = text.split(", ");
     for numbers in averages {
@@ -43,17 +44,17 @@ fn are_averages(averages: &AverageRows, text: &str) -> bool {
 }
 
 /// Checks that the averages of the group in `slot` are the numbers in `text`.
-pub fn has_averages(rt: &impl Abort, machine: &Machine, slot: u32, text: &str) {
+pub fn assert_averages(rt: &impl Abort, machine: &Machine, slot: u32, text: &str) {
     let averages = machine.averages(rt, slot);
     let at = machine.at();
     let are_these = are_averages(&averages, text);
     assert!(rt;
         are_these,
-        "group {slot} at {at} ns has {averages:?} in place of {text}"
+        "group {slot} at {at} ns, expected: {text}, actual: {averages:?}"
     );
 }
 
-/// Returns whether the numbers are exactly the digits of `digits`.
+/// Returns whether the numbers are exactly the digits of `digits`, in order.
 fn are_digits(numbers: &[u32], digits: &str) -> bool {
     for (number, digit) in numbers.iter().zip(digits.bytes()) {
         if *number != u32::from(digit.wrapping_sub(b'0')) {
@@ -64,11 +65,11 @@ fn are_digits(numbers: &[u32], digits: &str) -> bool {
 }
 
 /// Checks that the numbers of the triggers that fired are the digits of `digits`.
-pub fn have_signalled(rt: &impl Abort, machine: &Machine, digits: &str) {
+pub fn assert_signalled(rt: &impl Abort, machine: &Machine, digits: &str) {
     let fired = machine.fired();
     let at = machine.at();
     assert!(rt;
         are_digits(fired, digits),
-        "at {at} ns {fired:?} signalled in place of {digits}"
+        "triggers at {at} ns, expected: {digits}, actual: {fired:?}"
     );
 }

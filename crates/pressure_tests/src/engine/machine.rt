@@ -1,10 +1,10 @@
-//! A simulated machine for the tests: an engine of ticks, and a table of times that a test sets
-//! before each tick.
+//! A simulated machine for the tests: an engine of ticks, and a table of times (ns) that a test
+//! sets before each tick. A table has, for each group and processor, the time in each state and the
+//! interrupt time.
 ghost use Rattle.std.specs.Prelude.{◌≡◌, length};
 ghost use Rattle.aggregate.specs.Table.{HaveSameSizes};
 
-use crate::check::holds;
-use crate::engine::checks::{LAST_MOMENT, are_lives, are_triggers, table_grew_within};
+use crate::engine::checks::{are_lives, are_triggers, table_grew_within};
 use aggregate::Rows;
 use pressure_spec::{Amounts, AverageRows, Times};
 use psi_base::{Cpu, Ns, Slot, State, TriggerSpec};
@@ -12,6 +12,7 @@ use psi_spec::GroupLife;
 use std::alloc::Global;
 use std::marker::Model;
 use std::process::Abort;
+use test_support::LAST_MOMENT;
 use tick_engine::Engine;
 
 /// The longest tick (ns).
@@ -59,11 +60,17 @@ impl Machine {
         lives: &[GroupLife],
         triggers: &[TriggerSpec],
     ) -> Machine {
-        holds(rt, (1..=64).contains(&cpus), "processors in range");
+        assert!(rt;
+            (1..=64).contains(&cpus),
+            "the number of processors is out of range"
+        );
         let few = lives.len() <= 1024 && triggers.len() <= 256;
-        holds(rt, few, "few groups and triggers");
-        holds(rt, are_lives(lives), "groups in range");
-        holds(rt, are_triggers(triggers, lives.len()), "triggers in range");
+        assert!(rt; few, "there are too many groups or triggers");
+        assert!(rt; are_lives(lives), "a group is out of range");
+        assert!(rt;
+            are_triggers(triggers, lives.len()),
+            "a trigger is out of range"
+        );
         let slots = lives.len() as u32;
         Machine {
             cpus,
@@ -77,18 +84,18 @@ impl Machine {
 
     /// Sets the times (ns) of a group on a processor, for the next tick.
     pub fn set(&mut self, rt: &impl Abort, cpu: u32, slot: u32, times: Times) {
-        holds(rt, cpu < self.cpus, "such a processor");
-        holds(rt, slot < self.slots, "such a group");
+        assert!(rt; cpu < self.cpus, "there is no such processor");
+        assert!(rt; slot < self.slots, "there is no such group");
         self.next.set(Cpu(cpu), Slot(slot), times);
     }
 
-    /// Makes the next tick, at `now` (ns). Checks that the time and the growth of the table are
-    /// legal.
+    /// Makes the next tick, at `now` (ns). Aborts if the tick's time or the growth of the times is
+    /// out of range.
     pub fn tick(&mut self, rt: &impl Abort, now: Ns) {
         let is_soon = now > self.at && now - self.at <= LONGEST_TICK && now <= LAST_MOMENT;
-        holds(rt, is_soon, "a moment that can come next");
+        assert!(rt; is_soon, "the time of the tick is out of range");
         let has_grown = table_grew_within(now - self.at, now, self.slots, &self.last, &self.next);
-        holds(rt, has_grown, "times that can come next");
+        assert!(rt; has_grown, "the times grow out of range");
         self.engine.tick(now, &self.next);
         copy_table(self.slots, &self.next, &mut self.last);
         self.at = now;
@@ -101,13 +108,13 @@ impl Machine {
 
     /// Returns the totals (ns) of a group.
     pub fn totals(&self, rt: &impl Abort, slot: u32) -> Amounts {
-        holds(rt, slot < self.slots, "such a group");
+        assert!(rt; slot < self.slots, "there is no such group");
         self.engine.totals(Slot(slot))
     }
 
     /// Returns the averages of a group, ordered by state, followed by the averages of interrupts.
     pub fn averages(&self, rt: &impl Abort, slot: u32) -> AverageRows {
-        holds(rt, slot < self.slots, "such a group");
+        assert!(rt; slot < self.slots, "there is no such group");
         let averages = self.engine.averages(Slot(slot));
         [
             averages.get(State::IoSome),

@@ -1,17 +1,14 @@
 //! Tests of groups and triggers over several ticks. The expected numbers were computed
 //! independently of this program, from the rules of shares, averages and triggers.
 
-use crate::check::is;
-use crate::engine::known::{has_averages, has_totals, have_signalled};
+use crate::engine::known::{assert_averages, assert_signalled, assert_totals};
 use crate::engine::machine::Machine;
 use pressure_spec::Times;
 use psi_base::{Level, Ns, Path, Res, Slot, TriggerSpec};
 use psi_spec::GroupLife;
 use std::alloc::Global;
 use std::process::Abort;
-
-/// One second (ns).
-const SECOND: Ns = 1_000_000_000;
+use test_support::{SECOND, assert_equal};
 
 /// Makes a group that is created at `made` (ns) and, if `gone` is given, removed at that time (ns).
 /// The engine doesn't read its path.
@@ -44,7 +41,8 @@ fn trigger(
     }
 }
 
-/// Returns how much (ns) one time grows in an interval: a pseudo-random part of the interval.
+/// Returns how much (ns) the time at index `place` grows in the interval before tick number `tick`:
+/// a pseudo-random fraction of the interval's length `interval` (ns).
 fn growth(tick: u64, slot: u64, cpu: u64, place: u64, interval: Ns) -> Ns {
     let mixed = tick
         .wrapping_mul(5)
@@ -97,7 +95,8 @@ fn moment(tick: u64) -> Ns {
     }
 }
 
-/// Returns the time (ns) at index `place` of a group on a processor, up to tick number `tick`.
+/// Returns the time (ns) with index `place` of a group on a processor, up to tick number `tick`.
+/// This is the time in a state, or the interrupt time.
 fn time(tick: u64, slot: u32, cpu: u32, place: u64) -> Ns {
     let mut time = 0u64;
     for past in 1..=tick {
@@ -122,7 +121,7 @@ fn times(tick: u64, slot: u32, cpu: u32) -> Times {
     ]
 }
 
-/// Sets the times of four groups on three processors, and makes the tick.
+/// Sets the times of four groups on three processors, and makes tick number `tick`.
 fn play(rt: &impl Abort, machine: &mut Machine, tick: u64) {
     for place in 0..12u32 {
         let slot = place / 3;
@@ -134,23 +133,24 @@ fn play(rt: &impl Abort, machine: &mut Machine, tick: u64) {
 
 /// Checks that the totals of the four groups are the numbers in `text`, in which `|` separates the
 /// groups.
-fn have_totals(rt: &impl Abort, machine: &Machine, text: &str) {
+fn assert_all_totals(rt: &impl Abort, machine: &Machine, text: &str) {
     let mut slot = 0u32;
     for totals in text.split('|') {
-        has_totals(rt, machine, slot, totals);
+        assert_totals(rt, machine, slot, totals);
         slot = slot.wrapping_add(1);
     }
-    is(rt, slot, 4, "groups of a row");
+    assert_equal!(rt; slot, 4, "groups of a row");
 }
 
-/// Makes a tick, and checks the triggers and the totals in the row.
-fn play_row(rt: &impl Abort, machine: &mut Machine, tick: u64, row: &str) {
+/// Makes tick number `tick`, and checks that the triggers and the totals in `row` are correct.
+/// `row` is a row of `TICKS`.
+fn assert_row(rt: &impl Abort, machine: &mut Machine, tick: u64, row: &str) {
     let (digits, totals) = row
         .split_once('|')
         .expect(rt, "a row has digits and totals");
     play(rt, machine, tick);
-    have_signalled(rt, machine, digits);
-    have_totals(rt, machine, totals);
+    assert_signalled(rt, machine, digits);
+    assert_all_totals(rt, machine, totals);
 }
 
 /// One row per tick: the numbers of the triggers that fire, followed by the totals (ns) of each
@@ -199,30 +199,31 @@ const AVERAGES: &str =
     92356 19450 4172, 92356 19450 4172, 58387 13127 2844, 85307 18177 3906, 71951 15765 3402, 92356 19450 4172, 73527 15652 3364";
 
 /// Checks that the averages of the four groups are the numbers in `AVERAGES`.
-fn have_averages(rt: &impl Abort, machine: &Machine) {
+fn assert_all_averages(rt: &impl Abort, machine: &Machine) {
     let mut slot = 0u32;
     for row in AVERAGES.split(';') {
-        has_averages(rt, machine, slot, row);
+        assert_averages(rt, machine, slot, row);
         slot = slot.wrapping_add(1);
     }
-    is(rt, slot, 4, "groups with averages");
+    assert_equal!(rt; slot, 4, "groups with averages");
 }
 
-// The machine has three processors and four groups. The second group is removed at the fourth tick,
-// the third group is created between the second and third tick, and the last group at the third
-// tick. Times also grow while a group isn't live; no total includes that growth. The second trigger
-// is set exactly at the time of a tick, the third when its group is created, the fourth a
-// nanosecond later, and the fifth is on the removed group. Some ticks miss periods.
+// The machine has three processors and four groups. The third group is created between the second
+// and the third tick, and the fourth group at the third tick. The second group is removed at the
+// fourth tick. Stall times also grow while a group isn't live, but no total includes that growth.
+// The second trigger is set exactly at the time of a tick, the third when its group is created, and
+// the fourth a nanosecond later. The fifth is on the removed group. Some ticks miss averaging
+// periods.
 #[test]
 fn groups_that_come_and_go(rt: HostRuntime) {
     let mut machine = large_machine(&rt, rt.alloc());
     let mut tick = 0u64;
     for row in TICKS.split(';') {
         tick = tick.wrapping_add(1);
-        play_row(&rt, &mut machine, tick, row);
+        assert_row(&rt, &mut machine, tick, row);
     }
-    is(&rt, tick, 7, "ticks");
-    have_averages(&rt, &machine);
+    assert_equal!(rt; tick, 7, "ticks");
+    assert_all_averages(&rt, &machine);
 }
 
 /// Creates a machine with one processor and one group.
@@ -231,14 +232,14 @@ fn small_machine(rt: &impl Abort, alloc: Global, triggers: &[TriggerSpec]) -> Ma
     Machine::make(rt, alloc, 1, &lives, triggers)
 }
 
-/// Makes a tick at `now` (ns). All time up to it was IO some and full, without memory or CPU waits.
-/// Checks the group's totals and averages, and that no trigger fired.
-fn waits(rt: &impl Abort, machine: &mut Machine, now: Ns, totals: &str, averages: &str) {
+/// Makes a tick at `now` (ns). Up to the tick, all tasks of the group waited for IO, and none for
+/// memory or CPU. Checks the group's totals and averages, and that no trigger fired.
+fn assert_waiting(rt: &impl Abort, machine: &mut Machine, now: Ns, totals: &str, averages: &str) {
     machine.set(rt, 0, 0, [now, now, 0, 0, 0, 0, now, 0]);
     machine.tick(rt, now);
-    has_totals(rt, machine, 0, totals);
-    has_averages(rt, machine, 0, averages);
-    have_signalled(rt, machine, "");
+    assert_totals(rt, machine, 0, totals);
+    assert_averages(rt, machine, 0, averages);
+    assert_signalled(rt, machine, "");
 }
 
 // All tasks of the only processor wait for IO all the time. The ticks are two seconds apart.
@@ -247,27 +248,28 @@ fn waits_without_end(rt: HostRuntime) {
     let mut machine = small_machine(&rt, rt.alloc(), &[]);
     let totals = "2000000000 2000000000 0 0 0 0 0";
     let averages = "37100 6700 1400, 37100 6700 1400, 0 0 0, 0 0 0, 0 0 0, 0 0 0, 0 0 0";
-    waits(&rt, &mut machine, 2 * SECOND, totals, averages);
+    assert_waiting(&rt, &mut machine, 2 * SECOND, totals, averages);
     let totals = "4000000000 4000000000 0 0 0 0 0";
     let averages = "67480 13181 2791, 67480 13181 2791, 0 0 0, 0 0 0, 0 0 0, 0 0 0, 0 0 0";
-    waits(&rt, &mut machine, 4 * SECOND, totals, averages);
+    assert_waiting(&rt, &mut machine, 4 * SECOND, totals, averages);
 }
 
-/// Makes a tick at `now` (ns) of a group that is never idle and in no other state, with `irq` ns of
-/// interrupts. Checks that its only total is `irq`, and its averages.
-fn interrupt(rt: &impl Abort, machine: &mut Machine, now: Ns, irq: Ns, averages: &str) {
+/// Makes a tick at `now` (ns). Up to the tick, the group was busy all the time without a stall, and
+/// interrupts took `irq` ns. Checks the group's averages, and that its only total that isn't 0 is
+/// `irq`.
+fn assert_interrupt(rt: &impl Abort, machine: &mut Machine, now: Ns, irq: Ns, averages: &str) {
     machine.set(rt, 0, 0, [0, 0, 0, 0, 0, 0, now, irq]);
     machine.tick(rt, now);
-    is(rt, machine.totals(rt, 0), [0, 0, 0, 0, 0, 0, irq], averages);
-    has_averages(rt, machine, 0, averages);
+    assert_equal!(rt; machine.totals(rt, 0), [0, 0, 0, 0, 0, 0, irq], averages);
+    assert_averages(rt, machine, 0, averages);
 }
 
-/// Makes one tick per row with `interrupt`. A row has the time (ns), the interrupt time (ns) up to
-/// it, and the averages.
-fn interrupts(rt: &impl Abort, alloc: Global, rows: &[(Ns, Ns, &str)]) {
+/// Makes one tick per row, and checks the interrupt total and the averages after each tick. A row
+/// has the time of the tick (ns), the interrupt time (ns) up to the tick, and the averages.
+fn assert_interrupts(rt: &impl Abort, alloc: Global, rows: &[(Ns, Ns, &str)]) {
     let mut machine = small_machine(rt, alloc, &[]);
     for (now, irq, averages) in rows {
-        interrupt(rt, &mut machine, *now, *irq, averages);
+        assert_interrupt(rt, &mut machine, *now, *irq, averages);
     }
 }
 
@@ -277,7 +279,7 @@ fn interrupts_of_half_a_period(rt: HostRuntime) {
     let half = "0 0 0, 0 0 0, 0 0 0, 0 0 0, 0 0 0, 0 0 0, 18550 3350 700";
     let none = "0 0 0, 0 0 0, 0 0 0, 0 0 0, 0 0 0, 0 0 0, 15189 3240 695";
     let rows = [(2 * SECOND, SECOND, half), (4 * SECOND, SECOND, none)];
-    interrupts(&rt, rt.alloc(), &rows);
+    assert_interrupts(&rt, rt.alloc(), &rows);
 }
 
 // A trace reports an interrupt after the interrupt's end. Therefore the interrupt time of an
@@ -292,7 +294,7 @@ fn interrupts_known_late(rt: HostRuntime) {
         (SECOND + half, SECOND + half, none),
         (2 * SECOND, SECOND + half, late),
     ];
-    interrupts(&rt, rt.alloc(), &rows);
+    assert_interrupts(&rt, rt.alloc(), &rows);
 }
 
 /// Creates 256 triggers with thresholds of 10 ms, 20 ms and so on to 2560 ms, in windows of ten
@@ -319,8 +321,8 @@ fn is_range(numbers: &[u32], from: u32, to: u32) -> bool {
     next == to
 }
 
-/// Returns the range of the triggers that are due after `second` seconds: the first trigger, and
-/// the trigger after the last.
+/// Returns the range of the triggers that must fire after `second` seconds: the number of the first
+/// trigger, and the number after the last trigger.
 fn owed(second: u64) -> (u32, u32) {
     match second {
         1 | 11 => (0, 100),
@@ -330,8 +332,9 @@ fn owed(second: u64) -> (u32, u32) {
     }
 }
 
-/// Adds one second of stall time, and checks that exactly the triggers that are due fire.
-fn stall(rt: &impl Abort, machine: &mut Machine, second: u64) {
+/// Makes the tick at `second` seconds after one more second of IO stall. Checks that exactly the
+/// triggers in the range `owed` fire.
+fn assert_stall(rt: &impl Abort, machine: &mut Machine, second: u64) {
     let now = second.wrapping_mul(SECOND);
     let (from, to) = owed(second);
     machine.set(rt, 0, 0, [now, 0, 0, 0, 0, 0, now, 0]);
@@ -339,15 +342,15 @@ fn stall(rt: &impl Abort, machine: &mut Machine, second: u64) {
     let fired = machine.fired();
     assert!(rt;
         is_range(fired, from, to),
-        "at {second} s {fired:?} signalled in place of {from}..{to}"
+        "triggers at {second} s, expected: {from}..{to}, actual: {fired:?}"
     );
 }
 
-// The stall total grows by one second per second.
+// The group is in an IO stall all the time, so its stall total grows by one second per second.
 #[test]
 fn many_triggers_on_one_group(rt: HostRuntime) {
     let mut machine = small_machine(&rt, rt.alloc(), &many_triggers(&rt, rt.alloc()));
     for second in 1..13u64 {
-        stall(&rt, &mut machine, second);
+        assert_stall(&rt, &mut machine, second);
     }
 }

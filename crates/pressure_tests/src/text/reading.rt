@@ -1,9 +1,9 @@
 //! Tests of parsing pressure files, of resources and of interrupts: valid files with values at
 //! their limits, and malformed files.
-use crate::check::is;
 use pressure_text::{PressureFile, PressureLine, read_file, read_irq};
 use std::alloc::Global;
 use std::process::Abort;
+use test_support::assert_equal;
 
 /// A `full` line in which all values are zero.
 const FULL: &str = "full avg10=0.00 avg60=0.00 avg300=0.00 total=0\n";
@@ -53,7 +53,7 @@ const WRONG_LINES: [&str; 17] = [
     "some avg10=0.00 avg60=0.00 avg300=0.00 total=0",
 ];
 
-/// Malformed files, in some of which the first line is valid.
+/// Malformed files. The first line of some of them is valid.
 const WRONG_FILES: [&str; 6] = [
     "some avg10=0.00 avg60=0.00 avg300=0.00 total=0\n",
     "some avg10=0.00 avg60=0.00 avg300=0.00 total=0\nfull avg10=0.00 avg60=0.00 avg300=0.00 total=0",
@@ -63,10 +63,10 @@ const WRONG_FILES: [&str; 6] = [
     "",
 ];
 
-/// Checks the result of parsing a file with two lines, `line` and `FULL`.
-fn reads(rt: &impl Abort, alloc: Global, line: &str, wanted: Option<PressureFile>) {
+/// Checks that parsing a file with the two lines `line` and `FULL` returns `wanted`.
+fn assert_read(rt: &impl Abort, alloc: Global, line: &str, wanted: Option<PressureFile>) {
     let text = format!(in alloc; "{line}{}", FULL).expect(rt, "memory");
-    is(rt, read_file(text.as_bytes()), wanted, text.as_str());
+    assert_equal!(rt; read_file(text.as_bytes()), wanted, text.as_str());
 }
 
 #[test]
@@ -76,13 +76,13 @@ fn files_at_their_borders(rt: HostRuntime) {
             some_line: *known,
             full_line: ZEROS,
         };
-        reads(&rt, rt.alloc(), line, Some(file));
+        assert_read(&rt, rt.alloc(), line, Some(file));
     }
     for line in &WRONG_LINES {
-        reads(&rt, rt.alloc(), line, None);
+        assert_read(&rt, rt.alloc(), line, None);
     }
     for text in &WRONG_FILES {
-        is(&rt, read_file(text.as_bytes()), None, text);
+        assert_equal!(rt; read_file(text.as_bytes()), None, text);
     }
 }
 
@@ -122,9 +122,9 @@ const WRONG_IRQ_FILES: [&str; 10] = [
 #[test]
 fn files_of_interrupts(rt: HostRuntime) {
     for (text, known) in &IRQ_FILES {
-        is(&rt, read_irq(text.as_bytes()), Some(*known), text);
+        assert_equal!(rt; read_irq(text.as_bytes()), Some(*known), text);
     }
     for text in &WRONG_IRQ_FILES {
-        is(&rt, read_irq(text.as_bytes()), None, text);
+        assert_equal!(rt; read_irq(text.as_bytes()), None, text);
     }
 }

@@ -1,6 +1,5 @@
 //! Tests of writing: the exact text of each kind of output line, pressure files and reports, and a
 //! write that fails.
-use crate::check::is;
 use fixed_average::Averages;
 use outside::WriteFailed;
 use outside_fakes::{HonestSink, MemSink};
@@ -13,12 +12,13 @@ use pressure_text::{
 use psi_base::{Cpu, Level, Path, Res, Slot, TriggerSpec};
 use std::alloc::Global;
 use std::process::Abort;
+use test_support::assert_equal;
 
 /// Two seconds (ns).
 const TICK: u64 = 2_000_000_000;
 
-// Returns the averages after one update of a group that was in all states, and interrupted, from
-// the start to the update.
+// Returns the averages of a group after one update. Up to the update, the group was in all states
+// and was interrupted all the time.
 fn stalled_averages() -> Averages {
     let mut averages = Averages::new(0);
     averages.update(TICK, [TICK; 7]);
@@ -61,7 +61,7 @@ fn write_last_lines(rt: &impl Abort, out: &mut HonestSink, root: &Path) {
     write_end(out, 7, 1, 2, 3).expect(rt, "an end");
 }
 
-/// One line of each kind.
+/// One output line of each kind.
 const LINES: &[u8] = b"stall cpu=63 / 1 2 3 4 5 6 18446744073709551615
 stall cpu=0 / 1 2 3 4 5 6 2000000000 18446744073709551615
 ok lines=5 events=4 end=2000000000
@@ -78,17 +78,17 @@ fn lines(rt: HostRuntime) {
     let root = root(&rt, rt.alloc());
     write_first_lines(&rt, &mut out, &root);
     write_last_lines(&rt, &mut out, &root);
-    is(&rt, out.bytes.as_slice(), LINES, "lines");
+    assert_equal!(rt; out.bytes.as_slice(), LINES, "lines");
 }
 
 /// The totals of a group (ns).
 const TOTALS: Amounts = [1_000, 2_000, 3_999, 4_000, TICK, 999, 5_000];
 
 /// Checks that the pressure file of a group with the totals `TOTALS` is `text`.
-fn is_file(rt: &impl Abort, alloc: Global, res: Res, root: bool, text: &[u8]) {
+fn assert_file(rt: &impl Abort, alloc: Global, res: Res, root: bool, text: &[u8]) {
     let mut out = sink(rt, alloc, 256);
     write_file(&mut out, res, root, TOTALS, &stalled_averages()).expect(rt, "a file");
-    is(rt, out.bytes.as_slice(), text, "a file");
+    assert_equal!(rt; out.bytes.as_slice(), text, "a file");
 }
 
 #[test]
@@ -96,19 +96,19 @@ fn files(rt: HostRuntime) {
     let numbers = b"some avg10=18.11 avg60=3.27 avg300=0.68 total=1
 full avg10=18.11 avg60=3.27 avg300=0.68 total=2
 ";
-    is_file(&rt, rt.alloc(), Res::Io, true, numbers);
+    assert_file(&rt, rt.alloc(), Res::Io, true, numbers);
     let memory = b"some avg10=18.11 avg60=3.27 avg300=0.68 total=3
 full avg10=18.11 avg60=3.27 avg300=0.68 total=4
 ";
-    is_file(&rt, rt.alloc(), Res::Memory, true, memory);
+    assert_file(&rt, rt.alloc(), Res::Memory, true, memory);
     let group = b"some avg10=18.11 avg60=3.27 avg300=0.68 total=2000000
 full avg10=18.11 avg60=3.27 avg300=0.68 total=0
 ";
-    is_file(&rt, rt.alloc(), Res::Cpu, false, group);
+    assert_file(&rt, rt.alloc(), Res::Cpu, false, group);
     let machine = b"some avg10=18.11 avg60=3.27 avg300=0.68 total=2000000
 full avg10=0.00 avg60=0.00 avg300=0.00 total=0
 ";
-    is_file(&rt, rt.alloc(), Res::Cpu, true, machine);
+    assert_file(&rt, rt.alloc(), Res::Cpu, true, machine);
 }
 
 /// Returns a report on the IO pressure of the root.
@@ -141,10 +141,11 @@ fn reports_are_read_again(rt: HostRuntime) {
         some_line: line,
         full_line: line,
     };
-    is(&rt, read_file(bytes), Some(file), "a report");
+    assert_equal!(rt; read_file(bytes), Some(file), "a report");
 }
 
-/// Returns a report on the interrupts of the root, which took half of the first interval.
+/// Returns a report on the interrupts of the root. Interrupts took half of the time up to the
+/// report.
 fn irq_report(rt: &impl Abort, alloc: Global) -> Vec<u8> {
     let mut averages = Averages::new(0);
     averages.update(TICK, [0, 0, 0, 0, 0, 0, TICK / 2]);
@@ -161,14 +162,14 @@ fn a_report_on_interrupts_is_read_again(rt: HostRuntime) {
 full avg10=9.05 avg60=1.63 avg300=0.34 total=1000000
 "
         .as_slice();
-    is(&rt, written.as_slice(), text, "a report on interrupts");
+    assert_equal!(rt; written.as_slice(), text, "a report on interrupts");
     let head = b"report 2000000000 / irq\n".as_slice();
     let bytes = written.as_slice().strip_prefix(head).expect(&rt, "a head");
     let line = PressureLine {
         hundredths: [905, 163, 34],
         total_us: 1_000_000,
     };
-    is(&rt, read_irq(bytes), Some(line), "what it shows");
+    assert_equal!(rt; read_irq(bytes), Some(line), "what it shows");
 }
 
 // The write of the third piece of the line fails.
@@ -176,17 +177,7 @@ full avg10=9.05 avg60=1.63 avg300=0.34 total=1000000
 fn a_failure_leaves_a_prefix(rt: HostRuntime) {
     let fails = vec![in rt.alloc(); 2].expect(&rt, "memory");
     let mut out = MemSink::new(rt.alloc(), 256, 256, fails).expect(&rt, "memory");
-    is(
-        &rt,
-        write_end(&mut out, 7, 1, 2, 3),
-        Err(WriteFailed),
-        "a line that fails",
-    );
-    is(
-        &rt,
-        out.bytes.as_slice(),
-        b"end 7".as_slice(),
-        "what is left of it",
-    );
-    is(&rt, (out.calls, out.faults), (3, 1), "calls and faults");
+    assert_equal!(rt; write_end(&mut out, 7, 1, 2, 3), Err(WriteFailed), "a line that fails");
+    assert_equal!(rt; out.bytes.as_slice(), b"end 7".as_slice(), "what is left of it");
+    assert_equal!(rt; (out.calls, out.faults), (3, 1), "calls and faults");
 }

@@ -5,11 +5,11 @@ ghost use Rattle.std.specs.Prelude.{◌≡◌, ◌++◌, ◌<◌, decimal, []};
 ghost use Rattle.outside.specs.Outside.{HasCause};
 ghost use Rattle.outside.specs.Calls.{PutsAll};
 
-use crate::checks::is;
 use outside::{BufferedSink, Pending, Sink, WriteFailed, put_all, put_number};
 use outside_fakes::MemSink;
 use std::alloc::Global;
 use std::process::Abort;
+use test_support::assert_equal;
 
 // Writes bytes and a number through a buffer.
 fn put_buffered<K: Sink>(
@@ -34,7 +34,7 @@ type Taken = (Result<(), WriteFailed>, usize, u64);
 
 // Writes bytes and the number 12 through a buffer to a sink that accepts at most `most` bytes per
 // call and fails at one call. Checks the result.
-fn goes_through(
+fn assert_taken(
     rt: &impl Abort,
     alloc: Global,
     bytes: &[u8],
@@ -49,19 +49,19 @@ fn goes_through(
     let mut pending = Pending::new(alloc).expect(rt, "memory");
     let answer = put_buffered(&mut sink, &mut pending, bytes, 12);
     let taken = (answer, sink.bytes.len(), sink.calls);
-    is(rt, taken, wanted, "a sink suffix a buffer");
-    is(rt, sink.faults == 0, answer.is_ok(), "whether it failed");
+    assert_equal!(rt; taken, wanted, "a sink with a buffer");
+    assert_equal!(rt; sink.faults == 0, answer.is_ok(), "whether it failed");
 }
 
 #[test]
 fn buffers_send_on_in_large_writes(rt: HostRuntime) {
     let alloc = rt.alloc();
-    goes_through(&rt, alloc, b"abc", 1, u64::MAX, (Ok(()), 5, 5));
-    goes_through(&rt, alloc, b"abc", 9, u64::MAX, (Ok(()), 5, 1));
-    goes_through(&rt, alloc, b"abc", 1, 2, (Err(WriteFailed), 2, 3));
+    assert_taken(&rt, alloc, b"abc", 1, u64::MAX, (Ok(()), 5, 5));
+    assert_taken(&rt, alloc, b"abc", 9, u64::MAX, (Ok(()), 5, 1));
+    assert_taken(&rt, alloc, b"abc", 1, 2, (Err(WriteFailed), 2, 3));
     // The bytes exceed the capacity of the buffer.
     let long = vec![in alloc; b'x'; 65537].expect(&rt, "memory");
-    goes_through(&rt, alloc, &long, 65536, u64::MAX, (Ok(()), 65539, 2));
-    goes_through(&rt, alloc, &long, 65536, 0, (Err(WriteFailed), 0, 1));
-    goes_through(&rt, alloc, &long, 65536, 1, (Err(WriteFailed), 65536, 2));
+    assert_taken(&rt, alloc, &long, 65536, u64::MAX, (Ok(()), 65539, 2));
+    assert_taken(&rt, alloc, &long, 65536, 0, (Err(WriteFailed), 0, 1));
+    assert_taken(&rt, alloc, &long, 65536, 1, (Err(WriteFailed), 65536, 2));
 }

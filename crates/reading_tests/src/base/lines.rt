@@ -3,11 +3,11 @@
 ghost use Rattle.std.specs.Prelude.{◌+◌, ◌<◌, ◌≤◌, ◌^◌};
 
 use crate::base::fakes::one_file;
-use crate::checks::{is, shown};
 use outside_fakes::MemShelf;
 use psi_lines::{LineFault, Lines};
 use std::alloc::Global;
 use std::process::Abort;
+use test_support::{as_text, assert_equal};
 
 // Makes a shelf with the file `f`, which returns at most `most` bytes per call and fails at call
 // `fails`.
@@ -33,7 +33,7 @@ fn known(
     answer: Result<Option<&[u8]>, LineFault>,
 ) -> String {
     let line = match answer {
-        Ok(Some(bytes)) => format!(in alloc; "{number}:{}\n", shown(bytes)),
+        Ok(Some(bytes)) => format!(in alloc; "{number}:{}\n", as_text(bytes)),
         Ok(None) => String::from_str(alloc, "end\n"),
         Err(fault) => format!(in alloc; "{fault:?}\n"),
     };
@@ -85,21 +85,28 @@ fn answers(
 
 // Checks the results of `calls` calls, once with owned and once with borrowed lines. The shelf
 // returns at most `most` bytes per read.
-fn agrees_by(rt: &impl Abort, alloc: Global, bytes: &str, most: usize, calls: u32, wanted: &str)
+fn assert_lines_by(
+    rt: &impl Abort,
+    alloc: Global,
+    bytes: &str,
+    most: usize,
+    calls: u32,
+    wanted: &str,
+)
     requires { 0 < most }
 {
     for lends in &[false, true] {
         let mut shelf = shelf_of(rt, alloc, bytes, most, u64::MAX);
         let text = answers(rt, alloc, "f", &mut shelf, calls, *lends);
-        is(rt, text.as_str(), wanted, bytes);
+        assert_equal!(rt; text.as_str(), wanted, bytes);
     }
 }
 
 // Checks that the results are the same with reads of 1, 7 and 65,536 bytes.
-fn agrees(rt: &impl Abort, alloc: Global, bytes: &str, calls: u32, wanted: &str) {
-    agrees_by(rt, alloc, bytes, 1, calls, wanted);
-    agrees_by(rt, alloc, bytes, 7, calls, wanted);
-    agrees_by(rt, alloc, bytes, 65536, calls, wanted);
+fn assert_lines(rt: &impl Abort, alloc: Global, bytes: &str, calls: u32, wanted: &str) {
+    assert_lines_by(rt, alloc, bytes, 1, calls, wanted);
+    assert_lines_by(rt, alloc, bytes, 7, calls, wanted);
+    assert_lines_by(rt, alloc, bytes, 65536, calls, wanted);
 }
 
 /// Each row has the bytes of a file, a number of calls, and the results of these calls.
@@ -114,7 +121,7 @@ const LINES: [(&str, u32, &str); 5] = [
 #[test]
 fn lines_are_the_same_in_all_pieces(rt: HostRuntime) {
     for (bytes, calls, wanted) in &LINES {
-        agrees(&rt, rt.alloc(), bytes, *calls, wanted);
+        assert_lines(&rt, rt.alloc(), bytes, *calls, wanted);
     }
 }
 
@@ -129,9 +136,9 @@ fn lines_have_512_bytes(rt: HostRuntime) {
     let alloc = rt.alloc();
     let whole = long_line(&rt, alloc, "", 512, "\nb\n");
     let answers = long_line(&rt, alloc, "1:", 512, "\n2:b\nend\n");
-    agrees(&rt, alloc, whole.as_str(), 3, answers.as_str());
+    assert_lines(&rt, alloc, whole.as_str(), 3, answers.as_str());
     let cut = long_line(&rt, alloc, "", 512, "");
-    agrees(&rt, alloc, cut.as_str(), 1, "Cut(1)\n");
+    assert_lines(&rt, alloc, cut.as_str(), 1, "Cut(1)\n");
 }
 
 #[test]
@@ -139,26 +146,27 @@ fn lines_have_no_513_bytes(rt: HostRuntime) {
     let alloc = rt.alloc();
     for suffix in &["\nb\n", ""] {
         let line = long_line(&rt, alloc, "", 513, suffix);
-        agrees(&rt, alloc, line.as_str(), 2, "TooLong(1)\nTooLong(1)\n");
+        assert_lines(&rt, alloc, line.as_str(), 2, "TooLong(1)\nTooLong(1)\n");
     }
 }
 
-// Checks the results of four calls with reads of two bytes if read number `fails` fails.
-fn fails_once(rt: &impl Abort, alloc: Global, fails: u64, wanted: &str) {
+// Checks the results of four calls. The shelf returns at most two bytes per read, and read number
+// `fails` fails.
+fn assert_one_failure(rt: &impl Abort, alloc: Global, fails: u64, wanted: &str) {
     for lends in &[false, true] {
         let mut shelf = shelf_of(rt, alloc, "abc\nde\n", 2, fails);
         let text = answers(rt, alloc, "f", &mut shelf, 4, *lends);
-        is(rt, text.as_str(), wanted, "a read that fails");
-        is(rt, shelf.faults, 1, "faults");
+        assert_equal!(rt; text.as_str(), wanted, "a read that fails");
+        assert_equal!(rt; shelf.faults, 1, "faults");
     }
 }
 
 #[test]
 fn faults_lose_nothing(rt: HostRuntime) {
-    fails_once(&rt, rt.alloc(), 0, "ReadFault\n1:abc\n2:de\nend\n");
-    fails_once(&rt, rt.alloc(), 1, "ReadFault\n1:abc\n2:de\nend\n");
-    fails_once(&rt, rt.alloc(), 3, "1:abc\nReadFault\n2:de\nend\n");
-    fails_once(&rt, rt.alloc(), 4, "1:abc\n2:de\nReadFault\nend\n");
+    assert_one_failure(&rt, rt.alloc(), 0, "ReadFault\n1:abc\n2:de\nend\n");
+    assert_one_failure(&rt, rt.alloc(), 1, "ReadFault\n1:abc\n2:de\nend\n");
+    assert_one_failure(&rt, rt.alloc(), 3, "1:abc\nReadFault\n2:de\nend\n");
+    assert_one_failure(&rt, rt.alloc(), 4, "1:abc\n2:de\nReadFault\nend\n");
 }
 
 #[test]
@@ -166,33 +174,33 @@ fn absent_names_have_no_lines(rt: HostRuntime) {
     for lends in &[false, true] {
         let mut shelf = shelf_of(&rt, rt.alloc(), "abc\n", 2, u64::MAX);
         let text = answers(&rt, rt.alloc(), "g", &mut shelf, 2, *lends);
-        is(&rt, text.as_str(), "NoFile\nNoFile\n", "an absent name");
-        is(&rt, shelf.absent, 2, "calls with an absent name");
+        assert_equal!(rt; text.as_str(), "NoFile\nNoFile\n", "an absent name");
+        assert_equal!(rt; shelf.absent, 2, "calls with an absent name");
     }
 }
 
 // Checks three calls of `is_at_end` after one line. The first call fails because the second read
-// does. The next call reads once. The last call reads again only if no byte is buffered.
-fn end_after_line(rt: &impl Abort, alloc: Global, bytes: &str, is_end: bool, calls: u64) {
+// fails. The next call reads once. The last call reads again only if no byte is buffered.
+fn assert_end_after_line(rt: &impl Abort, alloc: Global, bytes: &str, is_end: bool, calls: u64) {
     let mut shelf = shelf_of(rt, alloc, bytes, 3, 1);
     let mut lines = lines_of(rt, alloc, "f");
     let line = next_own(rt, alloc, &mut lines, &mut shelf);
-    is(rt, line.as_str(), "1:ab\n", bytes);
+    assert_equal!(rt; line.as_str(), "1:ab\n", bytes);
     let failed = lines.is_at_end(&mut shelf);
-    is(rt, failed, Err(LineFault::ReadFault), bytes);
-    is(rt, lines.is_at_end(&mut shelf), Ok(is_end), bytes);
-    is(rt, shelf.calls, 3, bytes);
-    is(rt, lines.is_at_end(&mut shelf), Ok(is_end), bytes);
-    is(rt, (shelf.calls, shelf.faults), (calls, 1), bytes);
+    assert_equal!(rt; failed, Err(LineFault::ReadFault), bytes);
+    assert_equal!(rt; lines.is_at_end(&mut shelf), Ok(is_end), bytes);
+    assert_equal!(rt; shelf.calls, 3, bytes);
+    assert_equal!(rt; lines.is_at_end(&mut shelf), Ok(is_end), bytes);
+    assert_equal!(rt; (shelf.calls, shelf.faults), (calls, 1), bytes);
 }
 
 #[test]
 fn end_takes_one_read(rt: HostRuntime) {
     let alloc = rt.alloc();
-    end_after_line(&rt, alloc, "ab\n", true, 4);
-    end_after_line(&rt, alloc, "ab\ncd", false, 3);
+    assert_end_after_line(&rt, alloc, "ab\n", true, 4);
+    assert_end_after_line(&rt, alloc, "ab\ncd", false, 3);
     let mut shelf = shelf_of(&rt, alloc, "ab\n", 3, u64::MAX);
     let mut lines = lines_of(&rt, alloc, "g");
     let missed = lines.is_at_end(&mut shelf);
-    is(&rt, missed, Err(LineFault::NoFile), "an absent name");
+    assert_equal!(rt; missed, Err(LineFault::NoFile), "an absent name");
 }

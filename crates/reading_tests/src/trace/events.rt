@@ -2,11 +2,11 @@
 //! rejected with which cause.
 ghost use Rattle.psi_spec.specs.Header.{IsVersion};
 
-use crate::checks::is;
 use psi_base::{Cause, Fault};
 use psi_trace::{read_event, write_event};
 use std::alloc::Global;
 use std::process::Abort;
+use test_support::{as_text, assert_equal};
 
 /// Parses a line of a trace of this version, and appends the written event.
 fn rewrite(rt: &impl Abort, alloc: Global, version: u32, line: &str, written: &mut Vec<u8>)
@@ -17,30 +17,30 @@ fn rewrite(rt: &impl Abort, alloc: Global, version: u32, line: &str, written: &m
 }
 
 /// Checks that each line of a trace of this version is parsed, and written again unchanged.
-fn rewrites(rt: &impl Abort, alloc: Global, version: u32, lines: &[&str])
+fn assert_rewritten(rt: &impl Abort, alloc: Global, version: u32, lines: &[&str])
     requires { IsVersion version }
 {
     for line in lines {
         let mut written = Vec::new(alloc);
         rewrite(rt, alloc, version, line, &mut written);
-        is(rt, written.as_slice(), line.as_bytes(), line);
+        assert_equal!(rt; written.as_slice(), line.as_bytes(), line);
     }
 }
 
 /// Checks that a line of a trace of this version is rejected for this cause.
-fn is_refused(rt: &impl Abort, alloc: Global, version: u32, line: &str, cause: Cause)
+fn assert_refused(rt: &impl Abort, alloc: Global, version: u32, line: &str, cause: Cause)
     requires { IsVersion version }
 {
     let refused = read_event(alloc, version, line.as_bytes()).err();
-    is(rt, refused, Some(Fault::Refused(cause)), line);
+    assert_equal!(rt; refused, Some(Fault::Refused(cause)), line);
 }
 
 /// Checks that each line of a trace of this version is rejected with the cause next to it.
-fn refuses(rt: &impl Abort, alloc: Global, version: u32, rows: &[(&str, Cause)])
+fn assert_all_refused(rt: &impl Abort, alloc: Global, version: u32, rows: &[(&str, Cause)])
     requires { IsVersion version }
 {
     for (line, cause) in rows {
-        is_refused(rt, alloc, version, line, *cause);
+        assert_refused(rt, alloc, version, line, *cause);
     }
 }
 
@@ -81,8 +81,8 @@ const LINES: [&str; 31] = [
 
 #[test]
 fn writes_what_it_reads(rt: HostRuntime) {
-    rewrites(&rt, rt.alloc(), 1, &LINES);
-    rewrites(&rt, rt.alloc(), 2, &LINES);
+    assert_rewritten(&rt, rt.alloc(), 1, &LINES);
+    assert_rewritten(&rt, rt.alloc(), 2, &LINES);
 }
 
 /// Valid lines of version 2 only: interrupts, and switching of accounting.
@@ -98,19 +98,17 @@ const SECOND: [&str; 6] = [
 #[test]
 fn knows_verbs_of_the_second_version(rt: HostRuntime) {
     for line in &SECOND {
-        is_refused(&rt, rt.alloc(), 1, line, Cause::BadVerb);
+        assert_refused(&rt, rt.alloc(), 1, line, Cause::BadVerb);
     }
-    rewrites(&rt, rt.alloc(), 2, &SECOND);
+    assert_rewritten(&rt, rt.alloc(), 2, &SECOND);
 }
 
 #[test]
 fn appends_to_what_is_there(rt: HostRuntime) {
     let mut written = Vec::from_slice(rt.alloc(), b"psitrace 1 cpus=1\n").expect(&rt, "memory");
     rewrite(&rt, rt.alloc(), 1, "0 fork 1 / 0", &mut written);
-    assert_eq!(rt;
-        written.as_slice(),
-        b"psitrace 1 cpus=1\n0 fork 1 / 0".as_slice()
-    );
+    let text = "psitrace 1 cpus=1\n0 fork 1 / 0";
+    assert_equal!(rt; as_text(&written), text, "a line after a header");
 }
 
 /// Malformed lines that switch accounting, each with its cause.
@@ -272,16 +270,16 @@ const GROUPS: [(&str, Cause); 36] = [
 ];
 
 /// Checks that each line is rejected for the cause next to it, in a trace of either version.
-fn refuses_in_both(rt: &impl Abort, alloc: Global, rows: &[(&str, Cause)]) {
-    refuses(rt, alloc, 1, rows);
-    refuses(rt, alloc, 2, rows);
+fn assert_refused_in_both(rt: &impl Abort, alloc: Global, rows: &[(&str, Cause)]) {
+    assert_all_refused(rt, alloc, 1, rows);
+    assert_all_refused(rt, alloc, 2, rows);
 }
 
 #[test]
 fn refuses_the_leftmost_fault(rt: HostRuntime) {
-    refuses_in_both(&rt, rt.alloc(), &TIMES_AND_VERBS);
-    refuses_in_both(&rt, rt.alloc(), &TASKS);
-    refuses_in_both(&rt, rt.alloc(), &GROUPS);
-    refuses(&rt, rt.alloc(), 2, &ACCOUNTS);
-    refuses(&rt, rt.alloc(), 2, &INTERRUPTS);
+    assert_refused_in_both(&rt, rt.alloc(), &TIMES_AND_VERBS);
+    assert_refused_in_both(&rt, rt.alloc(), &TASKS);
+    assert_refused_in_both(&rt, rt.alloc(), &GROUPS);
+    assert_all_refused(&rt, rt.alloc(), 2, &ACCOUNTS);
+    assert_all_refused(&rt, rt.alloc(), 2, &INTERRUPTS);
 }

@@ -1,8 +1,8 @@
 //! Tests of the header line of a trace: valid headers with their versions and numbers of
 //! processors, and malformed headers.
-use crate::checks::is;
 use psi_base::Cause;
 use psi_trace::{Header, read_header};
+use test_support::assert_equal;
 
 /// Valid headers, each with its version and its number of processors.
 const HEADERS: [(&str, u32, u32); 6] = [
@@ -21,7 +21,7 @@ fn reads_the_version_and_the_number_of_processors(rt: HostRuntime) {
             version: *version,
             cpus: *cpus,
         };
-        is(&rt, read_header(line.as_bytes()), Ok(head), line);
+        assert_equal!(rt; read_header(line.as_bytes()), Ok(head), line);
     }
 }
 
@@ -58,6 +58,6 @@ const OTHERS: [&str; 25] = [
 fn refuses_other_headers(rt: HostRuntime) {
     for line in &OTHERS {
         let refused = read_header(line.as_bytes());
-        is(&rt, refused, Err(Cause::BadHeader), line);
+        assert_equal!(rt; refused, Err(Cause::BadHeader), line);
     }
 }

@@ -1,16 +1,17 @@
 //! Tests of lines that are parsed and applied in place, without a copy, while further lines follow.
-//! The results are compared with those of the general reader.
-use crate::checks::is;
+//! The results are compared with the results of `read_event`, the general parser.
 use psi_base::{Cpu, Ns, Pid};
 use psi_trace::{read_event, take_prefix};
 use std::alloc::Global;
 use std::process::Abort;
 use task_table::Table;
+use test_support::assert_equal;
 
 /// Lines after which task 1 sleeps, task 2 runs on processor 0, and task 3 is ready on processor 1.
 const FIRST: &str = "0 fork 1 / 0;0 fork 2 / 0;0 fork 3 / 1;0 switch 0 1 idle;1 switch 0 2 sleep";
 
-/// Plays a line that the general reader parses. Returns whether the line is accepted.
+/// Parses a line with `read_event`, and applies its event to the table. Returns whether the line is
+/// accepted.
 fn is_taken(alloc: Global, table: &mut Table, line: &str) -> bool {
     match read_event(alloc, 1, line.as_bytes()) {
         Ok(event) => table.play(&event).is_ok(),
@@ -22,7 +23,7 @@ fn is_taken(alloc: Global, table: &mut Table, line: &str) -> bool {
 fn started(rt: &impl Abort, alloc: Global) -> Table {
     let mut table = Table::new(alloc, 2, Ns::MAX).expect(rt, "memory");
     for line in FIRST.split(';') {
-        assert!(rt; is_taken(alloc, &mut table, line), "at {line}");
+        assert!(rt; is_taken(alloc, &mut table, line), "{line} is rejected");
     }
     table
 }
@@ -35,8 +36,7 @@ fn are_same(one: &Table, other: &Table) -> bool {
         && (0..2).all(|cpu| one.running(Cpu(cpu)) == other.running(Cpu(cpu)))
 }
 
-/// Returns whether no proper beginning of a line is played: a line without its newline is
-/// incomplete.
+/// Returns whether no proper prefix of a line is played. A line without its newline is incomplete.
 fn leaves_prefixes(table: &mut Table, line: &[u8]) -> bool {
     let mut leaves = true;
     for held in 0..=line.len() {
@@ -53,17 +53,17 @@ fn prefix(rt: &impl Abort, alloc: Global, table: &mut Table, line: &str) -> (usi
     (played.count, played.answer.is_ok())
 }
 
-/// Checks that a line is played in place with the same result as by the general reader, and that no
+/// Checks that a line is played in place with the same result as with `read_event`, and that no
 /// prefix of the line is played.
-fn plays_as_read(rt: &impl Abort, alloc: Global, line: &str) {
+fn assert_played_as_read(rt: &impl Abort, alloc: Global, line: &str) {
     let mut table = started(rt, alloc);
     let leaves = leaves_prefixes(&mut table, line.as_bytes());
-    assert!(rt; leaves, "a prefix of {line}");
+    assert!(rt; leaves, "a prefix of {line} is played");
     let played = prefix(rt, alloc, &mut table, line);
     let mut other = started(rt, alloc);
     let taken = is_taken(alloc, &mut other, line);
-    is(rt, played, (line.len(), taken), line);
-    assert!(rt; are_same(&table, &other), "at {line}");
+    assert_equal!(rt; played, (line.len(), taken), line);
+    assert!(rt; are_same(&table, &other), "the tables differ after {line}");
 }
 
 /// Lines that are played in place.
@@ -93,7 +93,7 @@ const PLAYED: [&str; 20] = [
 #[test]
 fn takes_whole_lines_as_any_line_is_read(rt: HostRuntime) {
     for line in &PLAYED {
-        plays_as_read(&rt, rt.alloc(), line);
+        assert_played_as_read(&rt, rt.alloc(), line);
     }
 }
 
@@ -131,6 +131,6 @@ fn leaves_other_lines(rt: HostRuntime) {
     let mut table = started(&rt, rt.alloc());
     for bytes in &OTHERS {
         let taken = take_prefix(bytes.as_bytes(), &mut table).is_some();
-        is(&rt, (taken, table.lines()), (false, 5), bytes);
+        assert_equal!(rt; (taken, table.lines()), (false, 5), bytes);
     }
 }

@@ -1,6 +1,6 @@
 //! Tests of faulty rules files: each place in a file with each cause, and which of two errors is
 //! reported.
-use crate::rules::shown::reads_rows;
+use crate::rules::shown::assert_rows_read;
 
 const WHOLE: &str = "{!BadJson
 {}!MissingKey
@@ -15,7 +15,7 @@ null!WrongKind";
 
 #[test]
 fn whole_file(rt: HostRuntime) {
-    reads_rows(&rt, rt.alloc(), "@", "@", "rules: @", WHOLE);
+    assert_rows_read(&rt, rt.alloc(), "@", "@", "rules: @", WHOLE);
 }
 
 const OF_RULE: &str = "{'rulesets':[{'name':'q','detectors':[],'actions':[]},@]}";
@@ -36,7 +36,7 @@ null!WrongKind
 
 #[test]
 fn rulesets(rt: HostRuntime) {
-    reads_rows(&rt, rt.alloc(), OF_RULE, "@", "rules ruleset 1: @", RULES);
+    assert_rows_read(&rt, rt.alloc(), OF_RULE, "@", "rules ruleset 1: @", RULES);
 }
 
 const OF_GROUP: &str = "{'rulesets':[{'name':'r','detectors':[['f'],['f'],@],'actions':[]}]}";
@@ -51,7 +51,7 @@ null!WrongKind
 
 #[test]
 fn groups(rt: HostRuntime) {
-    reads_rows(
+    assert_rows_read(
         &rt,
         rt.alloc(),
         OF_GROUP,
@@ -109,15 +109,15 @@ const AT_ACTION: &str = "rules ruleset 0 action 1: @";
 #[test]
 fn plugins(rt: HostRuntime) {
     for rows in &[PLUGINS, AS_DETECTORS] {
-        reads_rows(&rt, rt.alloc(), OF_DETECTOR, "@", AT_DETECTOR, rows);
+        assert_rows_read(&rt, rt.alloc(), OF_DETECTOR, "@", AT_DETECTOR, rows);
     }
     for rows in &[PLUGINS, AS_ACTIONS] {
-        reads_rows(&rt, rt.alloc(), OF_ACTION, "@", AT_ACTION, rows);
+        assert_rows_read(&rt, rt.alloc(), OF_ACTION, "@", AT_ACTION, rows);
     }
 }
 
-// Each required argument is missing in turn; arguments are checked in the order of the plugin's
-// table.
+// Detectors with missing or faulty arguments, one detector per row. The arguments are checked in
+// the order of the plugin's definition, and the first fault in this order is reported.
 const DETECTOR_ARGUMENTS: &str =
     "{'name':'pressure_above','args':{'resource':'io','threshold':1,'duration':1}}!MissingKey
 {'name':'pressure_above','args':{'cgroup':'g0','threshold':1,'duration':1}}!MissingKey
@@ -159,7 +159,7 @@ const ACTION_ARGUMENTS: &str = "{'name':'kill_by_memory_size_or_growth'}!Missing
 
 #[test]
 fn arguments_in_order(rt: HostRuntime) {
-    reads_rows(
+    assert_rows_read(
         &rt,
         rt.alloc(),
         OF_DETECTOR,
@@ -167,12 +167,12 @@ fn arguments_in_order(rt: HostRuntime) {
         AT_DETECTOR,
         DETECTOR_ARGUMENTS,
     );
-    reads_rows(&rt, rt.alloc(), OF_ACTION, "@", AT_ACTION, ACTION_ARGUMENTS);
+    assert_rows_read(&rt, rt.alloc(), OF_ACTION, "@", AT_ACTION, ACTION_ARGUMENTS);
 }
 
 // A ruleset with two errors, followed by another faulty ruleset. Each part is checked with its
-// children before the next part. The order in a ruleset is the name, the delay, the detectors, the
-// actions. A list is checked before its items, a group's name before its detectors, a plugin's name
+// children before the next part. A ruleset is checked in the order name, delay, detectors, actions.
+// A list is checked before its items, a group's name before its detectors, and a plugin's name
 // before its arguments.
 const OF_TWO: &str = "{'rulesets':[{@},5]}";
 
@@ -193,5 +193,5 @@ const TWO: &str = "'post_action_delay':'x'!: MissingKey
 
 #[test]
 fn first_of_two(rt: HostRuntime) {
-    reads_rows(&rt, rt.alloc(), OF_TWO, "@", "rules ruleset 0@", TWO);
+    assert_rows_read(&rt, rt.alloc(), OF_TWO, "@", "rules ruleset 0@", TWO);
 }

@@ -1,6 +1,6 @@
-//! Tests of the arguments of plugins in rules files: each syntactic form with values at its limits,
-//! and each default.
-use crate::rules::shown::reads_rows;
+//! Tests of the arguments of plugins in rules files: each kind of value at its limits, and each
+//! default.
+use crate::rules::shown::assert_rows_read;
 
 /// The message for an error in the only detector.
 const AT_ITEM: &str = "rules ruleset 0 group 0 item 0: @";
@@ -41,7 +41,7 @@ null!WrongKind
 
 #[test]
 fn numbers(rt: HostRuntime) {
-    reads_rows(
+    assert_rows_read(
         &rt,
         rt.alloc(),
         OF_NUMBER,
@@ -61,7 +61,7 @@ const TIMES: &str = "'0'~0
 
 #[test]
 fn times(rt: HostRuntime) {
-    reads_rows(
+    assert_rows_read(
         &rt,
         rt.alloc(),
         OF_TIME,
@@ -102,7 +102,7 @@ null!WrongKind";
 #[test]
 fn ratios(rt: HostRuntime) {
     let rules = "r: [g; pressure_rising_beyond /g0 Io 1 2 @]\n";
-    reads_rows(&rt, rt.alloc(), OF_RATIO, rules, AT_ITEM, RATIOS);
+    assert_rows_read(&rt, rt.alloc(), OF_RATIO, rules, AT_ITEM, RATIOS);
 }
 
 const OF_SIZE: &str =
@@ -156,7 +156,7 @@ null!WrongKind";
 
 #[test]
 fn sizes(rt: HostRuntime) {
-    reads_rows(
+    assert_rows_read(
         &rt,
         rt.alloc(),
         OF_SIZE,
@@ -211,7 +211,7 @@ const UNKNOWN: &str =
 #[test]
 fn truths_and_patterns(rt: HostRuntime) {
     for rows in &[TRUTHS, PATTERNS, UNKNOWN] {
-        reads_rows(
+        assert_rows_read(
             &rt,
             rt.alloc(),
             OF_CGROUP,
@@ -236,17 +236,18 @@ const RESOURCES: &str = "'io'~Io
 #[test]
 fn resources(rt: HostRuntime) {
     let rules = "r: [g; pressure_above /g0 @ 1 1]\n";
-    reads_rows(&rt, rt.alloc(), OF_RESOURCE, rules, AT_ITEM, RESOURCES);
+    assert_rows_read(&rt, rt.alloc(), OF_RESOURCE, rules, AT_ITEM, RESOURCES);
 }
 
-// The rows show the defaults of each detector.
+// A file with one detector. The rows show the defaults of detectors.
 const OF_DETECTOR: &str =
     "{'rulesets':[{'name':'r','detectors':[['g',{'name':@}}]],'actions':[]}]}";
 
 const DETECTORS: &str = "'exists','args':{'cgroup':'g0'~exists /g0 false
 'pressure_rising_beyond','args':{'cgroup':'g0','resource':'memory','threshold':1,'duration':2~pressure_rising_beyond /g0 Memory 1 2 850";
 
-// The rows show the defaults of each action, and each argument.
+// A file with one action. The rows show the defaults of actions, and other values of their
+// arguments.
 const OF_ACTION: &str = "{'rulesets':[{'name':'r','detectors':[],'actions':[{'name':@}}]}]}";
 
 const ACTIONS: &str =
@@ -266,7 +267,7 @@ const ACTIONS: &str =
 
 #[test]
 fn defaults(rt: HostRuntime) {
-    reads_rows(
+    assert_rows_read(
         &rt,
         rt.alloc(),
         OF_DETECTOR,
@@ -274,10 +275,10 @@ fn defaults(rt: HostRuntime) {
         AT_ITEM,
         DETECTORS,
     );
-    reads_rows(&rt, rt.alloc(), OF_ACTION, "r: @;\n", AT_ACTION, ACTIONS);
+    assert_rows_read(&rt, rt.alloc(), OF_ACTION, "r: @;\n", AT_ACTION, ACTIONS);
 }
 
-// An action without a delay of its own has the ruleset's delay.
+// A file with one action. An action without a delay of its own has the ruleset's delay.
 const OF_DELAY: &str =
     "{'rulesets':[{'silence-logs':null,'name':'r','detectors':[],'post_action_delay':@}}]}],'version':1.5}";
 
@@ -296,7 +297,7 @@ null,'actions':[{'name':'kill_by_pg_scan','args':{'cgroup':'g0'!WrongKind
 #[test]
 fn delays(rt: HostRuntime) {
     let rules = "r: pg_scan /g0 false false @;\n";
-    reads_rows(
+    assert_rows_read(
         &rt,
         rt.alloc(),
         OF_DELAY,

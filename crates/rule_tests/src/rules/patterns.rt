@@ -1,26 +1,26 @@
 //! Tests of path patterns: which paths they match, which texts are malformed, and texts and paths
 //! at their limits.
-use crate::readings;
 use path_match::{PatternFault, Patterns};
 use psi_base::Fault;
 use std::alloc::Global;
 use std::process::Abort;
+use test_support::{assert_equal, path_of};
 
 // Checks whether the patterns in a text match a path, and that a copy of the patterns gives the
 // same result.
-fn is_so(rt: &impl Abort, alloc: Global, text: &str, path: &str, wanted: bool) {
+fn assert_match(rt: &impl Abort, alloc: Global, text: &str, path: &str, wanted: bool) {
     let patterns = Patterns::read(alloc, text).expect(rt, text);
     let copy = patterns.copy(alloc).expect(rt, "memory");
-    let read = readings::path(rt, alloc, path);
+    let read = path_of(alloc, path).expect(rt, path);
     let found = (patterns.matches(&read), copy.matches(&read));
-    assert!(rt; found == (wanted, wanted), "{text} {path}: {found:?}");
+    assert_equal!(rt; found, (wanted, wanted), (text, path));
 }
 
-// Checks each row, which has the text of patterns, a space, and a path.
-fn are_so(rt: &impl Abort, alloc: Global, rows: &str, wanted: bool) {
+// Calls `assert_match` for each row, which has the text of patterns, a space, and a path.
+fn assert_matches(rt: &impl Abort, alloc: Global, rows: &str, wanted: bool) {
     for row in rows.split('\n') {
         let (text, path) = row.split_once(' ').expect(rt, row);
-        is_so(rt, alloc, text, path, wanted);
+        assert_match(rt, alloc, text, path, wanted);
     }
 }
 
@@ -84,8 +84,8 @@ const OTHERS: &str = "system.slice/*,web /system.slice\n\
 
 #[test]
 fn patterns_match(rt: HostRuntime) {
-    are_so(&rt, rt.alloc(), MATCHING, true);
-    are_so(&rt, rt.alloc(), OTHERS, false);
+    assert_matches(&rt, rt.alloc(), MATCHING, true);
+    assert_matches(&rt, rt.alloc(), OTHERS, false);
 }
 
 // Returns the reason why a text is rejected, or `None` if it is accepted.
@@ -98,16 +98,22 @@ fn fault_of(rt: &impl Abort, alloc: Global, text: &str) -> Option<PatternFault> 
 }
 
 // Checks that a text is rejected for this reason, or accepted if `fault` is `None`.
-fn is_read(rt: &impl Abort, alloc: Global, text: &str, fault: Option<PatternFault>) {
-    assert_eq!(rt; fault_of(rt, alloc, text), fault, "at {text}");
+fn assert_read(rt: &impl Abort, alloc: Global, text: &str, fault: Option<PatternFault>) {
+    assert_equal!(rt; fault_of(rt, alloc, text), fault, text);
 }
 
-// Checks `prefix` followed by each of the ends, which are separated by `|`, in the same way as
-// `is_read`.
-fn are_read(rt: &impl Abort, alloc: Global, prefix: &str, ends: &str, fault: Option<PatternFault>) {
+// Calls `assert_read` for each text that consists of `prefix` and one of the ends. The ends are
+// separated by `|`.
+fn assert_all_read(
+    rt: &impl Abort,
+    alloc: Global,
+    prefix: &str,
+    ends: &str,
+    fault: Option<PatternFault>,
+) {
     for end in ends.split('|') {
         let text = [prefix, end].concat(alloc).expect(rt, "memory");
-        is_read(rt, alloc, &text, fault);
+        assert_read(rt, alloc, &text, fault);
     }
 }
 
@@ -118,8 +124,8 @@ const GOOD: &str = "/|a|/a|*|**|.*|*.|*..|...|a/.b/..c";
 
 #[test]
 fn bad_patterns(rt: HostRuntime) {
-    are_read(&rt, rt.alloc(), "", BAD, Some(PatternFault::BadPattern));
-    are_read(&rt, rt.alloc(), "", GOOD, None);
+    assert_all_read(&rt, rt.alloc(), "", BAD, Some(PatternFault::BadPattern));
+    assert_all_read(&rt, rt.alloc(), "", GOOD, None);
 }
 
 const FIFTEEN: &str = "a,a,a,a,a,a,a,a,a,a,a,a,a,a,a,";
@@ -129,12 +135,12 @@ fn limits(rt: HostRuntime) {
     let alloc = rt.alloc();
     let bad = Some(PatternFault::BadPattern);
     let many = Some(PatternFault::TooMany);
-    are_read(&rt, alloc, FIFTEEN, "a", None);
-    are_read(&rt, alloc, FIFTEEN, "a,a|a,a,/", many);
-    are_read(&rt, alloc, FIFTEEN, "..|a,..|a,|a,a,a,a b", bad);
+    assert_all_read(&rt, alloc, FIFTEEN, "a", None);
+    assert_all_read(&rt, alloc, FIFTEEN, "a,a|a,a,/", many);
+    assert_all_read(&rt, alloc, FIFTEEN, "..|a,..|a,|a,a,a,a b", bad);
     let last = "a,a,a,a,a,a,a,a,a,a,a,a,a,a,a,*/b";
-    is_so(&rt, alloc, last, "/a/b", true);
-    is_so(&rt, alloc, last, "/a/b/c", false);
+    assert_match(&rt, alloc, last, "/a/b", true);
+    assert_match(&rt, alloc, last, "/a/b/c", false);
 }
 
 // Returns `times` copies of `piece`.
@@ -146,14 +152,14 @@ fn repeated(rt: &impl Abort, alloc: Global, piece: &str, times: usize) -> String
 fn long_texts(rt: HostRuntime) {
     let alloc = rt.alloc();
     let bad = Some(PatternFault::BadPattern);
-    is_read(&rt, alloc, &repeated(&rt, alloc, ",", 99), bad);
-    is_read(&rt, alloc, &repeated(&rt, alloc, "a", 300), None);
-    is_read(&rt, alloc, &repeated(&rt, alloc, "/a", 33), None);
+    assert_read(&rt, alloc, &repeated(&rt, alloc, ",", 99), bad);
+    assert_read(&rt, alloc, &repeated(&rt, alloc, "a", 300), None);
+    assert_read(&rt, alloc, &repeated(&rt, alloc, "/a", 33), None);
 }
 
 // Checks whether `times` copies of `piece`, followed by an end, match the path of the root's child
 // whose name is 254 letters `a`.
-fn is_so_of_long(
+fn assert_match_of_long(
     rt: &impl Abort,
     alloc: Global,
     piece: &str,
@@ -165,29 +171,29 @@ fn is_so_of_long(
     text.push_str(end).expect(rt, "memory");
     let mut path = repeated(rt, alloc, "a", 254);
     path.insert_str(0, "/").expect(rt, "memory");
-    is_so(rt, alloc, &text, &path, wanted);
+    assert_match(rt, alloc, &text, &path, wanted);
 }
 
 #[test]
 fn long_patterns(rt: HostRuntime) {
     let alloc = rt.alloc();
-    is_so_of_long(&rt, alloc, "*a", 16, "", true);
-    is_so_of_long(&rt, alloc, "*a", 16, "*b", false);
-    is_so_of_long(&rt, alloc, "*", 300, "", true);
-    is_so_of_long(&rt, alloc, "*a", 254, "", true);
-    is_so_of_long(&rt, alloc, "*a", 255, "", false);
-    is_so_of_long(&rt, alloc, "a", 300, "", false);
+    assert_match_of_long(&rt, alloc, "*a", 16, "", true);
+    assert_match_of_long(&rt, alloc, "*a", 16, "*b", false);
+    assert_match_of_long(&rt, alloc, "*", 300, "", true);
+    assert_match_of_long(&rt, alloc, "*a", 254, "", true);
+    assert_match_of_long(&rt, alloc, "*a", 255, "", false);
+    assert_match_of_long(&rt, alloc, "a", 300, "", false);
 }
 
 // Checks whether a pattern of `levels` levels matches a path of 32 levels.
-fn is_so_of_deep(rt: &impl Abort, alloc: Global, levels: usize, wanted: bool) {
+fn assert_match_of_deep(rt: &impl Abort, alloc: Global, levels: usize, wanted: bool) {
     let text = repeated(rt, alloc, "/*", levels);
     let path = repeated(rt, alloc, "/a", 32);
-    is_so(rt, alloc, &text, &path, wanted);
+    assert_match(rt, alloc, &text, &path, wanted);
 }
 
 #[test]
 fn deep_patterns(rt: HostRuntime) {
-    is_so_of_deep(&rt, rt.alloc(), 32, true);
-    is_so_of_deep(&rt, rt.alloc(), 33, false);
+    assert_match_of_deep(&rt, rt.alloc(), 32, true);
+    assert_match_of_deep(&rt, rt.alloc(), 33, false);
 }

@@ -1,7 +1,5 @@
-//! Helpers for the tests: format the result of reading a rules file as one text, for comparison.
-//! The text is the rules, or the printed error.
-use crate::checks::is_text;
-use crate::readings::path;
+//! Helpers that format the result of parsing a rules file as one text, which tests compare with the
+//! expected text. The text is the rules, or the printed error.
 use path_match::Patterns;
 use psi_base::{Fault, Res, Text};
 use ruleset_json::{
@@ -10,8 +8,9 @@ use ruleset_json::{
 use std::alloc::Global;
 use std::fmt::Display;
 use std::process::Abort;
+use test_support::{assert_equal, path_of};
 
-// The paths that are matched with each pattern. The formatted text lists those that match.
+// The paths that are matched against each pattern. The formatted text lists those that match.
 const SAMPLE: [&str; 7] = ["/", "/g0", "/g1", "/g2", "/5", "/true", "/s/a"];
 
 /// Appends a value to a text.
@@ -25,7 +24,8 @@ fn put_plugin(rt: &impl Abort, alloc: Global, to: &mut String, name: &str, patte
     put(rt, to, name);
     put(rt, to, " ");
     for sample in &SAMPLE {
-        if patterns.matches(&path(rt, alloc, sample)) {
+        let path = path_of(alloc, sample).expect(rt, sample);
+        if patterns.matches(&path) {
             put(rt, to, *sample);
             put(rt, to, " ");
         }
@@ -222,37 +222,39 @@ fn put_read(rt: &impl Abort, alloc: Global, to: &mut String, bytes: &[u8]) {
     }
 }
 
-// Checks the result of reading a rules file. `file` names the case in the message.
-fn reads_file(rt: &impl Abort, alloc: Global, bytes: &[u8], text: &str, file: &str) {
+// Checks that parsing the rules file `bytes` gives the result `text`. `file` names the case in the
+// message.
+fn assert_file_read(rt: &impl Abort, alloc: Global, bytes: &[u8], text: &str, file: &str) {
     let mut shown = String::new(alloc);
     put_read(rt, alloc, &mut shown, bytes);
-    is_text(rt, &shown, text, file);
+    assert_equal!(rt; shown.as_str(), text, file);
 }
 
-/// Checks that reading these bytes as a rules file gives the result `text`.
-pub fn reads_bytes(rt: &impl Abort, alloc: Global, bytes: &[u8], text: &str) {
-    reads_file(rt, alloc, bytes, text, "bytes");
+/// Checks that parsing these bytes as a rules file gives the result `text`.
+pub fn assert_bytes_read(rt: &impl Abort, alloc: Global, bytes: &[u8], text: &str) {
+    assert_file_read(rt, alloc, bytes, text, "bytes");
 }
 
-/// Replaces each `'` of a text by a double quote.
+/// Replaces each `'` in a text by a double quote.
 pub fn quoted(rt: &impl Abort, alloc: Global, text: &str) -> String {
     text.replace(alloc, "'", "\"").expect(rt, "memory")
 }
 
-/// Checks the result of reading a rules file, in which `'` replaces each double quote.
-pub fn reads(rt: &impl Abort, alloc: Global, file: &str, text: &str) {
+/// Checks that parsing a rules file, in which `'` replaces each double quote, gives the result
+/// `text`.
+pub fn assert_read(rt: &impl Abort, alloc: Global, file: &str, text: &str) {
     let quoted = quoted(rt, alloc, file);
-    reads_file(rt, alloc, quoted.as_bytes(), text, file);
+    assert_file_read(rt, alloc, quoted.as_bytes(), text, file);
 }
 
-/// Replaces the first `@` of a text by `value`. A text without `@` is unchanged.
+/// Replaces the first `@` in a text by `value`. A text without `@` is unchanged.
 pub fn with(rt: &impl Abort, alloc: Global, text: &str, value: &str) -> String {
     text.replacen(alloc, "@", value, 1).expect(rt, "memory")
 }
 
-// Checks the result of reading a rules file. Both the file and the expected text have a value in
-// place of their `@`.
-fn reads_with(
+// Checks the result of parsing a rules file. `value` replaces the `@` of the file, and `shown`
+// replaces the `@` of the expected text.
+fn assert_read_with(
     rt: &impl Abort,
     alloc: Global,
     (file, value): (&str, &str),
@@ -260,11 +262,12 @@ fn reads_with(
 ) {
     let file = with(rt, alloc, file, value);
     let text = with(rt, alloc, text, shown);
-    reads(rt, alloc, &file, &text);
+    assert_read(rt, alloc, &file, &text);
 }
 
-// Splits a row into the replacement for the file, and the expected text with its replacement. The
-// expected text is `rules` after a `~`, and `fault` after a `!`.
+// Splits a row into the replacement for the `@` of the file, the expected text, and the replacement
+// for the `@` of that text. The expected text is `rules` if the row has a `~`, and `fault` if it
+// has a `!`.
 fn parted<'a>(
     rt: &impl Abort,
     row: &'a str,
@@ -278,10 +281,10 @@ fn parted<'a>(
     (value, fault, cause)
 }
 
-/// Checks the results of reading rules files, one per row. A row has the replacement for the `@` of
-/// the file, followed by `~` and the replacement in the formatted rules, or by `!` and the
-/// replacement in the error.
-pub fn reads_rows(
+/// Checks the results of parsing rules files, one per row. A row has the replacement for the `@` of
+/// the file, a mark, and the replacement for the `@` of the expected text. The expected text is
+/// `rules` if the mark is `~`, and `fault` if it is `!`.
+pub fn assert_rows_read(
     rt: &impl Abort,
     alloc: Global,
     file: &str,
@@ -291,6 +294,6 @@ pub fn reads_rows(
 ) {
     for row in rows.split('\n') {
         let (value, text, shown) = parted(rt, row, rules, fault);
-        reads_with(rt, alloc, (file, value), (text, shown));
+        assert_read_with(rt, alloc, (file, value), (text, shown));
     }
 }

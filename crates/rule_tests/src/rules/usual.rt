@@ -1,9 +1,10 @@
-//! Tests of whole rules files: a usual file, field by field, and files whose lists have the largest
-//! allowed length, or one item more.
-use crate::rules::shown::{reads, reads_rows, with};
+//! Tests of whole rules files: a typical file, whose fields are all compared, and files whose lists
+//! have the largest allowed length or one item more.
+use crate::rules::shown::{assert_read, assert_rows_read, with};
 use ruleset_json::{ActionList, GroupList, Rule, RuleList, Rules, read};
 use std::alloc::Global;
 use std::process::Abort;
+use test_support::assert_equal;
 
 const USUAL: &str = "{'rulesets':[
  {'name':'memory pressure','detectors':[['slow',
@@ -27,10 +28,11 @@ low swap: [swap; swap_free 15; exists /g0 /g1 /g2 false] swap_usage /g0 /g1 /g2 
 
 #[test]
 fn usual_file(rt: HostRuntime) {
-    reads(&rt, rt.alloc(), USUAL, SHOWN);
+    assert_read(&rt, rt.alloc(), USUAL, SHOWN);
 }
 
-// A file with one ruleset. The pattern of its action is `s/`, followed by the replacement for `@`.
+// A file with one ruleset. The pattern of its action is `s/`, followed by the replacement for the
+// `@`.
 const ONE: &str =
     "{'rulesets':[{'name':'r','detectors':[['g',{'name':'exists','args':{'cgroup':'s/*'}}]],'actions':[{'name':'kill_by_memory_size_or_growth','args':{'cgroup':'s/@'}}]}]}";
 
@@ -38,11 +40,12 @@ const ONE: &str =
 fn file_of_one(rt: HostRuntime) {
     let rules = "r: [g; exists /s/a false] size_or_growth /s/a 50 80 1250 false false 15;\n";
     let fault = "rules ruleset 0 action 0: BadArg";
-    reads_rows(&rt, rt.alloc(), ONE, rules, fault, "*~\n?!");
+    assert_rows_read(&rt, rt.alloc(), ONE, rules, fault, "*~\n?!");
 }
 
-// A list in a file: the file with `@` in place of the list, the repeated piece and the separator,
-// the largest number of pieces, and the expected texts.
+// A list in a file, and its limit. `file` has `@` in place of the list, which repeats `piece` with
+// `between` as separator. A list of `most` pieces is accepted. The text `rules` is then expected,
+// with `shown` repeated in place of its `@`. A longer list gives the error `fault`.
 struct Lists {
     file: &'static str,
     piece: &'static str,
@@ -54,19 +57,19 @@ struct Lists {
 }
 
 // Checks the result of reading a file whose list has `times` pieces.
-fn reads_listed(rt: &impl Abort, alloc: Global, lists: &Lists, times: usize, text: &str) {
+fn assert_list_read(rt: &impl Abort, alloc: Global, lists: &Lists, times: usize, text: &str) {
     let pieces = vec![in alloc; lists.piece; times].expect(rt, "memory");
     let pieces = pieces.join(alloc, lists.between).expect(rt, "memory");
-    reads(rt, alloc, &with(rt, alloc, lists.file, &pieces), text);
+    assert_read(rt, alloc, &with(rt, alloc, lists.file, &pieces), text);
 }
 
 // Checks that a file with the largest number of pieces is accepted, and that one more piece is an
 // error.
-fn are_limited(rt: &impl Abort, alloc: Global, lists: &Lists) {
+fn assert_limit(rt: &impl Abort, alloc: Global, lists: &Lists) {
     let shown = lists.shown.repeat(alloc, lists.most).expect(rt, "memory");
     let rules = with(rt, alloc, lists.rules, &shown);
-    reads_listed(rt, alloc, lists, lists.most, &rules);
-    reads_listed(rt, alloc, lists, lists.most.wrapping_add(1), lists.fault);
+    assert_list_read(rt, alloc, lists, lists.most, &rules);
+    assert_list_read(rt, alloc, lists, lists.most.wrapping_add(1), lists.fault);
 }
 
 const RULESETS: Lists = Lists {
@@ -111,17 +114,17 @@ const ACTIONS: Lists = Lists {
 
 #[test]
 fn lists_at_their_limits(rt: HostRuntime) {
-    reads(&rt, rt.alloc(), "{'rulesets':[]}", "");
+    assert_read(&rt, rt.alloc(), "{'rulesets':[]}", "");
     for lists in &[RULESETS, GROUPS, DETECTORS, ACTIONS] {
-        are_limited(&rt, rt.alloc(), lists);
+        assert_limit(&rt, rt.alloc(), lists);
     }
 }
 
 const ALL: &[u8] =
     b"{\"rulesets\":[{\"name\":\"r\",\"detectors\":[[\"g\"],[\"h\"]],\"actions\":[{\"name\":\"kill_by_pg_scan\",\"args\":{\"cgroup\":\"g0\"}}]}]}";
 
-// Returns whether the rule has the name `r`, one action and two groups, and still has one group
-// after the other is removed.
+// Returns whether the rule has the name `r`, one action and two groups. Also checks that one group
+// remains if the last group is removed from the list.
 fn is_the_rule(rule: Rule) -> bool {
     let Rule {
         name,
@@ -137,12 +140,13 @@ fn is_the_rule(rule: Rule) -> bool {
     is_taken && lengths == (2, 1, 1) && name.bytes() == b"r".as_slice()
 }
 
-// The items of each list are taken out, and a list is built from them again.
+// Takes the items out of each list, and builds lists from them again.
 #[test]
 fn lists_again(rt: HostRuntime) {
     let Rules { rules } = read(rt.alloc(), ALL).expect(&rt, "rules");
-    assert_eq!(rt; rules.items().len(), 1);
+    assert_equal!(rt; rules.items().len(), 1, "rulesets");
     let mut rules = rules.into_items();
-    assert!(rt; rules.pop().is_some_and(is_the_rule));
-    assert_eq!(rt; RuleList::new(rules).items().len(), 0);
+    let is_the_rule = rules.pop().is_some_and(is_the_rule);
+    assert!(rt; is_the_rule, "the ruleset has another name, or other lists");
+    assert_equal!(rt; RuleList::new(rules).items().len(), 0, "rulesets left");
 }

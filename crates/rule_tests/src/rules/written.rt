@@ -1,12 +1,14 @@
-//! Tests of rules printed as text: the result of reading a file is printed, and reading the printed
-//! text gives the same result (a round trip).
+//! Tests of rules printed as text. The rules of a file are printed. Parsing the printed text and
+//! printing it again gives the same text (a round trip).
 use crate::rules::shown::{quoted, with};
 use dropin_rules::write_rules;
 use ruleset_json::read;
 use std::alloc::Global;
 use std::process::Abort;
+use test_support::{as_text, assert_equal};
 
-// Returns the printed text of the rules in `bytes`, with the mark `>` before it.
+// Parses the rules in `bytes`, and appends their printed text to a vector with the mark `>`.
+// Returns the vector.
 fn written(rt: &impl Abort, alloc: Global, bytes: &[u8]) -> Vec<u8> {
     let rules = read(alloc, bytes).expect(rt, "rules");
     let mut text = Vec::from_slice(alloc, b">".as_slice()).expect(rt, "memory");
@@ -14,31 +16,31 @@ fn written(rt: &impl Abort, alloc: Global, bytes: &[u8]) -> Vec<u8> {
     text
 }
 
-// Checks that the rules in `bytes` are printed as `text`, and that `text` is appended to the
-// previous content of the vector.
-fn writes_once(rt: &impl Abort, alloc: Global, bytes: &[u8], text: &[u8]) {
+// Checks that the rules in `bytes` are printed as `text`. The printer must append to its vector, so
+// the mark `>` must be unchanged.
+fn assert_written_once(rt: &impl Abort, alloc: Global, bytes: &[u8], text: &[u8]) {
     let written = written(rt, alloc, bytes);
     let suffix = written.strip_prefix(b">").expect(rt, "no mark");
-    assert_eq!(rt; str::from_utf8(suffix), str::from_utf8(text));
+    assert_equal!(rt; as_text(suffix), as_text(text), as_text(bytes));
 }
 
-// Checks the printed text in the same way as `writes_once`, and that reading and printing `text`
-// gives `text` again.
-fn writes_bytes(rt: &impl Abort, alloc: Global, bytes: &[u8], text: &[u8]) {
-    writes_once(rt, alloc, bytes, text);
-    writes_once(rt, alloc, text, text);
+// Checks that the rules in `bytes` are printed as `text`, and that the rules in `text` are printed
+// as `text` again.
+fn assert_bytes_written(rt: &impl Abort, alloc: Global, bytes: &[u8], text: &[u8]) {
+    assert_written_once(rt, alloc, bytes, text);
+    assert_written_once(rt, alloc, text, text);
 }
 
-// Checks the printed text in the same way as `writes_bytes`, for texts in which `'` replaces each
-// double quote.
-fn writes(rt: &impl Abort, alloc: Global, file: &str, text: &str) {
+// Checks that the rules in `file` are printed as `text`, and that printing `text` again gives the
+// same text. In both, `'` replaces each double quote.
+fn assert_written(rt: &impl Abort, alloc: Global, file: &str, text: &str) {
     let (file, text) = (quoted(rt, alloc, file), quoted(rt, alloc, text));
-    writes_bytes(rt, alloc, file.as_bytes(), text.as_bytes());
+    assert_bytes_written(rt, alloc, file.as_bytes(), text.as_bytes());
 }
 
 #[test]
 fn file_of_one(rt: HostRuntime) {
-    writes(
+    assert_written(
         &rt,
         rt.alloc(),
         "{ 'rulesets': [{'name':'r','detectors':[['g',{'name':'exists','args':{'cgroup':'/s/*'}}]],
@@ -52,13 +54,14 @@ fn halves<'a>(rt: &impl Abort, text: &'a str, mark: char) -> (&'a str, &'a str) 
     text.split_once(mark).expect(rt, text)
 }
 
-// Replaces the first `@` of a text by `first`, and the second one by `next`.
+// Replaces the first `@` in a text by `first`, and the second `@` by `next`.
 fn with_both(rt: &impl Abort, alloc: Global, text: &str, first: &str, next: &str) -> String {
     with(rt, alloc, &with(rt, alloc, text, first), next)
 }
 
-// Checks the printed text of a plugin with this name and these arguments.
-fn writes_plugin(
+// Checks the printed text of a plugin. In the file, its name and its arguments `input` replace the
+// first and the second `@`. In the expected text, the arguments `shown` and the name replace them.
+fn assert_plugin_written(
     rt: &impl Abort,
     alloc: Global,
     (file, text): (&str, &str),
@@ -67,16 +70,16 @@ fn writes_plugin(
 ) {
     let file = with_both(rt, alloc, file, name, input);
     let text = with_both(rt, alloc, text, shown, name);
-    writes(rt, alloc, &file, &text);
+    assert_written(rt, alloc, &file, &text);
 }
 
 // Checks the printed texts of plugins, one per row: a name, `|`, its arguments, `~`, and the
 // printed arguments.
-fn writes_rows(rt: &impl Abort, alloc: Global, file: &str, text: &str, rows: &str) {
+fn assert_rows_written(rt: &impl Abort, alloc: Global, file: &str, text: &str, rows: &str) {
     for row in rows.split('\n') {
         let (name, args) = halves(rt, row, '|');
         let args = halves(rt, args, '~');
-        writes_plugin(rt, alloc, (file, text), name, args);
+        assert_plugin_written(rt, alloc, (file, text), name, args);
     }
 }
 
@@ -103,7 +106,7 @@ exists|'cgroup':'a','negate':'True'~'cgroup':'a','negate':'true'";
 
 #[test]
 fn detectors(rt: HostRuntime) {
-    writes_rows(&rt, rt.alloc(), OF_DETECTOR, DETECTOR, DETECTORS);
+    assert_rows_written(&rt, rt.alloc(), OF_DETECTOR, DETECTOR, DETECTORS);
 }
 
 const OF_ACTION: &str =
@@ -122,7 +125,7 @@ kill_by_pg_scan|'cgroup':'a','post_action_delay':0~'always_continue':'false','cg
 
 #[test]
 fn actions(rt: HostRuntime) {
-    writes_rows(&rt, rt.alloc(), OF_ACTION, ACTION, ACTIONS);
+    assert_rows_written(&rt, rt.alloc(), OF_ACTION, ACTION, ACTIONS);
 }
 
 // Names of a ruleset and a group in a file, each with its printed text.
@@ -144,15 +147,15 @@ const OF_NAMES: &str = "{\"rulesets\":[{\"name\":\"@\",\"detectors\":[[\"@\"]],\
 const WRITTEN_NAMES: &str =
     "{\"rulesets\":[{\"actions\":[],\"detectors\":[[\"@\"]],\"name\":\"@\"}]}";
 
-fn writes_name(rt: &impl Abort, alloc: Global, input: &str, shown: &str) {
+fn assert_name_written(rt: &impl Abort, alloc: Global, input: &str, shown: &str) {
     let file = with_both(rt, alloc, OF_NAMES, input, "g");
     let text = with_both(rt, alloc, WRITTEN_NAMES, "g", shown);
-    writes_bytes(rt, alloc, file.as_bytes(), text.as_bytes());
+    assert_bytes_written(rt, alloc, file.as_bytes(), text.as_bytes());
 }
 
 #[test]
 fn names(rt: HostRuntime) {
     for (input, shown) in &NAMES {
-        writes_name(&rt, rt.alloc(), input, shown);
+        assert_name_written(&rt, rt.alloc(), input, shown);
     }
 }

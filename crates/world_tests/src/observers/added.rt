@@ -3,7 +3,7 @@
 
 ghost use Rattle.std.specs.Prelude.{◌≡◌, length};
 
-use crate::events::{WAITS, is, plans_of};
+use crate::events::{WAITS, plans_of};
 use crate::observers::entries::{entry_after, one_look};
 use crate::observers::journals::{add_both, ordered};
 use observer_log::{AddFault, Entry, Own};
@@ -13,17 +13,18 @@ use std::alloc::Global;
 use std::marker::Brand;
 use std::process::Abort;
 use std::sync::ledger::Blank;
+use test_support::assert_equal;
 
-// An entry with fewer changes than the last entry of the same observer and processor is rejected;
-// the error has the count of the last entry.
+// The journal rejects an entry with fewer changes than the last entry of the same observer and
+// processor. The error has the number of changes of the last entry.
 #[test]
 fn counts_never_fall(rt: HostRuntime) {
     let plans = plans_of(&rt, rt.alloc(), 1, 2_000_000_000, &WAITS);
-    falls(&rt, rt.alloc(), &plans);
+    assert_fall_refused(&rt, rt.alloc(), &plans);
 }
 
-// Returns whether an entry was rejected because the last entry has a greater count, and this count
-// is `last`.
+// Returns whether `added` is the error of an entry that was rejected because the last entry has the
+// greater count `last`.
 fn is_fall_from(added: Result<(), AddFault>, last: u64) -> bool {
     match added {
         Err(AddFault::Falls(fall)) => fall.last() == last,
@@ -31,84 +32,84 @@ fn is_fall_from(added: Result<(), AddFault>, last: u64) -> bool {
     }
 }
 
-fn falls(rt: &impl Abort, alloc: Global, plans: &Plans)
+fn assert_fall_refused(rt: &impl Abort, alloc: Global, plans: &Plans)
     requires { length plans.now.plans ≡ 1 }
 {
     let plan = plans.plan(Cpu(0));
-    assert!(rt; plans.lives().len() == 1);
-    assert!(rt; plan.len() == 4);
+    assert_equal!(rt; plans.lives().len(), 1, "groups");
+    assert_equal!(rt; plan.len(), 4, "changes");
     let late = entry_after(rt, alloc, 0, plan, 3);
     let early = entry_after(rt, alloc, 0, plan, 2);
-    is(rt, late.at, 500_000_000, "the moment of the third change");
+    assert_equal!(rt; late.at, 500_000_000, "the moment of the third change");
     let times = [0, 0, 0, 0, 0, 0, 500_000_000];
-    is(rt, late.seven, times, "times at the third change");
+    assert_equal!(rt; late.seven, times, "times at the third change");
     let added = add_both::<Brand>(alloc, Blank::new(1), late, early);
-    is(rt, added.first, Ok(()), "the first entry");
+    assert_equal!(rt; added.first, Ok(()), "the first entry");
     assert!(rt; is_fall_from(added.second, 3));
-    is(rt, added.entries, 1, "entries");
+    assert_equal!(rt; added.entries, 1, "entries");
 }
 
-// Counts are compared for each observer separately: an entry with fewer changes than the last entry
-// of another observer is accepted.
+// The journal compares the counts of each observer separately: it accepts an entry with fewer
+// changes than the last entry of another observer.
 #[test]
 fn counts_are_each_observers_own(rt: HostRuntime) {
     let plans = plans_of(&rt, rt.alloc(), 1, 2_000_000_000, &WAITS);
-    both_added(&rt, rt.alloc(), &plans);
+    assert_both_added(&rt, rt.alloc(), &plans);
 }
 
-fn both_added(rt: &impl Abort, alloc: Global, plans: &Plans)
+fn assert_both_added(rt: &impl Abort, alloc: Global, plans: &Plans)
     requires { length plans.now.plans ≡ 1 }
 {
     let plan = plans.plan(Cpu(0));
-    assert!(rt; plans.lives().len() == 1);
-    assert!(rt; plan.len() == 4);
+    assert_equal!(rt; plans.lives().len(), 1, "groups");
+    assert_equal!(rt; plan.len(), 4, "changes");
     let late = entry_after(rt, alloc, 0, plan, 3);
     let early = entry_after(rt, alloc, 1, plan, 2);
     let added = add_both::<Brand>(alloc, Blank::new(1), late, early);
-    is(rt, added.first, Ok(()), "the first entry");
-    is(rt, added.second, Ok(()), "the second entry");
-    is(rt, added.entries, 2, "entries");
+    assert_equal!(rt; added.first, Ok(()), "the first entry");
+    assert_equal!(rt; added.second, Ok(()), "the second entry");
+    assert_equal!(rt; added.entries, 2, "entries");
 }
 
-// If the entries of the journal match the observers' lists, the entries are returned in the
-// journal's order. Otherwise the lists are returned one after another.
+// If the journal has the same entries as the observers' lists, they are returned in the order of
+// the journal. Otherwise the lists are returned one after another.
 #[test]
 fn entries_in_the_order_of_the_journal(rt: HostRuntime) {
     let plans = plans_of(&rt, rt.alloc(), 1, 2_000_000_000, &WAITS);
-    list_after_list(&rt, rt.alloc(), &plans);
-    in_order(&rt, rt.alloc(), &plans);
+    assert_list_after_list(&rt, rt.alloc(), &plans);
+    assert_journal_order(&rt, rt.alloc(), &plans);
 }
 
 // Returns the only entry of a list.
 fn only_entry<'a>(rt: &impl Abort, own: &Own<'a>) -> Entry<'a> {
-    assert!(rt; own.entries().len() == 1);
+    assert_equal!(rt; own.entries().len(), 1, "entries");
     own.entries()[0]
 }
 
-// Checks that there are two entries, by these two observers in this order.
-fn are_by(rt: &impl Abort, entries: &[Entry<'_>], observers: [u32; 2]) {
-    assert!(rt; entries.len() == 2);
+// Checks that there are two entries, and that they are from `observers`, in this order.
+fn assert_observers(rt: &impl Abort, entries: &[Entry<'_>], observers: [u32; 2]) {
+    assert_equal!(rt; entries.len(), 2, "entries");
     let found = [entries[0].observer, entries[1].observer];
-    is(rt, found, observers, "observers");
+    assert_equal!(rt; found, observers, "observers");
 }
 
-fn list_after_list(rt: &impl Abort, alloc: Global, plans: &Plans)
+fn assert_list_after_list(rt: &impl Abort, alloc: Global, plans: &Plans)
     requires { length plans.now.plans ≡ 1 }
 {
-    assert!(rt; plans.lives().len() == 1);
+    assert_equal!(rt; plans.lives().len(), 1, "groups");
     let first = one_look(rt, alloc, 0, plans);
     let second = one_look(rt, alloc, 1, plans);
     let entries = ordered::<Brand>(alloc, Blank::new(1), &[], first, second);
-    are_by(rt, &entries.expect(rt, "memory"), [0, 1]);
+    assert_observers(rt, &entries.expect(rt, "memory"), [0, 1]);
 }
 
-fn in_order(rt: &impl Abort, alloc: Global, plans: &Plans)
+fn assert_journal_order(rt: &impl Abort, alloc: Global, plans: &Plans)
     requires { length plans.now.plans ≡ 1 }
 {
-    assert!(rt; plans.lives().len() == 1);
+    assert_equal!(rt; plans.lives().len(), 1, "groups");
     let first = one_look(rt, alloc, 0, plans);
     let second = one_look(rt, alloc, 1, plans);
     let added = [only_entry(rt, &second), only_entry(rt, &first)];
     let entries = ordered::<Brand>(alloc, Blank::new(1), &added, first, second);
-    are_by(rt, &entries.expect(rt, "memory"), [1, 0]);
+    assert_observers(rt, &entries.expect(rt, "memory"), [1, 0]);
 }

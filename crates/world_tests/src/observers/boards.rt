@@ -10,13 +10,14 @@ use std::process::Abort;
 use std::sync::Wait;
 use std::thread::{Threads, join, yield_now};
 
-/// The largest number of reads of the observer, so that the test ends.
+/// The maximum number of times that the observer reads the board. It ensures that the test ends.
 const READS: u64 = 20_000_000;
 
 /// The number of events that each tick adds.
 const EVENTS_OF_A_TICK: u64 = 3;
 
-/// What an observer read: the distinct states while the driver was running, and the last state.
+/// The states that an observer read. `states` were read while the driver was running, and have no
+/// repetitions. `last` was read after the driver had published all ticks.
 #[derive(Drop)]
 pub struct Readings {
     pub states: Vec<BoardState>,
@@ -43,7 +44,8 @@ fn published<R: Wait>(rt: &R, board: &Board, mut driver: DriverPass, ticks: u32)
     driver
 }
 
-// Reads the board until it shows tick `ticks`, or until `READS` reads. Returns the distinct states.
+// Reads the board until it shows tick `ticks`, at most `READS` times. Returns the states with
+// different ticks, in order.
 fn watched<R: Wait>(
     rt: &R,
     alloc: Global,
@@ -69,8 +71,8 @@ fn watched<R: Wait>(
     (pass, states)
 }
 
-/// A driver publishes `ticks` ticks while an observer reads them in another thread. Then the
-/// observer is notified of all published states, and reads the last one.
+/// Publishes `ticks` ticks as the driver in one thread, while an observer reads the board in
+/// another. Then notifies the observer of all published states, and reads the last state.
 pub fn beside<R: Abort + Threads + Wait + Sync>(rt: &R, alloc: Global, ticks: u32) -> Readings {
     let (board, mut driver) = Board::make(alloc).expect(rt, "memory");
     let pass = board.pass(rt, &mut driver).expect(rt, "memory");

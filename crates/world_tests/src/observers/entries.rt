@@ -1,5 +1,5 @@
-//! Helpers for tests of journals: entries and lists of observers, all with samples of the root
-//! group of a trace with one processor.
+//! Helpers for tests of journals: they create entries and the lists of observers. All entries are
+//! samples of the root group of a trace with one processor.
 
 ghost use Rattle.std.specs.Prelude.{◌≡◌, ◌≤◌, length, IfOk};
 ghost use Rattle.observer_log.specs.Entries.{AreBy};
@@ -20,7 +20,8 @@ const ROOT: Slot = Slot(0);
 
 const FIRST: Cpu = Cpu(0);
 
-/// Returns the entry of `observer` for the root after `count` changes of a plan with only the root.
+/// Returns the journal entry in which `observer` samples the root after `count` changes of a plan
+/// with only the root.
 pub fn entry_after<'a>(
     rt: &impl Abort,
     alloc: Global,
@@ -41,7 +42,7 @@ pub fn entry_after<'a>(
     Entry::take(observer, plan, FIRST, ROOT, &sample)
 }
 
-// Returns a reader of a new row, before any change, and the root's clock at that point.
+// Returns a reader of a new clock row, and a sample of the root's clock before any change.
 fn first_sample(rt: &impl Abort, alloc: Global, plan: &Plan) -> (ClockReader, Sample)
     requires { length plan.now.parents ≡ 1 }
     ensures reader { result.0.knows ≡ new_reader plan.now result.1.count }
@@ -56,8 +57,8 @@ fn first_sample(rt: &impl Abort, alloc: Global, plan: &Plan) -> (ClockReader, Sa
     (reader, sample)
 }
 
-/// Returns the list of an observer that sampled the root once, before its first change. The gate is
-/// called before the sample. Returns `Err` if memory runs out.
+/// Samples the root once as the observer `observer`, before any change, and returns the list of
+/// this observer's entries. Calls the gate before the sample. Returns `Err` if memory runs out.
 pub fn look_at_gate<'a, G: Gate>(
     rt: &impl Abort,
     alloc: Global,
@@ -80,7 +81,8 @@ pub fn look_at_gate<'a, G: Gate>(
     }
 }
 
-/// Returns the list of an observer that sampled the root once, before its first change.
+/// Samples the root once as the observer `observer`, before any change, and returns the list of
+/// this observer's entries.
 pub fn one_look<'a>(rt: &impl Abort, alloc: Global, observer: u32, plans: &'a Plans) -> Own<'a>
     requires one { length plans.now.plans ≡ 1 }
     requires root { length plans.now.lives ≡ 1 }

@@ -3,7 +3,7 @@
 
 ghost use Rattle.std.specs.Prelude.{◌≡◌, length};
 
-use crate::events::{is, plans_of};
+use crate::events::plans_of;
 use crate::observers::entries::look_at_gate;
 use outside::Gate;
 use proc_plan::Plans;
@@ -12,11 +12,12 @@ use std::alloc::Global;
 use std::process::Abort;
 use std::sync::atomic::AtomicU64;
 use std::sync::atomic::Ordering::SeqCst;
+use test_support::assert_equal;
 
 /// A trace with one task, which runs until the end.
 const RUNS: [&[u8]; 3] = [b"0 fork 1 / 0", b"0 switch 0 1 idle", b"2000000000 end"];
 
-/// The observer whose samples are counted.
+/// The number of the observer whose calls are counted in `ahead`.
 const OBSERVER: u32 = 5;
 
 /// A gate that counts its calls before a sample of `OBSERVER` on processor 0 (`ahead`), and all
@@ -47,14 +48,14 @@ impl Gate for Counting {
 }
 
 // The gate is called once, before the sample, with the number of the observer. If memory runs out,
-// there is neither a sample nor a call.
+// the observer takes no sample and doesn't call the gate.
 #[test]
 fn a_look_calls_its_gate_once(rt: HostRuntime) {
     let plans = plans_of(&rt, rt.alloc(), 1, 2_000_000_000, &RUNS);
-    called_once(&rt, rt.alloc(), &plans);
+    assert_called_once(&rt, rt.alloc(), &plans);
 }
 
-// Returns the number of entries after one sample, or `None` if memory ran out.
+// Takes one sample, and returns the number of the observer's entries, or `None` if memory ran out.
 fn entries_of(
     rt: &impl Abort,
     alloc: Global,
@@ -76,19 +77,19 @@ fn calls(gate: &Counting) -> [u64; 2] {
     [gate.ahead.load(SeqCst), gate.otherwise.load(SeqCst)]
 }
 
-fn called_once(rt: &impl Abort, alloc: Global, plans: &Plans)
+fn assert_called_once(rt: &impl Abort, alloc: Global, plans: &Plans)
     requires { length plans.now.plans ≡ 1 }
 {
-    assert!(rt; plans.lives().len() == 1);
+    assert_equal!(rt; plans.lives().len(), 1, "groups");
     let gate = Counting {
         ahead: AtomicU64::new(0),
         otherwise: AtomicU64::new(0),
     };
     let first = entries_of(rt, alloc, OBSERVER, plans, &gate);
     let looks = if first.is_some() { 1 } else { 0 };
-    is(rt, calls(&gate), [looks, 0], "calls for the observer");
-    is(rt, first, Some(1), "entries of the observer");
+    assert_equal!(rt; calls(&gate), [looks, 0], "calls for the observer");
+    assert_equal!(rt; first, Some(1), "entries of the observer");
     let other = entries_of(rt, alloc, 0, plans, &gate);
-    is(rt, other, Some(1), "entries of another");
-    is(rt, calls(&gate), [1, 1], "calls for both");
+    assert_equal!(rt; other, Some(1), "entries of another");
+    assert_equal!(rt; calls(&gate), [1, 1], "calls for both");
 }

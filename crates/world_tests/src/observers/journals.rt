@@ -1,5 +1,5 @@
-//! Helpers for tests of journals: they add one or two entries to a new journal, and return what it
-//! has accepted.
+//! Helpers for tests of journals: they add entries to a new journal, and return the results or the
+//! entries in order.
 
 ghost use Rattle.std.specs.Prelude.{◌≡◌};
 ghost use Rattle.observer_log.specs.Entries.{AreBy};
@@ -37,7 +37,7 @@ pub fn add_both<L: Ledger>(
 }
 
 /// Adds the entries `added` to a new journal, and returns the entries of two observers' lists in
-/// the journal's order.
+/// the journal's order. `first` is the list of observer 0, and `second` is the list of observer 1.
 pub fn ordered<'a, L: Ledger>(
     alloc: Global,
     blank: Blank,

@@ -1,18 +1,20 @@
-//! Tests of groups whose accounting is switched off and on: how the switches appear in the plans of
-//! processors, and how the clocks follow.
+//! Tests of groups whose pressure accounting is switched off and on: the switches in the plans of
+//! processors, and their effect on the clocks.
 
 ghost use Rattle.std.specs.Prelude.{◌≡◌, length};
 
 use super::changes::nth;
-use crate::events::{is, plans_of};
+use crate::events::plans_of;
 use crate::walk::clocks_after;
 use proc_plan::{IrqClocks, Plans, ProcClocks};
 use psi_base::{Cpu, Ns, Slot};
 use psi_counts::Change;
 use std::alloc::Global;
 use std::process::Abort;
+use test_support::{SECOND, assert_equal};
 
-/// A trace in which a task of /a waits for IO; the accounting of /a is off for half a second.
+/// A trace in which a task of /a waits for IO. The accounting of /a is switched off for half a
+/// second.
 const LINES: [&[u8]; 7] = [
     b"0 group /a",
     b"0 fork 1 /a 0",
@@ -35,26 +37,26 @@ fn account(at: Ns, on: bool) -> Change {
     }
 }
 
-// The switches of accounting are in the plans of both processors; the second plan has no other
-// change.
+// The plans of both processors contain the switches of accounting. The plan of the second processor
+// has no other change.
 #[test]
 fn accounts_of_each_processor(rt: HostRuntime) {
     let plans = plans_of(&rt, rt.alloc(), 2, 2_000_000_000, &LINES);
-    each_has_accounts(&rt, &plans);
+    assert_accounts(&rt, &plans);
 }
 
-fn each_has_accounts(rt: &impl Abort, plans: &Plans)
+fn assert_accounts(rt: &impl Abort, plans: &Plans)
     requires { length plans.now.plans ≡ 2 }
 {
     let (first, second) = (plans.plan(Cpu(0)), plans.plan(Cpu(1)));
-    is(rt, (first.len(), second.len()), (5, 2), "changes");
+    assert_equal!(rt; (first.len(), second.len()), (5, 2), "changes");
     let off = account(1_000_000_000, false);
     let on = account(1_500_000_000, true);
-    is(rt, nth(rt, first, 3).account, None, "before");
-    is(rt, nth(rt, first, 4), off, "off on 0");
-    is(rt, nth(rt, first, 5), on, "on on 0");
-    is(rt, nth(rt, second, 1), off, "off on 1");
-    is(rt, nth(rt, second, 2), on, "on on 1");
+    assert_equal!(rt; nth(rt, first, 3).account, None, "before");
+    assert_equal!(rt; nth(rt, first, 4), off, "off on 0");
+    assert_equal!(rt; nth(rt, first, 5), on, "on on 0");
+    assert_equal!(rt; nth(rt, second, 1), off, "off on 1");
+    assert_equal!(rt; nth(rt, second, 2), on, "on on 1");
 }
 
 /// A row of a test: the expected interrupt time (ns) of the group in `slot` on the first processor
@@ -66,7 +68,7 @@ struct Row {
     words: [u64; 9],
 }
 
-fn shows_row(rt: &impl Abort, alloc: Global, plans: &Plans, row: &Row)
+fn assert_row(rt: &impl Abort, alloc: Global, plans: &Plans, row: &Row)
     requires { length plans.now.plans ≡ 1 }
 {
     let plan = plans.plan(Cpu(0));
@@ -76,30 +78,28 @@ fn shows_row(rt: &impl Abort, alloc: Global, plans: &Plans, row: &Row)
     let mut clocks = clocks_after(alloc, plan, slots, row.changes).expect(rt, "memory");
     let slot = Slot(row.slot);
     let case = (row.changes, row.slot);
-    is(rt, clocks.own_irq(slot), row.irq, case);
-    is(rt, clocks.own(slot).to_words(), row.words, case);
+    assert_equal!(rt; clocks.own_irq(slot), row.irq, case);
+    assert_equal!(rt; clocks.own(slot).to_words(), row.words, case);
 }
 
-/// Checks the number of groups, the number of changes of the first processor, and the rows for its
-/// clocks.
-fn shows(rt: &impl Abort, alloc: Global, plans: &Plans, counts: (usize, u64), rows: &[Row])
+/// Checks that `counts` are the number of groups and the number of changes of the first processor,
+/// and checks its clocks against `rows`.
+fn assert_rows(rt: &impl Abort, alloc: Global, plans: &Plans, counts: (usize, u64), rows: &[Row])
     requires { length plans.now.plans ≡ 1 }
 {
     let found = (plans.lives().len(), plans.plan(Cpu(0)).len());
-    is(rt, found, counts, "groups and changes");
+    assert_equal!(rt; found, counts, "groups and changes");
     for row in rows {
-        shows_row(rt, alloc, plans, row);
+        assert_row(rt, alloc, plans, row);
     }
 }
 
-/// How long (ns) the task has waited when its group's accounting is switched off.
-const SECOND: Ns = 1_000_000_000;
-
-/// The time (ns) at which accounting is switched on again.
+/// The time (ns) at which `LINES` switches accounting on again.
 const AGAIN: Ns = 1_500_000_000;
 
-/// The expected clocks of the first trace. While accounting is off, no state of the group holds and
-/// its times don't change. The root's clock continues.
+/// The expected clocks of `LINES`. The task has waited for one second when the accounting of its
+/// group is switched off. While accounting is off, the group is in no state, and its times don't
+/// change. The root's clock continues.
 const OFF_AND_ON: [Row; 4] = [
     Row {
         changes: 4,
@@ -130,11 +130,11 @@ const OFF_AND_ON: [Row; 4] = [
 #[test]
 fn clocks_of_a_group_off(rt: HostRuntime) {
     let plans = plans_of(&rt, rt.alloc(), 1, 2_000_000_000, &LINES);
-    shows(&rt, rt.alloc(), &plans, (2, 5), &OFF_AND_ON);
+    assert_rows(&rt, rt.alloc(), &plans, (2, 5), &OFF_AND_ON);
 }
 
-/// A trace in which a task of /a/b runs, waits for IO and is ready, while the accounting of /a and
-/// later of /a/b is off. At one time, one of them is switched off and the other on.
+/// A trace in which a task of /a/b runs, waits for IO and is ready. The accounting of /a is off
+/// from 1,000 to 3,000 ns, and the accounting of /a/b is off after 3,000 ns.
 const NESTED: [&[u8]; 12] = [
     b"0 group /a",
     b"0 group /a/b",
@@ -150,9 +150,9 @@ const NESTED: [&[u8]; 12] = [
     b"5000 end",
 ];
 
-/// The expected clocks of `NESTED`. Accounting is switched for one group only: its ancestors and
-/// descendants continue. Changes of the tasks while a group is off have an effect when it is
-/// switched on again.
+/// The expected clocks of `NESTED`. A switch affects one group only: the accounting of its
+/// ancestors and descendants continues. The clock of a group that is switched on again includes
+/// changes of tasks that happened while it was off.
 const OF_NESTED: [Row; 3] = [
     Row {
         changes: 9,
@@ -177,5 +177,5 @@ const OF_NESTED: [Row; 3] = [
 #[test]
 fn accounts_of_groups_in_groups(rt: HostRuntime) {
     let plans = plans_of(&rt, rt.alloc(), 1, 5000, &NESTED);
-    shows(&rt, rt.alloc(), &plans, (3, 9), &OF_NESTED);
+    assert_rows(&rt, rt.alloc(), &plans, (3, 9), &OF_NESTED);
 }

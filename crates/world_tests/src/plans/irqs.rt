@@ -1,15 +1,16 @@
-//! Tests of the interrupt times of groups, in clocks that follow the plans of two processors, and
-//! of the root alone.
+//! Tests of the interrupt times that clocks charge to groups: for the plans of two processors, and
+//! for a trace with only the root group.
 
 ghost use Rattle.std.specs.Prelude.{◌≡◌, length};
 
 use super::changes::nth;
-use crate::events::{INTERRUPTS, is, plans_of};
+use crate::events::{INTERRUPTS, plans_of};
 use crate::walk::clocks_after;
 use proc_plan::{IrqClocks, Plan, ProcClocks};
 use psi_base::{Cpu, Slot};
 use std::alloc::Global;
 use std::process::Abort;
+use test_support::assert_equal;
 
 /// A trace with the groups /, /a, /a/b and /c. A task of /a/b runs on the first processor, moves to
 /// /c, migrates to the second processor and exits there.
@@ -47,19 +48,20 @@ const ROWS: [(u32, u64, [u64; 4]); 16] = [
     (0, 3, [100, 100, 100, 0]),
     (0, 4, [100, 100, 100, 0]),
     (0, 5, [101, 101, 101, 0]),
-    // The task moves.
+    // The task moves to /c.
     (0, 6, [101, 101, 101, 0]),
     (0, 7, [121, 101, 101, 20]),
-    // The task is ready but not running, so the processor is idle; then the task leaves it.
+    // The only task is ready but not running, so the processor is idle. Then the task migrates to
+    // the second processor.
     (0, 9, [121, 101, 101, 20]),
     (0, 10, [121, 101, 101, 20]),
     (0, 11, [121, 101, 101, 20]),
-    // The second processor is idle until the task arrives and starts to run.
+    // The second processor is idle until the task migrates to it and starts to run.
     (1, 1, [0, 0, 0, 0]),
     (1, 2, [0, 0, 0, 0]),
     (1, 4, [0, 0, 0, 0]),
     (1, 5, [4, 0, 0, 4]),
-    // The task exits.
+    // The task exits, and later interrupts are charged to no group.
     (1, 6, [4, 0, 0, 4]),
     (1, 7, [4, 0, 0, 4]),
 ];
@@ -79,21 +81,22 @@ fn irqs_after(rt: &impl Abort, alloc: Global, plan: &Plan, changes: u64) -> [u64
     ]
 }
 
-// Interrupt time counts for the group of the running task and all its ancestors, and for no group
-// if the processor is idle. It stays with these groups when the task moves, migrates or exits.
+// Interrupt time is charged to the group of the running task and all its ancestors, and to no group
+// if the processor is idle. It remains charged to these groups when the task moves, migrates or
+// exits.
 #[test]
 fn interrupts_of_each_processor(rt: HostRuntime) {
     let plans = plans_of(&rt, rt.alloc(), 2, 8000, &LINES);
-    assert!(rt; plans.lives().len() == 4);
+    assert_equal!(rt; plans.lives().len(), 4, "groups");
     for &(cpu, changes, want) in &ROWS {
         assert!(rt; cpu < plans.cpus());
         let irqs = irqs_after(&rt, rt.alloc(), plans.plan(Cpu(cpu)), changes);
-        is(&rt, irqs, want, (cpu, changes));
+        assert_equal!(rt; irqs, want, (cpu, changes));
     }
 }
 
 // Reads the root's interrupt time (ns) twice after `changes` changes of a plan with only the root.
-// Returns both readings, and the number of changes made afterwards.
+// Returns both results, and the number of changes that the clocks then report.
 fn root_after(rt: &impl Abort, alloc: Global, plan: &Plan, changes: u64) -> (u64, u64, u64)
     requires { length plan.now.parents ≡ 1 }
 {
@@ -104,27 +107,27 @@ fn root_after(rt: &impl Abort, alloc: Global, plan: &Plan, changes: u64) -> (u64
     (first, second, clocks.count())
 }
 
-// Reading the clocks is repeatable, and doesn't change the number of changes made.
+// Reading the interrupt time twice gives the same result, and makes no change of the plan.
 #[test]
 fn interrupts_of_the_root(rt: HostRuntime) {
     let plans = plans_of(&rt, rt.alloc(), 1, 2_000_000_000, &INTERRUPTS);
-    assert!(rt; plans.lives().len() == 1);
-    count_for_the_root(&rt, rt.alloc(), plans.plan(Cpu(0)));
+    assert_equal!(rt; plans.lives().len(), 1, "groups");
+    assert_root_irqs(&rt, rt.alloc(), plans.plan(Cpu(0)));
 }
 
-fn count_for_the_root(rt: &impl Abort, alloc: Global, plan: &Plan)
+fn assert_root_irqs(rt: &impl Abort, alloc: Global, plan: &Plan)
     requires { length plan.now.parents ≡ 1 }
 {
-    is(rt, plan.len(), 5, "changes");
+    assert_equal!(rt; plan.len(), 5, "changes");
     let change = nth(rt, plan, 3);
-    is(rt, change.irq, 250_000_000, 3);
-    is(rt, change.minus, None, 3);
-    is(rt, change.plus, None, 3);
-    is(rt, change.current, Some((Slot(0), false)), 3);
-    is(rt, nth(rt, plan, 4).irq, 0, 4);
-    is(rt, nth(rt, plan, 5).irq, 500_000_000, 5);
-    is(rt, nth(rt, plan, 5).current, None, 5);
-    is(rt, root_after(rt, alloc, plan, 0), (0, 0, 0), "at first");
+    assert_equal!(rt; change.irq, 250_000_000, 3);
+    assert_equal!(rt; change.minus, None, 3);
+    assert_equal!(rt; change.plus, None, 3);
+    assert_equal!(rt; change.current, Some((Slot(0), false)), 3);
+    assert_equal!(rt; nth(rt, plan, 4).irq, 0, 4);
+    assert_equal!(rt; nth(rt, plan, 5).irq, 500_000_000, 5);
+    assert_equal!(rt; nth(rt, plan, 5).current, None, 5);
+    assert_equal!(rt; root_after(rt, alloc, plan, 0), (0, 0, 0), "at first");
     let all = (250_000_000, 250_000_000, 5);
-    is(rt, root_after(rt, alloc, plan, 5), all, "after all");
+    assert_equal!(rt; root_after(rt, alloc, plan, 5), all, "after all");
 }

@@ -1,14 +1,15 @@
-//! Tests of illegal traces, for which no plans are built: the first rejected line, and the cause.
-//! The traces have one processor and at most a few lines.
+//! Tests of illegal traces, for which no plans are built. The result is the first rejected line and
+//! the cause.
 
-use crate::events::{events_of, is};
+use crate::events::events_of;
 use proc_plan::Plans;
 use psi_base::{Cause, Fault, Refusal};
 use std::alloc::Global;
 use std::process::Abort;
+use test_support::assert_equal;
 
-/// Illegal traces of one processor up to 1,000 ns, as the lines after the header. Each row has the
-/// lines, the number of the first rejected line, and the cause.
+/// Illegal traces of one processor. The latest allowed time is 1,000 ns. Each row has the lines
+/// after the header, the number of the first rejected line, and the cause.
 const ROWS: [(&[&[u8]], u32, Cause); 12] = [
     (&[b"1 fork 1 /a 0", b"2 end"], 2, Cause::UnknownGroup),
     (&[b"1 fork 1 / 1", b"2 end"], 2, Cause::BadCpu),
@@ -55,6 +56,6 @@ fn first_refused_lines(rt: HostRuntime) {
     for &(lines, line, cause) in &ROWS {
         let fault = fault_of(&rt, rt.alloc(), lines);
         let want = Fault::Refused(Refusal { line, cause });
-        is(&rt, fault, Some(want), (line, cause));
+        assert_equal!(rt; fault, Some(want), (line, cause));
     }
 }

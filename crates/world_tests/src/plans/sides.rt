@@ -1,11 +1,13 @@
-//! Tests of the side events in the plans: memory samples, preferences, triggers and task counts,
-//! which are no changes of processors.
+//! Tests of the triggers and the side events in the plans. Side events are memory samples,
+//! preferences and changes of task counts. They change no processor.
 
-use crate::events::{is, plans_of};
+use crate::events::plans_of;
 use proc_plan::{Side, SideAct};
 use psi_base::{Cpu, Level, Ns, Preference, Res, Slot, TriggerSpec};
+use test_support::assert_equal;
 
-/// A trace with every kind of event that isn't a change of a processor.
+/// A trace with triggers and every kind of side event: samples of a group and of the host,
+/// preferences, and tasks that join and leave groups.
 const LINES: [&[u8]; 19] = [
     b"1 group /a",
     b"1 group /a/b",
@@ -21,7 +23,7 @@ const LINES: [&[u8]; 19] = [
     b"9 switch 0 1 idle",
     b"9 trigger / memory full 1 500000",
     b"10 switch 0 0 exit",
-    // From here on the path /a/b has another slot.
+    // From here on, the path /a/b names a new group, in slot 3.
     b"11 rmgroup /a/b",
     b"11 group /a/b",
     b"12 mem /a/b 1 2 3",
@@ -34,7 +36,8 @@ fn side(at: Ns, what: SideAct) -> Side {
     Side { at, what }
 }
 
-/// Makes the side event of a task that enters a group (`added` is 1) or leaves it (`added` is -1).
+/// Makes the side event of a task that joins the group in `slot` (`added` is 1) or leaves it
+/// (`added` is -1).
 fn task(at: Ns, slot: u32, added: i8) -> Side {
     let slot = Slot(slot);
     side(at, SideAct::Tasks { slot, added })
@@ -76,7 +79,7 @@ fn sides_in_their_order(rt: HostRuntime) {
         prefer(12, 0, Preference::Prefer),
         task(12, 3, 1),
     ];
-    is(&rt, plans.sides(), want.as_slice(), "sides");
+    assert_equal!(rt; plans.sides(), want.as_slice(), "sides");
 }
 
 #[test]
@@ -100,7 +103,7 @@ fn triggers_in_their_order(rt: HostRuntime) {
             window_us: 500_000,
         },
     ];
-    is(&rt, plans.triggers(), want.as_slice(), "triggers");
+    assert_equal!(rt; plans.triggers(), want.as_slice(), "triggers");
 }
 
 // A plan has the parents of all groups, including removed ones.
@@ -108,7 +111,7 @@ fn triggers_in_their_order(rt: HostRuntime) {
 fn parents_of_all_slots(rt: HostRuntime) {
     let plans = plans_of(&rt, rt.alloc(), 1, 13, &LINES);
     let plan = plans.plan(Cpu(0));
-    assert!(rt; plans.lives().len() == 4);
+    assert_equal!(rt; plans.lives().len(), 4, "groups");
     for &(slot, parent) in &[
         (0, None),
         (1, Some(Slot(0))),
@@ -116,6 +119,6 @@ fn parents_of_all_slots(rt: HostRuntime) {
         (3, Some(Slot(1))),
     ] {
         assert!(rt; slot < 4);
-        is(&rt, plan.parent(Slot(slot)), parent, slot);
+        assert_equal!(rt; plan.parent(Slot(slot)), parent, slot);
     }
 }

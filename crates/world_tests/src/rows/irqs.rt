@@ -1,14 +1,15 @@
-//! Tests of the interrupt times that a writer keeps next to its clock row. The traces have
-//! interrupts during tasks and on an idle processor.
+//! Tests of the interrupt times that a writer stores in addition to its clock row. The traces have
+//! interrupts while tasks run and on an idle processor.
 
 ghost use Rattle.std.specs.Prelude.{◌≡◌, ◌≤◌, length};
 
-use crate::events::{INTERRUPTS, is, plans_of};
+use crate::events::{INTERRUPTS, plans_of};
 use crate::rows::shown::{Shown, show, writer_after};
 use proc_plan::{IrqClocks, Plan, Plans};
 use psi_base::{Cpu, Slot};
 use std::alloc::Global;
 use std::process::Abort;
+use test_support::assert_equal;
 
 const ROOT: Slot = Slot(0);
 
@@ -26,22 +27,22 @@ fn shown_after(rt: &impl Abort, alloc: Global, plan: &Plan, changes: u64) -> (u6
     (irq, show(&mut writer, &mut reader, ROOT))
 }
 
-// Interrupt time counts only while a task runs. It isn't part of the row: an interrupt leaves the
-// clock unchanged, but counts as a change that the reader sees.
+// Interrupt time is charged only while a task runs. It isn't part of the row: an interrupt leaves
+// the clock unchanged, but the reader counts it as a change.
 #[test]
 fn interrupts_of_the_root(rt: HostRuntime) {
     let plans = plans_of(&rt, rt.alloc(), 1, 2_000_000_000, &INTERRUPTS);
-    beside_a_task_alone(&rt, rt.alloc(), &plans);
+    assert_irqs_of_the_root(&rt, rt.alloc(), &plans);
 }
 
-fn beside_a_task_alone(rt: &impl Abort, alloc: Global, plans: &Plans)
+fn assert_irqs_of_the_root(rt: &impl Abort, alloc: Global, plans: &Plans)
     requires { length plans.now.plans ≡ 1 }
 {
     let plan = plans.plan(Cpu(0));
-    assert!(rt; plans.lives().len() == 1);
-    assert!(rt; plan.len() == 5);
+    assert_equal!(rt; plans.lives().len(), 1, "groups");
+    assert_equal!(rt; plan.len(), 5, "changes");
     let (last, _) = shown_after(rt, alloc, plan, 5);
-    is(rt, last, 250_000_000, "after the last change");
+    assert_equal!(rt; last, 250_000_000, "after the last change");
     let want = Shown {
         made: 3,
         own: RUNNING,
@@ -50,11 +51,11 @@ fn beside_a_task_alone(rt: &impl Abort, alloc: Global, plans: &Plans)
         seen_then: 3,
     };
     let third = shown_after(rt, alloc, plan, 3);
-    is(rt, third, (250_000_000, want), "after the third change");
+    assert_equal!(rt; third, (250_000_000, want), "after the third change");
 }
 
-/// A trace with interrupts while a task in a nested group runs, while a task runs that has moved to
-/// the root, and while the processor is idle.
+/// A trace with four interrupts: while a task of a nested group runs, while a task of another group
+/// runs, after that task has moved to the root, and on the idle processor.
 const GROUPS: [&[u8]; 14] = [
     b"0 group /a",
     b"0 group /a/b",
@@ -72,9 +73,9 @@ const GROUPS: [&[u8]; 14] = [
     b"60 end",
 ];
 
-/// Checks that the interrupt times (ns) of four slots at the writer are `wanted` after `changes`
+/// Checks that the writer's interrupt times (ns) of four slots are `wanted` after `changes`
 /// changes.
-fn has_irqs(rt: &impl Abort, alloc: Global, plan: &Plan, changes: u64, wanted: [u64; 4])
+fn assert_irqs(rt: &impl Abort, alloc: Global, plan: &Plan, changes: u64, wanted: [u64; 4])
     requires slots { 4 ≡ length plan.now.parents }
     requires changes { changes ≤ length plan.now.changes }
 {
@@ -85,26 +86,26 @@ fn has_irqs(rt: &impl Abort, alloc: Global, plan: &Plan, changes: u64, wanted: [
         writer.own_irq(Slot(2)),
         writer.own_irq(Slot(3)),
     ];
-    is(rt, (changes, found), (changes, wanted), "by changes");
+    assert_equal!(rt; (changes, found), (changes, wanted), "by changes");
 }
 
-// A group counts the interrupts during tasks of the group and of its descendants. When a task
-// leaves the group, the time that it has counted remains.
+// A group's interrupt time includes the interrupts of tasks in its descendants. The time remains
+// charged to the group when a task leaves it.
 #[test]
 fn interrupts_of_groups(rt: HostRuntime) {
     let plans = plans_of(&rt, rt.alloc(), 1, 2_000_000_000, &GROUPS);
-    keep_theirs(&rt, rt.alloc(), &plans);
+    assert_irqs_of_groups(&rt, rt.alloc(), &plans);
 }
 
-fn keep_theirs(rt: &impl Abort, alloc: Global, plans: &Plans)
+fn assert_irqs_of_groups(rt: &impl Abort, alloc: Global, plans: &Plans)
     requires { length plans.now.plans ≡ 1 }
 {
     let plan = plans.plan(Cpu(0));
-    assert!(rt; plans.lives().len() == 4);
-    assert!(rt; plan.len() == 10);
-    has_irqs(rt, alloc, plan, 3, [0, 0, 0, 0]);
-    has_irqs(rt, alloc, plan, 4, [5, 5, 5, 0]);
-    has_irqs(rt, alloc, plan, 6, [8, 5, 5, 3]);
-    has_irqs(rt, alloc, plan, 8, [15, 5, 5, 3]);
-    has_irqs(rt, alloc, plan, 10, [15, 5, 5, 3]);
+    assert_equal!(rt; plans.lives().len(), 4, "groups");
+    assert_equal!(rt; plan.len(), 10, "changes");
+    assert_irqs(rt, alloc, plan, 3, [0, 0, 0, 0]);
+    assert_irqs(rt, alloc, plan, 4, [5, 5, 5, 0]);
+    assert_irqs(rt, alloc, plan, 6, [8, 5, 5, 3]);
+    assert_irqs(rt, alloc, plan, 8, [15, 5, 5, 3]);
+    assert_irqs(rt, alloc, plan, 10, [15, 5, 5, 3]);
 }

@@ -3,7 +3,7 @@
 
 ghost use Rattle.std.specs.Prelude.{◌≡◌, ◌≤◌, ◌^◌, length};
 
-use crate::events::{is, plans_of};
+use crate::events::plans_of;
 use crate::rows::threads::{are_plain, beside};
 use clock_row::Sample;
 use proc_plan::Plans;
@@ -11,12 +11,13 @@ use psi_base::{Cpu, Slot};
 use std::alloc::Global;
 use std::process::Abort;
 use std::thread::Threads;
+use test_support::assert_equal;
 
-/// The number of rounds in which two tasks, one of them in a group, run alternately. Each round has
-/// three changes.
+/// The number of rounds of the trace. In each round, a task of the root and a task of `/a` run
+/// alternately, which takes three changes.
 const ROUNDS: u64 = 33_333;
 
-// Appends the lines of one round, which begins at `at` (ns).
+// Appends the lines of one round, which starts at time `at` (ns).
 fn put_round(rt: &impl Abort, text: &mut String, at: u64)
     requires { at ≤ 2 ^ 63 }
 {
@@ -48,24 +49,24 @@ fn plans_of_rounds(rt: &impl Abort, alloc: Global) -> Plans
     plans_of(rt, alloc, 1, 60_000_000_000, &lines)
 }
 
-// Returns samples of the group that were taken while a writer made all changes.
+// Returns samples of `/a` that a reader takes while a writer makes all changes.
 fn sampled<R: Abort + Threads + Sync>(rt: &R, alloc: Global, plans: &Plans) -> Vec<Sample>
     requires { length plans.now.plans ≡ 1 }
 {
     let group = Slot(1);
     let plan = plans.plan(Cpu(0));
-    assert!(rt; plans.lives().len() == 2);
-    assert!(rt; plan.len() == 100_002);
+    assert_equal!(rt; plans.lives().len(), 2, "groups");
+    assert_equal!(rt; plan.len(), 100_002, "changes");
     let (made, samples) = beside(rt, alloc, plan, 2, 100_002, group);
-    is(rt, made, 100_002, "changes");
+    assert_equal!(rt; made, 100_002, "changes");
     assert!(rt; !samples.is_empty());
     let plain = are_plain(alloc, plan, 2, group, &samples).expect(rt, "memory");
     assert!(rt; plain);
     samples
 }
 
-// Each sample equals the clock of a single thread after the same number of changes, and the counts
-// never decrease. The reader ends once it has seen all changes.
+// Each sample equals the clock of a single thread after the same number of changes, and the numbers
+// of changes never decrease.
 #[test]
 fn samples_beside_the_writer(rt: HostRuntime) {
     let plans = plans_of_rounds(&rt, rt.alloc());

@@ -1,5 +1,5 @@
-//! Helpers for tests of clock rows: the values of one slot at the two ends of a row, the writer and
-//! the reader.
+//! Helpers for tests of clock rows: they return the values of one slot at the writer and at a
+//! reader of a row.
 
 ghost use Rattle.std.specs.Prelude.{◌≡◌, ◌≤◌, ◌<◌, length};
 
@@ -18,10 +18,10 @@ pub struct Shown {
     pub own: [u64; 9],
     /// The number of changes that the reader had seen before it tried to sample.
     pub seen: u64,
-    /// The reader's sample: the number of changes, and the words of the clock. It is `None` if a
-    /// change interfered with the read.
+    /// The reader's sample: the number of changes, and the words of the clock. `None` if a
+    /// concurrent change interfered with the read.
     pub sampled: Option<(u64, [u64; 9])>,
-    /// The number of changes that the reader has seen after the sample.
+    /// The number of changes that the reader had seen after it tried to sample.
     pub seen_then: u64,
 }
 
@@ -58,7 +58,8 @@ pub fn writer_after<'a>(
     (writer, reader)
 }
 
-/// Returns the reader's sample of a slot, or `None` if a change interfered with the read.
+/// Returns the reader's sample of a slot: the number of changes, and the words of the clock.
+/// Returns `None` if a concurrent change interfered with the read.
 fn sample_of(reader: &mut ClockReader, slot: Slot) -> Option<(u64, [u64; 9])>
     requires { slot.0 < length reader.old.knows.plan.parents }
 {
@@ -85,8 +86,8 @@ pub fn show(writer: &mut ClockWriter<'_>, reader: &mut ClockReader, slot: Slot) 
     }
 }
 
-/// Returns the values of `slot` at the writer and at a new reader, after the calls `meet` and
-/// `settle`.
+/// Returns the values of `slot` at the writer and at a new reader. Before that, `meet` passes the
+/// writer's number of changes to the reader, and `settle` passes the reader's number back.
 pub fn show_late(rt: &impl Abort, writer: &mut ClockWriter<'_>, slot: Slot) -> Shown
     requires { slot.0 < length writer.old.knows.plan.parents }
 {

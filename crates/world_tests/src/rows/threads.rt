@@ -10,11 +10,11 @@ use std::alloc::Global;
 use std::process::Abort;
 use std::thread::{Threads, join, yield_now};
 
-/// The writer yields after this number of changes, so that writer and reader also alternate on a
-/// single processor.
+/// The number of changes after which the writer yields the processor. Without yields, writer and
+/// reader wouldn't alternate on a single processor.
 const CHANGES_IN_A_TURN: u64 = 512;
 
-/// The largest number of tries of the reader, so that the test ends.
+/// The maximum number of times that the reader tries to sample. It ensures that the test ends.
 const TRIES: u64 = 20_000_000;
 
 /// Makes changes of a plan until the writer has made `changes` in total.
@@ -39,7 +39,7 @@ fn keep(samples: &mut Vec<Sample>, sample: Sample) {
     }
 }
 
-/// Samples a slot until the reader has seen `all` changes, or until `TRIES` tries. Returns the
+/// Samples a slot until the reader has seen `all` changes, at most `TRIES` times. Returns the
 /// samples.
 fn sampled(alloc: Global, mut reader: ClockReader, slot: Slot, all: u64) -> Vec<Sample>
     requires { slot.0 < length reader.knows.plan.parents }
@@ -85,8 +85,8 @@ pub fn beside<R: Abort + Threads + Sync>(
     (writer.count(), samples)
 }
 
-/// Returns whether the counts of the samples never decrease, and each clock equals the clock of a
-/// single thread after the same number of changes.
+/// Returns whether the numbers of changes in the samples never decrease, and each clock equals the
+/// clock of a single thread after the same number of changes.
 pub fn are_plain(
     alloc: Global,
     plan: &Plan,

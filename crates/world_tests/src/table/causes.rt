@@ -1,18 +1,18 @@
-//! Tests of lines that the table of tasks rejects, and of the causes: single lines in a row, and
-//! lines at the limits of the table.
+//! Tests of the lines that the table of tasks rejects, and of the causes: the lines of a trace one
+//! after another, and lines at the limits of the table.
 
 ghost use Rattle.std.specs.Prelude.{◌≤◌};
 
-use crate::events::is;
 use psi_base::{Act, Cause, Cpu, Event, Fault, Ns, Path, Pid, Slot};
 use psi_trace::read_event;
 use std::alloc::Global;
 use std::process::Abort;
 use task_table::Table;
+use test_support::assert_equal;
 
-/// One trace of two processors up to 1,000 ns. Each line is followed by its cause, or `ok`. A
-/// rejected line doesn't change the table. If a line has two causes, the earlier one in the order
-/// of causes is expected.
+/// A trace of two processors, whose latest allowed time is 1,000 ns. Each line is followed by the
+/// cause for which it is rejected, or by `ok`. A rejected line doesn't change the table. If a line
+/// has two causes, the table reports the cause that it checks first.
 const LINES: &str = "5 fork 1 / 0 | ok;\
     4 fork 2 / 0 | TimeBack;\
     4 fork 1 / 2 | TimeBack;\
@@ -86,8 +86,9 @@ const LINES: &str = "5 fork 1 / 0 | ok;\
     1000 end | AfterEnd;\
     4 fork 1 / 2 | AfterEnd";
 
-/// One trace of two processors up to 4 s with `irq` lines, in the format of `LINES`. Each `irq`
-/// line is compared with the previous one of its processor, even if other lines are between them.
+/// A trace of two processors with `irq` lines, in the format of `LINES`. The latest allowed time is
+/// 4 s. The interrupt time of an `irq` line may not exceed the time since the previous `irq` line
+/// of its processor, even if other lines come between them.
 const IRQ_LINES: &str = "5 irq 2 6 | BadCpu;\
     5 irq 2 1000000001 | BadCpu;\
     5 irq 0 6 | IrqTooLong;\
@@ -111,8 +112,8 @@ const IRQ_LINES: &str = "5 irq 2 6 | BadCpu;\
     2000000014 end | ok;\
     2000000014 irq 0 0 | AfterEnd";
 
-/// One trace of two processors up to 1,000 ns with `pressure` lines, in the format of `LINES`.
-/// Switching to the current setting is legal.
+/// A trace of two processors with `pressure` lines, in the format of `LINES`. The latest allowed
+/// time is 1,000 ns. A line that sets the current setting again is legal.
 const PRESSURE_LINES: &str = "5 pressure /x on | UnknownGroup;\
     5 pressure / off | RootPressure;\
     5 pressure / on | RootPressure;\
@@ -129,7 +130,7 @@ const PRESSURE_LINES: &str = "5 pressure /x on | UnknownGroup;\
     8 end | ok;\
     8 pressure / off | AfterEnd";
 
-/// Creates the table of a trace of `cpus` processors up to `latest` (ns).
+/// Creates the table of a trace of `cpus` processors, with no event later than `latest` (ns).
 fn table(rt: &impl Abort, alloc: Global, cpus: u32, latest: Ns) -> Table
     requires some { 1 ≤ cpus }
     requires few { cpus ≤ 64 }
@@ -142,7 +143,7 @@ fn event(rt: &impl Abort, alloc: Global, line: &str) -> Event {
     read_event(alloc, 2, line.as_bytes()).expect(rt, line)
 }
 
-/// Returns whether the cause has this name, or is absent if the name is `ok`.
+/// Returns whether `cause` has the name `name`, which is `ok` if there is no cause.
 fn is_named(rt: &impl Abort, alloc: Global, cause: Option<Cause>, name: &str) -> bool {
     match cause {
         Some(cause) => format!(in alloc; "{cause:?}").expect(rt, "memory").as_str() == name,
@@ -159,20 +160,20 @@ fn played(rt: &impl Abort, table: &mut Table, event: &Event) -> Option<Cause> {
     }
 }
 
-/// Checks that `check` predicts, and `step` returns, the cause in the row.
-fn plays_row(rt: &impl Abort, alloc: Global, table: &mut Table, row: &str) {
+/// Checks that the table's `check` and `step` both give the cause that the row expects.
+fn assert_row(rt: &impl Abort, alloc: Global, table: &mut Table, row: &str) {
     let (line, want) = row.split_once(" | ").expect(rt, row);
     let event = event(rt, alloc, line);
     let checked = table.check(&event);
     let played = played(rt, table, &event);
-    is(rt, played, checked, row);
-    is(rt, is_named(rt, alloc, played, want), true, row);
+    assert_equal!(rt; played, checked, row);
+    assert_equal!(rt; is_named(rt, alloc, played, want), true, row);
 }
 
-/// Checks each row of `rows` in order, with `plays_row`.
-fn plays(rt: &impl Abort, alloc: Global, table: &mut Table, rows: &str) {
+/// Checks each row of `rows` in order, with `assert_row`.
+fn assert_rows(rt: &impl Abort, alloc: Global, table: &mut Table, rows: &str) {
     for row in rows.split(';') {
-        plays_row(rt, alloc, table, row);
+        assert_row(rt, alloc, table, row);
     }
 }
 
@@ -185,59 +186,65 @@ fn found(rt: &impl Abort, alloc: Global, table: &Table, path: &str) -> Option<Sl
 #[test]
 fn causes_in_their_order(rt: HostRuntime) {
     let mut table = table(&rt, rt.alloc(), 2, 1000);
-    plays(&rt, rt.alloc(), &mut table, LINES);
+    assert_rows(&rt, rt.alloc(), &mut table, LINES);
     assert!(rt; table.is_ended());
-    is(&rt, table.last(), 1000, "last");
-    is(&rt, table.groups().len(), 4, "groups");
+    assert_equal!(rt; table.last(), 1000, "last");
+    assert_equal!(rt; table.groups().len(), 4, "groups");
     let found = found(&rt, rt.alloc(), &table, "/a/b");
-    is(&rt, found, Some(Slot(3)), "/a/b");
+    assert_equal!(rt; found, Some(Slot(3)), "/a/b");
 }
 
 #[test]
 fn interrupts_from_line_to_line(rt: HostRuntime) {
     let mut table = table(&rt, rt.alloc(), 2, 4_000_000_000);
-    plays(&rt, rt.alloc(), &mut table, IRQ_LINES);
+    assert_rows(&rt, rt.alloc(), &mut table, IRQ_LINES);
 }
 
 #[test]
 fn accounts_that_are_switched(rt: HostRuntime) {
     let mut table = table(&rt, rt.alloc(), 2, 1000);
-    plays(&rt, rt.alloc(), &mut table, PRESSURE_LINES);
-    let on = table.groups().lives().iter().map(|life| life.on);
-    assert!(rt; on.eq([true, true, false]));
+    assert_rows(&rt, rt.alloc(), &mut table, PRESSURE_LINES);
+    let groups = table.groups().lives().iter();
+    let on: Vec<bool> = groups
+        .map(|life| life.on)
+        .collect(rt.alloc())
+        .expect(&rt, "memory");
+    let want = [true, true, false].as_slice();
+    assert_equal!(rt; on.as_slice(), want, "accounting is on");
 }
 
 /// Checks that the line can be played `times` times.
-fn takes(rt: &impl Abort, alloc: Global, table: &mut Table, line: &str, times: u32) {
+fn assert_accepted(rt: &impl Abort, alloc: Global, table: &mut Table, line: &str, times: u32) {
     let event = event(rt, alloc, line);
     for count in 0..times {
-        is(rt, table.play(&event), Ok(()), count);
+        assert_equal!(rt; table.play(&event), Ok(()), count);
     }
 }
 
 /// Checks that the line is rejected for this cause.
-fn refuses(rt: &impl Abort, alloc: Global, table: &mut Table, line: &str, cause: Cause) {
+fn assert_refused(rt: &impl Abort, alloc: Global, table: &mut Table, line: &str, cause: Cause) {
     let event = event(rt, alloc, line);
-    is(rt, table.play(&event), Err(Fault::Refused(cause)), line);
+    assert_equal!(rt; table.play(&event), Err(Fault::Refused(cause)), line);
 }
 
-// The table has at most 256 triggers: the 257th is rejected.
+// A trace may set at most 256 triggers: the 257th is rejected.
 #[test]
 fn triggers_up_to_the_limit(rt: HostRuntime) {
     let mut table = table(&rt, rt.alloc(), 1, 1000);
     let line = "1 trigger / io some 1 500000";
-    takes(&rt, rt.alloc(), &mut table, line, 256);
-    refuses(&rt, rt.alloc(), &mut table, line, Cause::TooManyTriggers);
+    assert_accepted(&rt, rt.alloc(), &mut table, line, 256);
+    assert_refused(&rt, rt.alloc(), &mut table, line, Cause::TooManyTriggers);
 }
 
-// The 65,537th `pressure` line is rejected, before other causes against it are checked.
+// A trace may have at most 65,536 `pressure` lines. The next such line is rejected with
+// TooManyPressures, even if it would also be rejected for another cause.
 #[test]
 fn pressure_lines_up_to_the_limit(rt: HostRuntime) {
     let mut table = table(&rt, rt.alloc(), 1, 1000);
-    takes(&rt, rt.alloc(), &mut table, "1 group /a", 1);
-    takes(&rt, rt.alloc(), &mut table, "1 pressure /a off", 65_536);
+    assert_accepted(&rt, rt.alloc(), &mut table, "1 group /a", 1);
+    assert_accepted(&rt, rt.alloc(), &mut table, "1 pressure /a off", 65_536);
     for line in &["1 pressure / off", "1 pressure /a off"] {
-        refuses(&rt, rt.alloc(), &mut table, line, Cause::TooManyPressures);
+        assert_refused(&rt, rt.alloc(), &mut table, line, Cause::TooManyPressures);
     }
 }
 
@@ -256,8 +263,8 @@ fn fork(rt: &impl Abort, alloc: Global, table: &mut Table, pid: u32) -> Result<(
 fn tasks_up_to_the_limit(rt: HostRuntime) {
     let mut table = table(&rt, rt.alloc(), 1, 1000);
     for pid in 1..=65_536u32 {
-        is(&rt, fork(&rt, rt.alloc(), &mut table, pid), Ok(()), pid);
+        assert_equal!(rt; fork(&rt, rt.alloc(), &mut table, pid), Ok(()), pid);
     }
     let last = fork(&rt, rt.alloc(), &mut table, 65_537);
-    is(&rt, last, Err(Fault::Refused(Cause::TooManyTasks)), 65_537);
+    assert_equal!(rt; last, Err(Fault::Refused(Cause::TooManyTasks)), 65_537);
 }

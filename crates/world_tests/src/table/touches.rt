@@ -1,27 +1,27 @@
 //! Tests of the changes that each accepted line makes on processors: one trace with stalls,
 //! migrations, moves and interrupts.
 
-use crate::events::is;
 use psi_base::{Cpu, Ns, Slot};
 use psi_counts::{Change, Counts, Touch};
 use psi_trace::read_event;
 use std::alloc::Global;
 use std::process::Abort;
 use task_table::Table;
+use test_support::assert_equal;
 
-/// A trace in which a task of one group is in a stall, sleeps, wakes on another processor,
-/// migrates, moves and exits. A wake or a migration from one processor to another changes both
-/// processors. A wake, migration or move to the same place is a change, too, and so is an
-/// interrupt.
+/// A trace in which a task enters a memory stall, sleeps, wakes on another processor, migrates and
+/// moves to another group. Later it leaves the stall, waits for IO and sleeps again. A wakeup or a
+/// migration from one processor to another changes both processors. A wakeup or migration to the
+/// task's own processor is also a change. So are a move to the task's own group and an interrupt.
 ///
-/// Each line is followed by the processors that it changes: the number of the processor, the task
-/// that is subtracted from a group and its ancestors there, the task that is added, and the slot of
-/// the running task afterwards. Each task is preceded by the slot of its group. A task is `a` if it
-/// is blocked, `w` if it waits for IO, and `r` if it is ready or running; `A` and `R` are tasks in
-/// a memory stall. The slot of the running task is followed by `!` if this task is in a stall, and
-/// by `=` otherwise. A `+` is followed by the interrupt time (ns) on the processor. A line that
-/// switches accounting is followed only by the slot of the group and `on` or `off`, because the
-/// switch applies to every processor.
+/// Each line is followed by the changes of processors, with a `|` before each change. A change has
+/// the number of the processor, the task whose counts are subtracted, the task whose counts are
+/// added, and the slot of the running task afterwards; `..` means no task. Each task is preceded by
+/// the slot of its group. A task is `a` if it is blocked, `w` if it waits for IO, and `r` if it is
+/// ready or running. `A` and `R` are tasks in a memory stall. The slot of the running task is
+/// followed by `!` if this task is in a stall, and by `=` otherwise. A `+` is followed by the
+/// interrupt time (ns) on the processor. A line that switches accounting is followed only by the
+/// slot of the group and `on` or `off`, because the switch applies to every processor.
 const LINES: &str = "1 group /a;\
     1 fork 1 /a 0 | 0 .. 1r ..;\
     2 switch 0 1 idle | 0 .. .. 1=;\
@@ -53,7 +53,8 @@ fn number(digit: u8) -> u32 {
     u32::from(digit.wrapping_sub(b'0'))
 }
 
-/// Returns the counts of one task and its group, or `None` if there is no task.
+/// Parses a task, such as `1r`: returns the slot of its group and the counts of the task. Returns
+/// `None` if there is no task.
 fn part(kind: u8, slot: u8) -> Option<(Slot, Counts)> {
     let (io, stalled, running, stalled_running) = match kind {
         b'a' => (0, 0, 0, 0),
@@ -72,7 +73,8 @@ fn part(kind: u8, slot: u8) -> Option<(Slot, Counts)> {
     Some((Slot(number(slot)), counts))
 }
 
-/// Returns a processor and its change at `at` (ns), or `None` if no processor changes.
+/// Parses a change of a row, whose time is `at` (ns): returns the processor and its change. Returns
+/// `None` if `known` isn't the text of a change.
 fn change(at: Ns, known: &str) -> Option<(Cpu, Change)> {
     let (known, irq) = known.split_once(" +").unwrap_or((known, "0"));
     let [cpu, _, from, minus, _, to, plus, _, slot, current] = known.as_bytes() else {
@@ -93,8 +95,8 @@ fn change(at: Ns, known: &str) -> Option<(Cpu, Change)> {
     Some((Cpu(number(*cpu)), change))
 }
 
-/// Returns the group whose accounting is switched and whether it is switched on, or `None` if there
-/// is no switch.
+/// Parses a switch of accounting: returns the slot of the group and whether its accounting is
+/// switched on. Returns `None` if `known` isn't a switch.
 fn account(known: &str) -> Option<(Slot, bool)> {
     match known.as_bytes() {
         [slot, b' ', b'o', b'n'] => Some((Slot(number(*slot)), true)),
@@ -103,7 +105,7 @@ fn account(known: &str) -> Option<(Slot, bool)> {
     }
 }
 
-/// Returns the expected changes of a line at `at` (ns).
+/// Parses the expected changes of a line, whose time is `at` (ns).
 fn touch(at: Ns, known: &str) -> Touch {
     let (first, second) = known.split_once(" | ").unwrap_or((known, ""));
     Touch {
@@ -113,18 +115,18 @@ fn touch(at: Ns, known: &str) -> Touch {
     }
 }
 
-/// Checks that the line of a row makes exactly the changes in the row.
-fn plays_row(rt: &impl Abort, alloc: Global, table: &mut Table, row: &str) {
+/// Checks that the event line of a row causes exactly the changes that the row lists.
+fn assert_row(rt: &impl Abort, alloc: Global, table: &mut Table, row: &str) {
     let (line, known) = row.split_once(" | ").unwrap_or((row, ""));
     let event = read_event(alloc, 2, line.as_bytes()).expect(rt, line);
     let touched = table.step(&event).expect(rt, line);
-    is(rt, touched, touch(event.at, known), row);
+    assert_equal!(rt; touched, touch(event.at, known), row);
 }
 
 #[test]
 fn touches_of_each_line(rt: HostRuntime) {
     let mut table = Table::new(rt.alloc(), 2, 1000).expect(&rt, "memory");
     for row in LINES.split(';') {
-        plays_row(&rt, rt.alloc(), &mut table, row);
+        assert_row(&rt, rt.alloc(), &mut table, row);
     }
 }

@@ -1,4 +1,4 @@
-use Rattle.world_tests.proofs.observers.added.both_added.Given as goal
+use Rattle.world_tests.proofs.observers.added.assert_fall_refused.Given as goal
 
 abbrev pub ghosts-add_both : goal.ghosts-add_both
 ghosts-add_both g a = record { name = a.blank.name; parts = a.blank.parts }

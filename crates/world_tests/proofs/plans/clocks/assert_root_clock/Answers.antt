@@ -1,7 +1,7 @@
 use Rattle.std.proofs.Common.{◌≡◌, ◌≤◌, arith, rules}
 use Rattle.plan_laws.specs.Plan.{last_change}
 use Rattle.plan_laws.proofs.PlanClocks.{clock_is_in_time}
-use Rattle.world_tests.proofs.plans.clocks.show_of_the_root.Goals as goal
+use Rattle.world_tests.proofs.plans.clocks.assert_root_clock.Goals as goal
 
 pub opened-requires : goal.opened-requires
 opened-requires g c =

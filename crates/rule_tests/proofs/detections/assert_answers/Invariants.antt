@@ -1,6 +1,6 @@
 use Rattle.std.proofs.Common.{◌≡◌, length}
 use Rattle.detectors.specs.Views.{slots_of}
-use Rattle.rule_tests.proofs.detections.answers.Given as goal
+use Rattle.rule_tests.proofs.detections.assert_answers.Given as goal
 
 -- the detector had the last reading, and is for its groups
 abbrev pub invariant-rows : goal.invariant-rows

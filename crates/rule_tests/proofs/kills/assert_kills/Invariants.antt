@@ -1,6 +1,6 @@
 use Rattle.std.proofs.Common.{◌≡◌}
 use Rattle.kill_engine.specs.Killers.{IsStanding}
-use Rattle.rule_tests.proofs.kills.kills.Given as goal
+use Rattle.rule_tests.proofs.kills.assert_kills.Given as goal
 
 -- the killer had the last reading, and represents readings of its groups
 abbrev pub invariant-rows : goal.invariant-rows

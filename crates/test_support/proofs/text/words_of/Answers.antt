@@ -1,0 +1,9 @@
+use Rattle.std.proofs.Common.{rules}
+use Rattle.std.proofs.lemmas.Iterator.Consumers.{map_from_collect}
+use Rattle.std.proofs.lemmas.Iterator.Splits.{YieldsList-from_str_split}
+use Rattle.test_support.proofs.text.words_of.Goals as goal
+
+pub returns : goal.returns
+returns c =
+    let parts = map_from_collect _ c.collect.ensures.ran (YieldsList-from_str_split c.args.separator c.args.line.now c.requires c.split.ensures.text c.split.ensures.has_more c.split.ensures.pattern) in
+    search (rules, parts)
