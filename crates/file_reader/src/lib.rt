@@ -1,6 +1,6 @@
-//! Reads a file, or its first bytes, into one piece of memory.
+//! Reads a file, or its first bytes, into a single allocation.
 //!
-//! The crate is meant for small files such as rules. A trace is read line by line, with
+//! The crate is meant for small files such as rules. Traces are read line by line, with
 //! `psi_lines`.
 #![tactic(auto)]
 

@@ -1,5 +1,5 @@
-//! Reads the first bytes of a file, with as many reads as the shelf requires. The maximum number of
-//! bytes is an argument.
+//! Reads the first bytes of a file, up to a given number. Repeats the read if the file store
+//! (`Shelf`) returns fewer bytes.
 ghost use Rattle.std.specs.Prelude.{◌≡◌, ◌+◌, ◌<◌, ◌≤◌, ℕ, List, length, take, IfOk, IsErrOf, Some, None};
 ghost use Rattle.outside.specs.Outside.{IsAbsent, counts_of, content_of};
 ghost use Rattle.outside.specs.Reads.{ReadsFile};
@@ -12,7 +12,7 @@ use std::alloc::Global;
 /// Why a file can't be read.
 #[derive(Clone, Copy, Debug, PartialEq, Eq)]
 pub enum FileFault {
-    /// The shelf has no file with this name.
+    /// No file has this name.
     NoFile,
     /// A read failed.
     ReadFault,
@@ -84,8 +84,8 @@ fn fill<S: Shelf>(shelf: &mut S, name: &str, bytes: &mut [u8]) -> Result<usize, 
 }
 
 /// Returns the bytes of a file, or its first `most` bytes if the file is longer. Allocates memory
-/// for `most` bytes before reading. Reads at most `most` bytes, even if the call fails. `NoFile`
-/// and `ReadFault` are faults of the shelf, which counts them.
+/// for `most` bytes before reading. Reads at most `most` bytes, even if the call fails. Fails with
+/// `NoFile` or `ReadFault` if the file store (`Shelf`) reports this fault and counts it.
 pub fn read_prefix<S: Shelf>(
     alloc: Global,
     shelf: &mut S,

@@ -1,5 +1,5 @@
-//! Computes the path of a group's parent from the path of the group. The tree isn't needed, and no
-//! group is looked up.
+//! Computes the path of a group's parent from the path of the group, without looking up a group in
+//! the tree.
 ghost use Rattle.std.specs.Prelude.{◌≡◌};
 ghost use Rattle.psi_spec.specs.World.{or_root, parent_path};
 
@@ -16,8 +16,8 @@ fn or_root(bytes: &[u8]) -> &[u8]
     }
 }
 
-// Returns the bytes of `path` before its last slash, or the root's path if there is nothing before
-// it.
+// Returns the bytes of `path` before its last slash, or the root's path if no bytes precede that
+// slash.
 #[tactic(auto, using(crate::proofs::Slashes::slashes))]
 fn parent_bytes(path: &[u8]) -> &[u8]
     ensures { result.now ≡ parent_path path.now }
@@ -32,8 +32,8 @@ fn parent_bytes(path: &[u8]) -> &[u8]
     b"/".as_slice()
 }
 
-/// Returns the path of the parent of the group with this path. For the root's path, returns the
-/// root's path itself.
+/// Returns the path of the parent of the group with this path. The root's path is its own parent
+/// path.
 #[tactic(auto, using(crate::proofs::Slashes::texts))]
 pub(crate) fn path_above(path: &Path) -> &str
     ensures { result.now ≡ parent_path path.now }

@@ -1,5 +1,4 @@
-//! The chain of a group: an iterator over the group and its ancestors, up to the root. The iterator
-//! allocates nothing.
+//! An iterator over a group and its ancestors, up to the root. It doesn't allocate.
 ghost use Rattle.std.specs.Prelude.{◌≡◌, ◌<◌, length, slice_index_or, None, IfSome};
 ghost use Rattle.psi_spec.specs.Stall.{number_of_slot, parents_of};
 ghost use Rattle.psi_spec.specs.LegalGroups.{AreGroups};
@@ -22,7 +21,7 @@ pub(crate) fn parent_of(lives: &[GroupLife], slot: Slot) -> Option<Slot>
 }
 
 /// An iterator over the slots of a group and its ancestors, from the group to the root. In
-/// contracts this is the list of the remaining slots.
+/// contracts this is the list of the slots that remain.
 #[derive(Drop)]
 pub struct Chain<'a> {
     lives: &'a [GroupLife],
@@ -45,7 +44,7 @@ impl<'a> Model for Chain<'a> {
 }
 
 impl<'a> Chain<'a> {
-    /// Creates the chain that starts at the slot `next`. The chain is empty for `None`.
+    /// Creates the iterator that starts at the slot `next`. The iterator is empty for `None`.
     pub(crate) fn new(lives: &'a [GroupLife], next: Option<Slot>) -> Chain<'a>
         requires groups { AreGroups lives.now }
         requires made { IfSome next (λ slot. slot.0 < length lives.now) }

@@ -1,5 +1,5 @@
 //! Creates and removes groups. The functions update the list of groups, the map of paths and the
-//! counts of children together, and don't check whether the change is legal.
+//! counts of children together. They don't check whether a change is legal.
 ghost use Rattle.std.specs.Prelude.{◌≡◌, ◌+◌, ◌<◌, ◌≤◌, ◌++◌, [], ◌∷◌, ℕ, length, map, Some, IfOk, OnOk, OnErr, IfSome, slice_index_or, string_bytes, true, false, if◌then◌else◌};
 ghost use Rattle.std.specs.HashMap.{get_by_text};
 ghost use Rattle.psi_spec.specs.World.{slot_of, marked_removed, is_root, is_live, most_groups};

@@ -1,8 +1,8 @@
 //! The tree of control groups: which groups were created, which of them are live, and the parent of
 //! each group.
 //!
-//! The tree rejects illegal changes and returns their cause. It has no tasks: task_table checks
-//! whether a group still contains tasks.
+//! The tree rejects illegal changes and returns the cause. It doesn't contain tasks: task_table
+//! checks whether a group still has tasks.
 #![tactic(auto)]
 
 mod above;

@@ -41,7 +41,7 @@ pub(crate) fn live_order(alloc: Global, lives: &[GroupLife]) -> Result<Vec<Slot>
     Ok(groups.into_values().collect(alloc)?)
 }
 
-/// Returns the path of the group in `slot`, or no bytes for a slot without a group.
+/// Returns the path of the group in `slot`, or an empty path for a slot without a group.
 fn path_of(lives: &[GroupLife], slot: Slot) -> &[u8]
     ensures { result.now ≡ path_at lives.now slot.0 }
 {
@@ -51,14 +51,14 @@ fn path_of(lives: &[GroupLife], slot: Slot) -> &[u8]
     }
 }
 
-/// Returns the slots with the numbers 0 to `count` - 1.
+/// Returns the slots with the numbers from 0 to `count - 1`.
 fn first_slots(alloc: Global, count: u32) -> Result<Vec<Slot>, NoMemory>
     ensures { IfOk result (λ slots. slots.items ≡ map slot_at (range_with_len 0 count)) }
 {
     Ok((0..count).map(Slot).collect(alloc)?)
 }
 
-/// Returns the slots in the byte order of their groups' paths.
+/// Sorts `slots` by the bytes of their groups' paths, and returns them.
 fn sorted_by_path(mut slots: Vec<Slot>, lives: &[GroupLife]) -> Vec<Slot>
     ensures same { IsPermutation slots.items result.items }
     ensures sorted { IsSortedByKey (λ slot. path_at lives.now slot.0)
@@ -68,8 +68,8 @@ fn sorted_by_path(mut slots: Vec<Slot>, lives: &[GroupLife]) -> Vec<Slot>
     slots
 }
 
-/// Returns all slots in the byte order of their groups' paths. The order of slots with equal paths
-/// isn't specified.
+/// Returns all slots, including those of removed groups, in the byte order of their groups' paths.
+/// The order of slots with equal paths isn't specified.
 pub(crate) fn path_order(alloc: Global, lives: &[GroupLife]) -> Result<Vec<Slot>, NoMemory>
     requires few { length lives.now ≤ most_groups }
     ensures { IfOk result (λ slots. IsPathOrder lives.now (numbers_of slots.items)) }

@@ -1,4 +1,4 @@
-//! The tree of groups, and the checks for each change of the tree. The module `grow` adds and
+//! The tree of groups, and the checks of each change to the tree. The module `grow` adds and
 //! removes groups.
 ghost use Rattle.std.specs.Prelude.{◌≡◌, ◌<◌, ◌≤◌, ◌++◌, [], ◌∷◌, length, map, slice_index_or, None, Some, IfOk, IfErr, IfSome, OnOk, OnErr, MatchResult, ◌↔◌};
 ghost use Rattle.psi_spec.specs.World.{root, slot_of, as_slot, parent_path, new_group, marked_removed, marked_switched, most_groups};
@@ -17,12 +17,13 @@ use std::alloc::Global;
 use std::collections::HashMap;
 use std::marker::Model;
 
-/// The maximum number of groups ever created, including the root.
+/// The maximum number of groups ever created in a trace, including the root.
 const MOST_GROUPS: usize = 1024;
 
-/// All groups ever created, by slot. In contracts this is the list of these groups. A map finds a
-/// live group by its path, and the number of live children of each group is stored, so that only
-/// [`Tree::live_order`] and [`Tree::path_order`] visit all groups.
+/// A tree of control groups: all groups ever created, indexed by slot. In contracts a tree is the
+/// list of these groups. A map finds the slot of a live group by its path, and the tree stores the
+/// number of live children of each group. So only [`Tree::live_order`] and [`Tree::path_order`]
+/// visit all groups.
 #[derive(Drop)]
 pub struct Tree {
     alloc: Global,
@@ -103,16 +104,16 @@ impl Tree {
         self.slots.get(path_above(path)).copied()
     }
 
-    /// Whether the group in `slot` has a live child.
+    /// Returns whether the group in `slot` has a live child.
     fn has_child(&self, slot: Slot) -> bool
         ensures { result ≡ has_child self.now (Some slot.0) }
     {
         self.children.get(slot.0 as usize).copied().unwrap_or(0) > 0
     }
 
-    /// Returns the first cause why a group with this path can't be created, or `None` if the group
-    /// can be created. The causes are TooManyGroups (1,024 groups were created), GroupExists (a
-    /// live group has the path) and NoParent (no live group has the parent path).
+    /// Returns the first cause for rejecting the creation of a group with this path, or `None` if
+    /// the group can be created. The causes are TooManyGroups (1,024 groups were created),
+    /// GroupExists (a live group has the path) and NoParent (no live group has the parent path).
     pub fn add_cause(&self, path: &Path) -> Option<Cause>
         ensures { result ≡ add_cause self.now path.now }
     {
@@ -127,9 +128,9 @@ impl Tree {
         }
     }
 
-    /// Returns the first cause why the group with this path can't be removed, or `None`. The causes
-    /// are UnknownGroup (no live group has the path) and GroupBusy (the group is the root or has a
-    /// live child). Tasks in the group aren't checked.
+    /// Returns the first cause for rejecting the removal of the group with this path, or `None` if
+    /// the group can be removed. The causes are UnknownGroup (no live group has the path) and
+    /// GroupBusy (the group is the root or has a live child). Tasks in the group aren't checked.
     pub fn remove_cause(&self, path: &Path) -> Option<Cause>
         ensures { result ≡ remove_cause self.now path.now }
     {
@@ -143,9 +144,9 @@ impl Tree {
         }
     }
 
-    /// Returns the first cause why the pressure accounting of the group with this path can't be
-    /// switched, or `None` if it can. The causes are UnknownGroup (no live group has the path) and
-    /// RootPressure (the group is the root).
+    /// Returns the first cause for refusing to turn the pressure accounting of the group with this
+    /// path on or off, or `None` if that is possible. The causes are UnknownGroup (no live group
+    /// has the path) and RootPressure (the group is the root).
     pub fn pressure_cause(&self, path: &Path) -> Option<Cause>
         ensures { result ≡ pressure_cause self.now path.now }
     {
@@ -169,7 +170,7 @@ impl Tree {
         parent_of(&self.lives, slot)
     }
 
-    /// Returns the chain of a group: its slot and the slots of its ancestors, up to the root. No
+    /// Returns an iterator over a group's slot and the slots of its ancestors, up to the root. No
     /// program of this repository calls this function.
     pub fn chain(&self, slot: Slot) -> Chain<'_>
         requires made { slot.0 < length self.now }
@@ -178,8 +179,8 @@ impl Tree {
         Chain::new(&self.lives, Some(slot))
     }
 
-    /// Whether the group `low` is the group `high` or a descendant of it. For a slot `low` without
-    /// a group, true only if the slots are equal.
+    /// Returns whether the group `low` is the group `high` or a descendant of it. If the slot `low`
+    /// has no group, returns true only if the slots are equal.
     pub fn is_under(&self, low: Slot, high: Slot) -> bool
         ensures { result ≡ is_under (parents_of self.now) low.0 high.0 }
     {
@@ -194,7 +195,7 @@ impl Tree {
     }
 
     /// Returns a new group with this path, created at the time `at` (ns) as a child of the live
-    /// group with the parent path. The tree is unchanged.
+    /// group with the parent path. Doesn't add the group to the tree.
     fn new_life(&self, path: &Path, at: Ns) -> Result<GroupLife, NoMemory>
         ensures { IfOk result (λ life. life ≡ new_group self.now path.now at) }
     {
@@ -261,7 +262,7 @@ impl Tree {
         Ok(slot)
     }
 
-    /// Switches the pressure accounting of the live group with this path on or off, and returns the
+    /// Turns the pressure accounting of the live group with this path on or off, and returns the
     /// group's slot. Fails with the cause that [`Tree::pressure_cause`] returns, and leaves the
     /// tree unchanged. Does not allocate.
     pub fn switch(&mut self, path: &Path, on: bool) -> Result<Slot, Cause>

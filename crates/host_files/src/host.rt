@@ -1,5 +1,5 @@
-//! The system's files and streams. Contracts don't know their content, so the behaviour of the
-//! system is trusted, not proved.
+//! The files and streams of the operating system. Contracts can't state their content, so the
+//! behaviour of the system is trusted, not proved.
 ghost use Rattle.std.specs.Prelude.{◌≡◌, ◌≢◌, ◌<◌, ◌≤◌, ℕ, List, None, Some, IfErr, IfOk, IfSome, IsErrOf, OnOk, codes, length};
 ghost use Rattle.std.specs.Io.KnownBytes.{Keeps, ReadConsumes};
 ghost use Rattle.host_files.specs.Host.{GoesOn, LeavesFromPlace, ReadsPrefix, IsPlacedAt};
@@ -10,8 +10,8 @@ use std::fs;
 use std::io::{AsBytes, Cursor, ErrorKind, Read, Seek, SeekFrom, Write};
 use std::rt::Files;
 
-// Returns the fault for a file that can't be opened. The fault is `NoFile` only if the system
-// reports that the file doesn't exist.
+// Returns the fault for a file that can't be opened. It is `NoFile` only if the system reports that
+// the file doesn't exist.
 fn open_fault(kind: ErrorKind) -> ShelfFault
     ensures missing { kind ≡ ErrorKind.NotFound → result ≡ ShelfFault.NoFile }
     ensures other { kind ≢ ErrorKind.NotFound → result ≡ ShelfFault.Failed }
@@ -23,7 +23,8 @@ fn open_fault(kind: ErrorKind) -> ShelfFault
     }
 }
 
-// Reads once from a stream at the offset `place` (bytes), and advances `place`.
+// Reads once from a stream whose current offset is `place` (bytes), and advances `place` by the
+// number of bytes read.
 fn read_next<I: Read>(stream: &mut I, place: &mut u64, into: &mut [u8]) -> Result<usize, ShelfFault>
     ensures bound { IfOk result (λ n. n ≤ length into.new) }
     ensures bytes { ReadConsumes (I.remaining stream.old) (I.remaining stream.new) result into.new }
@@ -38,7 +39,7 @@ fn read_next<I: Read>(stream: &mut I, place: &mut u64, into: &mut [u8]) -> Resul
     }
 }
 
-// Reads standard input at offset `at`. Fails if the previous read didn't end at this offset.
+// Reads the input at offset `at` (bytes). Fails if the previous read didn't end at this offset.
 fn read_input<I: Read>(
     input: &mut I,
     place: &mut u64,
@@ -68,8 +69,8 @@ fn seek_to<F: Seek>(file: &mut F, at: u64) -> Result<(), ShelfFault>
     Ok(())
 }
 
-/// An open file. The file stays open, so that a file without seeking (such as a pipe) is read in
-/// order.
+/// An open file. It stays open between reads, so that a file that can't seek (such as a pipe) is
+/// read in order.
 #[derive(Drop)]
 struct Opened<F> {
     name: Name,
@@ -78,7 +79,8 @@ struct Opened<F> {
 }
 
 impl<F: Read + Seek> Opened<F> {
-    // Reads at offset `at`. Seeks only if the previous read didn't end at this offset.
+    // Reads the open file at offset `at`. Seeks only if the previous read didn't end at this
+    // offset.
     fn read_at(&mut self, at: u64, into: &mut [u8]) -> Result<usize, ShelfFault>
         ensures bound { IfOk result (λ n. n ≤ length into.new) }
         ensures bytes { (bytes : List ℕ)
@@ -97,7 +99,7 @@ impl<F: Read + Seek> Opened<F> {
     }
 }
 
-// Opens a file at its first byte. Fails if the name is too long for `Name`, because such a name is
+// Opens a file at its first byte. Fails if the name doesn't fit in `Name`, because such a name is
 // also too long for the system.
 fn open<R: Files>(rt: &R, name: &str) -> Result<Opened<R::File>, ShelfFault>
     ensures name { IfOk result (λ opened. opened.name ≡ name.now) }
@@ -139,8 +141,8 @@ fn read_file<R: Files>(
     Ok(count)
 }
 
-/// The system's files by name, and an input with the name `-`, which can only be read in order.
-/// Does not allocate.
+/// A shelf (a store of files by name) with the system's files. The name `-` refers to `input`,
+/// which can only be read in order, such as standard input. Reads don't allocate.
 #[derive(Drop)]
 pub struct HostShelf<'a, R: Files, I> {
     rt: &'a R,
@@ -154,7 +156,7 @@ pub struct HostShelf<'a, R: Files, I> {
 }
 
 impl<'a, R: Files, I: Read> HostShelf<'a, R, I> {
-    /// Creates a shelf of the system's files with this input.
+    /// Creates a shelf with the system's files. The name `-` refers to `input`.
     pub fn new(rt: &'a R, input: I) -> Self {
         HostShelf {
             rt,
@@ -168,8 +170,8 @@ impl<'a, R: Files, I: Read> HostShelf<'a, R, I> {
         }
     }
 
-    // Reads at offset `at` from the input if the name is `-`, otherwise from the file with this
-    // name.
+    // Reads at offset `at` (bytes): from the input if the name is `-`, and from the file with this
+    // name if not.
     fn read_named(&mut self, name: &str, at: u64, into: &mut [u8]) -> Result<usize, ShelfFault>
         ensures bound { IfOk result (λ n. n ≤ length into.new) }
         ensures order { name.now ≡ codes "-" → at ≢ self.old.place →
@@ -229,9 +231,9 @@ impl<'a, R: Files, I: Read> Shelf for HostShelf<'a, R, I> {
     }
 }
 
-/// A sink that writes to a stream, such as standard output or standard error. Contracts know the
-/// written bytes only if they know the stream's content, which isn't the case for the system's
-/// streams. A write of a nonempty piece that writes no byte counts as a failure.
+/// A sink that writes to a stream, such as standard output or standard error. Contracts can state
+/// the written bytes only if the stream's content is known, which isn't the case for the system's
+/// streams. If a write of a nonempty piece writes no byte, it counts as a failure.
 #[derive(Drop)]
 pub struct HostSink<W> {
     stream: W,
@@ -261,7 +263,8 @@ impl<W: Write> Sink for HostSink<W> {
     }
 }
 
-/// For a cursor over bytes, the remaining bytes are the bytes from its position to the end.
+/// For a cursor over bytes, the remaining bytes are the bytes from the cursor's position to the
+/// end.
 pub fn law_cursors_leave_from_place<T: AsBytes>()
     ensures { LeavesFromPlace ⟦<Cursor<T> as Read>⟧.remaining
         ⟦<Cursor<T> as Seek>⟧.stream_position

@@ -1,5 +1,5 @@
-//! Implements a shelf and sinks with the system's files and streams, and returns the words of the
-//! command line.
+//! Implements the traits for reading files and writing output with the system's files and streams,
+//! and returns the command-line arguments.
 //!
 //! Only the programs use this crate; every other crate uses the traits of `outside`. No contract
 //! depends on the content of the system's files, because it isn't known here.

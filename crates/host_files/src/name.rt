@@ -1,5 +1,5 @@
-//! File names that are stored without allocation, in an array for the longest name that the system
-//! can open.
+//! File names that are stored without allocation, in an array that fits the longest name that the
+//! system can open.
 ghost use Rattle.std.specs.Prelude.{◌≡◌, ◌<◌, ◌↔◌, IsTrue, MatchOption, length};
 
 use std::marker::Model;
@@ -38,7 +38,7 @@ impl Name {
         Some(Name { bytes, length })
     }
 
-    /// Whether this file name equals `name`.
+    /// Returns whether this file name equals `name`.
     pub(crate) fn is(&self, name: &str) -> bool
         ensures { IsTrue result ↔ (self.now ≡ name.now) }
     {

@@ -1,14 +1,14 @@
--- Results of the calls of this crate's shelves and sinks. They are stronger than the results that
--- every shelf and sink must have.
+-- Results of calls that are stronger than the contracts of all shelves (stores of files) and sinks
+-- (outputs): exact counts, and writes of all bytes.
 use Rattle.std.specs.Prelude.{◌≡◌, ℕ, ◌+◌, ◌-◌, ◌^◌, ◌≤◌, min, List, Option, Result, MatchResult}
 use Rattle.std.specs.Io.KnownBytes.{Appends}
 use Rattle.outside.specs.Outside.{AppendsPrefix}
 
--- A 64-bit count plus 1. A count at its maximum is unchanged.
+-- `one_more count`: the 64-bit count `count` plus 1, or `count` itself if it is 2^64 - 1.
 abbrev pub one_more : ℕ → ℕ
 one_more count = min (count + 1) (2 ^ 64 - 1)
 
--- The count `now` is `before` plus 1 (saturating) if `Happened` holds, and `before` otherwise.
+-- The count `now` is `before` plus 1 (saturating) if `Happened` holds, and equals `before` if not.
 pub record CountsWhere (Happened : Type 0) (before now : ℕ) : Type 0 where
   pub later : before ≤ now
   pub counted : Happened → now ≡ one_more before

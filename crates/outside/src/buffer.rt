@@ -9,11 +9,11 @@ use psi_base::NoMemory;
 use std::alloc::Global;
 use std::marker::Model;
 
-/// The largest number of pending bytes.
+/// The maximum number of pending bytes.
 const ROOM: usize = 65536;
 
-/// The pending bytes of a buffered sink, at most 65,536. Contracts see them as a list. All memory
-/// is allocated by `new`.
+/// The pending bytes of a buffered sink, at most 65,536. `new` allocates all of their memory. In
+/// contracts, they are a list of bytes.
 #[derive(Drop)]
 pub struct Pending {
     bytes: Vec<u8>,

@@ -5,7 +5,7 @@ use psi_base::Cpu;
 /// never change a result.
 pub trait Gate: Sync {
     /// Called after a worker has written a change of processor `cpu`. `count` is the number of
-    /// changes of the processor that are written now.
+    /// changes of the processor that have been written so far.
     fn moved(&self, cpu: Cpu, count: u64);
 
     /// Called before a live sample of processor `cpu`. `index` is the number (from 0) of the sample

@@ -6,9 +6,9 @@ ghost use Rattle.outside.specs.Reads.{ReadCall, read_call};
 /// The failure of a read.
 #[derive(Clone, Copy, Debug, PartialEq, Eq)]
 pub enum ShelfFault {
-    /// There is no file with this name. The shelf counts the read as absent.
+    /// No file has this name. The count `absent` of the shelf increases.
     NoFile,
-    /// The read failed. The shelf counts the failure.
+    /// The read failed. The count `faults` of the shelf increases.
     Failed,
 }
 
@@ -16,8 +16,8 @@ pub enum ShelfFault {
 /// `absent` have 64 bits, start at 0, never fall, and saturate. The count `bytes_read` and the log
 /// `reads` exist only in proofs, and are unbounded.
 pub trait Shelf {
-    /// The names and contents of the files, if known. If two files have one name, the first
-    /// applies.
+    /// The names and contents of the files, if known. If two files have the same name, the first
+    /// file is used.
     ghost holds: { Self → Option Files };
 
     /// The number of failed reads.

@@ -4,7 +4,7 @@ ghost use Rattle.std.specs.Io.KnownBytes.{WriteAppends};
 ghost use Rattle.std.specs.Io.{WritesAtMost};
 ghost use Rattle.outside.specs.Outside.{Inner, HasCause, SameInner, no_inner};
 
-/// A failed write: the sink took no bytes, and counted a fault.
+/// A failed write: the sink took no bytes, and its fault count increased.
 #[derive(Clone, Copy, Debug, PartialEq, Eq)]
 pub struct WriteFailed;
 

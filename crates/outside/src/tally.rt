@@ -1,4 +1,4 @@
-//! Ghost state: a count and a log that only contracts and proofs read. They occupy no memory, and
+//! Ghost state: a sum and a log that only contracts and proofs read. They occupy no memory, and
 //! their functions do nothing at run time.
 ghost use Rattle.std.specs.Prelude.{◌≡◌, ◌+◌, ◌++◌, ◌∷◌, [], ℕ, List};
 ghost use Rattle.std.specs.Borrow.{ftrue};
@@ -7,7 +7,7 @@ ghost use Rattle.outside.specs.Reads.{ReadCall, read_call};
 use crate::shelf::ShelfFault;
 use std::marker::Model;
 
-/// A ghost sum. Contracts read it as `count`, which is unbounded.
+/// A ghost sum, which only contracts and proofs read. Its value `count` is unbounded.
 #[derive(Drop)]
 pub struct Tally {
     pub ghost count: { ℕ },
@@ -47,7 +47,7 @@ pub struct Call<'a> {
     pub outcome: Result<usize, ShelfFault>,
 }
 
-/// The ghost log of the reads of a shelf, in order. Contracts read it as `calls`.
+/// The ghost log of the reads of a shelf, in order. Only contracts and proofs read it, as `calls`.
 #[derive(Drop)]
 pub struct ReadLog {
     pub ghost calls: { List ReadCall },

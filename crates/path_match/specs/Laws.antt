@@ -20,7 +20,7 @@ RootAlone = (path : List ℕ) → Matches [] path ↔ (path ≡ codes "/")
 abbrev pub PathMatchesItself : Type 0
 PathMatchesItself = (text path : List ℕ) → is_path text ≡ true → is_path path ≡ true → Matches (components text) path ↔ (path ≡ text)
 
--- The pattern component `*` matches any component of a path.
+-- The pattern component `*` matches every component of a path.
 abbrev pub StarMatchesAny : Type 0
 StarMatchesAny = (bytes : List ℕ) → MatchesComponent (codes "*") bytes
 

@@ -1,5 +1,5 @@
--- Patterns of control group paths, which occur in rules files: components that may contain stars.
--- The file also defines the Boolean test whether a pattern matches a path.
+-- Defines patterns of control group paths, as they occur in rules files, and the Boolean test
+-- whether a pattern matches a path. The components of a pattern may contain stars.
 use Rattle.std.specs.Prelude.{ℕ, List, [], ◌∷◌, length, map, nat_lt, nat_le, ◌==◌, ◌&&◌, ◌||◌, not, Bool, true, false, if◌then◌else◌, codes, Result, Ok, Err}
 use Rattle.std.specs.List.{join_with_byte, list_all, list_any}
 use Rattle.std.specs.Str.{bytes_eq}
@@ -11,7 +11,7 @@ use Rattle.path_match.specs.declared.fault.PatternFault.TheVariants.{BadPattern,
 abbrev pub Pattern : Type 0
 Pattern = List (List ℕ)
 
--- The text without its first byte if this byte is a slash; otherwise the text.
+-- The text with its leading slash removed. A text without a leading slash is unchanged.
 abbrev pub after_slash : List ℕ → List ℕ
 after_slash [] = []
 after_slash (byte ∷ bytes) = if byte == 47 then bytes else byte ∷ bytes
@@ -25,18 +25,19 @@ components text = if bytes_eq text (codes "/") then [] else parts_at 47 (after_s
 abbrev pub is_pattern_byte : ℕ → Bool
 is_pattern_byte c = is_path_byte c || c == 42
 
--- Whether the bytes are a component of a pattern: one or more pattern bytes, but neither `.` nor
--- `..`.
+-- Whether the bytes are a component of a pattern: one or more pattern bytes, except the components
+-- `.` and `..`.
 abbrev pub is_pattern_component : List ℕ → Bool
 is_pattern_component part =
     nat_lt 0 (length part) && list_all is_pattern_byte part && not (bytes_eq part (codes ".")) && not (bytes_eq part (codes ".."))
 
--- Whether the text is a pattern: the root, or components with or without a slash before the first.
+-- Whether the text is a pattern: the root `/`, or components separated by slashes, with or without
+-- a leading slash.
 abbrev pub is_pattern : List ℕ → Bool
 is_pattern text = list_all is_pattern_component (components text)
 
 -- Parses patterns, which are separated by commas. The error is `BadPattern` if a part isn't a
--- pattern; otherwise `TooMany` if there are more than 16 parts.
+-- pattern. If all parts are patterns but there are more than 16, the error is `TooMany`.
 unfoldable pub patterns_of : List ℕ → Result (List Pattern) PatternFault
 patterns_of text =
     if list_all is_pattern (parts_at 44 text) then (if nat_le (length (parts_at 44 text)) 16
@@ -44,13 +45,14 @@ patterns_of text =
 
 -- ---- matching
 
--- Whether the test passes for at least one suffix of the bytes. The suffixes include all bytes and
--- the empty list.
+-- Whether the test passes for at least one suffix of the bytes. The whole list and the empty list
+-- are suffixes too.
 abbrev pub some_end : (List ℕ → Bool) → List ℕ → Bool
 some_end test [] = test []
 some_end test (byte ∷ bytes) = test (byte ∷ bytes) || some_end test bytes
 
--- Whether the first byte is `c`, and the test passes for the bytes after it.
+-- Whether the first byte is `c` and the test passes for the remaining bytes. False for the empty
+-- list.
 abbrev pub begins : ℕ → (List ℕ → Bool) → List ℕ → Bool
 begins c test [] = false
 begins c test (byte ∷ bytes) = c == byte && test bytes

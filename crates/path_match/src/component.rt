@@ -18,8 +18,8 @@ struct LastStar {
     end: usize,
 }
 
-// Returns whether a component of a pattern matches a component of a path: a star matches any bytes,
-// including none, and any other byte matches itself.
+// Returns whether a component of a pattern matches a component of a path. A star matches zero or
+// more bytes, and any other byte matches itself.
 //
 // If the pattern after the last star doesn't match, the search lets that star match one more byte.
 // Earlier stars keep their shortest match, because a longer match would only leave fewer bytes to
@@ -54,15 +54,15 @@ fn matches_component(pattern: &[u8], bytes: &[u8]) -> bool
     are_stars(&pattern[at..])
 }
 
-// Returns whether the pattern consists of stars only, so that it matches the empty string.
+// Returns whether the pattern consists of stars only. Only such a pattern matches the empty string.
 fn are_stars(pattern: &[u8]) -> bool
     ensures { result ≡ list_all (λ c. c == 42) pattern.now }
 {
     pattern.iter().all(|c| *c == b'*')
 }
 
-// Returns whether the pattern and the path have equally many components, and each component of the
-// pattern matches the path's component at its position.
+// Returns whether the pattern and the path have the same number of components, and each component
+// of the pattern matches the path's component at its position.
 fn matches_components(pattern: &[u8], path: &[u8]) -> bool
     ensures { result ≡ are_matches (parts_at 47 pattern.now) (parts_at 47 path.now) }
 {
@@ -81,7 +81,8 @@ fn matches_components(pattern: &[u8], path: &[u8]) -> bool
     found.next_part().is_none()
 }
 
-/// Returns whether a pattern matches a path. Both are given as text. The root has no components.
+/// Returns whether a single pattern matches a path. Both arguments are texts, such as
+/// `/system.slice/*`.
 #[tactic(auto, unfolding(crate::specs::Match::components))]
 pub fn matches_pattern(pattern: &[u8], path: &[u8]) -> bool
     ensures { result ≡ are_matches (components pattern.now) (components path.now) }

@@ -1,11 +1,11 @@
-//! The causes for which a text is not a list of patterns.
+//! The reasons why a text isn't a list of patterns.
 //!
 //! The syntax of patterns is defined in `form`.
 
-/// The cause for which a text isn't a list of patterns.
+/// The reason why a text isn't a list of patterns.
 #[derive(Clone, Copy, Debug, PartialEq, Eq)]
 pub enum PatternFault {
-    /// A part between commas isn't a pattern.
+    /// At least one part isn't a pattern. Commas separate the parts.
     BadPattern,
     /// There are more than 16 patterns.
     TooMany,

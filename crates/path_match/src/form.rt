@@ -1,4 +1,4 @@
-//! Tests whether a text is a list of patterns, by the syntax of patterns.
+//! Tests whether a text has the syntax of a list of patterns.
 //!
 //! The test whether a pattern matches a path is in `component`.
 ghost use Rattle.std.specs.Prelude.{◌≡◌, length, nat_le};
@@ -26,8 +26,8 @@ fn are_pattern_bytes(part: &[u8]) -> bool
     part.iter().all(|c| is_pattern_byte(*c))
 }
 
-// Returns whether the bytes are a component of a pattern: one or more pattern bytes, but neither
-// `.` nor `..`.
+// Returns whether the bytes are a component of a pattern: one or more pattern bytes, except the
+// components `.` and `..`.
 fn is_component(part: &[u8]) -> bool
     ensures { result ≡ is_pattern_component part.now }
 {
@@ -37,7 +37,7 @@ fn is_component(part: &[u8]) -> bool
     are_pattern_bytes(part)
 }
 
-// Returns whether each part between slashes is a component of a pattern.
+// Returns whether all parts of the text are components of a pattern. Slashes separate the parts.
 fn are_components(text: &[u8]) -> bool
     ensures { result ≡ list_all is_pattern_component (parts_at 47 text.now) }
 {
@@ -50,7 +50,7 @@ fn are_components(text: &[u8]) -> bool
     true
 }
 
-/// Returns the text without its first byte if that is a slash.
+/// Removes a leading slash. Returns the text unchanged if it doesn't begin with a slash.
 pub fn after_slash(text: &[u8]) -> &[u8]
     ensures { result.now ≡ after_slash text.now }
 {
@@ -60,8 +60,8 @@ pub fn after_slash(text: &[u8]) -> &[u8]
     }
 }
 
-// Returns whether the text is a pattern: the root, or components with or without a slash before the
-// first.
+// Returns whether the text is a pattern: the root `/`, or components separated by slashes, with or
+// without a leading slash.
 #[tactic(auto, unfolding(crate::specs::Match::components))]
 fn is_pattern(text: &[u8]) -> bool
     ensures { result ≡ is_pattern text.now }
@@ -72,7 +72,7 @@ fn is_pattern(text: &[u8]) -> bool
     are_components(after_slash(text))
 }
 
-/// Returns whether each part between commas is a pattern.
+/// Returns whether all parts of the text are patterns. Commas separate the parts.
 pub fn are_patterns(text: &[u8]) -> bool
     ensures { result ≡ list_all is_pattern (parts_at 44 text.now) }
 {
@@ -85,7 +85,7 @@ pub fn are_patterns(text: &[u8]) -> bool
     true
 }
 
-/// Returns whether there are at most 16 parts between commas.
+/// Returns whether the text has at most 16 parts. Commas separate the parts.
 pub fn are_few(text: &[u8]) -> bool
     ensures { result ≡ nat_le (length (parts_at 44 text.now)) 16 }
 {

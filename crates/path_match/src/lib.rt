@@ -1,7 +1,7 @@
 //! Patterns of control group paths, which occur in rules files: this crate parses them, matches
 //! them against paths, and writes them.
 //!
-//! It doesn't know which groups exist, or what a caller does with a match.
+//! It doesn't know which groups exist, or how a caller uses a match.
 #![tactic(auto)]
 
 mod component;

@@ -15,7 +15,7 @@ use psi_base::{Fault, NoMemory, Parts, Path, Text};
 use std::alloc::Global;
 use std::marker::Model;
 
-/// A list of 1 to 16 patterns of paths. Contracts see each pattern as a list of components; the
+/// A list of 1 to 16 patterns of paths. Contracts see each pattern as a list of components. The
 /// root's pattern has no components. A component consists of letters, digits, stars and `_.@:-\`,
 /// and is neither `.` nor `..`. There is no limit on its length or on the number of components.
 #[derive(Drop)]
@@ -36,8 +36,7 @@ impl Model for Patterns {
     ghost invariant = { λ p. patterns_of p.text ≡ Ok (map components (parts_at 44 p.text)) };
 }
 
-// Returns whether at least one of the patterns, which are separated by commas in `text`, matches
-// the path.
+// Returns whether at least one pattern in `text` matches the path. Commas separate the patterns.
 #[tactic(auto, unfolding(crate::specs::Match::is_match))]
 fn some_matches(text: &[u8], path: &[u8]) -> bool
     ensures { result ≡ is_match (map components (parts_at 44 text.now)) path.now }
@@ -54,8 +53,8 @@ fn some_matches(text: &[u8], path: &[u8]) -> bool
 impl Patterns {
     /// Parses patterns, which are separated by commas. A pattern is `/` (the root), or components
     /// separated by `/`, with or without a leading `/`. Fails with `BadPattern` if a part isn't a
-    /// pattern, otherwise with `TooMany` if there are more than 16 parts. `NoMemory` is possible
-    /// only if the text is valid.
+    /// pattern. Fails with `TooMany` if all parts are patterns but there are more than 16.
+    /// `NoMemory` is possible only if the text is valid.
     #[tactic(auto, unfolding(crate::specs::Match::patterns_of))]
     pub fn read(alloc: Global, text: &str) -> Result<Patterns, Fault<PatternFault>>
         ensures exact { Gives result (patterns_of text.now) }
@@ -73,8 +72,8 @@ impl Patterns {
     }
 
     /// Returns whether at least one of the patterns matches the path. A pattern matches if it has
-    /// as many components as the path and each component matches; a star matches any bytes within
-    /// one component, including none.
+    /// the same number of components as the path and each component matches. A star matches zero or
+    /// more bytes within one component.
     pub fn matches(&self, path: &Path) -> bool
         ensures relation { IsTrue result ↔ MatchesSome self.now path.now }
         ensures test { result ≡ is_match self.now path.now }
@@ -91,7 +90,7 @@ impl Patterns {
         Ok(Patterns { text })
     }
 
-    /// Appends the text of the patterns, separated by commas. The root is written as `/`; any other
+    /// Appends the text of the patterns, separated by commas. The root is written as `/`. Any other
     /// pattern has no slash before its first component. After `NoMemory` the bytes are unchanged.
     pub fn write(&self, to: &mut Vec<u8>) -> Result<(), NoMemory>
         ensures text { OnOk result (to.new.items ≡ to.old.items ++ patterns_text self.now) }

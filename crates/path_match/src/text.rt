@@ -8,7 +8,7 @@ ghost use Rattle.path_match.specs.Match.{components, pattern_text, patterns_text
 use crate::form::after_slash;
 use psi_base::{NoMemory, Parts};
 
-// Returns the text of a pattern without a slash before its first component.
+// Returns the text of a pattern without its leading slash. The root's pattern `/` is unchanged.
 #[tactic(auto, using(crate::proofs::Texts::slashless))]
 fn slashless(pattern: &[u8]) -> &[u8]
     ensures { result.now ≡ pattern_text (components pattern.now) }

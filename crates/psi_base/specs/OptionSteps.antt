@@ -1,4 +1,4 @@
--- The sequence of parsing steps, each of which may fail with `None`.
+-- An operator that chains parsing steps, each of which may fail with `None`.
 use Rattle.std.specs.Prelude.{Option, None, Some}
 
 -- Applies the parsing step `f` to the value of the previous step. If the previous step failed, the

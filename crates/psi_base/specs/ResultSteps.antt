@@ -1,4 +1,4 @@
--- The sequence of parsing steps, each of which may fail with a fault.
+-- An operator that chains parsing steps, each of which may fail with a fault.
 use Rattle.std.specs.Prelude.{Result, Ok, Err}
 
 -- Applies the parsing step `f` to the value of the previous step. If the previous step failed, the

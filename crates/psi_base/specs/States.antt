@@ -17,7 +17,8 @@ state_number CpuSome = 4
 state_number CpuFull = 5
 state_number Nonidle = 6
 
--- The state that the line of a resource at level `some` or `full` reports.
+-- The state whose time a line of a pressure file reports. The parameters are the resource of the
+-- file and the level of the line (`some` or `full`).
 abbrev pub state_of : Res → Level → State
 state_of Io SomeStalled = IoSome
 state_of Io FullStalled = IoFull

@@ -52,7 +52,8 @@ resources = Io ∷ Memory ∷ Cpu ∷ []
 abbrev pub levels : List Level
 levels = SomeStalled ∷ FullStalled ∷ []
 
--- The first value in a list whose word (by the function `name`) is `text`, or `None`.
+-- `named name values text`: the first of the values for which the function `name` returns the word
+-- `text`, or `None` if there is no such value.
 abbrev pub named : {A : Type 0} → (A → List ℕ) → List A → List ℕ → Option A
 named name [] text = None
 named name (x ∷ xs) text = if bytes_eq text (name x) then Some x else named name xs text

@@ -1,4 +1,4 @@
-//! The contents of a trace: times, tasks, processors, groups and events; and the causes for which a
+//! The contents of a trace (times, tasks, processors, groups and events), and the reasons why a
 //! line of a trace is rejected.
 use crate::path::Path;
 use crate::text::NoMemory;
@@ -19,9 +19,10 @@ pub struct Cpu(pub u32);
 #[derive(Clone, Copy, Debug, PartialEq, Eq, PartialOrd, Ord)]
 pub struct Slot(pub u32);
 
-/// The states of a group on one processor whose durations are measured. They are numbered from 0 in
-/// this order, which is the order of the kernel's `enum psi_states` without irq pressure. `Some`
-/// means that at least one task is stalled, `Full` that no task makes progress.
+/// A state of a group on one processor. A group may be in several states at the same time, and the
+/// time in each state is measured. The states are numbered from 0 in this order, which is the order
+/// of the kernel's `enum psi_states` without irq pressure. In a state with `Some` in its name, at
+/// least one task is stalled. In a state with `Full` in its name, no task makes progress.
 #[derive(Clone, Copy, Debug, PartialEq, Eq)]
 pub enum State {
     /// A task waits for IO.
@@ -30,7 +31,8 @@ pub enum State {
     IoFull,
     /// A task is in a memory stall.
     MemSome,
-    /// A task is in a memory stall, and so is the running task, or every ready or running task.
+    /// A task is in a memory stall. In addition, the running task is in a memory stall, or every
+    /// task that is ready or running is in a memory stall.
     MemFull,
     /// A ready task waits for the processor.
     CpuSome,
@@ -40,14 +42,14 @@ pub enum State {
     Nonidle,
 }
 
-/// The resources with a pressure file: `io.pressure`, `memory.pressure` and `cpu.pressure`.
+/// The resources that have a pressure file.
 #[derive(Clone, Copy, Debug, PartialEq, Eq)]
 pub enum Res {
-    /// Input and output.
+    /// Input and output (`io.pressure`).
     Io,
-    /// Memory.
+    /// Memory (`memory.pressure`).
     Memory,
-    /// Processor time.
+    /// Processor time (`cpu.pressure`).
     Cpu,
 }
 
@@ -63,20 +65,20 @@ pub enum Level {
 /// How a running task leaves its processor at a `switch`.
 #[derive(Clone, Copy, Debug, PartialEq, Eq)]
 pub enum How {
-    /// The task stays ready.
+    /// `preempt`: the task stays ready.
     Preempt,
-    /// The task blocks, but not for IO.
+    /// `sleep`: the task blocks, but not for IO.
     Sleep,
-    /// The task blocks until IO completes.
+    /// `iowait`: the task blocks until IO completes.
     IoWait,
-    /// The task exits.
+    /// `exit`: the task exits.
     Exit,
-    /// No task was running.
+    /// `idle`: no task was running.
     Idle,
 }
 
-/// Whether a group is killed before or after other groups, like oomd's `oomd_prefer` and
-/// `oomd_avoid`.
+/// The kill preference of a group: the group may be killed before or after other groups. oomd calls
+/// the preferences `oomd_prefer` and `oomd_avoid`.
 #[derive(Clone, Copy, Debug, PartialEq, Eq)]
 pub enum Preference {
     /// The group is killed before groups without this preference.
@@ -87,7 +89,7 @@ pub enum Preference {
     Avoid,
 }
 
-/// What the event of a line does. Each verb of the trace format has one variant.
+/// What an event does. Each verb of the trace format has one variant.
 #[derive(Drop)]
 pub enum Act {
     /// `group`: a group is created.
@@ -185,11 +187,11 @@ pub struct Event {
     pub act: Act,
 }
 
-/// A trigger that a trace sets on a group's pressure. It fires if the stall time in a window
-/// reaches the threshold.
+/// A trigger that a trace sets on a group's pressure. The trigger fires if the stall time in a
+/// window reaches the threshold.
 #[derive(Clone, Copy, Debug, PartialEq, Eq)]
 pub struct TriggerSpec {
-    /// The time at which it is set, in ns.
+    /// The time (ns) at which the trigger is set.
     pub at: Ns,
     /// The slot of the watched group.
     pub slot: Slot,
@@ -203,26 +205,26 @@ pub struct TriggerSpec {
     pub window_us: u64,
 }
 
-/// The causes for which a line of a trace is rejected. If several causes apply, the first in the
-/// order of precedence is reported. That order is defined in psi_spec, and differs from the order
-/// of the variants.
+/// The causes for which a line of a trace is rejected. If several causes apply, the first cause in
+/// the order of precedence is reported. That order is defined in psi_spec, and differs from the
+/// order of the variants.
 #[derive(Clone, Copy, Debug, PartialEq, Eq)]
 pub enum Cause {
     /// The first line isn't a header, or is incomplete.
     BadHeader,
     /// A line has more than 512 bytes before its newline.
     LineTooLong,
-    /// The part before the first space isn't a number that fits in 64 bits.
+    /// The time, which is the first word of a line, isn't a number that fits in 64 bits.
     BadTime,
-    /// The second part is missing or isn't a verb.
+    /// The verb, which is the second word of a line, is missing or unknown.
     BadVerb,
-    /// The leftmost wrong field. The field with this number after the verb, from 1, is missing,
-    /// malformed or superfluous.
+    /// A field is missing, malformed or superfluous. The number is the position of the leftmost
+    /// such field. Fields are numbered from 1 after the verb.
     BadField(u8),
     /// The time is before the time of the previous line.
     TimeBack,
-    /// The time is after the latest time of a trace with this tick length, which is a million
-    /// ticks.
+    /// The time is later than a million ticks of the replay's tick length, which is the end of the
+    /// longest trace.
     TimeTooLate,
     /// The trace already has 4,000,000 event lines.
     TooManyEvents,
@@ -240,7 +242,7 @@ pub enum Cause {
     UnknownTask,
     /// A new task has the pid of a live task.
     TaskExists,
-    /// A task is created although 65,536 tasks are live.
+    /// A task is created although 65,536 tasks are live, the maximum number.
     TooManyTasks,
     /// The header declares no processor with this number.
     BadCpu,
@@ -249,12 +251,13 @@ pub enum Cause {
     /// The next task of a switch isn't ready on that processor, or a task that migrates isn't
     /// ready.
     NotReady,
-    /// The task that is woken is ready or running, so it isn't blocked.
+    /// The task that is woken isn't blocked: it is ready or running.
     NotBlocked,
-    /// A switch says `idle` although a task is running, or another way to leave although no task is
-    /// running.
+    /// A switch says `idle` although a task is running, or says that the running task leaves
+    /// although no task is running.
     WrongHow,
-    /// The task that enters a memory stall, or that exits, is in a memory stall.
+    /// The task that enters a memory stall is already in a memory stall, or the task that exits is
+    /// in a memory stall.
     InStall,
     /// The task that leaves a memory stall isn't in a memory stall.
     NotInStall,
@@ -262,14 +265,14 @@ pub enum Cause {
     TooManyTriggers,
     /// The threshold or the window of a trigger is out of range.
     BadWindow,
-    /// A line or bytes follow the `end` line.
+    /// Bytes follow the `end` line, which must be the last line.
     AfterEnd,
     /// The input ends before an `end` line.
     NoEnd,
-    /// Interrupts took more than a second, or more than the time since the processor's last `irq`
-    /// line.
+    /// The interrupt time of an `irq` line is more than a second, or more than the time since the
+    /// processor's previous `irq` line.
     IrqTooLong,
-    /// The accounting of the root is switched.
+    /// The accounting of the root is switched on or off.
     RootPressure,
     /// The trace already has 65,536 `pressure` lines.
     TooManyPressures,
@@ -289,7 +292,7 @@ pub struct Refusal {
 pub enum Fault<E> {
     /// The input is rejected, for this cause.
     Refused(E),
-    /// Out of memory.
+    /// Memory ran out.
     NoMemory(NoMemory),
 }
 
@@ -326,7 +329,7 @@ impl<E> From<AllocError> for Fault<E> {
     }
 }
 
-/// Converts a failed allocation. The value that could not be stored is dropped.
+/// Converts a failed allocation to [`Fault::NoMemory`]. Drops the value that could not be stored.
 impl<E, T: Drop> From<AllocFailed<T>> for Fault<E> {
     ghost use Rattle.std.specs.Prelude.{◌≡◌};
     ghost use Rattle.psi_base.specs.Gives.{out_of_memory};

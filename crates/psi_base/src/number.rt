@@ -1,12 +1,14 @@
-//! Parses decimal numbers. Each number has exactly one spelling, so leading zeros are rejected.
+//! Parses decimal numbers. [`read_number`] rejects leading zeros, so each number has exactly one
+//! spelling. [`read_digits`] allows them.
 ghost use Rattle.std.specs.Prelude.{◌≡◌, ◌^◌, ◌<◌, ℕ, IfSome, IfNone, decimal};
 ghost use Rattle.psi_base.specs.Number.{number_of, digits_of};
 
-/// If a number is below this limit, one more decimal digit fits in 64 bits.
+/// If a number is below this limit, any digit can be appended and the result still fits in 64 bits.
 const LARGE: u64 = u64::MAX / 10;
 
 /// Parses decimal digits as a number up to 2^64 - 1. Leading zeros are allowed, and an empty slice
-/// has the value 0. Returns `None` if and only if a byte isn't a digit or the number is greater.
+/// has the value 0. Returns `None` if and only if a byte isn't a digit or the number is greater
+/// than 2^64 - 1.
 #[tactic(auto, using(crate::proofs::NumberLaws::steps))]
 pub fn read_digits(bytes: &[u8]) -> Option<u64>
     ensures { result ≡ digits_of bytes.now }

@@ -5,7 +5,8 @@ ghost use Rattle.psi_base.specs.Path.{parts_at};
 
 use std::marker::Model;
 
-// Returns the part before the first separator, and the bytes after that separator, if any.
+// Splits `bytes` at the first byte `at`, the separator. Returns the bytes before the separator, and
+// the bytes after it. If there is no separator, returns all bytes and `None`.
 #[tactic(auto, using(crate::proofs::PartLaws::parts))]
 fn cut(bytes: &[u8], at: u8) -> (&[u8], Option<&[u8]>)
     ensures { MatchOption result.1 (parts_at at bytes.now ≡ result.0.now ∷ [])
@@ -19,9 +20,9 @@ fn cut(bytes: &[u8], at: u8) -> (&[u8], Option<&[u8]>)
     (bytes, None)
 }
 
-/// An iterator over the remaining parts of a text, in order. The parts are separated by the byte
-/// `AT`: there is one more part than separators, and two adjacent separators have an empty part
-/// between them. Contracts see the list of parts.
+/// An iterator over the parts of a text, in order. The parts are separated by the byte `AT`. There
+/// is one more part than separators, and two adjacent separators have an empty part between them.
+/// In contracts, the iterator is the list of the parts that it has not yet returned.
 #[derive(Drop)]
 pub struct Parts<'a, const AT: u8> {
     rest: &'a [u8],
@@ -38,7 +39,7 @@ impl<'a, const AT: u8> Model for Parts<'a, AT> {
 }
 
 impl<'a, const AT: u8> Parts<'a, AT> {
-    /// Makes an iterator over all parts of the text. An empty text has one empty part.
+    /// Creates an iterator over all parts of the text. An empty text has one empty part.
     pub fn new(text: &'a [u8]) -> Self
         ensures { result ≡ parts_at AT text.now }
     {

@@ -38,7 +38,7 @@ fn is_component(part: &[u8]) -> bool
     are_path_bytes(part)
 }
 
-// Returns whether the text is at most 32 components, separated by slashes.
+// Returns whether the text consists of 1 to 32 components that are separated by slashes.
 fn are_components(text: &[u8]) -> bool
     ensures { result ≡ (nat_le (length (parts_at 47 text.now)) 32
         && list_all is_component (parts_at 47 text.now)) }
@@ -57,7 +57,8 @@ fn are_components(text: &[u8]) -> bool
     parts.next_part().is_none()
 }
 
-// Returns whether the text is the root, or a slash followed by components, in at most 255 bytes.
+// Returns whether the bytes are a path: `/`, or at most 255 bytes with a slash before each
+// component.
 #[tactic(auto, unfolding(crate::specs::Path::is_path))]
 fn is_path(bytes: &[u8]) -> bool
     ensures { result ≡ is_path bytes.now }
@@ -73,7 +74,7 @@ fn is_path(bytes: &[u8]) -> bool
 
 /// The path of a control group, at most 255 bytes: `/`, or 1 to 32 components, each after a `/`. A
 /// component is one or more letters, digits and characters of `_.@:-\`, but neither `.` nor `..`.
-/// Paths are ordered by their bytes; contracts see the list of bytes.
+/// Paths are ordered by their bytes. In contracts, a path is the list of its bytes.
 #[derive(Drop)]
 pub struct Path {
     bytes: Vec<u8>,
@@ -98,8 +99,8 @@ impl Path {
         })
     }
 
-    /// Parses a path. Returns `None` if and only if the bytes aren't a path. Allocates memory only
-    /// for a path.
+    /// Parses a path, and copies it to newly allocated memory. Returns `None` if and only if the
+    /// bytes aren't a path. No memory is allocated for `None`.
     pub fn read(alloc: Global, bytes: &[u8]) -> Result<Option<Path>, NoMemory>
         ensures read { IfOk result (λ read. MatchOption read (is_path bytes.now ≡ false)
             (λ path. (is_path bytes.now ≡ true) × (path ≡ bytes.now))) }

@@ -5,8 +5,8 @@ ghost use Rattle.psi_base.specs.States.{state_number, state_of};
 use crate::event::{Level, Res, State};
 
 impl State {
-    /// Returns the state that a line of a pressure file reports. Its number is below the number of
-    /// `Nonidle`.
+    /// Returns the state whose time a line of a pressure file reports, for the resource `res` of
+    /// the file and the level `level` of the line. The result is never `Nonidle`.
     pub fn of(res: Res, level: Level) -> State
         ensures value { result ≡ state_of res level }
         ensures pressure { state_number result < 6 }

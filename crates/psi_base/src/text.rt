@@ -1,10 +1,11 @@
-//! A type for any bytes, which contracts see as a list, and the out-of-memory error.
+//! A type for texts of arbitrary bytes, and the out-of-memory error.
 ghost use Rattle.std.specs.Prelude.{◌≡◌, ℕ, List, IfOk};
 
 use std::alloc::{AllocError, AllocFailed, Global};
 use std::marker::Model;
 
-/// Out of memory. The field is private, so only a failed allocation makes this error.
+/// The error that memory ran out. The field is private, so only a failed allocation creates this
+/// error.
 #[derive(Clone, Copy, Debug, PartialEq, Eq)]
 pub struct NoMemory {
     refused: (),
@@ -16,14 +17,14 @@ impl From<AllocError> for NoMemory {
     }
 }
 
-/// Converts a failed allocation. The value that could not be stored is dropped.
+/// Converts a failed allocation to [`NoMemory`]. Drops the value that could not be stored.
 impl<T: Drop> From<AllocFailed<T>> for NoMemory {
     fn from(_failed: AllocFailed<T>) -> Self {
         NoMemory { refused: () }
     }
 }
 
-/// A text: any bytes, which contracts see as a list.
+/// A text: arbitrary bytes. In contracts, a text is the list of its bytes.
 #[derive(Drop)]
 pub struct Text {
     bytes: Vec<u8>,
@@ -36,7 +37,7 @@ impl Model for Text {
 }
 
 impl Text {
-    /// Makes a text: a copy of the bytes in newly allocated memory.
+    /// Creates a text from a copy of the bytes in newly allocated memory.
     pub fn make(alloc: Global, bytes: &[u8]) -> Result<Text, NoMemory>
         ensures { IfOk result (λ t. t ≡ bytes.now) }
     {

@@ -20,7 +20,7 @@ impl How {
         }
     }
 
-    /// Returns the way to leave a processor that the word spells, or `None`.
+    /// Returns the way to leave a processor that `word` spells, or `None` for any other word.
     pub fn of(word: &[u8]) -> Option<How>
         ensures { result ≡ named how_word hows word.now }
     {
@@ -44,7 +44,7 @@ impl Preference {
         }
     }
 
-    /// Returns the preference that the word spells, or `None`.
+    /// Returns the preference that `word` spells, or `None` for any other word.
     pub fn of(word: &[u8]) -> Option<Preference>
         ensures { result ≡ named preference_word preferences word.now }
     {
@@ -68,7 +68,7 @@ impl Res {
         }
     }
 
-    /// Returns the resource that the word spells, or `None`.
+    /// Returns the resource that `word` spells, or `None` for any other word.
     pub fn of(word: &[u8]) -> Option<Res>
         ensures { result ≡ named resource_word resources word.now }
     {
@@ -91,7 +91,7 @@ impl Level {
         }
     }
 
-    /// Returns the level that the word spells, or `None`.
+    /// Returns the level that `word` spells, or `None` for any other word.
     pub fn of(word: &[u8]) -> Option<Level>
         ensures { result ≡ named level_word levels word.now }
     {

@@ -1,6 +1,6 @@
--- The changes that an event makes on the processors that it touches, which are together called a
--- *touch*, and how counts of tasks follow from such changes. An *act* is what an event does, such
--- as a switch or a fork.
+-- Defines the changes that an event causes on the processors that it affects (together called a
+-- *touch*), and how counts of tasks follow from such changes. What an event does, such as a switch
+-- or a fork, is called its *act*.
 use Rattle.std.specs.Prelude.{◌≡◌, ◌≢◌, ℕ, ◌+◌, ◌≤◌, ◌<◌, List, [], ◌∷◌, length, ◌==◌, Bool, true, false, if◌then◌else◌, unwrap_or, Option, None, Some, IfSome}
 use Rattle.std.specs.List.{list_any}
 use Rattle.std.specs.FinMap as tasks_by
@@ -25,21 +25,22 @@ use Rattle.psi_spec.specs.LegalGroups.{AreGroups}
 use Rattle.psi_spec.specs.Collected.{slot_named}
 use Rattle.psi_counts.specs.Counts.{how_many, counts_among, IsRunningKnown}
 
--- ---- the task whose counts an act changes
+-- ---- the task whose counts an event changes
 
--- The optional task after the update `f`. `None` remains `None`.
+-- `changed f task`: the task after the update `f`, or `None` if there is no task.
 abbrev pub changed : (Task → Task) → Option Task → Option Task
 changed f None = None
 changed f (Some task) = Some (f task)
 
--- The optional running task after it left its processor in the way `how`; `None` if there is no
--- task or if the task exited.
+-- `left_if how task`: the running task `task` after it leaves its processor in the way `how`. The
+-- result is `None` if no task was running or the task exited.
 abbrev pub left_if : How → Option Task → Option Task
 left_if how None = None
 left_if how (Some task) = left_by how task
 
--- The task whose counts an effect changes, in its state after the effect; `None` if the effect
--- changes no task or the task doesn't exist after it.
+-- `after_effect groups tasks effect`: the task whose counts the effect of an event changes, in its
+-- state after the event. `groups` and `tasks` are those before the event. The result is `None` if
+-- the effect changes no task's counts, or if the task has exited.
 abbrev pub after_effect : List GroupLife → Tasks → Effect → Option Task
 after_effect groups tasks none = None
 after_effect groups tasks (forks pid path cpu) = Some (new_task groups path cpu.0)
@@ -51,50 +52,55 @@ after_effect groups tasks (switches cpu next how) = left_if how (task_part (runn
 after_effect groups tasks (interrupts cpu) = None
 after_effect groups tasks switches_account = None
 
--- The task whose counts the act changes, in its state after the act; `None` if the act changes no
--- task or the task doesn't exist after it.
+-- `task_after groups tasks act`: the task whose counts an event changes, in its state after the
+-- event. `act` is what the event does, and `groups` and `tasks` are those before the event. The
+-- result is `None` if the event changes no task's counts, or if the task has exited.
 abbrev pub task_after : List GroupLife → Tasks → Act → Option Task
 task_after groups tasks act = after_effect groups tasks (effect_of act)
 
--- ---- accounting
+-- ---- pressure accounting on or off
 
--- The slot of the group whose accounting is switched, and whether it is on after the switch; `None`
--- if accounting isn't switched. `switched` contains the path of the group.
+-- `account_named groups switched`: the slot of the group whose pressure accounting is turned on or
+-- off, and whether it is on afterwards. `switched` has the path of the group, and whether its
+-- accounting is turned on. If `switched` is `None`, the result is `None`.
 abbrev pub account_named : List GroupLife → Option (List ℕ × Bool) → Option (Slot × Bool)
 account_named groups None = None
 account_named groups (Some switched) = Some (slot_named groups switched.0, switched.1)
 
--- The slot of the group whose accounting an act switches, and whether it is on after the act;
--- `None` if the act switches no accounting.
+-- `account_of groups what`: the slot of the group whose pressure accounting an event turns on or
+-- off, and whether it is on afterwards. `what` is what the event does. The result is `None` if the
+-- event doesn't turn accounting on or off.
 abbrev pub account_of : List GroupLife → Act → Option (Slot × Bool)
 account_of groups what = account_named groups (names what).switched
 
--- Whether the accounting of the group in slot `slot` is on after an optional switch of accounting,
--- given whether it is on before the switch (`on`).
+-- `on_with slot on account`: whether the pressure accounting of the group in slot `slot` is on
+-- after an event. `on` is whether it was on before. `account` is the group whose accounting the
+-- event turns on or off, or `None`.
 abbrev pub on_with : ℕ → Bool → Option (Slot × Bool) → Bool
 on_with slot on None = on
 on_with slot on (Some account) = if account.0.0 == slot then account.1 else on
 
--- ---- changes
+-- ---- the change of one processor
 
--- The slot of an optional task, and the counts of this task alone, if the task is on processor
--- `cpu`; otherwise `None`.
+-- `part cpu task`: the slot of the task's group and the counts of this single task, if the task is
+-- on processor `cpu`. The result is `None` if there is no task, or if the task is on another
+-- processor.
 abbrev pub part : ℕ → Option Task → Option (Slot × Counts)
 part cpu None = None
 part cpu (Some task) = if is_at cpu task then Some (task.slot, counts_among (task ∷ [])) else None
 
--- The slot of an optional running task, and whether the task is in a memory stall; `None` if no
--- task is running.
+-- The slot of a running task, and whether the task is in a memory stall. `None` if no task is
+-- running.
 abbrev pub shown : Option (ℕ × Task) → Option (Slot × Bool)
 shown None = None
 shown (Some running) = Some (running.1.slot, running.1.stalled)
 
--- The change that an event makes on processor `cpu`. `old` and `new` are the task whose counts the
--- event changes, before and after the event: the change subtracts the counts of `old` from the
--- group of `old` and its ancestors, and adds the counts of `new` to the group of `new` and its
--- ancestors. `tasks` are the tasks after the event, which include the processor's running task. The
--- change also contains the time (ns) that interrupts took on the processor, and the group whose
--- accounting the event switches, if any; a switch of accounting doesn't change the running task.
+-- `change_on groups event old new tasks cpu`: the change that an event causes on processor `cpu`.
+-- `old` and `new` are the task whose counts the event changes, before and after the event. The
+-- change subtracts the counts of `old` from the group of `old` and its ancestors, and adds the
+-- counts of `new` to the group of `new` and its ancestors. `tasks` are all tasks after the event,
+-- including the processor's running task. The change also contains the time (ns) that interrupts
+-- took on the processor, and the group whose accounting the event turns on or off, if any.
 abbrev pub change_on : List GroupLife → Event → Option Task → Option Task → Tasks → ℕ → Change
 change_on groups event old new tasks cpu = record {
   at = event.at;
@@ -105,8 +111,8 @@ change_on groups event old new tasks cpu = record {
   account = account_of groups event.act;
 }
 
--- The change that an event makes on processor `cpu` in world `w`; `None` if the event doesn't touch
--- the processor.
+-- `change_of w event cpu`: the change that an event causes on processor `cpu`, or `None` if the
+-- event doesn't affect the processor. `w` is the scheduler state (`World`) before the event.
 unfoldable pub change_of : World → Event → ℕ → Option Change
 change_of w event cpu =
     if touched event.act (before w.tasks event.act) cpu
@@ -114,43 +120,45 @@ change_of w event cpu =
     (tasks_after w.groups w.tasks event.act) cpu)
     else None
 
--- ---- touches
+-- ---- the changes of all processors
 
--- The change in `touched` if it is a change of processor `cpu`; otherwise `other`.
+-- `known_first cpu touched other`: the change in `touched` if it is a change of processor `cpu`,
+-- otherwise `other`.
 abbrev pub known_first : ℕ → Option (Cpu × Change) → Option Change → Option Change
 known_first cpu None other = other
 known_first cpu (Some touched) other = if touched.0.0 == cpu then Some touched.1 else other
 
--- The change of processor `cpu` that a touch contains, if any. A switch of accounting is not
--- considered.
+-- `change_by_cpu touch cpu`: the change of processor `cpu` among the first and second change of an
+-- event, or `None`. A change that turns accounting on or off isn't considered.
 abbrev pub change_by_cpu : Touch → ℕ → Option Change
 change_by_cpu touch cpu = known_first cpu touch.first (known_first cpu touch.second None)
 
--- The change of a processor at time `at` (ns) that switches a group's accounting, while the task
--- `current` is running.
+-- `account_change at current account`: the change of a processor at time `at` (ns) that turns a
+-- group's accounting on or off. `current` is the running task, which stays the same.
 abbrev pub account_change : ℕ → Option (Slot × Bool) → Slot × Bool → Change
 account_change at current account = record { at = at; minus = None; plus = None; current = current; irq = 0; account = Some account }
 
--- The change that switches a group's accounting if there is a switch; otherwise `other`.
+-- `account_first at current account other`: the change at time `at` (ns) that turns a group's
+-- accounting on or off. If `account` is `None`, the event doesn't turn accounting on or off, and
+-- the result is `other`.
 abbrev pub account_first : ℕ → Option (Slot × Bool) → Option (Slot × Bool) → Option Change → Option Change
 account_first at current None other = other
 account_first at current (Some account) other = Some (account_change at current account)
 
--- The change that a touch at time `at` (ns) makes on processor `cpu`. `current` is the processor's
--- running task after the event.
+-- `change_known at current touch cpu`: the change of processor `cpu` among the changes of an event
+-- at time `at` (ns), or `None`. `current` is the processor's running task after the event.
 abbrev pub change_known : ℕ → Option (Slot × Bool) → Touch → ℕ → Option Change
 change_known at current touch cpu = account_first at current touch.account (change_by_cpu touch cpu)
 
--- If there is a second change, there is also a first change, and the two are changes of different
+-- If an event has a second change, it also has a first change, and the two are changes of different
 -- processors.
 abbrev pub IsBeside : Option (Cpu × Change) → Option (Cpu × Change) → Type 0
 IsBeside first None = Unit {0}
 IsBeside None (Some second) = ⊥
 IsBeside (Some first) (Some second) = first.0 ≢ second.0
 
--- `touch` contains the changes that the event makes on the `cpus` processors, at most one on each.
--- Its switch of accounting is the switch of the event; if there is a switch, the touch has no other
--- change.
+-- `touch` contains the changes that the event causes on the `cpus` processors, at most one on each.
+-- If the event turns a group's accounting on or off, `touch` contains this and no other change.
 pub record IsTouch (cpus : ℕ) (w : World) (event : Event) (touch : Touch) : Type 0 where
   pub known : (cpu : ℕ) → cpu < cpus → change_known event.at (shown (running_on (after_event w event).tasks cpu)) touch cpu
       ≡ change_of w event cpu
@@ -158,31 +166,32 @@ pub record IsTouch (cpus : ℕ) (w : World) (event : Event) (touch : Touch) : Ty
   pub on_with : touch.account ≡ account_of w.groups event.act
   pub alone : IfSome touch.account (λ account. (touch.first ≡ None) × (touch.second ≡ None))
 
--- `IsSo` holds for the number of the processor and the change, for each change in a touch.
+-- `AllTouched IsSo touch`: `IsSo cpu change` holds for the first and the second change of an event,
+-- if present. `cpu` is the number of the processor that the change affects.
 abbrev pub AllTouched : (ℕ → Change → Type 0) → Touch → Type 0
 AllTouched IsSo touch = IfSome touch.first (λ first. IsSo first.0.0 first.1) × IfSome touch.second (λ second. IsSo second.0.0 second.1)
 
--- Each slot that a change names is below `slots`.
+-- Each slot that a change names is less than `slots`.
 pub record HasSlotsBelow (slots : ℕ) (change : Change) : Type 0 where
   pub minus : IfSome change.minus (λ part. part.0.0 < slots)
   pub plus : IfSome change.plus (λ part. part.0.0 < slots)
   pub current : IfSome change.current (λ current. current.0.0 < slots)
   pub account : IfSome change.account (λ account. account.0.0 < slots)
 
--- Each of the four counts is at most `most`.
+-- Each of the four counts of tasks is at most `most`.
 pub record AreAtMost (most : ℕ) (counts : Counts) : Type 0 where
   pub io : counts.io ≤ most
   pub stalled : counts.stalled ≤ most
   pub running : counts.running ≤ most
   pub stalled_running : counts.stalled_running ≤ most
 
--- The change neither subtracts nor adds counts.
+-- The change neither subtracts nor adds counts of tasks.
 abbrev pub HasNoCounts : Change → Type 0
 HasNoCounts change = (change.minus ≡ None) × (change.plus ≡ None)
 
 -- A change subtracts the counts of at most one task, and adds the counts of at most one task. Its
--- interrupt time is at most one second. A change with interrupt time, or with a switch of
--- accounting, has no counts. No change has both interrupt time and a switch of accounting.
+-- interrupt time is at most one second. A change with interrupt time has no counts. A change that
+-- turns accounting on or off has neither counts nor interrupt time.
 pub record IsOfOne (change : Change) : Type 0 where
   pub minus : IfSome change.minus (λ part. AreAtMost 1 part.1)
   pub plus : IfSome change.plus (λ part. AreAtMost 1 part.1)
@@ -190,20 +199,21 @@ pub record IsOfOne (change : Change) : Type 0 where
   pub alone : 0 < change.irq → HasNoCounts change
   pub account : IfSome change.account (λ account. HasNoCounts change × (change.irq ≡ 0))
 
--- ---- how counts follow changes
+-- ---- how counts follow from changes
 
--- The counts of no tasks: all are 0.
+-- The counts of an empty list of tasks: all counts are 0.
 abbrev pub no_counts : Counts
 no_counts = record { io = 0; stalled = 0; running = 0; stalled_running = 0 }
 
--- The counts in `part` that apply to the group in slot `slot`: all counts if their task is in the
--- group or in a descendant, otherwise no counts.
+-- `on_chain parents slot part`: the counts in `part` that apply to the group in slot `slot`. If the
+-- task of these counts is in the group or in a descendant, the result is all its counts. Otherwise
+-- all counts are 0.
 abbrev pub on_chain : List (Option ℕ) → ℕ → Option (Slot × Counts) → Counts
 on_chain parents slot None = no_counts
 on_chain parents slot (Some part) = if is_under parents part.0.0 slot then part.1 else no_counts
 
--- The counts `new` follow from the counts `old`: for each count, `new` plus the subtracted count
--- `minus` is `old` plus the added count `plus`.
+-- `Follows old minus plus new`: a change that subtracts `minus` and adds `plus` turns the counts
+-- `old` into the counts `new`. For each count, `new + minus = old + plus`.
 pub record Follows (old minus plus new : Counts) : Type 0 where
   pub io : new.io + minus.io ≡ old.io + plus.io
   pub stalled : new.stalled + minus.stalled ≡ old.stalled + plus.stalled
@@ -214,29 +224,32 @@ pub record Follows (old minus plus new : Counts) : Type 0 where
 abbrev pub RunsOnce : Tasks → Type 0
 RunsOnce tasks = (cpu : ℕ) → how_many (is_running_on cpu) (tasks_by.values tasks) ≤ 1
 
--- Whether a processor's optional running task is in the group in slot `slot` or in a descendant.
+-- Returns whether a processor's running task is in the group in slot `slot` or in a descendant.
+-- False if no task is running.
 abbrev pub is_current_in : List (Option ℕ) → ℕ → Option (Slot × Bool) → Bool
 is_current_in parents slot None = false
 is_current_in parents slot (Some current) = is_under parents current.0.0 slot
 
--- Whether a processor's optional running task is in a memory stall.
+-- Returns whether a processor's running task is in a memory stall. False if no task is running.
 abbrev pub is_current_stalled : Option (Slot × Bool) → Bool
 is_current_stalled None = false
 is_current_stalled (Some current) = current.1
 
--- The interrupt time (ns) that a change takes from the group in slot `slot`: the interrupt time of
--- the change if the running task is in the group or in a descendant, otherwise 0.
+-- `irq_in parents slot change`: the interrupt time (ns) that a change charges to the group in slot
+-- `slot`. It is the interrupt time of the change if the running task is in the group or in a
+-- descendant, otherwise 0.
 abbrev pub irq_in : List (Option ℕ) → ℕ → Change → ℕ
 irq_in parents slot change = if is_current_in parents slot change.current then change.irq else 0
 
--- The processor of each task is below `cpus`, and its slot is below `slots`.
+-- `AreWithin cpus slots tasks`: the number of each task's processor is less than `cpus`, and the
+-- number of its slot is less than `slots`.
 abbrev pub AreWithin : ℕ → ℕ → Tasks → Type 0
 AreWithin cpus slots tasks = (pid : ℕ) → IfSome (task_of tasks pid) (λ task. (task.cpu.0 < cpus) × (task.slot.0 < slots))
 
--- ---- laws
+-- ---- laws of changes
 
--- A legal event changes the counts of each group on each processor: the task's counts before the
--- event are subtracted, and its counts after the event are added.
+-- A legal event changes the counts of each group on each processor: it subtracts the counts of the
+-- affected task before the event, and adds the task's counts after the event.
 abbrev pub CountsFollow : Type 0
 CountsFollow = (limits : Limits) (w : World) (event : Event) → cause_of limits w event ≡ None → (parents : List (Option ℕ)) (cpu slot : ℕ) →
     Follows (counts_among (tasks_in parents cpu slot w.tasks)) (on_chain parents slot (part cpu (before w.tasks event.act)))
@@ -252,18 +265,18 @@ abbrev pub RunsOnceKept : Type 0
 RunsOnceKept =
     (limits : Limits) (w : World) (event : Event) → cause_of limits w event ≡ None → RunsOnce w.tasks → RunsOnce (after_event w event).tasks
 
--- The running task of a processor determines whether one of a group's tasks is running there, and
+-- The running task of a processor determines whether a task of a group is running there, and
 -- whether that task is in a memory stall.
 abbrev pub CurrentShows : Type 0
 CurrentShows = (tasks : Tasks) → RunsOnce tasks → (parents : List (Option ℕ)) (cpu slot : ℕ) →
     IsRunningKnown (tasks_in parents cpu slot tasks) (is_current_in parents slot (shown (running_on tasks cpu)))
     (is_current_stalled (shown (running_on tasks cpu)))
 
--- The change that a legal event makes on a processor contains all values on which the times of a
+-- The change that a legal event causes on a processor contains all values on which the times of a
 -- group there depend. The counts of the group follow from the counts that the change subtracts and
--- adds. The change's running task determines whether one of the group's tasks runs after the event.
--- The change's interrupt time applies to the group if one of the group's tasks runs before the
--- event. The change's switch of accounting is the switch of the event.
+-- adds. The change's running task determines whether a task of the group runs after the event. The
+-- change's interrupt time applies to the group if a task of the group runs before the event. The
+-- change turns a group's accounting on or off if the event does so.
 abbrev pub ChangeShows : Type 0
 ChangeShows =
     (limits : Limits) (w : World) (event : Event) → cause_of limits w event ≡ None → RunsOnce w.tasks → (cpu : ℕ) (change : Change)
@@ -275,17 +288,17 @@ ChangeShows =
     × (irq_in parents slot change ≡ (if list_any runs (tasks_in parents cpu slot w.tasks) then irq_time_by cpu event.act else 0))
     × (change.account ≡ account_of w.groups event.act)
 
--- An event touches the processor that it names, and the processors of the task that it changes,
--- both before and after the event.
+-- An event affects the processor that it names, the processor of the changed task before the event,
+-- and the processor of that task after the event.
 abbrev pub TouchesItsOwn : Type 0
 TouchesItsOwn = (w : World) (event : Event) (cpu : ℕ) →
     ((names event.act).cpu ≡ Some cpu → touched event.act (before w.tasks event.act) cpu ≡ true)
     × (is_some_and (before w.tasks event.act) (is_at cpu) ≡ true → touched event.act (before w.tasks event.act) cpu ≡ true)
     × (is_some_and (task_after w.groups w.tasks event.act) (is_at cpu) ≡ true → touched event.act (before w.tasks event.act) cpu ≡ true)
 
--- A legal event that doesn't touch a processor changes neither the counts of a group nor the
--- running task there. The event reports no interrupt time on this processor, and switches no
--- group's accounting.
+-- A legal event that doesn't affect a processor changes neither the counts of a group nor the
+-- running task there. The event reports no interrupt time on this processor, and doesn't turn
+-- accounting on or off.
 abbrev pub StaysUntouched : Type 0
 StaysUntouched =
     (limits : Limits) (w : World) (event : Event) → cause_of limits w event ≡ None → (cpu : ℕ) → change_of w event cpu ≡ None
@@ -296,8 +309,8 @@ StaysUntouched =
     × (irq_time_by cpu event.act ≡ 0)
     × (account_of w.groups event.act ≡ None)
 
--- Whether a group's accounting is on after a legal event follows from whether it was on before and
--- from the event's switch of accounting.
+-- Two facts determine whether a group's accounting is on after a legal event: whether it was on
+-- before the event, and whether the event turns it on or off.
 abbrev pub OnByAccount : Type 0
 OnByAccount = (limits : Limits) (w : World) (event : Event) → cause_of limits w event ≡ None → AreGroups w.groups → (slot : ℕ) →
     is_on (after_event w event).groups slot ≡ on_with slot (is_on w.groups slot) (account_of w.groups event.act)
@@ -313,9 +326,10 @@ WithinKept =
     (limits : Limits) (w : World) (event : Event) → cause_of limits w event ≡ None → AreWithin limits.cpus (length w.groups) w.tasks
     → AreWithin limits.cpus (length w.groups) (after_event w event).tasks
 
--- The change of a legal event is at the event's time and names only slots of existing groups. Its
--- processor exists, but a change that switches accounting is defined for every processor number. A
--- change has the counts of one task, or interrupt time, or a switch of accounting.
+-- The change of a legal event has the event's time and names only slots of existing groups. Its
+-- processor exists, but a change that turns accounting on or off is defined for every processor
+-- number. A change has the counts of one task, only interrupt time, or only an on/off switch of
+-- accounting.
 abbrev pub ChangesAreWithin : Type 0
 ChangesAreWithin =
     (limits : Limits) (w : World) (event : Event) → cause_of limits w event ≡ None → AreWithin limits.cpus (length w.groups) w.tasks

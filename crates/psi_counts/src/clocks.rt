@@ -1,22 +1,22 @@
-//! Laws of the states that follow from counts, of masks (sets of states) and of clocks. Each
-//! function has an empty body: its contract is the law.
+//! Laws about the states that counts of tasks determine, about masks (sets of states), and about
+//! clocks. Each function has an empty body: its contract is the law.
 
 ghost use Rattle.psi_counts.specs.Clock.{NoLongerThanClock, SameAfterChange, SameMaskIsNoChange, WordsShowClock};
 ghost use Rattle.psi_counts.specs.Counts.{CountsShow, MasksAreTheirStates};
 
-/// If at most one task of a list is running, the kernel's rules over counts give the states that
-/// are defined over the tasks.
+/// If at most one task of a list is running, the states that follow from the counts of the tasks
+/// are the states that psi_spec defines by the tasks themselves.
 pub fn law_states_by_counts()
     ensures { CountsShow }
 {}
 
-/// Masks that contain the same states are equal.
+/// Two masks are equal if they contain the same states.
 pub fn law_masks()
     ensures { MasksAreTheirStates }
 {}
 
-/// If a clock's time in a state doesn't exceed the clock's start, the time in the state up to any
-/// later time doesn't exceed that time.
+/// The time in a state is never longer than the time that has passed since the start of the trace.
+/// If this is true at a clock's start, it is also true at any later time.
 pub fn law_clock_times()
     ensures { NoLongerThanClock }
 {}
@@ -28,7 +28,8 @@ pub fn law_same_clocks()
     ensures same_after { SameAfterChange }
 {}
 
-/// Two clocks whose words are equal are equal.
+/// Two clocks are equal if their words are equal. The words of a clock are its times, its mask and
+/// its start.
 pub fn law_clock_words()
     ensures { WordsShowClock }
 {}

@@ -1,12 +1,14 @@
-//! Counts of tasks and clocks: the states that psi_spec defines over the tasks of a world follow
-//! from counts of tasks, and a clock adds up the time in each state. So a program needn't visit all
-//! tasks at every event.
+//! Counts of tasks, and clocks that add up the time that a group spends in each state.
 //!
-//! In `specs/`: `Counts` (states from counts of tasks, masks), `Clock`, `Touch` (the changes that
-//! an event makes on processors), `Legal` (the invariant of legal worlds).
+//! psi_spec defines the states of a group by the group's tasks. This crate derives the same states
+//! from counts of tasks, so a program needn't visit all tasks at every event.
 //!
-//! This crate has types, definitions and laws, but no code that runs. plan_laws has the laws over a
-//! whole trace; cpu_clock and slot_clocks have the code.
+//! The folder `specs/` contains `Counts` (the states that follow from counts of tasks, and masks),
+//! `Clock`, `Touch` (the changes that an event causes on processors), and `Legal` (the invariant of
+//! the scheduler state after legal events).
+//!
+//! This crate has types, definitions and laws, but no code that runs. plan_laws has the laws about
+//! a whole trace. cpu_clock and slot_clocks have the code.
 #![tactic(auto)]
 
 mod changes;

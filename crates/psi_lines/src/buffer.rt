@@ -1,5 +1,5 @@
-//! A buffer of fixed capacity for the bytes that a reader of lines has read but not returned yet.
-//! The module `lines` searches the bytes for newlines.
+//! A buffer of fixed capacity. It contains the bytes that a reader of lines has read but not
+//! returned yet. The module `lines` searches these bytes for newlines.
 ghost use Rattle.std.specs.Prelude.{◌≡◌, ◌+◌, ◌-◌, ◌<◌, ◌≤◌, ◌⊎◌, [], ℕ, List, length, drop, take, IfOk, OnErr, IsErrOf, Some, None};
 ghost use Rattle.outside.specs.Outside.{content_of, IsAbsent, counts_of, count_read};
 ghost use Rattle.outside.specs.Reads.{ReadsFrom};
@@ -16,8 +16,8 @@ use std::marker::Model;
 /// buffered, no read is needed.
 pub(crate) const LINE: usize = 513;
 
-/// The capacity (bytes) of a buffer: room for an incomplete line, and for at least 65,536 bytes of
-/// the next read.
+/// The capacity (bytes) of a buffer. It has room for an incomplete line and for the next read,
+/// which can be at least 65,536 bytes long.
 pub(crate) const ROOM: usize = 66048;
 
 // Moves the bytes from index `start` to index `end` to the start of the buffer.
@@ -31,9 +31,9 @@ fn move_to_front(bytes: &mut [u8], start: usize, end: usize)
     }
 }
 
-/// The bytes that were read but not returned yet. In contracts this is a list of bytes. The list is
-/// stored in `bytes[start..end]`. The allocation never grows, and the bytes are moved to its start
-/// only when a read is needed.
+/// The bytes that a reader of lines has read but not returned yet. In contracts this is a list of
+/// bytes, which is stored in `bytes[start..end]`. The allocation never grows. The bytes are moved
+/// to its start only when a read is needed.
 #[derive(Drop)]
 pub(crate) struct Buffer {
     bytes: Vec<u8>,
@@ -91,8 +91,9 @@ impl Buffer {
         &self.bytes[start..start + count]
     }
 
-    /// Reads once from the shelf at offset `at` (bytes), and appends the bytes. Returns the number
-    /// of bytes read; 0 means the end of the file. On failure the buffer is unchanged.
+    /// Reads once from the file store (`Shelf`) at offset `at` (bytes), and appends the bytes.
+    /// Returns the number of bytes read; 0 means the end of the file. On failure the buffer is
+    /// unchanged.
     pub(crate) fn read_more<S: Shelf>(
         &mut self,
         shelf: &mut S,

@@ -1,6 +1,6 @@
-//! Reads the lines of a file on a shelf, for any pieces in which the shelf returns the file's
-//! bytes. A shelf is the trait for input files. This crate doesn't parse the lines; its users do
-//! (`trace_file`, `ftrace_import`).
+//! Reads a file line by line. The trait `Shelf`, a store of files by name, returns the file's bytes
+//! in pieces of any size. This crate doesn't parse the lines; its users do (`trace_file`,
+//! `ftrace_import`).
 //!
 //! A line ends with a newline (byte 10) and has at most 512 bytes before it. [`Lines::next`]
 //! returns the lines in order, [`Lines::next_bytes`] lends each line from the buffer, and

@@ -1,5 +1,5 @@
 //! A reader of the lines of a file. It splits the file's bytes at newlines and doesn't interpret
-//! the lines. The pieces in which the shelf returns the bytes don't matter.
+//! the lines. The result doesn't depend on how many bytes each read returns.
 ghost use Rattle.std.specs.Prelude.{◌≡◌, ◌≢◌, ◌+◌, ◌-◌, ◌*◌, ◌<◌, ◌≤◌, ◌^◌, ◌↔◌, [], ◌++◌, ℕ, List, length, drop, IfOk, OnErr, IsErrOf, IsTrue, MatchOption, slice_index, Ok, Some, None, false};
 ghost use Rattle.psi_base.specs.Memory.{no_memory};
 ghost use Rattle.outside.specs.Outside.{content_of, IsAbsent, counts_of};
@@ -24,14 +24,14 @@ pub struct Line {
     pub bytes: Text,
 }
 
-/// Why a line can't be returned.
+/// The reason why the next line can't be returned.
 #[derive(Clone, Copy, Debug, PartialEq, Eq)]
 pub enum LineFault {
-    /// The line with this number has more than 512 bytes before its newline.
+    /// The line with this number is too long: it has more than 512 bytes before its newline.
     TooLong(u32),
     /// The input ends inside the line with this number, after 1 to 512 of its bytes.
     Cut(u32),
-    /// The shelf has no file with this name.
+    /// No file has this name.
     NoFile,
     /// A read failed.
     ReadFault,
@@ -68,8 +68,8 @@ impl From<ShelfFault> for LineFault {
 /// `Reader`: the file's name, the number of the next line, the buffered bytes (read but not
 /// returned yet), and the offset of the next read.
 ///
-/// After a fault the reader is still at the start of the same line and has all its buffered bytes,
-/// so the next call continues at this line.
+/// After a fault the reader is still at the start of the same line and keeps its buffered bytes. So
+/// the next call continues at this line.
 #[derive(Drop)]
 pub struct Lines {
     alloc: Global,
@@ -92,8 +92,8 @@ impl Model for Lines {
         × (l.at + 513 ≤ 513 * l.number + length l.buffered) × (length l.buffered ≤ 66048) };
 }
 
-// Returns the index of the first newline, or `None`. Only the first 513 bytes are searched, the
-// maximum length of a line with its newline.
+// Returns the index of the first newline, or `None`. Searches only the first 513 bytes, the maximum
+// length of a line with its newline.
 fn newline_in(buffered: &[u8]) -> Option<usize>
     ensures { MatchOption result ((k : ℕ) → k < length buffered.now → k < LINE
         → slice_index buffered.now k ≢ 10) (λ i. (i < length buffered.now) × (i < LINE)
@@ -104,7 +104,7 @@ fn newline_in(buffered: &[u8]) -> Option<usize>
 
 // Reads until the buffered bytes begin with a complete line. Returns the length (bytes) of the line
 // without its newline, or `None` at the end of the input. `number` is the number of the line, which
-// faults include.
+// is reported in faults.
 fn find_line<S: Shelf>(
     shelf: &mut S,
     name: &str,
@@ -176,7 +176,7 @@ impl Lines {
         })
     }
 
-    // Calls [`find_line`] for the next line. The reader stays at the start of this line.
+    // Finds the next line as [`find_line`] does. The reader stays at the start of this line.
     #[inline(always)]
     fn find<S: Shelf>(&mut self, shelf: &mut S) -> Result<Option<usize>, LineFault>
         requires { self.old.number < 2 ^ 32 }
@@ -218,9 +218,9 @@ impl Lines {
     /// Reads at most one full buffer beyond the returned lines. Reads nothing if the buffered bytes
     /// already determine the line.
     ///
-    /// Fails with `TooLong` exactly if the next 513 bytes contain no newline, and with `Cut`
-    /// exactly if the input ends inside a line of at most 512 bytes. Fails with `NoFile` or
-    /// `ReadFault` only if the shelf counted a missing file or a failed read in this call.
+    /// Fails with `TooLong` if and only if the next 513 bytes contain no newline, and with `Cut` if
+    /// and only if the input ends inside a line of at most 512 bytes. Fails with `NoFile` or
+    /// `ReadFault` only if the file store counted a missing file or a failed read in this call.
     /// `ReadFault` is possible only if no complete line is buffered.
     ///
     /// No program of this repository calls this function.
@@ -258,8 +258,8 @@ impl Lines {
         Ok(Some(Line { number, bytes }))
     }
 
-    /// Like [`Lines::next`], but lends the bytes from the buffer until the next call. Doesn't
-    /// allocate, so `NoMemory` isn't possible.
+    /// Returns the next line as [`Lines::next`] does, but lends its bytes from the buffer until the
+    /// next call. Doesn't allocate, so it never fails with `NoMemory`.
     pub fn next_bytes<S: Shelf>(&mut self, shelf: &mut S) -> Result<Option<&[u8]>, LineFault>
         requires { self.old.number < 2 ^ 32 }
         ensures unchanged { S.holds shelf.new ≡ S.holds shelf.old }
@@ -323,8 +323,8 @@ impl Lines {
         self.buffered.take_line(count);
     }
 
-    /// Whether the file has no bytes after the returned lines. Reads once if nothing is buffered,
-    /// otherwise not at all. Consumes no bytes.
+    /// Returns whether the file has no bytes after the returned lines. Reads once if nothing is
+    /// buffered, and not at all if bytes are buffered. Consumes no bytes.
     pub fn is_at_end<S: Shelf>(&mut self, shelf: &mut S) -> Result<bool, LineFault>
         ensures unchanged { S.holds shelf.new ≡ S.holds shelf.old }
         ensures same { (self.new.name ≡ self.old.name) × (self.new.number ≡ self.old.number) }

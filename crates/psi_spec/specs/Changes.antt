@@ -1,5 +1,5 @@
--- The events that change the state of a processor, and the stall times of a group after the first
--- `k` of those events (the *changes* of the processor).
+-- Defines the *changes* of a processor, which are the events that change the processor's state, and
+-- the stall times of a group after the first `k` changes.
 use Rattle.std.specs.Prelude.{ℕ, ◌-◌, ◌≤◌, List, [], ◌∷◌, length, map, take, filter, slice_get, slice_index_or, ◌==◌, ◌||◌, Bool, true, false, Option, None, Some}
 use Rattle.std.specs.List.{range_with_len}
 use Rattle.psi_base.specs.declared.event.Act.{Act}
@@ -10,11 +10,12 @@ use Rattle.psi_spec.specs.World.{Effect, forks, switches_account, interrupts, mo
 use Rattle.psi_spec.specs.World.{World, Tasks, task_of, task_part, running_on, after, up_to}
 use Rattle.psi_spec.specs.Stall.{stall, states}
 
--- ---- the processors that an act changes
+-- ---- the processors that an event changes
 
--- The only task whose counts an effect changes, in its state before the effect; `None` if there is
--- no such task. A switch changes only the counts of the task that leaves: the task that starts is
--- ready before and running after, and contributes equally to the counts.
+-- `before_effect tasks effect`: the existing task that `effect` changes, in its state before the
+-- effect, or `None`. An effect changes the task counts of groups through at most one existing task.
+-- For a switch this is the task that leaves the processor. The task that starts is ready before and
+-- running after, and contributes equally to the counts.
 abbrev pub before_effect : Tasks → Effect → Option Task
 before_effect tasks none = None
 before_effect tasks (forks pid path cpu) = None
@@ -25,20 +26,20 @@ before_effect tasks (switches cpu next how) = task_part (running_on tasks cpu.0)
 before_effect tasks (interrupts cpu) = None
 before_effect tasks switches_account = None
 
--- The only task whose counts an act (what an event does) changes, in its state before the act;
--- `None` if there is no such task.
+-- `before tasks what`: the existing task through which the event `what` changes the task counts of
+-- groups, in its state before the event, or `None` if there is no such task.
 abbrev pub before : Tasks → Act → Option Task
 before tasks what = before_effect tasks (effect_of what)
 
--- Whether `task` is assigned to processor `cpu`, blocked or not.
+-- Whether `task`, which may be blocked, is assigned to processor `cpu`.
 abbrev pub is_at : ℕ → Task → Bool
 is_at cpu task = task.cpu.0 == cpu
 
--- Whether an effect changes processor `cpu`, given the task `old` whose counts it changes. A fork
--- or a switch changes the processor that it names. Putting a task on a run queue changes the task's
--- old and new processors. A memory stall or a move to another group changes the task's own
--- processor. Interrupts change the processor whose running task they delay. Switching the
--- accounting of a group changes every processor.
+-- Whether an effect changes processor `cpu`. `old` is the changed task before the effect (see
+-- `before_effect`). A fork or a switch changes the processor that it names. Putting a task on a run
+-- queue changes the task's old and new processors. A memory stall or a move to another group
+-- changes the task's own processor. Interrupts change the processor whose running task they delay.
+-- Switching the accounting of a group changes every processor.
 abbrev pub touched_by : Effect → Option Task → ℕ → Bool
 touched_by none old cpu = false
 touched_by (forks pid path named) old cpu = named.0 == cpu
@@ -49,21 +50,21 @@ touched_by (switches named next how) old cpu = named.0 == cpu
 touched_by (interrupts named) old cpu = named.0 == cpu
 touched_by switches_account old cpu = true
 
--- Whether an act changes processor `cpu`, given the task `old` whose counts the act changes.
--- Requires that `cpu` is a processor of the machine: an act that changes every processor gives true
--- for any number.
+-- Whether an event changes processor `cpu`. `old` is the changed task before the event (see
+-- `before`). Requires that the machine has processor `cpu`: if an event changes every processor,
+-- the result is true for any number.
 abbrev pub touched : Act → Option Task → ℕ → Bool
 touched what old cpu = touched_by (effect_of what) old cpu
 
 -- ---- the changes of a processor
 
--- Whether an optional event changes processor `cpu` in world `w`. `None` changes nothing.
+-- `touches w event cpu`: whether the event changes processor `cpu`. `w` is the world (the tasks and
+-- groups) before the event. The result is false if `event` is `None`.
 abbrev pub touches : World → Option Event → ℕ → Bool
 touches w None cpu = false
 touches w (Some event) cpu = touched event.act (before w.tasks event.act) cpu
 
--- Whether event number `i` (from 1) changes processor `cpu` in the world after the events before
--- `i`.
+-- Whether event number `i` (from 1) of a trace changes processor `cpu`.
 abbrev pub is_change : ℕ → List Event → ℕ → Bool
 is_change cpu events i = touches (after (take (i - 1) events)) (slice_get events (i - 1)) cpu
 
@@ -92,7 +93,7 @@ count_at cpu events at = length (changes_of cpu (up_to events at))
 abbrev pub times_after : ℕ → ℕ → List Event → ℕ → ℕ → List ℕ
 times_after cpu slot events k at = map (λ state. stall state cpu slot (until_change cpu events k) at) states
 
--- The numbers are in non-decreasing order, and all are from `low` to `high`.
+-- The numbers never decrease, and each number is from `low` to `high`.
 abbrev pub RiseWithin : ℕ → List ℕ → ℕ → Type 0
 RiseWithin low [] high = low ≤ high
 RiseWithin low (number ∷ numbers) high = (low ≤ number) × RiseWithin number numbers high

@@ -1,5 +1,5 @@
--- Collects values from the events of a trace: a function of each event and the world before it
--- gives the values. The triggers of a trace are collected in this way.
+-- Collects values from the events of a trace, such as the triggers that the events set. A function
+-- computes the values from an event and from the world (the tasks and groups) before the event.
 use Rattle.std.specs.Prelude.{ℕ, List, [], ◌∷◌, ◌++◌, unwrap_or}
 use Rattle.psi_base.specs.declared.event.Slot.{Slot}
 use Rattle.psi_base.specs.declared.event.Act.{Act}
@@ -9,8 +9,8 @@ use Rattle.psi_base.specs.declared.event.TriggerSpec.{TriggerSpec}
 use Rattle.psi_spec.specs.declared.machine.GroupLife.{GroupLife}
 use Rattle.psi_spec.specs.World.{World, after_event, first_world, slot_of}
 
--- The values that `shows` gives for each event in the world before the event, in the order of the
--- events. `w` is the world before the first event.
+-- The values that `shows` computes from each event and the world before the event, in the order of
+-- the events. `w` is the world (the tasks and groups) before the first event.
 abbrev pub values_from : {A : Type 0} → (World → Event → List A) → World → List Event → List A
 values_from shows w [] = []
 values_from shows w (event ∷ events) = shows w event ++ values_from shows (after_event w event) events
@@ -19,10 +19,10 @@ values_from shows w (event ∷ events) = shows w event ++ values_from shows (aft
 abbrev pub slot_named : List GroupLife → List ℕ → Slot
 slot_named groups path = record { 0 = unwrap_or (slot_of groups path) 0 }
 
--- ---- triggers
+-- ---- the triggers of a trace
 
--- The trigger that an act (what an event does) sets at time `at` (ns), as a list of at most one
--- element.
+-- The trigger that an event at time `at` (ns) sets, as a list. The list is empty if the event sets
+-- no trigger.
 abbrev pub trigger_by : ℕ → List GroupLife → Act → List TriggerSpec
 trigger_by at groups (act.Trigger path res level threshold_us window_us) =
     record { at = at; slot = slot_named groups path; res = res; level = level; threshold_us = threshold_us; window_us = window_us } ∷ []

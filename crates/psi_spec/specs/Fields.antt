@@ -27,7 +27,7 @@ pub data Kind : Type 0 where
   level : Kind
   account : Kind
 
--- The type of the values of fields of a kind.
+-- The type of a field's value, for each kind of field.
 abbrev pub Value : Kind → Type 0
 Value pid = Pid
 Value next = Option Pid
@@ -69,7 +69,7 @@ abbrev pub account_word : Bool → List ℕ
 account_word true = codes "on"
 account_word false = codes "off"
 
--- The bytes by which a line spells a value of a field of kind `kind`.
+-- The text of a field's value in an event line, for a field of kind `kind`.
 abbrev pub word : (kind : Kind) → Value kind → List ℕ
 word pid task = decimal task.0
 word next task = next_word task
@@ -88,17 +88,18 @@ abbrev pub IsAmong : {A : Type 0} → A → List A → Type 0
 IsAmong x [] = ⊥
 IsAmong x (y ∷ ys) = (x ≡ y) ⊎ IsAmong x ys
 
--- The optional number if it is present and satisfies `holds`; otherwise `None`.
+-- `accepted_if holds number`: the optional number if it is present and satisfies the condition
+-- `holds`, or `None` if not.
 abbrev pub accepted_if : (ℕ → Bool) → Option ℕ → Option ℕ
 accepted_if holds None = None
 accepted_if holds (Some n) = if holds n then Some n else None
 
--- The number that the word `text` spells in decimal if the number satisfies `holds`; otherwise
--- `None`.
+-- Parses the word `text` as a decimal number that satisfies the condition `holds`. The result is
+-- `None` if the word isn't such a number.
 abbrev pub number_in : (ℕ → Bool) → List ℕ → Option ℕ
 number_in holds text = accepted_if holds (number_of text)
 
--- The task with pid `n`, or no task for n = 0.
+-- The task with pid `n`, or `None` for n = 0.
 abbrev pub task_or_none : ℕ → Option Pid
 task_or_none n = if nat_lt 0 n then Some (record { 0 = n }) else None
 
@@ -106,7 +107,8 @@ task_or_none n = if nat_lt 0 n then Some (record { 0 = n }) else None
 abbrev pub accounts : List Bool
 accounts = true ∷ false ∷ []
 
--- The value of a kind that a word spells, or `None` if the word spells no value of this kind.
+-- Parses a word as the value of a field of kind `kind`. The result is `None` if the word spells no
+-- value of this kind.
 unfoldable pub value_of : (kind : Kind) → List ℕ → Option (Value kind)
 value_of pid text = option_map (λ n. let task : Pid = record { 0 = n } in task) (number_in (λ n. nat_lt 0 n && nat_lt n (2 ^ 32)) text)
 value_of next text = option_map task_or_none (number_in (λ n. nat_lt n (2 ^ 32)) text)

@@ -13,7 +13,7 @@ use Rattle.psi_base.specs.ResultSteps.{◌>>=◌}
 use Rattle.psi_spec.specs.Fields.{Kind, Value, InRange, word, IsAmong, value_of, named}
 use Rattle.psi_spec.specs.Fields as kind
 
--- The words, separated by one space each.
+-- Joins the words with single spaces.
 abbrev pub joined : List (List ℕ) → List ℕ
 joined [] = []
 joined (text ∷ []) = text
@@ -67,19 +67,19 @@ pub data Verb : Type 0 where
   Pressure : Verb
   End : Verb
 
--- The syntax of a verb: its word, the kinds of its fields, and the function from the values of the
--- fields to the act.
+-- The syntax of the event lines with one verb: the verb's word, the kinds of the fields, and the
+-- function from the values of the fields to the act (what the event does).
 pub record Form : Type 0 where
   pub word : List ℕ
   pub kinds : List Kind
   pub act : Maker kinds
 
 -- Makes the syntax of a verb from its word, the kinds of its fields, and the function from the
--- values of the fields to the act.
+-- values of the fields to the act (what the event does).
 abbrev pub form : (text : List ℕ) (kinds : List Kind) → Maker kinds → Form
 form text kinds act = record { word = text; kinds = kinds; act = act }
 
--- The table of verbs, which gives the syntax of each verb.
+-- The table of verbs: the syntax of each verb.
 abbrev pub form_of : Verb → Form
 form_of Group = form (codes "group") (kind.path ∷ []) act.Group
 form_of Remove = form (codes "rmgroup") (kind.path ∷ []) act.Remove
@@ -98,7 +98,7 @@ form_of Irq = form (codes "irq") (kind.cpu ∷ kind.number ∷ []) act.Irq
 form_of Pressure = form (codes "pressure") (kind.path ∷ kind.account ∷ []) act.Pressure
 form_of End = form (codes "end") [] act.End
 
--- The word of a verb, as a line spells it.
+-- The word for a verb in an event line.
 abbrev pub verb_word : Verb → List ℕ
 verb_word verb = (form_of verb).word
 
@@ -124,16 +124,16 @@ abbrev pub Values : List Kind → Type 0
 Values [] = Unit {0}
 Values (k ∷ ks) = Value k × Values ks
 
--- An act, represented by its verb and the values of its fields.
+-- What an event does, represented by the event's verb and the values of its fields.
 pub record Phrase : Type 0 where
   pub verb : Verb
   pub values : Values (kinds_of verb)
 
--- The phrase with a given verb and given values.
+-- Makes the phrase with this verb and these values. A phrase represents what an event does.
 abbrev pub phrase : (verb : Verb) → Values (kinds_of verb) → Phrase
 phrase verb values = record { verb = verb; values = values }
 
--- Decomposes an act into its verb and the values of its fields.
+-- Decomposes an act (what an event does) into its verb and the values of its fields.
 abbrev pub phrase_of : Act → Phrase
 phrase_of (act.Group path) = phrase Group (path, tt)
 phrase_of (act.Remove path) = phrase Remove (path, tt)
@@ -152,9 +152,9 @@ phrase_of (act.Irq cpu ns) = phrase Irq (cpu, (ns, tt))
 phrase_of (act.Pressure path on) = phrase Pressure (path, (on, tt))
 phrase_of act.End = phrase End tt
 
--- ---- spelling
+-- ---- the spelling of event lines
 
--- The spellings of the values of the fields of kinds `ks`, in order.
+-- The words for the values of fields of the kinds `ks`, in order.
 abbrev pub field_words : (ks : List Kind) → Values ks → List (List ℕ)
 field_words [] values = []
 field_words (k ∷ ks) values = word k values.0 ∷ field_words ks values.1
@@ -164,15 +164,15 @@ abbrev pub AreInRange : (ks : List Kind) → Values ks → Type 0
 AreInRange [] values = Unit {0}
 AreInRange (k ∷ ks) values = InRange k values.0 × AreInRange ks values.1
 
--- The words by which a line spells an act: its verb, followed by the values of its fields.
+-- The words of an event line after its time: the verb, followed by the values of the fields.
 abbrev pub act_words : Act → List (List ℕ)
 act_words what = verb_word (phrase_of what).verb ∷ field_words (kinds_of (phrase_of what).verb) (phrase_of what).values
 
--- The spelling of an event as a line without its newline; each event has exactly one spelling.
+-- The line of an event, without its newline. Each event has exactly one line.
 unfoldable pub spelling : Event → List ℕ
 spelling event = joined (decimal event.at ∷ act_words event.act)
 
--- The values of the fields of an act are in range.
+-- The values of an event's fields are in range.
 abbrev pub ActFits : Act → Type 0
 ActFits what = AreInRange (kinds_of (phrase_of what).verb) (phrase_of what).values
 
@@ -185,10 +185,10 @@ pub record Fits (event : Event) : Type 0 where
 abbrev pub IsKnown : List Verb → Event → Type 0
 IsKnown verbs event = IsAmong (phrase_of event.act).verb verbs
 
--- ---- parsing
+-- ---- parsing of header lines and event lines
 
--- The value `x` with the remaining words, or the cause that field number `i` is bad if there is no
--- value.
+-- `or_bad i value words`: the value with the remaining `words`. If `value` is `None`, the result is
+-- the cause that field number `i` is bad.
 abbrev pub or_bad : {A : Type 0} → ℕ → Option A → List (List ℕ) → Result (A × List (List ℕ)) Cause
 or_bad i None words = Err (cause.BadField i)
 or_bad i (Some x) words = Ok (x, words)
@@ -199,8 +199,8 @@ abbrev pub field : ℕ → (k : Kind) → List (List ℕ) → Result (Value k ×
 field i k [] = Err (cause.BadField i)
 field i k (text ∷ words) = or_bad i (value_of k text) words
 
--- Parses the words as fields of the kinds of the list, numbered from `i`, and passes their values
--- to `make`. The error names the leftmost bad field, which may be missing or superfluous.
+-- Parses the words as fields of the kinds `ks`, numbered from `i`, and applies `make` to the values
+-- of the fields. The error names the leftmost field that is malformed, missing or superfluous.
 abbrev pub made_from : ℕ → (ks : List Kind) → Maker ks → List (List ℕ) → Result Act Cause
 made_from i [] made [] = Ok made
 made_from i [] made (text ∷ words) = Err (cause.BadField i)
@@ -208,7 +208,7 @@ made_from i (k ∷ ks) make words = do
   first ← field i k words
   made_from (i + 1) ks (make first.0) first.1
 
--- Parses the words as the fields of `verb`, and returns the act.
+-- Parses the words as the fields of `verb`. The result is what the event does.
 unfoldable pub act_from : Verb → List (List ℕ) → Result Act Cause
 act_from verb words = made_from 1 (kinds_of verb) (form_of verb).act words
 
@@ -216,7 +216,8 @@ act_from verb words = made_from 1 (kinds_of verb) (form_of verb).act words
 unfoldable pub verb_of : List Verb → List ℕ → Option Verb
 verb_of verbs text = named verb_word verbs text
 
--- Parses the fields of an optional verb. The cause is BadVerb if the verb is `None`.
+-- `act_in verb words`: parses the words as the fields of the verb. The error is BadVerb if `verb`
+-- is `None`.
 abbrev pub act_in : Option Verb → List (List ℕ) → Result Act Cause
 act_in None words = Err cause.BadVerb
 act_in (Some verb) words = act_from verb words
@@ -226,8 +227,8 @@ unfoldable pub act_at : List Verb → List (List ℕ) → Result Act Cause
 act_at verbs [] = Err cause.BadVerb
 act_at verbs (text ∷ words) = act_in (verb_of verbs text) words
 
--- Parses the verb and the fields of an event at an optional time (ns). The cause is BadTime if the
--- time is `None`.
+-- `event_in verbs at words`: parses the verb and the fields of an event at time `at` (ns). The
+-- error is BadTime if `at` is `None`.
 abbrev pub event_in : List Verb → Option ℕ → List (List ℕ) → Result Event Cause
 event_in verbs None words = Err cause.BadTime
 event_in verbs (Some at) words = do
@@ -252,7 +253,7 @@ header_line head = header (version_number head.version) head.cpus
 abbrev pub headers_of : Version → List Header
 headers_of version = map (λ cpus. let head : Header = record { version = version; cpus = cpus } in head) (range_with_len 1 64)
 
--- Parses a line as a header with one of the versions. The result is `None` if the line is no such
+-- Parses a line as a header with one of the versions. The result is `None` if the line isn't such a
 -- header.
 unfoldable pub header_of : List Version → List ℕ → Option Header
 header_of versions line = named header_line (flat_map headers_of versions) line

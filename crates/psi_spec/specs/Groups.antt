@@ -1,4 +1,4 @@
--- The live groups of a world at a time, and the order in which groups are printed.
+-- Defines which groups are live at a time, and the order in which groups are printed.
 use Rattle.std.specs.Prelude.{ℕ, ◌+◌, if◌then◌else◌, List, [], ◌∷◌, map, slice_index_or, nat_le, not, ◌&&◌, Bool, false, Option, None, Some}
 use Rattle.std.specs.Ordering.{nat_cmp}
 use Rattle.std.specs.Cmp.Lexicographic.{slice_cmp}
@@ -12,7 +12,8 @@ path_at groups slot = slice_index_or (map (λ group. group.path) groups) slot []
 
 -- ---- live groups at a time
 
--- Whether a group was removed at or before time `at` (ns), given its optional time of removal.
+-- `is_gone_by gone at`: whether a group that was removed at time `gone` (ns) was removed at or
+-- before time `at` (ns). The result is false if `gone` is `None`.
 abbrev pub is_gone_by : Option ℕ → ℕ → Bool
 is_gone_by None at = false
 is_gone_by (Some gone) at = nat_le gone at

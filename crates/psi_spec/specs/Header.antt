@@ -1,4 +1,4 @@
--- The header of a trace, given its version number.
+-- Converts the version number in a header to a version of the trace format.
 use Rattle.std.specs.Prelude.{◌≡◌, ◌⊎◌, ℕ, ◌==◌, if◌then◌else◌}
 use Rattle.psi_spec.specs.Grammar.{Version, One, Two, Header}
 

@@ -12,7 +12,7 @@ use Rattle.psi_spec.specs.LegalGroups.{AreGroups, AreOlder, leads_to, new_parent
 use Rattle.psi_spec.specs.Stall.{holds, irq_from, irq_time, is_under, parents_of, stall}
 use Rattle.psi_spec.specs.Trace.{Accepts, AllFit, AreKnown, IsAccepted, IsCpuCount, Trace, first_line, first_rest, limits_of, line_event, refused, rest_cause, text_of, trace_of}
 
--- ---- groups
+-- ---- laws of groups
 
 -- The list that contains only the root satisfies the invariant of groups.
 abbrev pub AreGroupsFirst : Type 0
@@ -24,7 +24,8 @@ AreGroupsKept =
     (limits : Limits) (w : World) (event : Event) → cause_of limits w event ≡ None → AreGroups w.groups
     → AreGroups (after_event w event).groups
 
--- Parents never change: an event only appends the parents of new groups.
+-- An event doesn't change the parents of existing groups: it only appends the parents of new
+-- groups.
 abbrev pub ParentsKept : Type 0
 ParentsKept = (w : World) (event : Event) → parents_of (after_event w event).groups ≡ parents_of w.groups ++ new_parents w.groups event.act
 
@@ -34,8 +35,8 @@ ClimbsKept =
     (parents more : List (Option ℕ)) (low high : ℕ) → AreOlder parents → low < length parents
     → is_under (parents ++ more) low high ≡ is_under parents low high
 
--- Slot `low` is slot `high` or one of its descendants if and only if the two are equal, or the
--- parent of `low` is `high` or one of its descendants.
+-- Group `low` is group `high` or a descendant of it if and only if `low` equals `high`, or the
+-- parent of `low` is `high` or a descendant of `high`. Groups are identified by their slots.
 abbrev pub UnderByStep : Type 0
 UnderByStep =
     (parents : List (Option ℕ)) (low high : ℕ) → AreOlder parents
@@ -49,29 +50,29 @@ AncestorsAreOlder = (parents : List (Option ℕ)) (low high : ℕ) → AreOlder 
 abbrev pub RootIsAbove : Type 0
 RootIsAbove = (groups : List GroupLife) (slot : ℕ) → AreGroups groups → slot < length groups → is_under (parents_of groups) slot 0 ≡ true
 
--- ---- stall time and interrupt time
+-- ---- laws of stall time and interrupt time
 
--- Appending an event at a time before `at` splits the stall time up to `at`: it is the stall time
--- up to the event, plus the time since the event if the group is in the state after the event.
+-- If an event is appended, the stall time up to `at` is the stall time up to the event, plus the
+-- time from the event to `at` if the group is in the state after the event.
 abbrev pub GrowsByEvent : Type 0
 GrowsByEvent = (state : State) (cpu slot : ℕ) (events : List Event) (event : Event) (at : ℕ) →
     stall state cpu slot (events ++ event ∷ []) at ≡ stall state cpu slot events event.at
     + (if holds state cpu slot (after (events ++ event ∷ [])) then at - event.at else 0)
 
--- After the last event, stall time grows with time if the group is in the state after the event,
--- and is constant otherwise.
+-- After the last event, stall time grows with time if the group is in the state after the event. If
+-- the group isn't in the state, stall time is constant.
 abbrev pub GrowsWithTime : Type 0
 GrowsWithTime = (state : State) (cpu slot : ℕ) (events : List Event) (event : Event) (at later : ℕ) → event.at ≤ at → at ≤ later →
     stall state cpu slot (events ++ event ∷ []) later
     ≡ stall state cpu slot (events ++ event ∷ []) at + (if holds state cpu slot (after (events ++ event ∷ [])) then later - at else 0)
 
--- Appending an event increases the interrupt time by the interrupt time of the event (`irq_from`)
--- in the world before the event.
+-- Appending an event to a trace increases a group's interrupt time by the time that the event adds
+-- (`irq_from`).
 abbrev pub IrqByEvent : Type 0
 IrqByEvent = (cpu slot : ℕ) (events : List Event) (event : Event) →
     irq_time cpu slot (events ++ event ∷ []) ≡ irq_time cpu slot events + irq_from cpu slot (after events) (Some event)
 
--- ---- traces
+-- ---- laws of traces
 
 -- `bytes` is the text of an acceptable trace: the version and the verbs are accepted, and the
 -- events are legal. This definition doesn't refer to a parser.
@@ -99,8 +100,8 @@ IsFirstLine rest line = NoNewline line × ((suffix : List ℕ) × (rest ≡ line
 abbrev pub IsRest : List ℕ → Type 0
 IsRest rest = NoNewline rest
 
--- `why` is the cause for which the first line of the input `rest` is rejected in world `w`. The
--- line is an event line, or an incomplete last line.
+-- `why` is the cause for which the first line of the input `rest` is rejected. The line is an event
+-- line, or an incomplete last line. `w` is the world (the tasks and groups) before the line.
 abbrev pub IsLineCause : List Verb → Limits → World → List ℕ → Cause → Type 0
 IsLineCause verbs limits w rest why =
     ((line : List ℕ) × IsFirstLine rest line × (line_event verbs limits w line ≡ Err why)) ⊎ (IsRest rest × (rest_cause w rest ≡ Some why))
@@ -111,8 +112,8 @@ abbrev pub IsFirstLineCause : List Version → List ℕ → Cause → Type 0
 IsFirstLineCause versions rest why =
     ((line : List ℕ) × IsFirstLine rest line × (first_line versions line ≡ Err why)) ⊎ (IsRest rest × (first_rest rest ≡ why))
 
--- The first bad line comes after the header: the lines before it are a header and legal events, and
--- in the world after those events the next line is rejected with cause `why`.
+-- The first bad line comes after the header. The lines before it are a header and legal events, and
+-- the line is rejected with cause `why` after those events.
 pub record IsRefusedLater (accepts : Accepts) (bytes : List ℕ) (line : ℕ) (why : Cause) : Type 0 where
   pub version : Version
   pub cpus : ℕ
@@ -132,8 +133,8 @@ pub record IsRefusedLater (accepts : Accepts) (bytes : List ℕ) (line : ℕ) (w
 abbrev pub IsRefused : Accepts → List ℕ → ℕ → Cause → Type 0
 IsRefused accepts bytes line why = ((line ≡ 1) × IsFirstLineCause accepts.versions bytes why) ⊎ IsRefusedLater accepts bytes line why
 
--- The parser rejects bytes with a line number and a cause if and only if they are the first bad
--- line and the first cause that applies to it.
+-- The parser reports a line number and a cause if and only if that line is the first bad line of
+-- the bytes, and that cause is the first that applies to the line.
 abbrev pub FirstRefused : Type 0
 FirstRefused =
     (accepts : Accepts) (bytes : List ℕ) (line : ℕ) (why : Cause)

@@ -1,5 +1,5 @@
--- The invariant of the groups in each legal world, the ancestors of a group step by step, and the
--- order in which groups are printed.
+-- Defines the invariant of the groups after legal events, the ancestors of a group, and the order
+-- of all groups by path.
 use Rattle.std.specs.Prelude.{◌≡◌, ℕ, ◌<◌, ◌≤◌, List, [], ◌∷◌, length, take, slice_get, slice_index_or, Bool, true, false, Option, None, Some, IsSome, IsPermutation, IsSortedByKey}
 use Rattle.std.specs.List.{range_with_len}
 use Rattle.std.specs.Ordering.{nat_cmp}
@@ -12,13 +12,13 @@ use Rattle.psi_spec.specs.World.{root, is_live, slot_of, parent_path, most_group
 use Rattle.psi_spec.specs.Stall.{parents_of, is_under}
 use Rattle.psi_spec.specs.Groups.{path_at}
 
--- ---- groups of legal worlds
+-- ---- groups after legal events
 
--- The parent of each slot has a smaller slot.
+-- The slot of each group's parent is smaller than the group's own slot.
 abbrev pub AreOlder : List (Option ℕ) → Type 0
 AreOlder parents = (slot parent : ℕ) → slice_index_or parents slot None ≡ Some parent → parent < slot
 
--- Each slot except the first has a parent.
+-- Each group except the first has a parent.
 abbrev pub HaveParents : List (Option ℕ) → Type 0
 HaveParents parents = (slot : ℕ) → 0 < slot → slot < length parents → IsSome (slice_index_or parents slot None)
 
@@ -28,13 +28,13 @@ AreAbove groups =
     (slot parent : ℕ) → slice_index_or (parents_of groups) slot None ≡ Some parent
     → path_at groups parent ≡ parent_path (path_at groups slot)
 
--- Looking up the path of a live group finds the slot of that group. So no two live groups have one
--- path.
+-- Looking up the path of a live group finds the slot of that group. So no two live groups have the
+-- same path.
 abbrev pub IsOneLive : List GroupLife → Type 0
 IsOneLive groups =
     (slot : ℕ) (group : GroupLife) → slice_get groups slot ≡ Some group → is_live group ≡ true → slot_of groups group.path ≡ Some slot
 
--- The invariant of the groups in each legal world: there are at most 1,024 groups; the first is the
+-- The invariant of the groups after legal events: there are at most 1,024 groups; the first is the
 -- root, live and with its accounting on; parents have smaller slots and match the paths; and no two
 -- live groups have the same path.
 pub record AreGroups (groups : List GroupLife) : Type 0 where
@@ -51,23 +51,24 @@ is_live_in groups slot = is_some_and (slice_get groups slot) is_live
 
 -- ---- the ancestors of a group
 
--- Whether an optional slot is slot `high` or one of its descendants. `None` is below no slot.
+-- `leads_to parents slot high`: whether the group in `slot` is the group in slot `high` or a
+-- descendant of it. The result is false if `slot` is `None`.
 abbrev pub leads_to : List (Option ℕ) → Option ℕ → ℕ → Bool
 leads_to parents None high = false
 leads_to parents (Some low) high = is_under parents low high
 
--- The parent of the group that is created with an optional path, as a list of one element. The list
--- is empty if no group is created.
+-- `parent_of_new groups path`: a list with the parent of the group that is created with the path
+-- `path`. The list is empty if `path` is `None`, because no group is created then.
 abbrev pub parent_of_new : List GroupLife → Option (List ℕ) → List (Option ℕ)
 parent_of_new groups None = []
 parent_of_new groups (Some path) = slot_of groups (parent_path path) ∷ []
 
--- The parents that an act appends to the list of parents: the parent of the group that the act
--- creates, if any.
+-- The parent of the group that an event creates, as a list of one element. The list is empty if the
+-- event creates no group.
 abbrev pub new_parents : List GroupLife → Act → List (Option ℕ)
 new_parents groups what = parent_of_new groups (names what).new_path
 
--- ---- the order of all slots
+-- ---- the order of all groups by path
 
 -- `order` lists all slots by path: each slot occurs once, and the paths are in ascending byte
 -- order. Slots with equal paths may be in any order.

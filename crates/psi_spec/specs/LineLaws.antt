@@ -13,22 +13,23 @@ use Rattle.psi_spec.specs.Grammar.{Header, Verb, Version, Fits, IsKnown, event_o
 abbrev pub Spells : Kind → List ℕ → Type 0
 Spells k text = (value : Value k) × (InRange k value × (text ≡ word k value))
 
--- A field is good: it is required (`Some k`) and present, and it spells a value of kind `k`.
+-- A field is good: the line needs a field of kind `k` at this position, the field is present, and
+-- it spells a value of kind `k`.
 abbrev pub IsGood : Option Kind → Option (List ℕ) → Type 0
 IsGood (Some k) (Some text) = Spells k text
 IsGood (Some k) None = ⊥
 IsGood None part = ⊥
 
--- A field is bad: it is missing, it spells no value of the required kind, or no field is allowed at
--- this position.
+-- A field is bad: it is missing, it spells no value of the required kind, or the line has too many
+-- fields.
 abbrev pub IsBad : Option Kind → Option (List ℕ) → Type 0
 IsBad (Some k) (Some text) = Spells k text → ⊥
 IsBad (Some k) None = Unit {0}
 IsBad None (Some text) = Unit {0}
 IsBad None None = ⊥
 
--- Field `at` (from 0) is the leftmost bad field among the words `parts`, for which the kinds `ks`
--- are required.
+-- Field `at` (from 0) is the leftmost bad field among the words `parts`. The required kinds of the
+-- fields are `ks`.
 pub record IsFirstBad (ks : List Kind) (parts : List (List ℕ)) (at : ℕ) : Type 0 where
   pub before : (i : ℕ) → i < at → IsGood (slice_get ks i) (slice_get parts i)
   pub here : IsBad (slice_get ks at) (slice_get parts at)
@@ -51,10 +52,10 @@ pub record HasBadField (verbs : List Verb) (parts : List (List ℕ)) (number : �
   pub is_number : number ≡ at + 1
   pub first : IsFirstBad (kinds_of verb) (drop 2 parts) at
 
--- `why` is the cause for which the words of a line are rejected without regard to the world.
--- BadTime: the first word isn't a time. BadVerb: the time is valid, but the second word is missing
--- or isn't a verb of the list. BadField: time and verb are valid; the cause has the number of the
--- leftmost field that is missing, malformed or superfluous. No other cause applies.
+-- A line is rejected with this cause, whatever tasks and groups exist. BadTime: the first word
+-- isn't a time. BadVerb: the time is valid, but the second word is missing or isn't a verb of the
+-- list. BadField: time and verb are valid; the cause has the number of the leftmost field that is
+-- missing, malformed or superfluous. No other cause applies.
 abbrev pub IsCause : List Verb → List (List ℕ) → Cause → Type 0
 IsCause verbs parts cause.BadTime = HasTime parts → ⊥
 IsCause verbs parts cause.BadVerb = HasTime parts × ((verb : Verb) → HasVerb verbs parts verb → ⊥)
@@ -68,8 +69,8 @@ ReadsSpelled =
     (verbs : List Verb) (line : List ℕ) (event : Event)
     → (event_of verbs line ≡ Ok event) ↔ (Fits event × IsKnown verbs event × (line ≡ spelling event))
 
--- A line is rejected with a cause if and only if the cause is the cause of the line's leftmost
--- error (`IsCause`).
+-- A line is rejected with a cause if and only if that cause describes the leftmost error in the
+-- line (`IsCause`).
 abbrev pub FindsCauses : Type 0
 FindsCauses = (verbs : List Verb) (line : List ℕ) (why : Cause) → (event_of verbs line ≡ Err why) ↔ IsCause verbs (parts_at 32 line) why
 
@@ -79,7 +80,7 @@ abbrev pub HeadersSpelled : Type 0
 HeadersSpelled = (versions : List Version) (line : List ℕ) (head : Header) →
     (header_of versions line ≡ Some head) ↔ (IsAmong head.version versions × (1 ≤ head.cpus) × (head.cpus ≤ 64) × (line ≡ header_line head))
 
--- The bytes are a valid line: they contain no newline, and they are at most 512 bytes.
+-- The bytes can be a line: they contain no newline, and there are at most 512 bytes.
 pub record IsLine (bytes : List ℕ) : Type 0 where
   pub one : EachIndex bytes (λ k. slice_index bytes k ≢ 10)
   pub short : length bytes ≤ 512
@@ -92,6 +93,6 @@ SpelledInLine = (event : Event) → Fits event → IsLine (spelling event)
 abbrev pub HeadedByLine : Type 0
 HeadedByLine = (version cpus : ℕ) → version < 2 ^ 64 → cpus < 2 ^ 64 → IsLine (header version cpus)
 
--- Spelling is injective: two events with one spelling are equal.
+-- Two events with the same spelling are equal.
 abbrev pub SpelledApart : Type 0
 SpelledApart = (first second : Event) → Fits first → Fits second → spelling first ≡ spelling second → first ≡ second

@@ -1,13 +1,13 @@
--- The groups, tasks and processors that an event line names, with one row for each verb. An *act*
--- is what an event does.
+-- Defines which groups, tasks and processors each kind of event names.
 use Rattle.std.specs.Prelude.{ℕ, List, Bool, Option, None, Some}
 use Rattle.psi_base.specs.declared.event.Pid.{Pid}
 use Rattle.psi_base.specs.declared.event.Act.{Act}
 use Rattle.psi_base.specs.declared.event.Act.TheVariants as act
 
--- What an act names: the path of a group that must be live, of a new group, of a group to remove,
--- and of a group whose accounting is switched (and whether it is switched on); a task that must be
--- live, a new task, and a processor that must exist.
+-- What an event names. Groups are named by their paths: a group that must be live, a new group, a
+-- group that is removed, and a group whose accounting is switched (and whether it is switched on).
+-- Tasks are named by their pids: a task that must be live, and a new task. A processor, which must
+-- exist, is named by its number.
 pub record Names : Type 0 where
   pub live_path : Option (List ℕ)
   pub new_path : Option (List ℕ)
@@ -17,11 +17,11 @@ pub record Names : Type 0 where
   pub new_task : Option Pid
   pub cpu : Option ℕ
 
--- The names of an act that names no group, task or processor.
+-- The value for an event that names no group, task or processor.
 abbrev pub no_names : Names
 no_names = record { live_path = None; new_path = None; removed_path = None; switched = None; live_task = None; new_task = None; cpu = None }
 
--- The groups, the tasks and the processor that an act names.
+-- The groups, the tasks and the processor that an event names.
 abbrev pub names : Act → Names
 names (act.Group path) = record no_names { new_path = Some path }
 names (act.Remove path) = record no_names { live_path = Some path; removed_path = Some path }

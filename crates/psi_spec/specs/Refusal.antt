@@ -1,4 +1,5 @@
--- The legality of events in a world, and the first cause against an illegal event.
+-- Defines which events are legal, given the tasks and groups before the event, and the first cause
+-- for which an illegal event is rejected.
 use Rattle.std.specs.Prelude.{◌≡◌, ℕ, ◌-◌, List, [], ◌∷◌, length, slice_index_or, nat_lt, nat_le, ◌==◌, ◌&&◌, ◌||◌, not, Bool, true, false, Option, None, Some, is_some, find}
 use Rattle.std.specs.List.{list_any}
 use Rattle.std.specs.FinMap as tasks_by
@@ -17,43 +18,44 @@ use Rattle.psi_spec.specs.declared.machine.GroupLife.{GroupLife}
 use Rattle.psi_spec.specs.Names.{names}
 use Rattle.psi_spec.specs.World.{World, Limits, Tasks, task_of, running_on, task_part, is_running, is_ready, is_active, is_ready_on, is_live, is_trigger, is_pressure, slot_of, parent_path, is_root, after_event, most_groups, most_tasks, most_events, most_pressures, longest_irq}
 
--- ---- single conditions
+-- ---- the conditions of single causes
 
--- Whether an act names a group that must be live, but no live group has this path.
+-- Whether an event names a group that must be live, but no live group has this path.
 abbrev pub lacks_group : List GroupLife → Option (List ℕ) → Bool
 lacks_group groups None = false
 lacks_group groups (Some path) = not (is_some (slot_of groups path))
 
--- Whether an act names a task that must be live, but no live task has this pid.
+-- Whether an event names a task that must be live, but no live task has this pid.
 abbrev pub lacks_task : Tasks → Option Pid → Bool
 lacks_task tasks None = false
 lacks_task tasks (Some pid) = not (is_some (task_of tasks pid.0))
 
--- Whether an act names a processor that isn't below the number of processors `cpus`.
+-- Whether an event names a processor that the machine doesn't have. `cpus` is the number of
+-- processors.
 abbrev pub lacks_cpu : ℕ → Option ℕ → Bool
 lacks_cpu cpus None = false
 lacks_cpu cpus (Some cpu) = nat_le cpus cpu
 
--- Whether an act creates a group although a live group has its path.
+-- Whether an event creates a group although a live group has its path.
 abbrev pub has_group : List GroupLife → Option (List ℕ) → Bool
 has_group groups None = false
 has_group groups (Some path) = is_some (slot_of groups path)
 
--- Whether an act creates a group although its parent isn't live.
+-- Whether an event creates a group although its parent isn't live.
 abbrev pub lacks_parent : List GroupLife → Option (List ℕ) → Bool
 lacks_parent groups None = false
 lacks_parent groups (Some path) = not (is_some (slot_of groups (parent_path path)))
 
--- Whether both optional slots are present and equal.
+-- `is_slot n slot`: whether both optional slots are present and equal. The first slot is a number.
 abbrev pub is_slot : Option ℕ → Option Slot → Bool
 is_slot (Some n) (Some slot) = slot.0 == n
 is_slot _ _ = false
 
--- Whether the group in an optional slot has a live child.
+-- Whether the group in `slot` has a live child. The result is false if `slot` is `None`.
 abbrev pub has_child : List GroupLife → Option ℕ → Bool
 has_child groups slot = list_any (λ group. is_live group && is_slot slot group.parent) groups
 
--- Whether the group in an optional slot has a live task.
+-- Whether a live task is in the group in `slot` itself. The result is false if `slot` is `None`.
 abbrev pub has_member : Tasks → Option ℕ → Bool
 has_member tasks slot = list_any (λ task. is_slot slot (Some task.slot)) (tasks_by.values tasks)
 
@@ -62,18 +64,18 @@ abbrev pub is_busy : World → Option (List ℕ) → Bool
 is_busy w None = false
 is_busy w (Some path) = is_root path || has_child w.groups (slot_of w.groups path) || has_member w.tasks (slot_of w.groups path)
 
--- Whether an act switches the accounting of the root.
+-- Whether an event switches the accounting of the root.
 abbrev pub switches_root : Option (List ℕ × Bool) → Bool
 switches_root None = false
 switches_root (Some switched) = is_root switched.0
 
--- Whether an act creates a task although a live task has its pid.
+-- Whether an event creates a task although a live task has its pid.
 abbrev pub has_task : Tasks → Option Pid → Bool
 has_task tasks None = false
 has_task tasks (Some pid) = is_some (task_of tasks pid.0)
 
--- Whether a switch says `idle` although a task is running, or another way to leave although no task
--- is running.
+-- Whether `how`, the way in which the running task leaves its processor, is wrong: it is `idle`
+-- although a task is running, or another way although no task is running.
 abbrev pub is_wrong : How → Option (ℕ × Task) → Bool
 is_wrong Idle running = is_some running
 is_wrong Preempt running = not (is_some running)
@@ -81,58 +83,59 @@ is_wrong Sleep running = not (is_some running)
 is_wrong IoWait running = not (is_some running)
 is_wrong Exit running = not (is_some running)
 
--- Whether the running task exits.
+-- Whether the running task leaves its processor by an exit.
 abbrev pub is_exit : How → Bool
 is_exit Exit = true
 is_exit _ = false
 
--- Whether an optional next task is present but isn't ready on processor `cpu`.
+-- `isnt_ready tasks cpu next`: whether the task with the pid `next` isn't ready on processor `cpu`.
+-- The result is false if `next` is `None`.
 abbrev pub isnt_ready : Tasks → ℕ → Option Pid → Bool
 isnt_ready tasks cpu None = false
 isnt_ready tasks cpu (Some pid) = not (is_some_and (task_of tasks pid.0) (is_ready_on cpu))
 
--- Whether the window (us) is between 0.5 s and 10 s, and the threshold (us) between 1 us and the
+-- Whether the window is from 500,000 us to 10,000,000 us, and the threshold from 1 us to the
 -- window.
 abbrev pub is_window : ℕ → ℕ → Bool
 is_window threshold window = nat_le 500000 window && nat_le window 10000000 && nat_le 1 threshold && nat_le threshold window
 
--- Whether an act begins or ends a memory stall of a task that isn't running.
+-- Whether an event begins or ends a memory stall of a task that isn't running.
 abbrev pub not_running : Tasks → Act → Bool
 not_running tasks (act.Stall pid) = is_some_and (task_of tasks pid.0) (λ task. not (is_running task.mode))
 not_running tasks (act.Unstall pid) = is_some_and (task_of tasks pid.0) (λ task. not (is_running task.mode))
 not_running tasks _ = false
 
--- Whether an act switches to a next task that isn't ready on the switched processor, or migrates a
--- task that isn't ready.
+-- Whether an event switches a processor to a next task that isn't ready there, or migrates a task
+-- that isn't ready.
 abbrev pub not_ready : Tasks → Act → Bool
 not_ready tasks (act.Switch cpu next how) = isnt_ready tasks cpu.0 next
 not_ready tasks (act.Migrate pid cpu) = is_some_and (task_of tasks pid.0) (λ task. not (is_ready task.mode))
 not_ready tasks _ = false
 
--- Whether an act wakes a task that isn't blocked: the task is ready or running.
+-- Whether an event wakes a task that isn't blocked: the task is ready or running.
 abbrev pub not_blocked : Tasks → Act → Bool
 not_blocked tasks (act.Wake pid cpu) = is_some_and (task_of tasks pid.0) (λ task. is_active task.mode)
 not_blocked tasks _ = false
 
--- Whether the way in which a switch leaves the processor contradicts the running task (see
--- `is_wrong`).
+-- Whether an event is a switch in which the running task can't leave the processor in the way that
+-- the event names (see `is_wrong`).
 abbrev pub wrong_how : Tasks → Act → Bool
 wrong_how tasks (act.Switch cpu next how) = is_wrong how (running_on tasks cpu.0)
 wrong_how tasks _ = false
 
--- Whether an act begins a memory stall of a task that is in a memory stall already, or makes a task
--- exit in a memory stall.
+-- Whether an event begins a memory stall of a task that is in a memory stall already, or is the
+-- exit of a task in a memory stall.
 abbrev pub in_stall : Tasks → Act → Bool
 in_stall tasks (act.Stall pid) = is_some_and (task_of tasks pid.0) (λ task. task.stalled)
 in_stall tasks (act.Switch cpu next how) = is_exit how && is_some_and (task_part (running_on tasks cpu.0)) (λ task. task.stalled)
 in_stall tasks _ = false
 
--- Whether an act ends a memory stall of a task that isn't in a memory stall.
+-- Whether an event ends a memory stall of a task that isn't in a memory stall.
 abbrev pub not_in_stall : Tasks → Act → Bool
 not_in_stall tasks (act.Unstall pid) = is_some_and (task_of tasks pid.0) (λ task. not task.stalled)
 not_in_stall tasks _ = false
 
--- Whether an act sets a trigger whose window or threshold is out of range.
+-- Whether an event sets a trigger whose window or threshold is out of range.
 abbrev pub bad_window : Act → Bool
 bad_window (act.Trigger path res level threshold_us window_us) = not (is_window threshold_us window_us)
 bad_window _ = false
@@ -143,10 +146,10 @@ abbrev pub irq_too_long : List ℕ → ℕ → Act → Bool
 irq_too_long irqs at (act.Irq cpu ns) = nat_lt longest_irq ns || nat_lt (at - slice_index_or irqs cpu.0 0) ns
 irq_too_long irqs at _ = false
 
--- ---- causes
+-- ---- the causes of rejection
 
--- Whether a cause applies to an event in world `w`. A cause that concerns only the bytes of a line
--- applies to no event.
+-- Whether a cause of rejection applies to an event. `w` is the world (the tasks and groups) before
+-- the event. A cause that concerns only the bytes of a line, such as BadVerb, applies to no event.
 abbrev pub applies : Cause → Limits → World → Event → Bool
 applies cause.AfterEnd limits w event = w.ended
 applies cause.TimeBack limits w event = nat_lt event.at w.last
@@ -190,12 +193,13 @@ cause_order =
     ∷ cause.NotRunning ∷ cause.NotReady ∷ cause.NotBlocked ∷ cause.WrongHow ∷ cause.InStall ∷ cause.NotInStall
     ∷ cause.IrqTooLong ∷ []
 
--- The first cause that applies to an event in world `w`; `None` if the event is legal.
+-- The first cause of rejection that applies to an event, or `None` if the event is legal. `w` is
+-- the world (the tasks and groups) before the event.
 unfoldable pub cause_of : Limits → World → Event → Option Cause
 cause_of limits w event = find (λ why. applies why limits w event) cause_order
 
--- Each event is legal in the world after the events before it. `w` is the world before the first
--- event.
+-- Each event is legal after the events before it. `w` is the world (the tasks and groups) before
+-- the first event.
 abbrev pub AreLegal : Limits → World → List Event → Type 0
 AreLegal limits w [] = Unit {0}
 AreLegal limits w (event ∷ events) = (cause_of limits w event ≡ None) × AreLegal limits (after_event w event) events

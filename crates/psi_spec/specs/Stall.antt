@@ -16,27 +16,28 @@ use Rattle.psi_spec.specs.World.{World, Tasks, is_on, is_waiting, is_ready, is_r
 
 -- ---- ancestors of groups
 
--- Converts an optional slot to an optional number.
+-- `number_of_slot slot`: the number of the slot, or `None` if `slot` is `None`.
 abbrev pub number_of_slot : Option Slot → Option ℕ
 number_of_slot None = None
 number_of_slot (Some slot) = Some slot.0
 
--- The parent of each slot, as an optional number.
+-- The slot of each group's parent, or `None` for a group without a parent, in the order of slots.
 abbrev pub parents_of : List GroupLife → List (Option ℕ)
 parents_of groups = map (λ group. number_of_slot group.parent) groups
 
--- Whether at most `n` steps from an optional slot to a parent reach slot `high`.
+-- `climbs n parents slot high`: whether slot `high` is reached from `slot` in at most `n` steps.
+-- Each step goes from a group to its parent. The result is false if `slot` is `None`.
 abbrev pub climbs : ℕ → List (Option ℕ) → Option ℕ → ℕ → Bool
 climbs n parents None high = false
 climbs zero parents (Some slot) high = slot == high
 climbs (suc n) parents (Some slot) high = slot == high || climbs n parents (slice_index_or parents slot None) high
 
--- Whether slot `low` is slot `high` or one of its descendants. Parents have smaller slots, so `low`
--- is an upper bound on the number of steps.
+-- Whether the group in slot `low` is the group in slot `high` or a descendant of it. Parents have
+-- smaller slots, so `low` is an upper bound on the number of steps.
 unfoldable pub is_under : List (Option ℕ) → ℕ → ℕ → Bool
 is_under parents low high = climbs low parents (Some low) high
 
--- ---- states
+-- ---- the states of a group
 
 -- Whether a task counts for the group in slot `slot` on processor `cpu`: the task is assigned to
 -- that processor, and it is in the group or in a descendant.
@@ -87,19 +88,20 @@ holds_of Nonidle tasks = list_any (λ task. waits task || stalls task || is_up t
 abbrev pub states : List State
 states = IoSome ∷ IoFull ∷ MemSome ∷ MemFull ∷ CpuSome ∷ CpuFull ∷ Nonidle ∷ []
 
--- Whether the group in slot `slot` is in `state` on processor `cpu` in world `w`: its accounting is
--- on, and the tasks that count for it there satisfy the state's condition (`holds_of`).
+-- Whether the group in slot `slot` is in `state` on processor `cpu` in world `w` (the tasks and
+-- groups at a time): its accounting is on, and the tasks that count for it there satisfy the
+-- state's condition (`holds_of`).
 unfoldable pub holds : State → ℕ → ℕ → World → Bool
 holds state cpu slot w = is_on w.groups slot && holds_of state (tasks_in (parents_of w.groups) cpu slot w.tasks)
 
--- ---- stall time
+-- ---- the stall time of a group
 
 -- The time (ns) of event number `i` (from 1), or `at` if there is no event number `i`.
 abbrev pub moment_of : List Event → ℕ → ℕ → ℕ
 moment_of events at i = slice_index_or (map (λ (event : Event). event.at) events) (i - 1) at
 
--- The time (ns) from event number `i` to the next event (or to time `at` after the last event) if
--- the group in slot `slot` is in `state` on processor `cpu` after event `i`; otherwise 0.
+-- The time (ns) from event number `i` to the next event, or to time `at` after the last event. The
+-- result is 0 unless the group in slot `slot` is in `state` on processor `cpu` after event `i`.
 abbrev pub stall_after : State → ℕ → ℕ → List Event → ℕ → ℕ → ℕ
 stall_after state cpu slot events at i =
     if holds state cpu slot (after (take i events)) then moment_of events at (i + 1) - moment_of events at i else 0
@@ -109,26 +111,28 @@ stall_after state cpu slot events at i =
 unfoldable pub stall : State → ℕ → ℕ → List Event → ℕ → ℕ
 stall state cpu slot events at = sum (map (stall_after state cpu slot events at) (range_with_len 1 (length events)))
 
--- ---- interrupt time
+-- ---- the interrupt time of a group
 
--- Whether a task of the group in slot `slot` or of a descendant is running on processor `cpu`.
+-- Whether a task of the group in slot `slot`, or of a descendant of the group, is running on
+-- processor `cpu`.
 unfoldable pub has_running : ℕ → ℕ → World → Bool
 has_running cpu slot w = list_any runs (tasks_in (parents_of w.groups) cpu slot w.tasks)
 
--- The interrupt time (ns) that an act reports for processor `cpu`, or 0.
+-- The interrupt time (ns) that an event reports for processor `cpu`, or 0 if it reports none.
 abbrev pub irq_time_by : ℕ → Act → ℕ
 irq_time_by cpu (act.Irq named ns) = if named.0 == cpu then ns else 0
 irq_time_by cpu _ = 0
 
--- The time (ns) that interrupts took from the group in slot `slot` on processor `cpu` by an
--- optional event in world `w`: the interrupt time of the event if the group's accounting is on and
--- one of its tasks is running there; otherwise 0.
+-- `irq_from cpu slot w event`: the interrupt time (ns) that the event adds for the group in slot
+-- `slot` on processor `cpu`. `w` is the world (the tasks and groups) before the event. The time is
+-- 0 if `event` is `None`. It is also 0 unless the group's accounting is on and a task of the group
+-- or of a descendant is running on the processor.
 abbrev pub irq_from : ℕ → ℕ → World → Option Event → ℕ
 irq_from cpu slot w None = 0
 irq_from cpu slot w (Some event) = if is_on w.groups slot && has_running cpu slot w then irq_time_by cpu event.act else 0
 
--- The time (ns) that interrupts took from the group in slot `slot` on processor `cpu` by event
--- number `i` (from 1).
+-- The interrupt time (ns) that event number `i` (from 1) adds for the group in slot `slot` on
+-- processor `cpu`.
 abbrev pub irq_by : ℕ → ℕ → List Event → ℕ → ℕ
 irq_by cpu slot events i = irq_from cpu slot (after (take (i - 1) events)) (slice_get events (i - 1))
 

@@ -1,5 +1,5 @@
--- Parsing of a trace: the trace that the bytes of a file spell, or the first bad line with its
--- cause.
+-- Defines how a trace is parsed: the trace that the bytes of a file spell, or the first bad line
+-- with its cause.
 use Rattle.std.specs.Prelude.{◌≡◌, ℕ, ◌+◌, ◌*◌, ◌≤◌, List, [], ◌∷◌, ◌++◌, length, nat_lt, if◌then◌else◌, Option, None, Some, Result, Ok, Err}
 use Rattle.std.specs.List.{flat_map}
 use Rattle.psi_base.specs.Path.{parts_at}
@@ -18,7 +18,7 @@ pub record Trace : Type 0 where
   pub cpus : ℕ
   pub events : List Event
 
--- `cpus` is a number of processors that a trace may have: from 1 to 64.
+-- A trace may have this number of processors: 1 to 64.
 abbrev pub IsCpuCount : ℕ → Type 0
 IsCpuCount cpus = (1 ≤ cpus) × (cpus ≤ most_cpus)
 
@@ -72,33 +72,34 @@ accepts_with versions tick = record { tick = tick; versions = versions; verbs = 
 
 -- ---- parsing one line
 
--- The event if there is no cause against it; otherwise the cause.
+-- `if_legal why event`: the error `why`, which is the cause for rejecting the event, or `event` if
+-- `why` is `None`.
 abbrev pub if_legal : Option Cause → Event → Result Event Cause
 if_legal None event = Ok event
 if_legal (Some why) event = Err why
 
--- Checks the legality of a parsed event in world `w`: the result is the event, or the first cause
--- against it. An error of the parser is returned unchanged.
+-- Checks whether a parsed event is legal in world `w` (the tasks and groups before the event). The
+-- result is the event, or the first cause against it. An error of the parser is returned unchanged.
 abbrev pub then_legal : Limits → World → Result Event Cause → Result Event Cause
 then_legal limits w (Err why) = Err why
 then_legal limits w (Ok event) = if_legal (cause_of limits w event) event
 
--- Parses a line after the header, without its newline, in world `w`. The error is the first cause
--- that applies: the trace has ended, the line is longer than 512 bytes, it spells no event with a
--- verb of the list, or the event isn't legal.
+-- Parses a line after the header, without its newline. `w` is the world (the tasks and groups)
+-- before the line. The error is the first cause that applies: the trace has ended, the line is
+-- longer than 512 bytes, it spells no event with a verb of the list, or the event isn't legal.
 unfoldable pub line_event : List Verb → Limits → World → List ℕ → Result Event Cause
 line_event verbs limits w line =
     if w.ended then Err cause.AfterEnd else if nat_lt 512 (length line) then Err cause.LineTooLong
     else then_legal limits w (event_of verbs line)
 
--- The cause for which an input that ends with the incomplete line `rest` is rejected, or `None`.
--- After `end`, `rest` must be empty; before `end` the input may not end.
+-- The cause for which the bytes `rest` after the last newline are rejected, or `None`. After an
+-- `end` line, `rest` must be empty. Before an `end` line, the input must not end.
 unfoldable pub rest_cause : World → List ℕ → Option Cause
 rest_cause w rest =
     if w.ended then (if nat_lt 0 (length rest) then Some cause.AfterEnd else None) else if nat_lt 512 (length rest)
     then Some cause.LineTooLong else Some cause.NoEnd
 
--- The parsed header if it is present; otherwise the cause BadHeader.
+-- The parsed header, or the error BadHeader if the header is `None`.
 abbrev pub or_bad_header : Option Header → Result Header Cause
 or_bad_header None = Err cause.BadHeader
 or_bad_header (Some head) = Ok head
@@ -107,7 +108,7 @@ or_bad_header (Some head) = Ok head
 unfoldable pub first_line : List Version → List ℕ → Result Header Cause
 first_line versions line = if nat_lt 512 (length line) then Err cause.LineTooLong else or_bad_header (header_of versions line)
 
--- The cause for which an input is rejected that ends before the newline of its first line.
+-- The cause of rejection for an input that ends before its first newline.
 unfoldable pub first_rest : List ℕ → Cause
 first_rest rest = if nat_lt 512 (length rest) then cause.LineTooLong else cause.BadHeader
 
@@ -117,27 +118,27 @@ first_rest rest = if nat_lt 512 (length rest) then cause.LineTooLong else cause.
 abbrev pub refused : ℕ → Cause → Refusal
 refused line why = record { line = line; cause = why }
 
--- The result at the end of the input, line number `line`: no further events, or a refusal if there
--- is a cause.
+-- `at_end line why`: the result for the bytes after the last newline, which are line number `line`.
+-- The result is the refusal of this line with cause `why`, or no further events if `why` is `None`.
 abbrev pub at_end : ℕ → Option Cause → Result (List Event) Refusal
 at_end line None = Ok []
 at_end line (Some why) = Err (refused line why)
 
--- Prepends the events `prefix` to the result for the later lines, which is a list of events or a
--- refusal.
+-- Prepends the events `prefix` to the events of the later lines. A refusal of a later line is
+-- returned unchanged.
 abbrev pub followed : List Event → Result (List Event) Refusal → Result (List Event) Refusal
 followed prefix (Ok events) = Ok (prefix ++ events)
 followed prefix (Err refusal) = Err refusal
 
--- Continues with `next` if line number `line` was parsed; otherwise the result is a refusal at that
--- line.
+-- Applies `next` to the parsed content of line number `line`. If the line was rejected, the result
+-- is the refusal of this line.
 abbrev pub or_refused : {A : Type 0} → ℕ → Result A Cause → (A → Result (List Event) Refusal) → Result (List Event) Refusal
 or_refused line (Err why) next = Err (refused line why)
 or_refused line (Ok event) next = next event
 
 -- Parses the parts of the input between newlines. The first part is line number `line`, and the
 -- last part is the incomplete line after the last newline. The result is the events, or the first
--- bad line and its cause.
+-- bad line and its cause. `w` is the world (the tasks and groups) before the first part.
 unfoldable pub events_from : List Verb → Limits → World → ℕ → List (List ℕ) → Result (List Event) Refusal
 events_from verbs limits w line [] = at_end line (rest_cause w [])
 events_from verbs limits w line (rest ∷ []) = at_end line (rest_cause w rest)
@@ -145,7 +146,7 @@ events_from verbs limits w line (part ∷ next ∷ parts) =
     or_refused line (line_event verbs limits w part) (λ event. followed (event ∷ [])
     (events_from verbs limits (after_event w event) (line + 1) (next ∷ parts)))
 
--- The trace with this header and these events, or the refusal of an event line.
+-- Makes a trace from a header and its events. The refusal of an event line is returned unchanged.
 abbrev pub with_events : Header → Result (List Event) Refusal → Result Trace Refusal
 with_events head (Ok events) = Ok (record { version = head.version; cpus = head.cpus; events = events })
 with_events head (Err refusal) = Err refusal
@@ -162,7 +163,7 @@ trace_of_parts accepts [] = Err (refused 1 cause.BadHeader)
 trace_of_parts accepts (rest ∷ []) = Err (refused 1 (first_rest rest))
 trace_of_parts accepts (line ∷ next ∷ parts) = headed accepts (first_line accepts.versions line) (next ∷ parts)
 
--- Parses bytes as a trace that `accepts` allows. The error is the number of the first bad line and
--- the first cause against it.
+-- Parses bytes as a trace, according to the rules `accepts`. The error is the number of the first
+-- bad line and the first cause against it.
 unfoldable pub trace_of : Accepts → List ℕ → Result Trace Refusal
 trace_of accepts bytes = trace_of_parts accepts (parts_at 10 bytes)

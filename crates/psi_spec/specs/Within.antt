@@ -1,5 +1,5 @@
--- Upper bounds that hold for every trace: the length of a tick, the latest time, and the number and
--- values of its triggers.
+-- Upper bounds for every trace: the length of a tick, the latest time, and the number and values of
+-- its triggers.
 use Rattle.std.specs.Prelude.{◌≡◌, ℕ, ◌<◌, ◌≤◌, List, [], ◌∷◌, length, Option, None, Some, true}
 use Rattle.std.specs.List.{All}
 use Rattle.psi_base.specs.declared.event.TriggerSpec.{TriggerSpec}
@@ -23,12 +23,11 @@ pub record AreTriggersWithin (latest slots : ℕ) (triggers : List TriggerSpec) 
   pub few : length triggers ≤ 256
   pub each : All (λ trigger. IsTriggerWithin latest slots trigger) triggers
 
--- The latest time (ns) that a trace may have: a million of the longest ticks. No total stall time
--- is longer.
+-- The latest time (ns) that a trace may have: a million of the longest ticks. It is an upper bound
+-- on every total stall time.
 abbrev pub last_moment : ℕ
 last_moment = 60000000000000000
 
--- The length (ns) of the longest tick: a minute. No stall time within one interval between ticks is
--- longer.
+-- The longest interval between ticks (ns): a minute. No stall time within one interval exceeds it.
 abbrev pub longest_tick : ℕ
 longest_tick = 60000000000

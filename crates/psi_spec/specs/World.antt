@@ -19,7 +19,7 @@ use Rattle.psi_spec.specs.declared.machine.Mode.TheVariants.{Blocked, Waiting, R
 use Rattle.psi_spec.specs.declared.machine.Task.{Task}
 use Rattle.psi_spec.specs.declared.machine.GroupLife.{GroupLife}
 
--- ---- tasks
+-- ---- the live tasks of the machine
 
 -- Whether a task with this mode is blocked until IO completes.
 abbrev pub is_waiting : Mode → Bool
@@ -58,7 +58,7 @@ no_tasks = tasks_by.empty
 abbrev pub task_of : Tasks → ℕ → Option Task
 task_of tasks pid = tasks_by.get tasks pid
 
--- The tasks after `task` was added with pid `pid`, or replaced the task with this pid.
+-- The tasks with `task` added under the pid `pid`. An earlier task with this pid is replaced.
 abbrev pub put : Tasks → ℕ → Task → Tasks
 put tasks pid task = tasks_by.insert tasks pid task
 
@@ -78,12 +78,12 @@ is_ready_on cpu task = task.cpu.0 == cpu && is_ready task.mode
 abbrev pub running_on : Tasks → ℕ → Option (ℕ × Task)
 running_on tasks cpu = find (λ e. is_running_on cpu e.1) (tasks_by.entries tasks)
 
--- Drops the pid of an optional task with its pid.
+-- `task_part pair`: the task of the pair of a pid and a task, or `None` if `pair` is `None`.
 abbrev pub task_part : Option (ℕ × Task) → Option Task
 task_part None = None
 task_part (Some e) = Some e.1
 
--- ---- groups
+-- ---- the groups of the machine
 
 -- Whether a group is live: it wasn't removed.
 abbrev pub is_live : GroupLife → Bool
@@ -150,25 +150,25 @@ is_on_life (Some life) = life.on
 abbrev pub is_on : List GroupLife → ℕ → Bool
 is_on groups slot = is_on_life (slice_get groups slot)
 
--- ---- the world
+-- ---- the world: the tasks and groups of the machine
 
--- The largest number of processors of a machine.
+-- The maximum number of processors of a machine.
 abbrev pub most_cpus : ℕ
 most_cpus = 64
 
--- The largest number of event lines of a trace.
+-- The maximum number of event lines of a trace.
 abbrev pub most_events : ℕ
 most_events = 4000000
 
--- The largest number of `pressure` lines of a trace.
+-- The maximum number of `pressure` lines in a trace.
 abbrev pub most_pressures : ℕ
 most_pressures = 65536
 
--- The largest number of groups that a trace may create, including the root.
+-- The maximum number of groups that a trace may create, including the root.
 abbrev pub most_groups : ℕ
 most_groups = 1024
 
--- The largest number of live tasks.
+-- The maximum number of live tasks.
 abbrev pub most_tasks : ℕ
 most_tasks = 65536
 
@@ -208,14 +208,15 @@ first_world =
       ended = false;
     }
 
--- ---- effects
+-- ---- the effects of events on tasks and groups
 
--- The tasks after `f` was applied to an optional task, which has pid `pid`. `None` changes nothing.
+-- Applies `f` to the task with pid `pid`, which is passed as an optional task. `None` leaves the
+-- tasks unchanged.
 abbrev pub change_to : Tasks → ℕ → (Task → Task) → Option Task → Tasks
 change_to tasks pid f None = tasks
 change_to tasks pid f (Some task) = put tasks pid (f task)
 
--- The tasks after `f` was applied to the task with pid `pid`, if any.
+-- Applies `f` to the task with pid `pid`. The tasks are unchanged if no task has this pid.
 abbrev pub change : Tasks → ℕ → (Task → Task) → Tasks
 change tasks pid f = change_to tasks pid f (task_of tasks pid)
 
@@ -229,7 +230,8 @@ new_task groups path cpu =
 abbrev pub prepared_changes : ℕ → Task → Task
 prepared_changes cpu task = record task { mode = Ready; cpu = record { 0 = cpu } }
 
--- The running task after it left its processor as the `How` says; `None` if it exited.
+-- `left_by how task`: the running task after it left its processor in the way `how`. The result is
+-- `None` if the task exited.
 abbrev pub left_by : How → Task → Option Task
 left_by Preempt task = Some (record task { mode = Ready })
 left_by Sleep task = Some (record task { mode = Blocked })
@@ -237,26 +239,28 @@ left_by IoWait task = Some (record task { mode = Waiting })
 left_by Exit task = None
 left_by Idle task = Some task
 
--- The tasks after the task with pid `pid` was replaced, or removed if the new task is `None`.
+-- Replaces the task with pid `pid` by the new task. `None` removes the task.
 abbrev pub placed : Tasks → ℕ → Option Task → Tasks
 placed tasks pid None = remove tasks pid
 placed tasks pid (Some task) = put tasks pid task
 
--- The tasks after the optional running task left its processor as `how` says.
+-- `leave how tasks running`: the tasks after the running task left its processor in the way `how`.
+-- If `running` is `None`, the tasks are unchanged.
 abbrev pub leave : How → Tasks → Option (ℕ × Task) → Tasks
 leave how tasks None = tasks
 leave how tasks (Some e) = placed tasks e.0 (left_by how e.1)
 
--- The tasks after the optional next task began to run.
+-- `start next tasks`: the tasks after the task with the pid `next` began to run. If `next` is
+-- `None`, the tasks are unchanged.
 abbrev pub start : Option Pid → Tasks → Tasks
 start None tasks = tasks
 start (Some pid) tasks = change tasks pid.0 (λ task. record task { mode = Running })
 
--- The effect of an act on tasks: none; create a task in a group on a processor; put a task on the
--- run queue of a processor; begin or end a task's memory stall; move a task to another group;
--- switch from the running task of a processor to the next task; delay the running task by
--- interrupts, which changes no task; or switch the accounting of a group on all processors, which
--- changes no task.
+-- The effects that events have on tasks: no effect; a new task in a group on a processor; a task
+-- that is put on the run queue of a processor; the begin or end of a task's memory stall; a task
+-- that moves to another group; a switch from the running task of a processor to the next task;
+-- interrupts that delay a processor's running task; and a switch of a group's accounting, which
+-- concerns all processors. The last two effects change no task.
 pub data Effect : Type 0 where
   none : Effect
   forks : Pid → List ℕ → Cpu → Effect
@@ -267,7 +271,7 @@ pub data Effect : Type 0 where
   interrupts : Cpu → Effect
   switches_account : Effect
 
--- The effect of an act (what an event does) on tasks.
+-- The effect of an event on tasks.
 abbrev pub effect_of : Act → Effect
 effect_of (act.Group path) = none
 effect_of (act.Remove path) = none
@@ -298,53 +302,56 @@ tasks_by_effect groups tasks (switches cpu next how) = start next (leave how tas
 tasks_by_effect groups tasks (interrupts cpu) = tasks
 tasks_by_effect groups tasks switches_account = tasks
 
--- The tasks after an act, given the groups and the tasks before it.
+-- The tasks after an event, given the groups and the tasks before the event.
 abbrev pub tasks_after : List GroupLife → Tasks → Act → Tasks
 tasks_after groups tasks what = tasks_by_effect groups tasks (effect_of what)
 
--- Appends the group that is created at time `at` (ns) with an optional path. `None` creates no
--- group.
+-- `with_new at path groups`: the groups after the group with the path `path` is created at time
+-- `at` (ns). If `path` is `None`, the groups are unchanged.
 abbrev pub with_new : ℕ → Option (List ℕ) → List GroupLife → List GroupLife
 with_new at None groups = groups
 with_new at (Some path) groups = groups ++ new_group groups path at ∷ []
 
--- Marks the group with an optional path as removed at time `at` (ns). `None` removes no group.
+-- `with_removed at path groups`: the groups after the group with the path `path` is removed at time
+-- `at` (ns). If `path` is `None`, the groups are unchanged.
 abbrev pub with_removed : ℕ → Option (List ℕ) → List GroupLife → List GroupLife
 with_removed at None groups = groups
 with_removed at (Some path) groups = map (marked_removed path at) groups
 
--- Switches the accounting of a group on or off, given the optional path and setting. `None` changes
--- nothing.
+-- `with_switched switched groups`: the groups after the accounting of one group is switched on or
+-- off. `switched` has the group's path and the setting. If it is `None`, the groups are unchanged.
 abbrev pub with_switched : Option (List ℕ × Bool) → List GroupLife → List GroupLife
 with_switched None groups = groups
 with_switched (Some switched) groups = map (marked_switched switched.0 switched.1) groups
 
--- The groups after the act `what` at time `at` (ns), given the groups before it.
+-- The groups after an event at time `at` (ns), given the groups before the event. `what` is what
+-- the event does.
 abbrev pub groups_after : ℕ → List GroupLife → Act → List GroupLife
 groups_after at groups what =
     with_new at (names what).new_path (with_removed at (names what).removed_path (with_switched (names what).switched groups))
 
--- For each processor the time (ns) of its last `irq` line, or 0, after an act at time `at` (ns).
+-- The time (ns) of the last `irq` line of each processor after an event at time `at` (ns). The time
+-- is 0 for a processor without such a line.
 abbrev pub irqs_after : ℕ → List ℕ → Act → List ℕ
 irqs_after at irqs (act.Irq cpu ns) = slice_set irqs cpu.0 at
 irqs_after at irqs _ = irqs
 
--- Whether the act sets a trigger.
+-- Whether an event sets a trigger.
 abbrev pub is_trigger : Act → Bool
 is_trigger (act.Trigger path res level threshold_us window_us) = true
 is_trigger _ = false
 
--- Whether the act switches the accounting of a group.
+-- Whether an event switches the accounting of a group.
 abbrev pub is_pressure : Act → Bool
 is_pressure (act.Pressure path on) = true
 is_pressure _ = false
 
--- Whether the act ends the trace.
+-- Whether an event ends the trace.
 abbrev pub ends : Act → Bool
 ends act.End = true
 ends _ = false
 
--- The world after an event, given the world `w` before it.
+-- The world (the tasks and groups) after an event. `w` is the world before the event.
 abbrev pub after_event : World → Event → World
 after_event w event = record {
   tasks = tasks_after w.groups w.tasks event.act;
@@ -357,12 +364,12 @@ after_event w event = record {
   ended = w.ended || ends event.act;
 }
 
--- The world after a list of events, given the world `w` before the first event.
+-- The world (the tasks and groups) after a list of events. `w` is the world before the first event.
 abbrev pub after_from : World → List Event → World
 after_from w [] = w
 after_from w (event ∷ events) = after_from (after_event w event) events
 
--- The world after a list of events that begins a trace.
+-- The world (the tasks and groups) after a list of events from the start of a trace.
 abbrev pub after : List Event → World
 after events = after_from first_world events
 
@@ -371,6 +378,6 @@ after events = after_from first_world events
 abbrev pub up_to : List Event → ℕ → List Event
 up_to events at = filter (λ (event : Event). nat_le event.at at) events
 
--- Turns acts into events, all at time `at` (ns).
+-- Makes an event at time `at` (ns) from each act (what an event does) in the list.
 abbrev pub events_at : ℕ → List Act → List Event
 events_at at acts = map (λ what. let event : Event = record { at = at; act = what } in event) acts

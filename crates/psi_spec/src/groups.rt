@@ -9,7 +9,8 @@ pub fn law_legal_groups()
     ensures unchanged { AreGroupsKept }
 {}
 
-/// Parents never change, and new groups don't change the ancestors of earlier groups.
+/// The parent of a group never changes, and new groups don't change the ancestors of earlier
+/// groups.
 pub fn law_kept_parents()
     ensures parents { ParentsKept }
     ensures climbs { ClimbsKept }

@@ -10,8 +10,8 @@ pub fn law_stall_time()
     ensures with_time { GrowsWithTime }
 {}
 
-/// Each event increases the interrupt time by the interrupt time of the event in the world before
-/// it.
+/// Appending an event to a trace increases a group's interrupt time by the time that the event adds
+/// (`irq_from`).
 pub fn law_irq_time()
     ensures { IrqByEvent }
 {}

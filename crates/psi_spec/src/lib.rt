@@ -1,5 +1,5 @@
-//! The meaning of a trace: the definitions that the contracts of all crates above use, their types,
-//! and laws about them. No code runs here: other crates compute what these definitions specify.
+//! The meaning of a trace: the definitions that the contracts of other crates use, their types, and
+//! laws about them. No code runs here: other crates compute what these definitions specify.
 //!
 //! Read the files of `specs/` in this order: `Fields` and `Grammar` (which bytes spell an event),
 //! `Header` (the header line), `Names` (the groups, tasks and processors that an act names; an

@@ -1,5 +1,5 @@
--- Defines when buffered bytes begin with the line of an event, and when a player has taken this
--- event.
+-- Defines when buffered bytes begin with the line of an event, and when a player (a consumer of
+-- events) has processed this event.
 use Rattle.std.specs.Prelude.{◌≡◌, ℕ, ◌+◌, ◌-◌, ◌*◌, ◌^◌, ◌≤◌, ◌<◌, List, ◌∷◌, ◌++◌, decimal, take, drop, length, slice_index_or, true, false}
 use Rattle.std.specs.Str.{all_ascii_digits}
 use Rattle.psi_base.specs.Number.{value_after}
@@ -45,7 +45,8 @@ pub record BeginsWithEvent (bytes : List ℕ) (event : Event) (rest : List ℕ) 
 
 -- `BeginsWithTaskAct bytes act rest`: the bytes are the verb and the fields of the task act with a
 -- newline, followed by `rest`. With any time (ns) and a space before them, they are the whole line
--- of an event. A task act is the act of an event that concerns only tasks; here it isn't an exit.
+-- of an event. A task act is an event without its time that concerns only tasks; here it isn't an
+-- exit.
 pub record BeginsWithTaskAct (bytes : List ℕ) (act : TaskAct) (rest : List ℕ) : Type 0 where
   pub stays : exits act ≡ false
   pub begins : (at : ℕ) → at < 2 ^ 64 → BeginsWithEvent (decimal at ++ 32 ∷ bytes) (as_event at act) rest
@@ -58,7 +59,8 @@ pub record BeginsBufferWith (bytes : List ℕ) (event : Event) (count : ℕ) : T
   pub short : count ≤ 512
 
 -- `TakesPrefix Before After bytes played`: the bytes begin with the line of an event, which has
--- `played.count` bytes before its newline. `played.answer` is the player's result for the event.
+-- `played.count` bytes before its newline. `played.answer` is the result that a player (a consumer
+-- of events) returned for the event.
 pub record TakesPrefix (Before After : Plays) (bytes : List ℕ) (played : PlayedLine) : Type 0 where
   pub event : Event
   pub prefix : BeginsBufferWith bytes event played.count

@@ -1,5 +1,5 @@
--- Relates the result of a function that parses and consumes words of a line to the result that its
--- definition gives.
+-- Relates the result of a function that parses words of a line to the result that its definition
+-- gives. The function removes the parsed words from the line.
 use Rattle.std.specs.Prelude.{◌≡◌, ℕ, List, [], ◌∷◌, Bool, true, false, Option, None, Some, Result, Ok, Err, ⊤}
 use Rattle.psi_base.specs.declared.event.Act.{Act}
 use Rattle.psi_base.specs.declared.event.Cause.{Cause}
@@ -9,20 +9,21 @@ use Rattle.psi_base.specs.declared.event.Fault.TheVariants.{Refused, NoMemory}
 use Rattle.psi_spec.specs.Fields.{Kind, path}
 use Rattle.psi_spec.specs.Grammar.{Verb, kinds_of, verb_of}
 
--- `TakesWords result rest read`: the function's result and the remaining words `rest` agree with
--- `read`, the result that the definition gives.
+-- `TakesWords result rest read`: `result` (of the function) and the remaining words `rest` agree
+-- with `read`, the result according to the definition.
 abbrev pub TakesWords : {A W : Type 0} → Result A Cause → W → Result (A × W) Cause → Type 0
 TakesWords (Ok x) rest read = read ≡ Ok (x, rest)
 TakesWords (Err cause) rest read = read ≡ Err cause
 
--- `TakesAny result rest read`: like `TakesWords`, but nothing is stated if memory ran out.
+-- `TakesAny result rest read`: `result` (of the function) and the remaining words `rest` agree with
+-- `read`, the result according to the definition. If memory ran out, `read` is arbitrary.
 abbrev pub TakesAny : {A W : Type 0} → Result A (Fault Cause) → W → Result (A × W) Cause → Type 0
 TakesAny (Ok x) rest read = read ≡ Ok (x, rest)
 TakesAny (Err (Refused cause)) rest read = read ≡ Err cause
 TakesAny (Err (NoMemory _)) rest read = ⊤
 
--- `dated at act`: the event with this act at the time `at` (ns), or the cause why the act is
--- malformed.
+-- `dated at act`: the event at the time `at` (ns) that does `act`. If `act` is the cause for which
+-- the words of an event are malformed, the result is this cause.
 abbrev pub dated : ℕ → Result Act Cause → Result Event Cause
 dated at (Ok what) = Ok (record { at = at; act = what })
 dated at (Err why) = Err why

@@ -1,4 +1,4 @@
--- Defines the words of an event line after its time, as they are written, and which acts have short
+-- Defines how the words of an event line after its time are written, and which events have short
 -- lines.
 use Rattle.std.specs.Prelude.{ℕ, List, [], ◌∷◌, ◌++◌, Bool, true, false}
 use Rattle.psi_base.specs.declared.event.Act.{Act}
@@ -9,7 +9,7 @@ abbrev pub spaced : List (List ℕ) → List ℕ
 spaced [] = []
 spaced (text ∷ words) = 32 ∷ text ++ spaced words
 
--- Whether the act has few words and no path, so that its line fits in a `ShortLine`.
+-- Whether an event has few words and no path, so that its line fits in a `ShortLine`.
 abbrev pub is_short : Act → Bool
 is_short (act.Wake pid cpu) = true
 is_short (act.Switch cpu next how) = true

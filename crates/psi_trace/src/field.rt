@@ -19,7 +19,7 @@ pub type Words<'a> = Parts<'a, b' '>;
 /// The greatest size (bytes) or quantity (pages) in a `mem` or `host` line.
 const LARGEST_AMOUNT: u64 = 1 << 60;
 
-// Takes the next word. Fails with `BadField(index)` if there is no further word.
+// Removes and returns the next word. Fails with `BadField(index)` if no word is left.
 fn next_word<'a>(words: &mut Words<'a>, index: u8) -> Result<&'a [u8], Cause>
     ensures { MatchResult result (λ text. words.old ≡ text.now ∷ words.new)
         (λ e. (e ≡ cause.BadField index) × (words.old ≡ [])) }

@@ -1,12 +1,12 @@
-//! A buffer of fixed size for one line, which is written from its end to its start. The buffer has
-//! no words of the trace format: `write` and `word` add them to the line.
+//! A buffer of fixed size for one line, which is written from its end to its start. The modules
+//! `write` and `word` add the words of the trace format to the line.
 ghost use Rattle.std.specs.Prelude.{◌≡◌, ◌+◌, ◌≤◌, ◌++◌, [], decimal, length};
 
 use std::marker::Model;
 
-/// A line of at most `ROOM` bytes. In contracts it is the list of the bytes written so far. The
-/// line is written from its end to its start, so that each digit of a number is stored directly in
-/// its final place.
+/// A line of at most `ROOM` bytes. It is written from its end to its start, so that each digit of a
+/// number is stored directly in its final place. In contracts, a line is the list of the bytes
+/// written so far.
 #[derive(Drop)]
 pub(crate) struct LineBuffer<const ROOM: usize> {
     bytes: [u8; ROOM],

@@ -1,9 +1,9 @@
 //! Parses the lines with the most frequent verbs (`switch`, `wake`, `stall`, `unstall` and
-//! `migrate`) in the buffer, and plays their events.
+//! `migrate`) in the buffer, and passes their events to a player (a consumer of events).
 //!
-//! Each line is parsed in one pass from the left, up to its newline. The result is `None` if the
-//! bytes don't begin with such a line, without a reason. `read_event` parses any line, and reports
-//! the error in a malformed line.
+//! Each line is parsed in one pass from the left, up to its newline. If the bytes don't begin with
+//! such a line, the result is `None`, without a cause. `read_event` parses any line, and reports
+//! the cause for which a line is malformed.
 ghost use Rattle.std.specs.Prelude.{◌≡◌, ◌+◌, ◌<◌, ◌≤◌, ◌^◌, ◌∷◌, ◌++◌, ◌↔◌, IfNone, IfSome, IsTrue, codes, decimal, false, length};
 ghost use Rattle.psi_spec.specs.Fields.{how_word, next_word, IsPid};
 ghost use Rattle.psi_spec.specs.Refusal.{is_exit};
@@ -12,15 +12,17 @@ ghost use Rattle.psi_trace.specs.Prefix.{AreDigits, AreFour, BeginsWithTaskAct, 
 use psi_base::{Cause, Cpu, Fault, How, Ns, Pid};
 use trace_player::{Player, TaskAct};
 
-/// The maximum number of digits parsed here. Every number of 19 digits fits in 64 bits.
+/// The maximum number of digits that are parsed for a number. Every number of 19 digits fits in 64
+/// bits.
 const MOST_DIGITS: usize = 19;
 
-/// A line at the start of buffered bytes, whose event was passed to a player.
+/// The result of parsing a line at the start of buffered bytes, and of passing its event to a
+/// player.
 #[derive(Clone, Copy)]
 pub struct PlayedLine {
     /// The length (bytes) of the line without its newline.
     pub count: usize,
-    /// The player's result for the event.
+    /// The result that the player returned for the event.
     pub answer: Result<(), Fault<Cause>>,
 }
 
@@ -115,9 +117,9 @@ fn continue_digits(bytes: &[u8], written: u64, place: usize) -> (u64, usize)
     (number, count)
 }
 
-// Checks the end of a number with the value `number` and `count` digits. Returns `number` and the
-// bytes after `end` if the number has no leading zero and the byte `end` follows it, otherwise
-// `None`.
+// Checks the end of a number that has `count` digits and the value `number`. Returns `number` and
+// the bytes after the byte `end`. Returns `None` if the number has no digits or a leading zero, or
+// if `end` doesn't follow it.
 #[inline(always)]
 fn ended_by(bytes: &[u8], number: u64, count: usize, end: u8) -> Option<(u64, &[u8])>
     requires { AreDigits bytes.now number count }
@@ -132,8 +134,8 @@ fn ended_by(bytes: &[u8], number: u64, count: usize, end: u8) -> Option<(u64, &[
     Some((number, &bytes[count + 1..]))
 }
 
-// Parses the number at the start of the bytes. Returns the number and the bytes after `end`, or
-// `None` if the byte `end` doesn't follow the number or the number has more than 19 digits.
+// Parses a number of at most 19 digits that is followed by the byte `end`. Returns the number and
+// the bytes after `end`, or `None` if the bytes don't begin like this.
 #[inline(always)]
 fn number_before(bytes: &[u8], end: u8) -> Option<(u64, &[u8])>
     ensures { IfSome result (λ found. bytes.now ≡ decimal found.0 ++ end ∷ found.1.now) }
@@ -142,8 +144,8 @@ fn number_before(bytes: &[u8], end: u8) -> Option<(u64, &[u8])>
     ended_by(bytes, number, count, end)
 }
 
-// Like `number_before` with a space as `end`, for a time (ns). The digits are parsed in groups of
-// four, because most times have many digits.
+// Parses a time (ns) that is followed by a space. Returns the time and the bytes after the space.
+// The digits are parsed in groups of four, because most times have many digits.
 #[inline(always)]
 fn time_before(bytes: &[u8]) -> Option<(Ns, &[u8])>
     ensures { IfSome result (λ found. bytes.now ≡ decimal found.0 ++ 32 ∷ found.1.now) }
@@ -153,7 +155,8 @@ fn time_before(bytes: &[u8]) -> Option<(Ns, &[u8])>
     ended_by(bytes, number, count, b' ')
 }
 
-// Like `number_before`, for a number below 2^32.
+// Parses a number below 2^32 that is followed by the byte `end`. Returns the number and the bytes
+// after `end`.
 #[inline(always)]
 fn small_before(bytes: &[u8], end: u8) -> Option<(u32, &[u8])>
     ensures { IfSome result (λ found. bytes.now ≡ decimal found.0 ++ end ∷ found.1.now) }
@@ -164,7 +167,8 @@ fn small_before(bytes: &[u8], end: u8) -> Option<(u32, &[u8])>
     }
 }
 
-// Like `number_before`, for a pid (at least 1).
+// Parses a pid (at least 1) that is followed by the byte `end`. Returns the pid and the bytes after
+// `end`.
 #[inline(always)]
 fn pid_before(bytes: &[u8], end: u8) -> Option<(Pid, &[u8])>
     ensures { IfSome result (λ found. IsPid found.0
@@ -176,7 +180,8 @@ fn pid_before(bytes: &[u8], end: u8) -> Option<(Pid, &[u8])>
     }
 }
 
-// Like `number_before`, for the number of a processor.
+// Parses the number of a processor that is followed by the byte `end`. Returns the number and the
+// bytes after `end`.
 #[inline(always)]
 fn cpu_before(bytes: &[u8], end: u8) -> Option<(Cpu, &[u8])>
     ensures { IfSome result (λ found. (found.0.0 < 2 ^ 32)
@@ -186,7 +191,8 @@ fn cpu_before(bytes: &[u8], end: u8) -> Option<(Cpu, &[u8])>
     Some((Cpu(number), rest))
 }
 
-// Like `number_before`, for the next task of a switch. The number 0 means no task.
+// Parses the next task of a switch, followed by the byte `end`. The task is a pid, or 0 for no
+// task. Returns the task and the bytes after `end`.
 #[inline(always)]
 fn next_before(bytes: &[u8], end: u8) -> Option<(Option<Pid>, &[u8])>
     ensures { IfSome result (λ found. IfSome found.0 IsPid
@@ -199,8 +205,8 @@ fn next_before(bytes: &[u8], end: u8) -> Option<(Option<Pid>, &[u8])>
     Some((Some(Pid(number)), rest))
 }
 
-// If the bytes begin with a way in which the running task leaves (other than `exit`) and a newline,
-// returns the way and the bytes after the newline, otherwise `None`.
+// Parses the way in which the running task leaves (other than `exit`), followed by a newline.
+// Returns the way and the bytes after the newline, or `None` if the bytes don't begin like this.
 #[inline(always)]
 fn how_before_newline(bytes: &[u8]) -> Option<(How, &[u8])>
     ensures word { IfSome result (λ found. bytes.now ≡ how_word found.0 ++ 10 ∷ found.1.now) }
@@ -221,9 +227,9 @@ fn how_before_newline(bytes: &[u8]) -> Option<(How, &[u8])>
     None
 }
 
-// Each of the next five functions parses the fields of one verb. It returns the task act (the act
-// of an event that concerns only tasks) and the bytes after the newline, or `None` if the bytes
-// don't begin with the verb's fields and a newline.
+// Each of the next five functions parses the fields of one verb. It returns the task act (an event
+// without its time that concerns only tasks) and the bytes after the newline. It returns `None` if
+// the bytes don't begin with the verb's fields and a newline.
 
 #[inline(always)]
 fn switch_in(fields: &[u8]) -> Option<(TaskAct, &[u8])>
@@ -274,8 +280,9 @@ fn migrate_in(fields: &[u8]) -> Option<(TaskAct, &[u8])>
     Some((TaskAct::Migrate { pid, cpu }, rest))
 }
 
-// Parses the verb and the fields of a task act at the start of the bytes. Returns the task act and
-// the bytes after the newline, or `None` if the bytes don't begin with a task act.
+// Parses the verb and the fields of a task act (an event without its time that concerns only
+// tasks). Returns the task act and the bytes after the newline, or `None` if the bytes don't begin
+// with a task act.
 #[inline(always)]
 fn task_act_in(bytes: &[u8]) -> Option<(TaskAct, &[u8])>
     ensures { IfSome result (λ found. BeginsWithTaskAct bytes.now found.0 found.1.now) }
@@ -298,11 +305,11 @@ fn task_act_in(bytes: &[u8]) -> Option<(TaskAct, &[u8])>
     None
 }
 
-/// Plays the event of the line at the start of `bytes`, if the line is a `wake`, `stall`, `unstall`
-/// or `migrate`, or a `switch` that isn't an exit. The event is the one that
-/// [`read_event`](crate::read_event) returns for the line. For any other line, and for a line with
-/// a time of 20 digits, returns `None` and plays nothing.
-// All verbs share one call of the player, so that its code is inlined once.
+/// Parses the line at the start of `bytes`, and passes its event to the player. The line must be a
+/// `wake`, `stall`, `unstall` or `migrate`, or a `switch` that isn't an exit, and the event is the
+/// same as the result of [`read_event`](crate::read_event). For any other line, and for a line with
+/// a time of 20 digits, returns `None` and doesn't call the player.
+// All verbs share one call of the player, so that the player's code is inlined once.
 #[inline(always)]
 pub fn take_prefix<P: Player>(bytes: &[u8], player: &mut P) -> Option<PlayedLine>
     ensures prefix { IfSome result

@@ -268,8 +268,9 @@ fn event_at(alloc: Global, version: u32, at: Ns, mut words: Words) -> Result<Eve
     }
 }
 
-// Like `event_at`, for a verb that isn't one of the first five. The function is inlined for the
-// same reason as the functions of the verbs.
+// Parses the fields of a verb that isn't one of the five most frequent verbs, and returns the event
+// at the time `at` (ns). The function is inlined for the same reason as the functions of single
+// verbs.
 #[tactic(auto, unfolding(psi_spec::specs::Grammar::verb_of))]
 #[inline(always)]
 fn rarer_event_at(
@@ -299,8 +300,9 @@ fn rarer_event_at(
     }
 }
 
-// Like `event_at`, for a verb that isn't one of the first ten. The function is inlined for the same
-// reason as the functions of the verbs.
+// Parses the fields of a verb that isn't one of the ten most frequent verbs, and returns the event
+// at the time `at` (ns). The function is inlined for the same reason as the functions of single
+// verbs.
 #[tactic(auto, unfolding(psi_spec::specs::Grammar::verb_of))]
 #[inline(always)]
 fn rarest_event_at(
@@ -332,8 +334,7 @@ fn rarest_event_at(
     }
 }
 
-// Parses a line of a trace of this version: a time (ns), followed by an act. An act is an event
-// without its time.
+// Parses a line of a trace of this version: a time (ns), a verb, and the verb's fields.
 #[tactic(auto, unfolding(psi_spec::specs::Grammar::event_of, psi_spec::specs::Grammar::event_at))]
 fn event_in(alloc: Global, version: u32, line: &[u8]) -> Result<Event, Fault<Cause>>
     ensures exact { Gives result (event_of (verbs_of (version_of version)) line.now) }

@@ -11,7 +11,7 @@ use crate::line::{LongLine, ShortLine};
 use crate::word::{put_account, put_number, put_numbers, put_word};
 use psi_base::{Act, Cpu, Event, How, Level, NoMemory, Path, Pid, Preference, Res};
 
-/// Whether an act has few words and no path, so that its line fits in a `ShortLine`.
+/// Whether an event has few words and no path, so that its line fits in a `ShortLine`.
 fn is_short(act: &Act) -> bool
     ensures { result ≡ is_short act.now }
 {
@@ -27,7 +27,8 @@ fn is_short(act: &Act) -> bool
     )
 }
 
-/// Writes the words of a short act (`is_short`) into an empty line, each after a space.
+/// Writes the words of an event with a short line (`is_short`) into an empty line, each after a
+/// space. The time isn't written.
 #[tactic(auto, using(crate::proofs::InPieces::lines))]
 fn put_short_act(line: &mut ShortLine, act: &Act)
     requires short { is_short act.now ≡ true }
@@ -47,7 +48,8 @@ fn put_short_act(line: &mut ShortLine, act: &Act)
     }
 }
 
-/// Writes the words of an act that isn't short into an empty line, each after a space.
+/// Writes the words of an event without a short line (`is_short`) into an empty line, each after a
+/// space. The time isn't written.
 #[tactic(auto, using(crate::proofs::InPieces::lines))]
 fn put_long_act(line: &mut LongLine, act: &Act)
     requires long { is_short act.now ≡ false }
@@ -255,7 +257,7 @@ fn put_task_on(line: &mut ShortLine, verb: &[u8], pid: Pid, cpu: Cpu)
     put_task(line, verb, pid);
 }
 
-/// Writes an event with a short act (`is_short`) into an empty line.
+/// Writes an event with a short line (`is_short`) into an empty line.
 #[tactic(auto, using(crate::proofs::InPieces::lines))]
 fn put_short(line: &mut ShortLine, event: &Event)
     requires short { is_short event.now.act ≡ true }
@@ -266,7 +268,7 @@ fn put_short(line: &mut ShortLine, event: &Event)
     line.number(event.at);
 }
 
-/// Writes an event whose act isn't short into an empty line.
+/// Writes an event without a short line (`is_short`) into an empty line.
 #[tactic(auto, using(crate::proofs::InPieces::lines))]
 fn put_long(line: &mut LongLine, event: &Event)
     requires long { is_short event.now.act ≡ false }
@@ -299,8 +301,8 @@ fn append(bytes: &[u8], to: &mut Vec<u8>) -> Result<(), NoMemory>
     Ok(())
 }
 
-/// Appends the line of an event whose act isn't short. The function isn't inlined, because a
-/// function with a `LongLine` on its stack clears the `LongLine` at each call.
+/// Appends the line of an event that has no short line (`is_short`). The function isn't inlined,
+/// because a function with a `LongLine` on its stack clears the `LongLine` at each call.
 #[inline(never)]
 fn write_long(event: &Event, to: &mut Vec<u8>) -> Result<(), NoMemory>
     requires { is_short event.now.act ≡ false }

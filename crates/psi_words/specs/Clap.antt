@@ -1,6 +1,5 @@
 -- The `clap` command that parses the words of a command line: options with one value each and at
--- most one positional argument. The second part gives the meaning of the rows that `clap` returns,
--- one for each argument found.
+-- most one positional argument. The second part defines which words the result of `clap` contains.
 use Rattle.std.specs.Prelude.{◌≡◌, ℕ, List, [], ◌∷◌, ◌++◌, map, filter, Bool, true, not, codes}
 use Rattle.std.specs.Prelude.{Some, is_some, unwrap_or, slice_get}
 use Rattle.std.specs.List.{list_all}
@@ -11,7 +10,7 @@ use Rattle.run_spec.specs.Words.{ParsedWords}
 
 -- ---- the `clap` command
 
--- The rule that `clap` has for an option `--name VALUE`.
+-- The `clap` rule for an option `--name VALUE`.
 abbrev pub option_rule : List ℕ → Rule
 option_rule name = record (new_rule name) { long = Some name }
 
@@ -19,12 +18,12 @@ option_rule name = record (new_rule name) { long = Some name }
 abbrev pub positional_id : List ℕ
 positional_id = codes "TRACE"
 
--- The rule that `clap` has for the positional argument.
+-- The `clap` rule for the positional argument.
 abbrev pub positional_rule : Rule
 positional_rule = new_rule positional_id
 
--- A `clap` command with these rules. All words are arguments (the program's name isn't among them),
--- and there is no help option.
+-- A `clap` command with these rules and without a help option. The words don't include the
+-- program's name.
 abbrev pub plain_shape : List Rule → Shape
 plain_shape rules = record (new_shape (codes "words")) {
   no_binary_name = true;
@@ -37,13 +36,14 @@ abbrev pub plain_app : List (List ℕ) → App
 plain_app names =
     record { top = plain_shape (map option_rule names ++ positional_rule ∷ []); subs = [] }
 
--- ---- the rows of its result
+-- ---- the result of `clap`: one row for each argument
 
--- Whether the row is for an option, and not for the positional argument.
+-- Whether the row in the result of `clap` is for an option. If not, it is for the positional
+-- argument.
 abbrev pub is_option_row : Row → Bool
 is_option_row row = not (bytes_eq row.id positional_id)
 
--- The name and the value of the option in a row.
+-- The name and the value of the option in a row of the result of `clap`.
 abbrev pub option_in : Row → List ℕ × List ℕ
 option_in row = (row.id, unwrap_or (slice_get row.values 0) [])
 
@@ -54,6 +54,6 @@ words_in rows = record {
   positional = first_of positional_id rows;
 }
 
--- Each row has at least one value.
+-- Each row of the result of `clap` has at least one value.
 abbrev pub AreValued : List Row → Type 0
 AreValued rows = list_all (λ row. is_some (slice_get row.values 0)) rows ≡ true

@@ -1,5 +1,5 @@
--- How the result of a call that parses words is related to its definition: an optional value, which
--- is `None` for words that must be rejected.
+-- Relates the result of a call that parses words to its specification. The specification is an
+-- optional value: `None` means that the words must be rejected.
 use Rattle.std.specs.Prelude.{◌≡◌, ℕ, List, map, Result, Ok, Err, Option, Some, None}
 use Rattle.std.specs.Prelude.{IfSome, IsUtf8, ⊤}
 use Rattle.std.specs.Borrow.{Bor}
@@ -8,20 +8,19 @@ use Rattle.psi_base.specs.declared.event.Fault.TheVariants.{Refused, NoMemory}
 use Rattle.run_spec.specs.declared.command.Command.{Command}
 use Rattle.run_spec.specs.declared.command.Command.TheVariants.{Stall, Check, Replay, Gen, Stress, Import, Rules, Whatif}
 
--- The call returned the value that the definition gives, or an error exactly if the definition
--- gives `None`.
+-- The call returned the specified value `read`, or failed if `read` is `None`.
 abbrev pub Finds : {A E : Type 0} → Result A E → Option A → Type 0
 Finds (Ok x) read = read ≡ Some x
 Finds (Err why) read = read ≡ None
 
--- The call returned the value that the definition gives, or rejected the words and the definition
--- gives `None`. If memory ran out, nothing is known.
+-- The call returned the specified value `read`, or rejected the words if `read` is `None`. If
+-- memory ran out, nothing is known.
 abbrev pub ReadsWord : {A E : Type 0} → Result A (Fault E) → Option A → Type 0
 ReadsWord (Ok x) read = read ≡ Some x
 ReadsWord (Err (Refused why)) read = read ≡ None
 ReadsWord (Err (NoMemory _)) read = ⊤
 
--- The names in a list of borrowed texts.
+-- Converts a list of borrowed names to a list of names.
 abbrev pub names_in : List (Bor (List ℕ)) → List (List ℕ)
 names_in names = map (λ name. name.now) names
 

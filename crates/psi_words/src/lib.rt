@@ -1,4 +1,4 @@
-//! Command lines of `psi_oomd`: parses the words after the program's name into a command. Each
+//! Parses the command line of `psi_oomd` (the words after the program's name) into a command. Each
 //! command has its own simple `clap` command.
 //!
 //! The crate checks ranges and fills in defaults, but opens no files.

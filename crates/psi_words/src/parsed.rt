@@ -55,7 +55,7 @@ fn command<'a>(alloc: Global, names: &[&'a str]) -> Result<Command<'a>, AllocErr
     command.arg(positional(alloc))
 }
 
-/// The parsed words: the options with their values, and the positional argument or none.
+/// The parsed words: the options with their values, and the positional argument or `None`.
 #[derive(Drop)]
 pub(crate) struct Parsed<'a> {
     found: ArgMatches<'a>,
@@ -98,7 +98,7 @@ impl<'a> Parsed<'a> {
         }
     }
 
-    /// Returns the value of the option `name`, or `None` if it isn't given.
+    /// Returns the value of the option `name`, or `None` if the words don't contain the option.
     pub(crate) fn value(&self, name: &str) -> Option<&'a str>
         requires { bytes_eq name.now positional_id ≡ false }
         ensures { option_copied result ≡ option_value name.now self.now }
@@ -106,7 +106,7 @@ impl<'a> Parsed<'a> {
         self.found.get_str(name)
     }
 
-    /// Returns the positional argument, or `None` if it isn't given.
+    /// Returns the positional argument, or `None` if the words don't contain it.
     pub(crate) fn positional(&self) -> Option<&'a str>
         ensures { option_copied result ≡ self.now.positional }
     {

@@ -1,5 +1,5 @@
-//! The arguments of each command: its options, their ranges and defaults, and the command that they
-//! form.
+//! The arguments of each command: the options with their ranges and defaults, and the command that
+//! they form.
 //!
 //! Single values are parsed in `values`.
 ghost use Rattle.std.specs.Prelude.{map, string_bytes, IfOk, IfSome, IsUtf8};
@@ -67,7 +67,7 @@ fn options(alloc: Global, parsed: &Parsed) -> Result<Options, Fault<BadWords>>
 }
 
 // Returns the shape of a generated trace: its seed and its numbers of processors, groups and
-// events. Fails if there is a positional argument or an option is missing.
+// events. Fails if the words have a positional argument or lack one of these options.
 #[tactic(auto, unfolding(run_spec::specs::Words::shape_of))]
 fn shape(parsed: &Parsed) -> Result<Shape, BadWords>
     ensures { Finds result (spec.shape_of parsed.now) }

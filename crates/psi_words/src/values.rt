@@ -20,8 +20,8 @@ pub(crate) fn number_within(least: u64, most: u64, text: &str) -> Result<u64, Ba
     }
 }
 
-/// Parses the number of a required option, and checks that it is between `least` and `most`, both
-/// included. Fails if the option isn't given.
+/// Parses the value of a required option, as a number between `least` and `most`, both included.
+/// Fails if the option is missing.
 pub(crate) fn needed(least: u64, most: u64, parsed: Option<&str>) -> Result<u64, BadWords>
     ensures exact { Finds result (spec.needed least most (option_copied parsed.entry)) }
     ensures most { IfOk result (λ number. number ≤ most) }
@@ -32,8 +32,8 @@ pub(crate) fn needed(least: u64, most: u64, parsed: Option<&str>) -> Result<u64,
     }
 }
 
-/// Parses the number of an optional option, and checks that it is between `least` and `most`, both
-/// included. Returns `default` if the option isn't given.
+/// Parses the value of an option that may be missing, as a number between `least` and `most`, both
+/// included. Returns `default` if the option is missing.
 pub(crate) fn number_or(
     default: u32,
     least: u32,
@@ -51,7 +51,7 @@ pub(crate) fn number_or(
     }
 }
 
-/// Returns the name of a rules file or a drop-in file, or `None` if the option isn't given. Fails
+/// Returns the name of a rules file or a drop-in file, or `None` if the option is missing. Fails
 /// for an empty name, and for `-`, because these files can't be standard input.
 pub(crate) fn rules(alloc: Global, parsed: Option<&str>) -> Result<Option<Text>, Fault<BadWords>>
     ensures exact { ReadsWord result (spec.rules_option (option_copied parsed.entry)) }
@@ -68,8 +68,8 @@ pub(crate) fn rules(alloc: Global, parsed: Option<&str>) -> Result<Option<Text>,
     }
 }
 
-/// Returns the name of the drop-in file, or `None` if the option isn't given. Fails if it is given
-/// without a rules file.
+/// Returns the name of the drop-in file, or `None` if the option is missing. Fails if there is a
+/// drop-in file but no rules file.
 pub(crate) fn drop_in(
     alloc: Global,
     rules_named: &Option<Text>,
@@ -85,7 +85,7 @@ pub(crate) fn drop_in(
     rules(alloc, parsed)
 }
 
-/// Parses the path of a group. Returns `None` if the option isn't given.
+/// Parses the path of a group. Returns `None` if the option is missing.
 pub(crate) fn live(alloc: Global, parsed: Option<&str>) -> Result<Option<Path>, Fault<BadWords>>
     ensures { ReadsWord result (spec.live_option (option_copied parsed.entry)) }
 {

@@ -1,5 +1,5 @@
--- Defines the value of a table (the limits and a world), the invariant of its lists, and the effect
--- of playing an event.
+-- Defines the contents of a table of tasks (limits and scheduler state), the invariant of its
+-- lists, and the effect of playing an event.
 use Rattle.std.specs.Prelude.{◌≡◌, ℕ, ◌<◌, ◌≤◌, ◌==◌, true, List, length, slice_index_or, Option, None, Some, Bool, if◌then◌else◌, refl, Result, Ok, Err}
 use Rattle.std.specs.FinMap as tasks_by
 use Rattle.std.specs.Coded.{Coded, code_by, coded×, coded_ℕ, coded_bool, coded_list}
@@ -20,22 +20,22 @@ use Rattle.task_table.specs.Causes.{IsFault, takes_memory}
 use Rattle.task_table.specs.Named.{named_group, named_task}
 use Rattle.task_table.specs.declared.finding.Finding.{Finding}
 
--- The value of a table: the limits of a trace, and the world after the events played.
+-- The contents of a table of tasks: the limits of a trace, and the scheduler state (`World`) after
+-- the events played.
 pub record TableView : Type 0 where
   pub limits : Limits
   pub world : World
 
--- `passing test task`: the task if it exists and passes the test, otherwise `None`.
+-- `passing test task`: the task if it exists and passes the test, or `None`.
 abbrev pub passing : (Task → Bool) → Option Task → Option Task
 passing test None = None
 passing test (Some task) = if test task then Some task else None
 
--- `task_on tasks pid cpu`: the task with this pid if it is running on processor `cpu`, otherwise
--- `None`.
+-- `task_on tasks pid cpu`: the task with this pid if it is running on processor `cpu`, or `None`.
 abbrev pub task_on : Tasks → ℕ → ℕ → Option Task
 task_on tasks pid cpu = passing (is_running_on cpu) (task_of tasks pid)
 
--- `task_with pid running`: the running task if it has this pid, otherwise `None`.
+-- `task_with pid running`: the running task if it has this pid, or `None`.
 abbrev pub task_with : ℕ → Option (ℕ × Task) → Option Task
 task_with pid None = None
 task_with pid (Some running) = if running.0 == pid then Some running.1 else None
@@ -50,14 +50,14 @@ pub record IsIndex (running : List (Option (ℕ × Task))) (tasks : Tasks) : Typ
 abbrev pub is_of : ℕ → Task → Bool
 is_of slot task = task.slot.0 == slot
 
--- `AreMembers members tasks`: the list `members` has, for each slot, the number of live tasks in
--- the group itself.
+-- `AreMembers members tasks`: for each slot, the list `members` has the number of live tasks in the
+-- group itself, without its descendants.
 pub record AreMembers (members : List ℕ) (tasks : Tasks) : Type 0 where
   pub each : (slot : ℕ) → slice_index_or members slot 0 ≡ how_many (is_of slot) (tasks_by.values tasks)
 
--- `IsTable table running members`: the invariant of a table. The world is legal, there are at most
--- 64 processors, `running` has their running tasks, and `members` has the number of tasks in each
--- group.
+-- `IsTable table running members`: the invariant of a table of tasks. The scheduler state is legal,
+-- there are at most 64 processors, `running` has their running tasks, and `members` has the number
+-- of tasks in each group.
 pub record IsTable (table : TableView) (running : List (Option (ℕ × Task))) (members : List ℕ) : Type 0 where
   pub legal : IsLegalWorld table.limits table.world
   pub index : IsIndex running table.world.tasks
@@ -65,9 +65,9 @@ pub record IsTable (table : TableView) (running : List (Option (ℕ × Task))) (
   pub cover : length table.world.groups ≤ length members
   pub cpus : length running ≤ 64
 
--- `HasPlayed old event new`: the table has played a legal event. The new world is the world after
--- the event and is legal. The number of events is within its limit. The time of the last event
--- hasn't decreased and is within its limit.
+-- `HasPlayed old event new`: the table of tasks has played a legal event. Its new state is the
+-- state after the event, and is legal. The number of events is within its limit. The time of the
+-- last event hasn't decreased and is within its limit.
 pub record HasPlayed (old : TableView) (event : Event) (new : TableView) : Type 0 where
   pub limits : new.limits ≡ old.limits
   pub legal : cause_of old.limits old.world event ≡ None
@@ -78,21 +78,21 @@ pub record HasPlayed (old : TableView) (event : Event) (new : TableView) : Type 
   pub early : new.world.last ≤ new.limits.latest
   pub forward : old.world.last ≤ new.world.last
 
--- `HasRefused old event new why`: the table has rejected an event with the fault `why`, and is
--- unchanged.
+-- `HasRefused old event new why`: the table of tasks has rejected an event with the fault `why`,
+-- and is unchanged.
 pub record HasRefused (old : TableView) (event : Event) (new : TableView) (why : Fault Cause) : Type 0 where
   pub fault : IsFault (cause_of old.limits old.world event) event.act why
   pub same : new ≡ old
 
--- `PlaysEvent old event new result`: the table plays the event if `result` is `Ok`, otherwise it
--- rejects the event.
+-- `PlaysEvent old event new result`: the table of tasks plays the event if `result` is `Ok`, and
+-- rejects it if not.
 abbrev pub PlaysEvent : {T : Type 0} → TableView → Event → TableView → Result T (Fault Cause) → Type 0
 PlaysEvent old event new (Ok x) = HasPlayed old event new
 PlaysEvent old event new (Err why) = HasRefused old event new why
 
--- `IsFinding table event finding`: the event is legal, and `finding` holds its tasks and group: the
--- task with the pid that the act names, the task that the act changes, and the live group whose
--- path the act names.
+-- `IsFinding table event finding`: the event is legal, and `finding` has its tasks and its group:
+-- the task with the pid that the event names, the task that the event changes, and the live group
+-- whose path the event names.
 pub record IsFinding (table : TableView) (event : Event) (finding : Finding) : Type 0 where
   pub legal : cause_of table.limits table.world event ≡ None
   pub room : table.world.lines < most_events
@@ -102,19 +102,19 @@ pub record IsFinding (table : TableView) (event : Event) (finding : Finding) : T
   pub before_is : finding.before ≡ before table.world.tasks event.act
   pub group_is : finding.group ≡ named_group table.world.groups event.act
 
--- `Judges table event result`: `result` holds the tasks and the group of a legal event, or the
--- first cause why the event is illegal.
+-- `Judges table event result`: `result` has the tasks and the group of a legal event, or the first
+-- cause for rejecting an illegal event.
 abbrev pub Judges : TableView → Event → Result Finding Cause → Type 0
 Judges table event (Ok finding) = IsFinding table event finding
 Judges table event (Err why) = cause_of table.limits table.world event ≡ Some why
 
--- `PlaysLegal old event new result`: the table plays a legal event, or memory runs out for a new
--- task or group and the table is unchanged.
+-- `PlaysLegal old event new result`: on success, the table of tasks plays a legal event. On
+-- failure, memory ran out for a new task or group, and the table is unchanged.
 abbrev pub PlaysLegal : {T : Type 0} → TableView → Event → TableView → Result T NoMemory → Type 0
 PlaysLegal old event new (Ok x) = HasPlayed old event new
 PlaysLegal old event new (Err none) = (new ≡ old) × (takes_memory event.act ≡ true)
 
--- Builds the value of a table from its parts.
+-- Builds the contents of a table of tasks from their parts.
 abbrev pub table_of : ℕ → ℕ → Tasks → List GroupLife → List ℕ → ℕ → ℕ → ℕ → ℕ → Bool → TableView
 table_of cpus latest tasks groups irqs triggers pressures lines last ended = record {
   limits = record { cpus = cpus; latest = latest };
@@ -130,7 +130,7 @@ table_of cpus latest tasks groups irqs triggers pressures lines last ended = rec
   };
 }
 
--- Encodes a world as nested pairs, so that proofs can compare worlds.
+-- Encodes a scheduler state (`World`) as nested pairs, so that proofs can compare states.
 abbrev pub world_code : Coded World
 world_code =
     code_by (Tasks × (List GroupLife × (List ℕ × (ℕ × (ℕ × (ℕ × (ℕ × Bool)))))))
@@ -149,7 +149,7 @@ world_code =
       ended = p.1.1.1.1.1.1.1;
     }) (λ _. refl)
 
--- Encodes the value of a table as nested pairs, so that proofs can compare values.
+-- Encodes the contents of a table of tasks as nested pairs, so that proofs can compare them.
 abbrev pub view_code : Coded TableView
 view_code =
     code_by ((ℕ × ℕ) × World) (coded× (coded× coded_ℕ coded_ℕ) world_code)

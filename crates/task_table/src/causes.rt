@@ -1,5 +1,5 @@
-//! Finds the first cause why an act is illegal, in the order of checks that psi_spec defines. An
-//! act is an event without its time. Nothing is changed here.
+//! Finds the first cause for rejecting an event, in the order of checks that psi_spec defines. This
+//! module checks only what the event does (`Act`), not its time, and changes nothing.
 ghost use Rattle.std.specs.Prelude.{◌≡◌, ℕ, List, if◌then◌else◌, nat_le, length, slice_index_or, None, Option, Some, false};
 ghost use Rattle.psi_base.specs.declared.event.Cause.TheVariants as cause;
 ghost use Rattle.psi_spec.specs.Refusal.{has_member, is_window};
@@ -33,15 +33,15 @@ const LONGEST_WINDOW: u64 = 10_000_000;
 /// The longest interrupt time (ns) that one `irq` line may report.
 const LONGEST_IRQ: u64 = 1_000_000_000;
 
-/// Whether `live` tasks reach the maximum number of live tasks.
+/// Returns whether `live`, the number of live tasks, has reached its maximum.
 pub(crate) fn is_full(live: usize) -> bool
     ensures { result ≡ nat_le most_tasks live }
 {
     live >= MOST_TASKS
 }
 
-/// Returns the slot of the live group whose path an act names, or `None`. The path of an act that
-/// creates a group isn't looked up.
+/// Returns the slot of the live group whose path an event names, or `None`. The path of a group
+/// that the event creates isn't looked up.
 pub(crate) fn named_group(tree: &Tree, act: &Act) -> Option<Slot>
     ensures { result ≡ named_group tree.now act.now }
 {
@@ -130,8 +130,8 @@ pub(crate) fn wake_refused(task: Option<Task>, cpus: usize, cpu: u32) -> Option<
     }
 }
 
-/// Returns the cause why the next task can't start on processor `cpu`, or `None` if the task can
-/// start. If `next` is `None`, only the processor number is checked.
+/// Returns the first cause for rejecting the start of the next task on processor `cpu`, or `None`
+/// if the task can start. If `next` is `None`, only the processor number is checked.
 #[inline(always)]
 fn next_refused(next: Option<Pid>, task: Option<Task>, cpus: usize, cpu: u32) -> Option<Cause>
     ensures { result ≡ next_cause cpus cpu next task }
@@ -160,8 +160,8 @@ fn cpu_refused(cpus: usize, cpu: u32) -> Option<Cause>
     None
 }
 
-/// Returns the cause why the running task can't leave its processor in the way `how`, or `None` if
-/// the task can.
+/// Returns the cause for rejecting the way `how` in which the running task leaves its processor, or
+/// `None` if the task can leave in that way.
 #[inline(always)]
 fn how_refused(how: How, running: Running) -> Option<Cause>
     ensures { result ≡ how_cause how running }
@@ -289,9 +289,9 @@ fn account_refused(tree: &Tree, pressures: u32, path: &Path) -> Option<Cause>
     tree.pressure_cause(path)
 }
 
-/// Returns the cause for rejecting an `irq` line at the time `at` (ns) which states that interrupts
-/// took `ns` (ns) on processor `cpu`, or `None` if the line is legal. `irqs` lists the time (ns) of
-/// each processor's last `irq` line.
+/// Returns the cause for rejecting an `irq` line at the time `at` (ns), or `None` if the line is
+/// legal. The line states that interrupts took `ns` (ns) on processor `cpu`. `irqs` has the time
+/// (ns) of each processor's last `irq` line.
 fn irq_refused(irqs: &[Ns], cpus: usize, at: Ns, cpu: Cpu, ns: u64) -> Option<Cause>
     ensures { result ≡ irq_cause cpus irqs.now at cpu ns }
 {
@@ -305,10 +305,11 @@ fn irq_refused(irqs: &[Ns], cpus: usize, at: Ns, cpu: Cpu, ns: u64) -> Option<Ca
     None
 }
 
-/// Returns the first cause why the act of an event is illegal, or `None` if the act is legal.
-/// Precondition: the act isn't a task act. `irqs` lists the time (ns) of each processor's last
-/// `irq` line. `named` is the task with the pid that the act names, and `group` is the slot of the
-/// live group with the path that the act names.
+/// Returns the first cause for rejecting `event`, or `None` if it is legal. The checks that apply
+/// to every event, such as the check of its time, aren't made here. Precondition: the event isn't a
+/// task event (`TaskAct`). `irqs` has the time (ns) of each processor's last `irq` line. `named` is
+/// the task with the pid that the event names, and `group` is the slot of the live group with the
+/// path that the event names.
 #[inline(always)]
 pub(crate) fn act_refused(
     tree: &Tree,

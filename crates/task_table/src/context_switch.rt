@@ -16,8 +16,8 @@ use crate::task_update::TaskUpdate;
 use psi_base::{How, Pid};
 use psi_spec::{Mode, Task};
 
-/// Returns the state of the running task after the task leaves its processor in the way `how`, or
-/// `None` if the task exits.
+/// Returns the state of the running task after it leaves its processor in the way `how`, or `None`
+/// if the task exits.
 #[inline(always)]
 fn left(how: How, task: Task) -> Option<Task>
     ensures task { result ≡ left_by how task }
@@ -42,7 +42,7 @@ fn left(how: How, task: Task) -> Option<Task>
     }
 }
 
-/// Takes the running task off its processor.
+/// Removes the running task from its processor.
 #[inline(always)]
 fn switch_out(
     tasks: &mut TaskMap,
@@ -119,8 +119,8 @@ fn switch_in(
     running[cpu as usize] = Some((pid.0, after));
 }
 
-/// Performs a legal switch on processor `cpu`. `next` and `task` are the pid and the state of the
-/// next task, or `None` if the processor idles after the switch.
+/// Performs a legal context switch on processor `cpu`. `next` and `task` are the pid and the state
+/// of the next task, or `None` if the processor idles after the switch.
 #[inline(always)]
 pub(crate) fn switch(
     tasks: &mut TaskMap,

@@ -1,5 +1,5 @@
-//! Performs a legal act on the tasks, the groups and the counters of a trace. The module `causes`
-//! checks whether an act is legal.
+//! Applies a legal event to the tasks, the groups and the counters of a trace. The module `causes`
+//! checks whether an event is legal.
 ghost use Rattle.std.specs.Prelude.{◌≡◌, ℕ, ◌+◌, ◌<◌, ◌≤◌, ◌++◌, ◌||◌, if◌then◌else◌, List, [], ◌∷◌, Option, None, Some, IfOk, OnOk, OnErr, true, false, length, slice_index_or, slice_set, unwrap_or};
 ghost use Rattle.std.specs.FinMap as tasks_by;
 ghost use Rattle.psi_spec.specs.World.{change, ends, groups_after, irqs_after, is_pressure, is_running, is_trigger, most_tasks, new_group, new_task, put, prepared_changes, slot_of, task_of, tasks_after};
@@ -29,7 +29,8 @@ fn is_end(act: &Act) -> bool
     matches!(act, Act::End)
 }
 
-/// Whether the trace has ended after `act`. `before` is whether the trace had ended before `act`.
+/// Returns whether the trace has ended after the event `act`. `before` is whether the trace had
+/// ended before the event.
 #[inline(always)]
 pub(crate) fn has_ended(before: bool, act: &Act) -> bool
     ensures { result ≡ (before || ends act.now) }
@@ -37,7 +38,7 @@ pub(crate) fn has_ended(before: bool, act: &Act) -> bool
     before || is_end(act)
 }
 
-/// Returns the number of triggers after `act`. `before` is the number of triggers before `act`.
+/// Returns the number of triggers after the event `act`. `before` is the number before the event.
 #[inline(always)]
 pub(crate) fn triggers_with(before: u32, act: &Act) -> u32
     requires { before ≤ 256 }
@@ -49,7 +50,8 @@ pub(crate) fn triggers_with(before: u32, act: &Act) -> u32
     }
 }
 
-/// Returns the number of `pressure` lines after `act`. `before` is their number before `act`.
+/// Returns the number of `pressure` lines after the event `act`. `before` is the number before the
+/// event.
 #[inline(always)]
 pub(crate) fn pressures_with(before: u32, act: &Act) -> u32
     requires { before ≤ 65536 }
@@ -61,8 +63,8 @@ pub(crate) fn pressures_with(before: u32, act: &Act) -> u32
     }
 }
 
-/// Stores `at` (ns) as the time of the last `irq` line of the processor that an `irq` act names.
-/// Other acts change nothing.
+/// Stores `at` (ns) as the time of a processor's last `irq` line, if the event is such a line.
+/// Other events change nothing.
 #[inline(always)]
 pub(crate) fn note_irq(irqs: &mut [Ns; MOST_CPUS], at: Ns, act: &Act)
     ensures { irqs.new ≡ irqs_after at irqs.old act.now }
@@ -81,7 +83,8 @@ fn set_irq(irqs: &mut [Ns], cpu: Cpu, at: Ns)
     }
 }
 
-/// Returns a new task, which is ready and isn't in a memory stall.
+/// Returns a new task in the group in `slot` on processor `cpu`. The task is ready and isn't in a
+/// memory stall.
 fn forked(slot: Slot, cpu: Cpu) -> Task
     ensures { (groups : List GroupLife) (path : List ℕ) → slot ≡ slot_named groups path →
         result ≡ new_task groups path cpu.0 }
@@ -94,8 +97,8 @@ fn forked(slot: Slot, cpu: Cpu) -> Task
     }
 }
 
-/// Returns `task` as a ready task on the run queue of processor `cpu`, or `None` without a task. A
-/// memory stall of the task continues.
+/// Returns `task` as a ready task on processor `cpu`, or `None` if there is no task. A memory stall
+/// of the task continues.
 pub(crate) fn prepared_changes(task: Option<Task>, cpu: Cpu) -> Option<Task>
     ensures { result ≡ changed (prepared_changes cpu.0) task }
 {
@@ -127,8 +130,8 @@ fn moved(task: Option<Task>, slot: Slot) -> Option<Task>
     }
 }
 
-/// Returns the live task with the pid that an act names, or `None`. Precondition: the act isn't a
-/// task act.
+/// Returns the live task with the pid that an event names, or `None`. Precondition: the event isn't
+/// a task event (`TaskAct`).
 #[inline(always)]
 pub(crate) fn named_task(tasks: &TaskMap, act: &Act) -> Option<Task>
     requires { is_task_act act.now ≡ false }
@@ -140,8 +143,8 @@ pub(crate) fn named_task(tasks: &TaskMap, act: &Act) -> Option<Task>
     }
 }
 
-/// Replaces the task `old` with the task `new` under the pid `pid`. Changes nothing if one of the
-/// two is `None`.
+/// Replaces the task `old` by the task `new` under the pid `pid`. Changes nothing if either is
+/// `None`.
 // The function is inlined so that the two tasks aren't passed through memory.
 #[inline(always)]
 pub(crate) fn replace(
@@ -180,7 +183,7 @@ pub(crate) fn replace(
     changed
 }
 
-/// Adds a task under a new pid. If memory runs out, no task is added.
+/// Adds `task` under the new pid `pid`. If memory runs out, no task is added.
 fn add_task(
     tasks: &mut TaskMap,
     members: &mut Members,
@@ -212,7 +215,8 @@ fn add_task(
     }
 }
 
-/// Adds a group. If memory runs out, no group is added.
+/// Adds the group with the path `path` at the time `at` (ns). If memory runs out, no group is
+/// added.
 fn add_group(tree: &mut Tree, members: &mut Members, path: &Path, at: Ns) -> Result<(), NoMemory>
     requires legal { add_cause tree.old path.now ≡ None }
     requires cover { length tree.old ≤ length members.old }
@@ -230,9 +234,9 @@ fn add_group(tree: &mut Tree, members: &mut Members, path: &Path, at: Ns) -> Res
     }
 }
 
-/// Performs a legal act on the tasks. Precondition: the act isn't a task act. `named` is the task
-/// with the pid that the act names, and `slot` is the slot of the group that the act names. Only a
-/// fork allocates; if memory runs out, no task changes.
+/// Applies a legal event to the tasks. Precondition: the event isn't a task event (`TaskAct`).
+/// `named` is the task with the pid that the event names, and `slot` is the slot of the group that
+/// the event names. Only a fork allocates; if memory runs out, no task changes.
 #[inline(always)]
 pub(crate) fn change_tasks(
     tasks: &mut TaskMap,
@@ -274,8 +278,8 @@ pub(crate) fn change_tasks(
     }
 }
 
-/// Performs a legal act at the time `at` (ns) on the groups. Only a new group allocates; if memory
-/// runs out, no group changes.
+/// Applies a legal event at the time `at` (ns) to the groups. Only the creation of a group
+/// allocates; if memory runs out, no group changes.
 #[inline(always)]
 pub(crate) fn change_groups(
     tree: &mut Tree,

@@ -1,21 +1,21 @@
-//! The table of tasks: decides which events are legal, performs the legal ones, and reports what
-//! each changes on each processor.
+//! The table of tasks: decides which events are legal, performs the legal events, and reports the
+//! changes that each event causes on processors.
 //!
-//! The table implements in code the model `World` of psi_spec: the live tasks, each with its group,
-//! processor, mode and memory stall, and the tree of groups (group_tree). An *act* is an event
-//! without its time. An event is handled in two calls, so that a lack of memory is never reported
-//! in place of the cause why an event is illegal:
+//! The table implements the model `World` of psi_spec: the live tasks, each with its group,
+//! processor, mode and memory stall, and the tree of groups (group_tree). An event is checked and
+//! performed in two calls, so that out of memory is never reported in place of the cause why an
+//! event is illegal:
 //!
 //!     judge      checks an event: returns a `Finding` (its tasks and group), or the first cause
 //!     perform    performs a legal event: returns a `Touch` (its change on each processor)
 //!
 //! Between the two calls the caller reserves memory for the result of the event. The table looks up
 //! tasks by pid and groups by path, and never scans a list. About nine of ten events of a trace
-//! concern only tasks (`switch`, `wake`, `stall` and so on). Their acts are *task acts*
-//! (`TaskAct`): small values that own no memory. Task acts take a fast path, and the contracts
-//! state that the fast path gives the same results as the general path.
+//! are *task events*, which concern only tasks (`switch`, `wake`, `stall` and so on). A task event
+//! is represented by a `TaskAct`, a small value that owns no memory. Task events take a fast path,
+//! and the contracts state that this path has the same results as the general path.
 //!
-//! The table computes no stall times: proc_plan and slot_clocks compute them from touches.
+//! The table computes no stall times: proc_plan and slot_clocks compute them from the changes.
 #![tactic(auto)]
 
 mod causes;

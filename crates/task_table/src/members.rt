@@ -1,5 +1,4 @@
-//! The number of live tasks in each group, which decides whether a group is empty and can be
-//! removed.
+//! The number of live tasks in each group. A group can be removed only if it has no tasks.
 ghost use Rattle.std.specs.Prelude.{◌≡◌, ℕ, ◌+◌, ◌-◌, ◌<◌, ◌≤◌, ◌^◌, List, [], ◌∷◌, length, slice_index_or, slice_set, nat_lt, IfOk, OnOk};
 
 use psi_base::{NoMemory, Slot};
@@ -25,7 +24,7 @@ impl Model for Members {
 }
 
 impl Members {
-    /// Creates the list for a single group (the root) without tasks.
+    /// Creates the list for the root group alone, which has no tasks.
     pub(crate) fn new(alloc: Global) -> Result<Members, NoMemory>
         ensures { IfOk result (λ members. members ≡ 0 ∷ []) }
     {
@@ -33,8 +32,8 @@ impl Members {
         Ok(Members { counts })
     }
 
-    /// Extends the list to `groups` groups; an added group has no task. Fails with `NoMemory` if
-    /// memory runs out.
+    /// Extends the list to `groups` groups. The added groups have no tasks. Fails with `NoMemory`
+    /// if memory runs out.
     pub(crate) fn cover(&mut self, groups: usize) -> Result<(), NoMemory>
         requires { groups ≤ length self.old + 1 }
         ensures same { (slot : ℕ) →
@@ -48,7 +47,7 @@ impl Members {
         Ok(())
     }
 
-    /// Whether a live task is in the group itself, not only in a group below it.
+    /// Returns whether a live task is in the group itself, not only in a group below it.
     pub(crate) fn has(&self, slot: Slot) -> bool
         ensures { result ≡ nat_lt 0 (slice_index_or self.now slot.0 0) }
     {

@@ -1,5 +1,6 @@
-//! Implements `Player` for the table, so that a trace can be checked by playing its events in
-//! order. Unlike the planner of proc_plan, a table records no plans.
+//! Implements the trait `Player` for the table of tasks, so that a trace can be checked by playing
+//! its events in order. Unlike the planner of proc_plan, the table doesn't record the changes of
+//! processors.
 
 use crate::table::Table;
 use psi_base::{Cause, Event, Fault, NoMemory, Ns};

@@ -1,5 +1,5 @@
-//! The running task of each processor. The table stores these tasks in a list, so that it needn't
-//! search all tasks for them.
+//! The running task of each processor. The table of tasks stores them in a list, so that it needn't
+//! search all tasks for a running task.
 ghost use Rattle.std.specs.Prelude.{◌≡◌, None, Some, if◌then◌else◌, slice_index_or, slice_set, length, ◌<◌, true};
 ghost use Rattle.psi_spec.specs.World.{is_running};
 
@@ -15,7 +15,7 @@ pub(crate) fn running_at(running: &[Running], cpu: u32) -> Running
     running.get(cpu as usize).copied().unwrap_or(None)
 }
 
-/// Stores `task` as the running task of its processor, if the task is running.
+/// Stores `task` as the running task of its processor. Does nothing if the task isn't running.
 pub(crate) fn set_running(running: &mut [Running], pid: u32, task: Task)
     requires { is_running task.mode ≡ true → task.cpu.0 < length running.old }
     ensures { running.new

@@ -1,5 +1,5 @@
-//! The table of tasks. It holds the state after the events played so far, checks the next event,
-//! and performs it.
+//! The table of tasks. It has the state after the events played so far, checks the next event, and
+//! performs it.
 ghost use Rattle.std.specs.Prelude.{◌≡◌, ◌<◌, ◌≤◌, IfNone, IfOk, None, false, length, nat_le};
 ghost use Rattle.std.specs.FinMap as tasks_by;
 ghost use Rattle.psi_spec.specs.World.{first_world, most_events, most_tasks, running_on, task_of, task_part};
@@ -32,7 +32,7 @@ use std::alloc::Global;
 use std::marker::Model;
 use trace_player::TaskAct;
 
-/// The state after the events played so far, and the limits of the trace.
+/// The state of all tasks and groups after the events played so far, and the limits of the trace.
 #[derive(Drop)]
 pub struct Table {
     /// The latest time (ns) that an event may have.
@@ -44,13 +44,13 @@ pub struct Table {
     members: Members,
     /// All groups ever created, including removed groups.
     tree: Tree,
-    /// The time (ns) of each processor's last `irq` line, or 0.
+    /// The time (ns) of each processor's last `irq` line, or 0 if there was none.
     irqs: [Ns; MOST_CPUS],
-    /// The number of triggers set.
+    /// The number of triggers that were set.
     triggers: u32,
-    /// The number of `pressure` lines played.
+    /// The number of `pressure` lines that were played.
     pressures: u32,
-    /// The number of events played.
+    /// The number of events that were played.
     lines: u32,
     /// The time (ns) of the last event.
     last: Ns,
@@ -123,14 +123,14 @@ impl Table {
         self.last
     }
 
-    /// Whether the event that ends the trace has been played.
+    /// Returns whether the event that ends the trace has been played.
     pub fn is_ended(&self) -> bool
         ensures { result ≡ self.now.world.ended }
     {
         self.ended
     }
 
-    /// Whether the number of live tasks has reached its limit (65,536).
+    /// Returns whether the number of live tasks has reached its limit (65,536).
     pub fn is_full(&self) -> bool
         ensures { result ≡ nat_le most_tasks (tasks_by.len self.now.world.tasks) }
     {
@@ -144,7 +144,7 @@ impl Table {
         &self.tree
     }
 
-    /// Returns the tree of all groups ever created, and drops the rest of the table.
+    /// Returns the tree of all groups ever created, and drops the rest of the table of tasks.
     pub fn into_groups(self) -> Tree
         ensures { result ≡ self.world.groups }
     {
@@ -169,8 +169,8 @@ impl Table {
         }
     }
 
-    /// Returns the slot of the running task's group, and whether that task is in a memory stall, as
-    /// a `Change` of the processor stores them. Returns `None` if the processor idles.
+    /// Returns the slot of the running task's group, and whether that task is in a memory stall, in
+    /// the format of a `Change`. Returns `None` if the processor idles.
     #[tactic(auto, using(crate::proofs::Index::running_known))]
     pub fn current(&self, cpu: Cpu) -> Option<(Slot, bool)>
         ensures { result ≡ shown (running_on self.now.world.tasks cpu.0) }
@@ -178,8 +178,8 @@ impl Table {
         current_on(&self.running, cpu)
     }
 
-    /// Checks only the time `at` (ns) of an event and the state of the trace. Returns the first
-    /// cause for rejecting any event at that time, or `None`.
+    /// Checks the time `at` (ns) of an event, and whether the trace may have another event. Returns
+    /// the first cause for rejecting any event at that time, or `None`.
     #[tactic(auto, using(std::proofs::lemmas::Bool::Decides::nat_tests))]
     #[inline(always)]
     fn line_refused(&self, at: Ns) -> Option<Cause>
@@ -204,8 +204,9 @@ impl Table {
     }
 
     /// Returns the first cause for rejecting an event, or `None` if the event is legal.
-    /// Precondition: the act isn't a task act. `named` is the task with the pid that the act names,
-    /// and `group` is the slot of the live group with the path that the act names.
+    /// Precondition: the event isn't a task event (`TaskAct`). `named` is the task with the pid
+    /// that the event names, and `group` is the slot of the live group with the path that the event
+    /// names.
     #[inline(always)]
     fn refused(&self, event: &Event, named: Option<Task>, group: Option<Slot>) -> Option<Cause>
         requires other { is_task_act event.now.act ≡ false }
@@ -233,9 +234,9 @@ impl Table {
         )
     }
 
-    /// Returns the state before `act` of the task whose counts `act` changes, or `None` if `act`
-    /// changes no existing task. Precondition: `act` isn't a task act. `named` is the task with the
-    /// pid that `act` names.
+    /// Returns the task whose counts the event `act` changes, in its state before the event.
+    /// Returns `None` if the event changes no existing task. Precondition: the event isn't a task
+    /// event (`TaskAct`). `named` is the task with the pid that the event names.
     #[inline(always)]
     fn before(&self, act: &Act, named: Option<Task>) -> Option<Task>
         requires other { is_task_act act.now ≡ false }
@@ -248,8 +249,8 @@ impl Table {
         }
     }
 
-    /// Checks an event. Returns the tasks and the group of a legal event, or the first cause why
-    /// the event is illegal.
+    /// Checks an event. Returns the tasks and the group of a legal event, or the first cause for
+    /// rejecting an illegal event.
     #[inline(always)]
     pub fn judge(&self, event: &Event) -> Result<Finding, Cause>
         ensures { Judges self.now event.now result }
@@ -293,8 +294,8 @@ impl Table {
         }
     }
 
-    /// The general path of [`Table::play`]. Precondition: the act isn't a task act. The function
-    /// isn't inlined, which keeps the fast path small enough to be inlined.
+    /// The general path of [`Table::play`]. Precondition: the event isn't a task event (`TaskAct`).
+    /// The function isn't inlined, which keeps the fast path small enough to be inlined.
     #[inline(never)]
     fn play_other(&mut self, event: &Event) -> Result<(), Fault<Cause>>
         requires { is_task_act event.now.act ≡ false }
@@ -305,7 +306,7 @@ impl Table {
         Ok(())
     }
 
-    /// Plays an event like [`Table::play`], and returns the changes that the event makes on
+    /// Plays an event as [`Table::play`] does, and returns the changes that the event causes on
     /// processors. No program of this repository calls this function.
     pub fn step(&mut self, event: &Event) -> Result<Touch, Fault<Cause>>
         ensures plays { PlaysEvent self.old event.now self.new result }
@@ -323,7 +324,7 @@ impl Table {
         Ok(self.perform(event, finding)?)
     }
 
-    /// Performs a legal event, and returns the changes that the event makes on processors.
+    /// Performs a legal event, and returns the changes that the event causes on processors.
     /// `finding` is the result of [`Table::judge`] for this event. Only a fork or a new group
     /// allocates; if memory runs out, the table is unchanged.
     #[inline(always)]
@@ -352,7 +353,8 @@ impl Table {
     }
 
     /// Performs a legal event, and returns the task that the event changes, before and after the
-    /// event. Precondition: the act isn't a task act. If memory runs out, the table is unchanged.
+    /// event. Precondition: the event isn't a task event (`TaskAct`). If memory runs out, the table
+    /// is unchanged.
     #[inline(always)]
     fn advance(&mut self, event: &Event, finding: Finding) -> Result<TaskUpdate, NoMemory>
         requires other { is_task_act event.now.act ≡ false }

@@ -20,7 +20,7 @@ const PLACES: usize = 65_536;
 pub(crate) struct TaskMap {
     /// The tasks with pids below `PLACES`, indexed by pid.
     listed: Vec<Option<Task>>,
-    /// The tasks with greater pids.
+    /// The tasks with pids of at least `PLACES`.
     others: HashMap<u32, Task>,
     /// The number of tasks in `listed` and `others` together.
     count: usize,
@@ -74,7 +74,7 @@ impl TaskMap {
         }
     }
 
-    /// Adds a task under a pid. If memory runs out, the map is unchanged.
+    /// Adds `task` under the pid `pid`. If memory runs out, the map is unchanged.
     pub(crate) fn add(&mut self, pid: u32, task: Task) -> Result<(), NoMemory>
         requires few { tasks_by.len self.old ≤ most_tasks }
         ensures ok { OnOk result (self.new ≡ put self.old pid task) }
@@ -116,15 +116,15 @@ impl TaskMap {
     }
 }
 
-/// Creates a list of `count` entries, each without a task.
+/// Creates a list of `count` entries, all of them `None`.
 fn empty_places(alloc: Global, count: usize) -> Result<Vec<Option<Task>>, NoMemory>
     ensures { IfOk result (λ places. places.items ≡ replicate count None) }
 {
     Ok(vec![in alloc; None; count]?)
 }
 
-/// Stores a task under a pid, and returns the previous task with this pid or `None`. If memory runs
-/// out, both containers are unchanged.
+/// Stores `task` under the pid `pid`, and returns the previous task with this pid, or `None`. If
+/// memory runs out, both containers are unchanged.
 fn put(
     listed: &mut [Option<Task>],
     others: &mut HashMap<u32, Task>,

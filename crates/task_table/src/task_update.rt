@@ -1,10 +1,10 @@
-//! The task that an act changes, before and after the act. The table computes the changes on
-//! processors from this pair.
+//! The task that an event changes, before and after the event. The changes of processors are
+//! computed from this pair.
 
 use psi_spec::Task;
 
-/// The task whose counts an act changes, before and after the act. Both fields are `None` if the
-/// act changes no task.
+/// The task whose counts an event changes, before and after the event. Both fields are `None` if
+/// the event changes no task.
 #[derive(Clone, Copy)]
 pub(crate) struct TaskUpdate {
     pub(crate) old: Option<Task>,

@@ -1,5 +1,5 @@
-//! Computes the changes that an act makes on processors. The inputs are the task that the act
-//! changes and the running tasks; no function here loops over all tasks.
+//! Computes the changes that an event causes on processors from the task that the event changes and
+//! the running tasks. No function here loops over all tasks.
 ghost use Rattle.std.specs.Prelude.{◌≡◌, ℕ, if◌then◌else◌, Some, None, List, [], ◌∷◌, false, slice_index_or};
 ghost use Rattle.psi_counts.specs.Counts.{counts_among};
 ghost use Rattle.psi_counts.specs.Touch.{account_of, part, shown, change_by_cpu, IsBeside};
@@ -17,18 +17,18 @@ use psi_base::{Act, Cpu, Ns, Slot};
 use psi_counts::{Change, Counts, Touch};
 use psi_spec::{Mode, Task};
 
-/// A touch without any change.
+/// A `Touch` without changes, for an event that affects no processor.
 const NOWHERE: Touch = Touch {
     first: None,
     second: None,
     account: None,
 };
 
-/// Returns the counts of a single task: 1 for each count that includes the task, otherwise 0.
+/// Returns the counts of a single task: each count is 1 if it includes the task, and 0 if not.
 fn counts_of(task: Task) -> Counts
     ensures { result ≡ counts_among (task ∷ []) }
 {
-    // Branches on the mode are avoided, because processors predict them badly.
+    // The code has no branches on the task's mode, because processors predict such branches badly.
     let active = (task.mode == Mode::Ready) | (task.mode == Mode::Running);
     Counts {
         io: u32::from(task.mode == Mode::Waiting),
@@ -38,7 +38,8 @@ fn counts_of(task: Task) -> Counts
     }
 }
 
-/// Returns a task's slot and counts if the task is on processor `cpu`, otherwise `None`.
+/// Returns the slot and the counts of `task` if it is on processor `cpu`. Returns `None` if there
+/// is no task, or if it is on another processor.
 fn part_on(cpu: Cpu, task: Option<Task>) -> Option<(Slot, Counts)>
     ensures { result ≡ part cpu.0 task }
 {
@@ -60,8 +61,8 @@ pub(crate) fn current_on(running: &[Running], cpu: Cpu) -> Option<(Slot, bool)>
 }
 
 /// Returns the change of processor `cpu` at the time `at` (ns), without interrupt time. `changed`
-/// is the task that an act changes, before and after the act. `running` lists the running tasks
-/// after the act.
+/// is the task that an event changes, before and after the event. `running` has the running tasks
+/// after the event.
 #[inline(always)]
 fn change_of(at: Ns, changed: TaskUpdate, running: &[Running], cpu: Cpu) -> Change
     ensures { result ≡ change_for at changed (slice_index_or running.now cpu.0 None) 0 cpu.0 }
@@ -76,9 +77,9 @@ fn change_of(at: Ns, changed: TaskUpdate, running: &[Running], cpu: Cpu) -> Chan
     }
 }
 
-/// Returns the slot of the group whose accounting an act switches, and whether accounting is on
-/// after the act. Returns `None` if the act switches no accounting. `slot` is the slot of the group
-/// that the act names.
+/// Returns the slot of the group whose pressure accounting an event turns on or off, and whether it
+/// is on afterwards. Returns `None` if the event doesn't turn accounting on or off. `slot` is the
+/// slot of the group that the event names.
 #[inline(always)]
 pub(crate) fn account_of(act: &Act, slot: Slot) -> Option<(Slot, bool)>
     ensures { (groups : List GroupLife) → slot ≡ slot_or_root (named_group groups act.now) →
@@ -90,7 +91,7 @@ pub(crate) fn account_of(act: &Act, slot: Slot) -> Option<(Slot, bool)>
     }
 }
 
-/// Returns the touch of an act that switches the accounting of a group, which affects every
+/// Returns the changes of an event that turns the accounting of a group on or off. It affects every
 /// processor.
 pub(crate) fn account_touch(account: (Slot, bool)) -> Touch
     ensures first { result.first ≡ None }
@@ -103,9 +104,10 @@ pub(crate) fn account_touch(account: (Slot, bool)) -> Touch
     }
 }
 
-/// Returns the changes that an act at the time `at` (ns) makes on processors. Preconditions: the
-/// act isn't a task act and switches no accounting. `changed` is the task that the act changes,
-/// before and after the act. `running` lists the running tasks after the act.
+/// Returns the changes that an event at the time `at` (ns) causes on processors. Preconditions: the
+/// event isn't a task event (`TaskAct`), and doesn't turn accounting on or off. `changed` is the
+/// task that the event changes, before and after the event. `running` has the running tasks after
+/// the event.
 #[inline(always)]
 pub(crate) fn touch_of(at: Ns, act: &Act, changed: TaskUpdate, running: &[Running]) -> Touch
     requires other { is_task_act act.now ≡ false }
@@ -144,7 +146,8 @@ pub(crate) fn touch_of(at: Ns, act: &Act, changed: TaskUpdate, running: &[Runnin
     }
 }
 
-/// Returns the processor of a task, or `None` if there is no task or its processor is `other`.
+/// Returns the processor of a task. Returns `None` if there is no task, or if its processor is
+/// `other`.
 #[inline(always)]
 pub(crate) fn cpu_unless(other: Cpu, task: Option<Task>) -> Option<Cpu>
     ensures { result ≡ unless_on other task }
@@ -167,8 +170,8 @@ pub(crate) fn cpu_of(task: Option<Task>) -> Option<Cpu>
     }
 }
 
-/// Returns the processor `cpu` with its change by an act, or `None` if `cpu` is `None`. `changed`
-/// is the task that the act changes, and `running` lists the running tasks after the act.
+/// Returns the number and the change of processor `cpu`, or `None` if `cpu` is `None`. `changed` is
+/// the task that an event changes, and `running` has the running tasks after the event.
 #[inline(always)]
 pub(crate) fn touched_change(
     at: Ns,

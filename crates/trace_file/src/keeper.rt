@@ -1,12 +1,12 @@
 //! A player that stores the events of a trace. It is meant for callers that need the events
-//! themselves, such as the removal of kills from a trace.
+//! themselves, such as the code that removes kills from a trace.
 use psi_base::{Cause, Event, Fault, NoMemory, Ns};
 use std::alloc::Global;
 use task_table::Table;
 use trace_player::{Player, TaskAct};
 use whatif_trace::copy_event;
 
-/// Plays a trace on a table of tasks, and stores the played events.
+/// Plays the events of a trace on a table of tasks, and stores them.
 #[derive(Drop)]
 pub struct Keeper {
     /// The number of processors of the trace.

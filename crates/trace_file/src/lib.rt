@@ -1,5 +1,5 @@
-//! Reads traces from a shelf line by line, and plays each event as soon as its line is read. A
-//! shelf is the trait for input files. psi_trace parses the lines.
+//! Reads traces line by line from a file store, and plays each event as soon as its line is read.
+//! The file store is the trait `Shelf`. psi_trace parses the lines.
 //!
 //! [`play_trace`] plays a trace on any player, [`read_plans`] splits a trace into plans by
 //! processor, and a [`Keeper`] stores the events of a trace. [`put_refusal`] writes the message for

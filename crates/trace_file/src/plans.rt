@@ -1,5 +1,5 @@
-//! Reads a trace into plans, which list the changes of each processor. Other crates run clocks on
-//! the plans.
+//! Reads a trace and splits it into plans. Each plan lists the changes of one processor. Other
+//! crates advance clocks by the plans.
 ghost use Rattle.std.specs.Prelude.{◌≡◌, ◌+◌, ◌≤◌, None, IsErrOf, MatchResult};
 ghost use Rattle.outside.specs.Outside.{IsAbsent, counts_of, content_of};
 ghost use Rattle.outside.specs.Reads.{ReadsFile};
@@ -13,7 +13,7 @@ use psi_base::Ns;
 use std::alloc::Global;
 
 /// Reads a trace of any version, and splits it by processor. Returns the version's number and the
-/// plans. An event later than a million ticks is rejected; `tick` is the length of a tick (ns).
+/// plans. Rejects an event that is later than a million ticks of length `tick` (ns).
 pub fn read_plans<S: Shelf>(
     alloc: Global,
     name: &str,

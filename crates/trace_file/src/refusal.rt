@@ -47,7 +47,8 @@ fn cause_name(cause: Cause) -> &'static [u8]
     }
 }
 
-// Returns the number of the field in a `BadField`, or `None` for another cause.
+// Returns the number (from 1) of the malformed field if the cause is `BadField`, or `None` for any
+// other cause.
 fn field_of(cause: Cause) -> Option<u8>
     ensures { result ≡ field_number cause }
 {

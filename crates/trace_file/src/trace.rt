@@ -1,4 +1,4 @@
-//! Reads traces from a shelf, and plays their events on a player. Each line is read, parsed and
+//! Reads a trace from a file store, and plays its events on a player. Each line is read, parsed and
 //! played before the next line is read.
 ghost use Rattle.std.specs.Prelude.{◌≡◌, ◌+◌, ◌*◌, ◌<◌, ◌≤◌, ◌^◌, ℕ, List, [], IfOk, IsErrOf, Some, None, Ok, MatchResult, false, length};
 ghost use Rattle.outside.specs.Outside.{content_of, IsAbsent, counts_of};
@@ -25,7 +25,7 @@ use trace_player::Player;
 pub enum TraceFault {
     /// A line of the trace was rejected.
     Refused(Refusal),
-    /// The shelf has no file with this name.
+    /// No file has this name.
     NoFile,
     /// A read failed.
     ReadFault,
@@ -73,7 +73,7 @@ fn trace_fault(fault: LineFault, cut: Cause) -> TraceFault
     }
 }
 
-// Plays the event of a parsed line, or returns the fault found by the parser.
+// Plays the event of a parsed line, or returns the fault that the parser found.
 fn take_read<P: Player>(
     player: &mut P,
     read: &Result<Event, Fault<Cause>>,
@@ -88,8 +88,8 @@ fn take_read<P: Player>(
 }
 
 // Parses and plays a line. The event isn't moved before it is played, which saves a copy.
-// Precondition: the line has at most 512 bytes. The contract states nothing if the trace has
-// already ended.
+// Precondition: the line has at most 512 bytes. If the trace has already ended, the contract states
+// nothing.
 fn take_line<P: Player>(
     alloc: Global,
     version: u32,
@@ -104,8 +104,8 @@ fn take_line<P: Player>(
     take_read(player, &read_event(alloc, version, line))
 }
 
-// Reads and plays the next event line, with any verb. If the trace has already ended, the contract
-// states nothing about the events.
+// Reads and plays the next event line, whatever its verb. If the trace has already ended, the
+// contract states nothing about the events.
 fn next_event<S: Shelf, P: Player>(
     alloc: Global,
     version: u32,
@@ -141,8 +141,8 @@ fn next_event<S: Shelf, P: Player>(
     }
 }
 
-// Plays the next event line. A line that is completely buffered and has one of the most frequent
-// verbs is parsed in the buffer. Any other line is read by `next_event`.
+// Reads and plays the next event line. A line is parsed in the buffer if the whole line is buffered
+// and its verb is one of the most frequent. Any other line is read by `next_event`.
 #[inline(always)]
 fn play_next<S: Shelf, P: Player>(
     alloc: Global,
@@ -206,7 +206,7 @@ fn close<S: Shelf>(lines: &mut Lines, shelf: &mut S) -> Result<(), TraceFault>
 }
 
 // Reads and plays the event lines after the header `head`, up to the `end` line. The loop ends,
-// because a player takes at most 4,000,000 events.
+// because a player accepts at most 4,000,000 events.
 fn play_events<S: Shelf, P: Player>(
     alloc: Global,
     lines: &mut Lines,
@@ -274,7 +274,7 @@ fn read_head<S: Shelf>(lines: &mut Lines, shelf: &mut S, tick: Ns) -> Result<Hea
 }
 
 /// Reads a trace, and plays its events on a new player. Returns the version's number and the
-/// player. An event later than a million ticks is rejected; `tick` is the length of a tick (ns).
+/// player. Rejects an event that is later than a million ticks of length `tick` (ns).
 pub fn play_trace<S: Shelf, P: Player + Drop>(
     alloc: Global,
     name: &str,

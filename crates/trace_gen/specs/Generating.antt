@@ -14,16 +14,16 @@ use Rattle.run_spec.specs.Generated.{at_start, gen_text, generated, made_group, 
 use Rattle.kill_spec.specs.Detectors.{of_seconds}
 use Rattle.run_spec.specs.LegalCommand.{IsShape}
 
--- Returns the number of events that create the groups and tasks of a shape.
+-- The number of events that create the groups and tasks of a shape.
 abbrev pub first_count : Shape → ℕ
 first_count shape = shape.groups + task_count shape
 
--- Returns the number of all events of a generated trace, including the end.
+-- The number of all events of the generated trace of a shape, including the `end` event.
 abbrev pub event_count : Shape → ℕ
 event_count shape = first_count shape + shape.events + 1
 
--- The limits of a generated trace: its number of processors, and the latest time that the default
--- tick of 2 s allows.
+-- The limits of the generated trace of a shape: its number of processors, and the latest time that
+-- a trace with the default tick of 2 s may have.
 abbrev pub limits_in : Shape → Limits
 limits_in shape = limits_of (of_seconds 2) shape.cpus
 
@@ -39,10 +39,10 @@ pub record AreLive (shape : Shape) (tasks : Tasks) : Type 0 where
   pub live : (pid : ℕ) → 1 ≤ pid → pid ≤ task_count shape → IsSome (task_of tasks pid)
   pub within : (pid : ℕ) → IfSome (task_of tasks pid) (λ task. task.cpu.0 < shape.cpus)
 
--- `IsGenerating shape count w`: the invariant of the world `w` after the groups and tasks of a
--- shape were created and `count` more events were played. All tasks of the shape are live, the
--- world has counted all events, the time of the last event is at most `count` times 2 ms, and the
--- trace hasn't ended.
+-- `IsGenerating shape count w`: the invariant of the world `w` (the tasks and groups) after the
+-- events that create the groups and tasks of a shape, and `count` more events. All tasks of the
+-- shape are live, and `w.lines` counts all events so far. The time of the last event is at most
+-- `count` times 2 ms, and the trace hasn't ended.
 pub record IsGenerating (shape : Shape) (count : ℕ) (w : World) : Type 0 where
   pub tasks : AreLive shape w.tasks
   pub lines : w.lines ≡ first_count shape + count

@@ -10,21 +10,22 @@ use Rattle.run_spec.specs.LegalCommand.{IsShape}
 use Rattle.task_table.specs.Stands.{TableView}
 use Rattle.trace_gen.specs.Generating.{IsGenerating, limits_in}
 
--- Pairs a random act with the state of the random numbers after it. An act is an event without its
--- time.
+-- `random_act a state`: the random act `a`, and the state of the random number generator after the
+-- act was drawn. An act is an event without its time.
 abbrev pub random_act : Act → ℕ → RandomEvent
 random_act a state = record { act = a; state = state }
 
 -- `events_left shape first w state left ended`: the remaining events of a generator. These are the
--- events in `first`, then `left` random events that start from the world `w` and the state `state`,
--- and the end. Only `first` remains if the end was already returned.
+-- events in `first`, then `left` random events, and the `end` event. The random events start from
+-- the world `w` (the tasks and groups) and the state `state` of the random number generator. If the
+-- `end` event was already returned (`ended`), only `first` remains.
 abbrev pub events_left : Shape → List Event → World → ℕ → ℕ → Bool → List Event
 events_left shape first w state left ended =
     first ++ (if ended then [] else random_events shape left w state)
 
 -- `IsGenerator shape table left`: the invariant of a generator. The numbers of its shape are in
--- range, its table has the limits of the shape, and `left` random events remain after the table's
--- world.
+-- range, its table of tasks has the limits of the shape, and `left` of the shape's random events
+-- remain.
 pub record IsGenerator (shape : Shape) (table : TableView) (left : ℕ) : Type 0 where
   pub shaped : IsShape shape
   pub limits : table.limits ≡ limits_in shape

@@ -7,21 +7,23 @@ use Rattle.psi_base.specs.declared.event.Fault.{Fault}
 use Rattle.psi_base.specs.declared.event.Fault.TheVariants.{NoMemory, Refused}
 use Rattle.run_spec.specs.declared.command.Shape.{Shape}
 
--- Builds a shape from its numbers.
+-- `shape_by seed cpus groups events`: the shape with these numbers.
 abbrev pub shape_by : ℕ → ℕ → ℕ → ℕ → Shape
 shape_by seed cpus groups events =
     record { seed = seed; cpus = cpus; groups = groups; events = events }
 
--- `Misses text before now had has fault`: the text wasn't written completely. After a failed write
--- (`Refused`), a prefix of the text was written, and the count of failed writes increased. After
--- `NoMemory`, nothing was written, and the count is unchanged.
+-- `Misses text before now had has fault`: the text wasn't written completely. `before` and `now`
+-- are the numbers of failed writes before and after the call, and `had` and `has` are the bytes of
+-- the sink. After a failed write (`Refused`), a prefix of the text was written, and the number of
+-- failed writes increased. After `NoMemory`, nothing was written, and that number is unchanged.
 abbrev pub Misses : {E : Type 0} → List ℕ → ℕ → ℕ → Option (List ℕ) → Option (List ℕ) → Fault E
     → Type 0
 Misses text before now had has (Refused failed) = AppendsPrefix had has text × Increased before now
 Misses text before now had has (NoMemory _) = Keeps had has × (now ≡ before)
 
--- `WritesWhole text before now had has result`: either the whole text was written and the count of
--- failed writes is unchanged, or there is a fault (`Misses`).
+-- `WritesWhole text before now had has result`: either the whole text was written and the number of
+-- failed writes is unchanged, or `result` is a fault (`Misses`). `before` and `now` are the numbers
+-- of failed writes before and after the call, and `had` and `has` are the bytes of the sink.
 abbrev pub WritesWhole :
     {T E : Type 0} → List ℕ → ℕ → ℕ → Option (List ℕ) → Option (List ℕ) → Result T (Fault E) → Type 0
 WritesWhole text before now had has (Ok done) = Appends had has text × (now ≡ before)

@@ -1,12 +1,12 @@
-//! Pseudo-random numbers: the same seed gives the same numbers. They are meant only for test
-//! traces, not for security.
+//! Generates pseudo-random numbers: the same seed gives the same numbers. They are meant only for
+//! test traces, not for security.
 ghost use Rattle.std.specs.Prelude.{◌≡◌, ℕ, ◌<◌};
 ghost use Rattle.run_spec.specs.Generated.{random_event, next_state};
 
 use std::marker::Model;
 
-/// The state of a linear congruential generator of 64 bits, with the constants of Knuth's MMIX. In
-/// contracts the state is a number.
+/// The state of a 64-bit linear congruential generator with the constants of Knuth's MMIX. In
+/// contracts, the value of a generator is the number `state`.
 #[derive(Drop)]
 pub(crate) struct Draws {
     state: u64,

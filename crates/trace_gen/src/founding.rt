@@ -32,7 +32,7 @@ fn numbered_path(alloc: Global, number: u32) -> Result<Path, NoMemory>
     }
 }
 
-/// Returns the path of the group in which the task `pid` is created.
+/// Returns the path of the group of the task `pid`. It is the root if the shape has no groups.
 fn home_of(alloc: Global, shape: Shape, pid: u32) -> Result<Path, NoMemory>
     requires { 1 ≤ pid }
     ensures { IfOk result (λ path. path ≡ home_of shape pid) }
@@ -71,8 +71,8 @@ fn made_task(alloc: Global, shape: Shape, pid: u32) -> Result<Event, NoMemory>
     })
 }
 
-/// Plays an event, and appends it to `events`. Preconditions: the table has played exactly
-/// `events`, and the event is legal after them.
+/// Applies an event to the table, and appends it to `events`. Preconditions: the table is in the
+/// state after exactly `events`, and the event is legal in that state.
 #[tactic(auto, using(crate::proofs::Drawing::one_after))]
 fn play(events: &mut VecDeque<Event>, table: &mut Table, event: Event) -> Result<(), NoMemory>
     requires world { table.old.world ≡ after events.old.items }
@@ -90,8 +90,8 @@ fn play(events: &mut VecDeque<Event>, table: &mut Table, event: Event) -> Result
     Ok(())
 }
 
-/// Plays the events that create all groups of a shape, and appends them to `events`. Precondition:
-/// no event was played before.
+/// Creates all groups of a shape: applies their events to the table, and appends them to `events`.
+/// Precondition: no event was applied to the table before.
 fn make_groups(
     alloc: Global,
     shape: Shape,
@@ -112,8 +112,8 @@ fn make_groups(
     Ok(())
 }
 
-/// Plays the events that create all tasks of a shape, and appends them to `events`. Precondition:
-/// only the events that create the shape's groups were played before.
+/// Creates all tasks of a shape: applies their events to the table, and appends them to `events`.
+/// Precondition: only the events that create the shape's groups were applied before.
 fn make_tasks(
     alloc: Global,
     shape: Shape,
@@ -135,7 +135,7 @@ fn make_tasks(
     Ok(())
 }
 
-/// Returns the events that create all groups and tasks of a shape, in order. Plays the events in
+/// Returns the events that create all groups and tasks of a shape, in order. Applies the events to
 /// `table`, which must be new.
 pub(crate) fn found(
     alloc: Global,

@@ -16,10 +16,11 @@ use std::collections::VecDeque;
 use std::marker::Model;
 use task_table::Table;
 
-/// The time (ns) between two random events is less than this.
+/// The time (ns) between two successive random events is less than `LONGEST_WAIT`.
 const LONGEST_WAIT: u32 = 2_000_000;
 
-/// Generates the events of a trace. In contracts a generator is the list of the remaining events.
+/// Generates the events of a trace. In contracts, the value of a generator is the list of the
+/// remaining events.
 #[derive(Drop)]
 pub struct Generator {
     shape: Shape,
@@ -99,8 +100,8 @@ fn next_first(events: &mut VecDeque<Event>) -> Option<Event>
     events.pop_front()
 }
 
-/// Plays and returns the next random event, which is always legal. Subtracts 1 from `left`, the
-/// number of remaining random events. Doesn't allocate.
+/// Returns the next random event, which is always legal, and applies it to the table. Subtracts 1
+/// from `left`, the number of remaining random events. Doesn't allocate.
 fn play_next(shape: Shape, table: &mut Table, draws: &mut Draws, left: &mut u32) -> Event
     requires some { 0 < left.old }
     requires so { IsGenerator shape table.old left.old }
@@ -149,7 +150,7 @@ fn act_of(shape: Shape, table: &Table, draws: &mut Draws, pid: Pid, task: Task) 
     }
 }
 
-/// Returns an act that wakes a blocked task on a random processor.
+/// Returns an act that wakes the blocked task `pid` on a random processor.
 fn woken(shape: Shape, draws: &mut Draws, pid: Pid) -> Act
     requires { IsShape shape }
     ensures { random_act result draws.new ≡ woken shape draws.old pid.0 }
@@ -160,8 +161,8 @@ fn woken(shape: Shape, draws: &mut Draws, pid: Pid) -> Act
     }
 }
 
-/// Returns the act that switches to a ready task on its processor. Draws a random number only if a
-/// task is running there.
+/// Returns the act that switches the processor of the ready task `pid` to this task. Draws a random
+/// number only if another task is running on that processor.
 #[tactic(auto, using(crate::proofs::Drawing::some_part))]
 fn started(table: &Table, draws: &mut Draws, pid: Pid, task: Task) -> Act
     ensures { random_act result draws.new
@@ -178,7 +179,8 @@ fn started(table: &Table, draws: &mut Draws, pid: Pid, task: Task) -> Act
     }
 }
 
-/// Returns the way in which the running task leaves, for a random number below 4.
+/// Returns how the running task leaves its processor, for a random number below 4. The number 0
+/// means preemption, 1 means sleeping, and 2 and 3 mean waiting for IO.
 fn way_of(number: u32) -> How
     ensures { result ≡ way_of number }
 {
@@ -189,8 +191,8 @@ fn way_of(number: u32) -> How
     }
 }
 
-/// Returns a random act of a running task: the task sleeps, waits for IO, or starts or ends a
-/// memory stall.
+/// Returns a random act of the running task `pid`: the task sleeps, waits for IO, or begins or ends
+/// a memory stall.
 fn running_act(draws: &mut Draws, pid: Pid, task: Task) -> Act
     ensures { (draws.new ≡ next_state draws.old)
         × (result ≡ running_act pid.0 task (random_event (next_state draws.old) 4)) }
@@ -199,8 +201,8 @@ fn running_act(draws: &mut Draws, pid: Pid, task: Task) -> Act
     leaving(number, pid, task)
 }
 
-/// Returns the act of a running task for a random number below 4: the task sleeps, waits for IO, or
-/// starts or ends a memory stall.
+/// Returns the act of the running task `pid` for a random number below 4. The number 0 means that
+/// it sleeps, 1 that it waits for IO, and 2 and 3 that it begins or ends a memory stall.
 fn leaving(number: u32, pid: Pid, task: Task) -> Act
     ensures { result ≡ running_act pid.0 task number }
 {
@@ -216,8 +218,8 @@ fn leaving(number: u32, pid: Pid, task: Task) -> Act
     }
 }
 
-/// Returns the act that ends the task's memory stall, or that starts one if the task isn't in a
-/// stall.
+/// Returns the act that ends the memory stall of the task `pid`, or that begins one if the task
+/// isn't in a memory stall.
 fn stall_turn(pid: Pid, task: Task) -> Act
     ensures { result ≡ stall_turn pid.0 task }
 {

@@ -1,5 +1,5 @@
 //! The law of generated traces: their texts are accepted and have the requested number of events.
-//! The function has an empty body: its contract is the law.
+//! The function has an empty body, because its contract is the law.
 ghost use Rattle.trace_gen.specs.Generating.{GeneratedCount, GeneratedIsTrace};
 
 /// The text of each generated trace is accepted with the default tick, and is the text of that

@@ -1,4 +1,4 @@
-//! Generates large, valid traces, which a few numbers (the *shape*) determine, so that each trace
+//! Generates large, valid traces that are determined by a few numbers (the *shape*). So each trace
 //! can be reproduced.
 //!
 //! [`Generator`] returns the events one by one, [`generate`] writes the text of the trace, and

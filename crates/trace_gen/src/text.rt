@@ -16,7 +16,7 @@ use psi_trace::{write_event, write_header};
 use run_spec::Shape;
 use std::alloc::Global;
 
-/// The maximum length (bytes) of an event's line with its newline.
+/// The maximum length (bytes) of an event's line, including its newline.
 const ROOM: usize = 513;
 
 /// Replaces the content of `line` with the header line for `cpus` processors. Doesn't allocate,
@@ -129,7 +129,8 @@ fn put_trace<K: Sink>(
 }
 
 /// Writes the text of the trace that is generated from these numbers: any seed, 1 to 64 processors,
-/// at most 1,000 groups and at most 3,900,000 events. Each line takes at least one write.
+/// at most 1,000 groups besides the root, and at most 3,900,000 random events. Each line takes at
+/// least one write.
 ///
 /// Fails with `Refused` if a write failed; a prefix of the text was then written. Fails with
 /// `NoMemory` only before anything is written.

@@ -1,5 +1,5 @@
-//! Laws of players, which are state machines that process the events of a trace. Each function has
-//! an empty body: its contract is the law.
+//! Laws of players. A player is a state machine that processes the events of a trace. Each function
+//! has an empty body: its contract is the law.
 ghost use Rattle.psi_base.specs.declared.event.Event.{Event};
 ghost use Rattle.trace_player.specs.Laws.{RefusesForOne, TakesOrRefuses};
 

@@ -1,5 +1,5 @@
-//! The trait for players: state machines that process the events of a trace, and reject illegal
-//! events.
+//! The trait for players. A player is a state machine that processes the events of a trace, and
+//! rejects illegal events.
 ghost use Rattle.std.specs.Prelude.{◌≡◌, ◌≤◌, List, [], IfOk, false};
 ghost use Rattle.psi_base.specs.declared.event.Event.{Event};
 ghost use Rattle.psi_spec.specs.Grammar.{Fits};
@@ -16,32 +16,34 @@ use std::alloc::Global;
 /// A state machine that processes (*plays*) the events of a trace one by one. After it has rejected
 /// an event, it must not be used again.
 pub trait Player: Sized {
-    /// The player has processed exactly these events of a trace with these limits.
+    /// Holds if the player has processed exactly these events of a trace with these limits, and no
+    /// other events.
     ghost Played: { Self → Limits → List Event → Type 0 };
 
-    /// Makes a player that has processed no event, for a trace with `cpus` processors (1 to 64) in
-    /// which no event is later than `latest` (ns).
+    /// Creates a player that has processed no event. The trace has `cpus` processors (1 to 64), and
+    /// no event may be later than `latest` (ns).
     fn start(alloc: Global, cpus: u32, latest: Ns) -> Result<Self, NoMemory>
         requires counted { IsCpuCount cpus }
         requires short { latest ≤ last_moment }
         ensures { IfOk result (λ player.
             Self.Played player (record { cpus = cpus; latest = latest }) []) };
 
-    /// Processes the next event. The numbers of the event must be within the ranges of the grammar.
-    /// Fails with `Refused` and the first cause if the event isn't legal.
+    /// Processes the next event. The numbers in the event must be within the ranges of the trace
+    /// format. Fails with `Refused` and the first cause if the event isn't legal.
     fn take(&mut self, event: &Event) -> Result<(), Fault<Cause>>
         requires { Fits event.now }
         ensures { PlayerTakes (Self.Played self.old) (Self.Played self.new) event.now result };
 
-    /// The fast path of [`Player::take`] for a task act at time `at` (ns), which needs no stored
-    /// event. The act must not be the exit of a task.
+    /// Processes a task event (`TaskAct`) at time `at` (ns), like [`Player::take`]. This is the
+    /// fast path, because no `Event` is stored. Precondition: the event doesn't make a task exit,
+    /// and its numbers are within the ranges of the trace format.
     fn take_task(&mut self, at: Ns, act: TaskAct) -> Result<(), Fault<Cause>>
         requires fits { Fits (as_event at act) }
         requires stays { exits act ≡ false }
         ensures { PlayerTakes (Self.Played self.old) (Self.Played self.new) (as_event at act)
             result };
 
-    /// Returns whether the trace has ended.
+    /// Returns whether the event `end`, which ends the trace, was processed.
     fn is_ended(&self) -> bool
         ensures { (limits : Limits) (events : List Event) → Self.Played self.now limits events →
             result ≡ (after events).ended };

@@ -1,17 +1,17 @@
-//! The fast path of a trace: task acts, which are passed by value.
+//! Task events: events that a replay passes by value, which is its fast path.
 //!
-//! A task act is a wake, switch, stall, unstall or migration: it names no group and creates no
-//! task. Most lines of a trace are such acts. A task act is a few numbers, so it is parsed, checked
-//! and performed in registers, and no `Event` is stored for it. Functions for this fast path take a
-//! [`TaskAct`], and their names end with `_task`. Each has the contract of the corresponding
-//! function for events.
+//! A task event is a wakeup, switch, stall, unstall or migration. It names no group and creates no
+//! task. Most lines of a trace are task events. A [`TaskAct`] consists of a few numbers, so it is
+//! parsed, checked and processed in registers, and no `Event` is stored for it. Functions for this
+//! fast path have names that end with `_task`. Each has the contract of the corresponding function
+//! for all events.
 ghost use Rattle.std.specs.Prelude.{◌≡◌, IfNone, IfSome, false};
 ghost use Rattle.psi_spec.specs.Names.{names};
 ghost use Rattle.trace_player.specs.TaskActs.{as_act, as_event, exits, is_task_act, pid_of};
 
 use psi_base::{Act, Cpu, Event, How, Ns, Pid};
 
-/// An act that names no group and creates no task.
+/// A task event without its time. It names no group and creates no task.
 #[derive(Clone, Copy)]
 pub enum TaskAct {
     /// A blocked task becomes ready.
@@ -19,7 +19,8 @@ pub enum TaskAct {
         pid: Pid,
         cpu: Cpu,
     },
-    /// The running task, if any, leaves its processor, and the next task, if any, runs there.
+    /// A context switch: the running task, if any, leaves its processor, and the next task, if any,
+    /// starts to run there.
     Switch {
         cpu: Cpu,
         next: Option<Pid>,
@@ -33,7 +34,7 @@ pub enum TaskAct {
     Unstall {
         pid: Pid,
     },
-    /// A ready task moves to a processor.
+    /// A ready task migrates to a processor.
     Migrate {
         pid: Pid,
         cpu: Cpu,
@@ -41,7 +42,8 @@ pub enum TaskAct {
 }
 
 impl TaskAct {
-    /// Converts an act to a task act. Returns `None` if the act isn't a task act.
+    /// Converts what an event does (`Act`) to a `TaskAct`. Returns `None` if the event isn't a task
+    /// event.
     #[inline(always)]
     pub fn of(act: &Act) -> Option<TaskAct>
         ensures same { IfSome result (λ found. as_act found ≡ act.now) }
@@ -67,7 +69,7 @@ impl TaskAct {
         }
     }
 
-    /// Returns the event with this act at time `at` (ns).
+    /// Converts the task event to an `Event` at time `at` (ns).
     pub fn to_event(self, at: Ns) -> Event
         ensures { result ≡ as_event at self }
     {
@@ -81,7 +83,7 @@ impl TaskAct {
         Event { at, act }
     }
 
-    /// Returns whether the act makes a task exit.
+    /// Returns whether this event makes the running task exit.
     #[inline(always)]
     pub fn exits(self) -> bool
         ensures { result ≡ exits self }
@@ -89,7 +91,8 @@ impl TaskAct {
         matches!(self, TaskAct::Switch { how: How::Exit, .. })
     }
 
-    /// Returns the pid in the act. For a switch, it is the pid of the next task.
+    /// Returns the pid of the task that this event names. For a switch, it is the pid of the next
+    /// task, or `None` if the processor becomes idle.
     #[inline(always)]
     pub fn pid(self) -> Option<Pid>
         ensures { result ≡ pid_of self }
@@ -103,7 +106,8 @@ impl TaskAct {
         }
     }
 
-    /// Returns the number of the processor in the act.
+    /// Returns the number of the processor that this event names, or `None` for a stall or an
+    /// unstall.
     #[inline(always)]
     pub fn cpu(self) -> Option<u32>
         ensures { result ≡ (names (as_act self)).cpu }

@@ -1,9 +1,10 @@
-//! The fast path of a table, for task acts, which are passed by value.
+//! The fast path of the table of tasks. It is for task events, which are passed by value: wakeups,
+//! switches, stalls, unstalls and migrations.
 //!
-//! Each method with the suffix `_task` does for a task act what the method without the suffix does
-//! for an event. A task act is passed in registers. The fast path neither allocates nor changes
-//! groups, which saves a third of the time for an event. The methods for events call these methods
-//! if the act is a task act.
+//! Each method with the suffix `_task` does for a task event what the method without the suffix
+//! does for all events. A task event (`TaskAct`) is passed in registers. The fast path neither
+//! allocates nor changes groups, which saves a third of the time for an event. The general methods
+//! call these methods for task events.
 ghost use Rattle.std.specs.Prelude.{◌≡◌, ℕ, ◌<◌, ◌≤◌, if◌then◌else◌, IfNone, List, None, Some, length, slice_index_or};
 ghost use Rattle.std.specs.FinMap as tasks_by;
 ghost use Rattle.psi_counts.specs.Touch.{AllTouched, HasSlotsBelow, IsBeside, IsOfOne, IsTouch, change_by_cpu};
@@ -35,7 +36,7 @@ use psi_counts::Touch;
 use psi_spec::Task;
 use trace_player::TaskAct;
 
-/// Returns the task with the pid that a task act names, or `None`.
+/// Returns the task with the pid that the task event `act` names, or `None`.
 #[tactic(auto, using(crate::proofs::TaskActLaws::named_by_pid))]
 #[inline(always)]
 fn named_task(tasks: &TaskMap, act: TaskAct) -> Option<Task>
@@ -47,8 +48,8 @@ fn named_task(tasks: &TaskMap, act: TaskAct) -> Option<Task>
     }
 }
 
-/// Returns the first cause why a task act is illegal, or `None` if the act is legal. `named` is the
-/// task with the pid that the act names.
+/// Returns the first cause for rejecting a task event, or `None` if the event is legal. `named` is
+/// the task with the pid that the event names.
 #[inline(always)]
 fn act_refused(running: &[Running], act: TaskAct, named: Option<Task>) -> Option<Cause>
     ensures { (groups : List GroupLife) (tasks : Tasks) (irqs : List ℕ)
@@ -68,8 +69,8 @@ fn act_refused(running: &[Running], act: TaskAct, named: Option<Task>) -> Option
     }
 }
 
-/// Performs a legal task act on the tasks, and returns the changed task before and after the act.
-/// `named` is the task with the pid that the act names.
+/// Applies a legal task event to the tasks, and returns the changed task before and after the
+/// event. `named` is the task with the pid that the event names.
 #[inline(always)]
 fn change_tasks(
     tasks: &mut TaskMap,
@@ -95,7 +96,8 @@ fn change_tasks(
     ensures cover { length members.new ≡ length members.old }
     ensures length { length running.new ≡ length running.old }
 {
-    // All acts except a switch share one call of `replace`, so that its code is inlined only once.
+    // All events except a switch share one call of `replace`, so that its code is inlined only
+    // once.
     let (pid, new) = match act {
         TaskAct::Switch { cpu, next, how } => {
             return switch(tasks, running, members, cpu.0, next, named, how);
@@ -110,8 +112,8 @@ fn change_tasks(
     replace(tasks, running, members, pid.0, named, new)
 }
 
-/// Returns the processors that a task act affects, at most two. `old` is the state before the act
-/// of the task that the act changes.
+/// Returns the processors that a task event affects, at most two. `old` is the task that the event
+/// changes, in its state before the event.
 #[inline(always)]
 fn cpus_touched(act: TaskAct, old: Option<Task>) -> (Option<Cpu>, Option<Cpu>)
     ensures { result ≡ cpus_touched act old }
@@ -125,9 +127,9 @@ fn cpus_touched(act: TaskAct, old: Option<Task>) -> (Option<Cpu>, Option<Cpu>)
     }
 }
 
-/// Returns the changes that a task act at the time `at` (ns) makes on processors. `changed` is the
-/// task that the act changes, before and after the act. `running` lists the running tasks after the
-/// act.
+/// Returns the changes that a task event at the time `at` (ns) causes on processors. `changed` is
+/// the task that the event changes, before and after the event. `running` has the running tasks
+/// after the event.
 #[inline(always)]
 fn touch_of(at: Ns, act: TaskAct, changed: TaskUpdate, running: &[Running]) -> Touch
     ensures known { (cpu : ℕ) →
@@ -147,8 +149,8 @@ fn touch_of(at: Ns, act: TaskAct, changed: TaskUpdate, running: &[Running]) -> T
 }
 
 impl Table {
-    /// Returns the first cause for rejecting a task act at a time (ns), or `None` if the act is
-    /// legal. `named` is the task with the pid that the act names.
+    /// Returns the first cause for rejecting the task event `act` at the time `at` (ns), or `None`
+    /// if the event is legal. `named` is the task with the pid that the event names.
     #[inline(always)]
     fn refused_task(&self, at: Ns, act: TaskAct, named: Option<Task>) -> Option<Cause>
         requires { named ≡ named_task self.now.world.tasks (as_act act) }
@@ -163,8 +165,8 @@ impl Table {
         act_refused(&self.running, act, named)
     }
 
-    /// Returns the state before a task act of the task whose counts the act changes, or `None`.
-    /// `named` is the task with the pid that the act names.
+    /// Returns the task whose counts a task event changes, in its state before the event, or
+    /// `None`. `named` is the task with the pid that the event names.
     #[inline(always)]
     fn before_task(&self, act: TaskAct, named: Option<Task>) -> Option<Task>
         requires { named ≡ named_task self.now.world.tasks (as_act act) }
@@ -176,8 +178,8 @@ impl Table {
         }
     }
 
-    /// Checks a task act at a time (ns). Returns the same result as [`Table::judge`] for an event
-    /// with this act.
+    /// Checks the task event `act` at the time `at` (ns). Returns the same result as
+    /// [`Table::judge`] for this event.
     #[inline(always)]
     pub fn judge_task(&self, at: Ns, act: TaskAct) -> Result<Finding, Cause>
         ensures { Judges self.now (as_event at act) result }
@@ -193,8 +195,8 @@ impl Table {
         })
     }
 
-    /// Plays a task act at a time (ns). Has the same effect as [`Table::play`] for an event with
-    /// this act.
+    /// Plays the task event `act` at the time `at` (ns). Has the same effect as [`Table::play`] for
+    /// this event.
     #[inline(always)]
     pub fn play_task(&mut self, at: Ns, act: TaskAct) -> Result<(), Fault<Cause>>
         ensures { PlaysEvent self.old (as_event at act) self.new result }
@@ -204,8 +206,8 @@ impl Table {
         Ok(())
     }
 
-    /// Performs a legal task act at a time (ns), and returns the changes that the act makes on
-    /// processors. Has the same effect as [`Table::perform`] for an event with this act, but
+    /// Performs the legal task event `act` at the time `at` (ns), and returns the changes that the
+    /// event causes on processors. Has the same effect as [`Table::perform`] for this event, but
     /// doesn't allocate.
     #[inline(always)]
     pub fn perform_task(&mut self, at: Ns, act: TaskAct, finding: Finding) -> Touch
@@ -223,8 +225,8 @@ impl Table {
         touch_of(at, act, changed, &self.running)
     }
 
-    /// Performs a legal task act at a time (ns), and returns the task that the act changes, before
-    /// and after the act.
+    /// Performs the legal task event `act` at the time `at` (ns), and returns the task that the
+    /// event changes, before and after the event.
     #[inline(always)]
     pub(super) fn advance_task(&mut self, at: Ns, act: TaskAct, finding: Finding) -> TaskUpdate
         requires { IsFinding self.old (as_event at act) finding }
