@@ -1,8 +1,8 @@
-//! Combines a group's times on all processors into the group's shares of an interval and its
-//! totals. This crate corresponds to the kernel's `collect_percpu_times`.
+//! Combines a group's times on all processors into its share of each pressure quantity in an
+//! interval, and sums the shares to totals.
 //!
-//! It doesn't know when ticks occur and computes no averages. The crate tick_engine calls it at
-//! each tick.
+//! This crate corresponds to the kernel's `collect_percpu_times`. It doesn't know when ticks occur
+//! and computes no averages. The crate tick_engine calls it at each tick.
 #![tactic(auto)]
 
 mod rows;

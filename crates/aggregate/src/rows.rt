@@ -1,4 +1,4 @@
-//! The times of all groups on all processors at a tick, as one table.
+//! A table with the times of all groups on all processors at a tick.
 //!
 //! The whole table is a single allocation.
 ghost use Rattle.std.specs.Prelude.{◌≡◌, ◌<◌, ◌*◌, [], IfOk, length, slice_index_or, slice_set, replicate};
@@ -10,13 +10,14 @@ use psi_base::{Cpu, NoMemory, Slot};
 use std::alloc::Global;
 use std::marker::Model;
 
-/// A table with one row for each group, indexed by slot. A row has, for each processor, the group's
-/// times (ns) in the seven states, ordered by state, and then the interrupt time (ns).
+/// A table with one row for each group, indexed by slot. For each processor, a row has the group's
+/// times (ns) in the seven states, ordered by state, followed by the interrupt time (ns).
 #[derive(Drop)]
 pub struct Rows {
     cpus: u32,
     slots: u32,
-    /// The rows of all groups, one after another. Each row has `cpus` entries.
+    /// The rows of all groups, one after another. Each row has one entry for each of the `cpus`
+    /// processors.
     times: Vec<Times>,
 }
 
@@ -32,7 +33,7 @@ impl Model for Rows {
 }
 
 impl Rows {
-    /// Returns a table of zeros for `cpus` processors and `slots` groups. Makes a single
+    /// Creates a table for `cpus` processors and `slots` groups, with all times 0. Makes a single
     /// allocation.
     pub fn make(alloc: Global, cpus: u32, slots: u32) -> Result<Rows, NoMemory>
         ensures { IfOk result (λ rows. rows ≡ new_table cpus slots) }
@@ -74,7 +75,7 @@ impl Rows {
     }
 }
 
-/// Returns the table with the rows in `times`, which are stored one after another.
+/// Returns the table with the rows in `times`, which is the concatenation of all rows.
 fn rows_with(cpus: u32, slots: u32, times: Vec<Times>) -> Rows
     requires { length times.items ≡ slots * cpus }
     ensures { result ≡ table.rows_of cpus slots times.items }
@@ -82,16 +83,16 @@ fn rows_with(cpus: u32, slots: u32, times: Vec<Times>) -> Rows
     Rows { cpus, slots, times }
 }
 
-/// Returns `count` entries of zeros.
+/// Returns `count` entries of the table, with all times 0.
 fn no_times(alloc: Global, count: usize) -> Result<Vec<Times>, NoMemory>
     ensures { IfOk result (λ times. times.items ≡ replicate count table.no_times) }
 {
     Ok(vec![in alloc; [0u64; TIMES]; count]?)
 }
 
-/// Laws of the table: setting the times of a group on a processor doesn't change the size of the
-/// table. Afterwards the table has these times for this group and processor, and unchanged times
-/// for all others.
+/// Laws of the table of times. Setting the times of a group on a processor doesn't change the size
+/// of the table. Afterwards the table has these times for this group and processor, and unchanged
+/// times for all others.
 pub fn law_rows()
     ensures sizes { KeepsSizes }
     ensures places { SetsOnePlace }

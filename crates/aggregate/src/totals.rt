@@ -1,4 +1,5 @@
-//! The totals of a group: the sums of its shares over all intervals since its creation.
+//! The totals of a group: the sums of its shares of the pressure quantities over all intervals
+//! since its creation.
 //!
 //! The module `weighted` computes the shares.
 ghost use Rattle.std.specs.Prelude.{◌≡◌};
@@ -26,7 +27,7 @@ impl Model for Totals {
 }
 
 impl Totals {
-    /// Returns the totals of a new group, which are zeros.
+    /// Returns the totals of a new group, which are all 0.
     pub fn zero() -> Totals
         ensures { result ≡ model.no_totals }
     {
@@ -35,7 +36,7 @@ impl Totals {
         }
     }
 
-    /// Adds the group's shares (ns) of one more interval.
+    /// Adds the group's shares (ns) of an interval to the totals.
     pub fn add(&mut self, shares: Amounts)
         requires { AreAmountsWithin last_moment most_irq_total (model.plus self.old shares) }
         ensures { self.new ≡ model.plus self.old shares }

@@ -1,6 +1,7 @@
-//! Computes the shares of an interval: weighted means over processors.
+//! Computes a group's share of each pressure quantity in an interval. A share is a weighted mean
+//! over processors.
 //!
-//! The weight of a processor is the time that the group wasn't idle on it.
+//! The weight of a processor is the time that the group wasn't idle on it, in whole milliseconds.
 ghost use Rattle.std.specs.Prelude.{◌≡◌, ◌≤◌, ◌<◌, ◌+◌, ◌*◌, ◌/◌, ℕ, All, length, map, slice_index};
 ghost use Rattle.psi_spec.specs.Within.{longest_tick};
 ghost use Rattle.aggregate.specs.Since.{NoneFell, growth};
@@ -12,19 +13,20 @@ ghost use Rattle.psi_spec.specs.World.{longest_irq};
 
 use pressure_spec::{Amounts, QUANTITIES, TIMES, Times};
 
-/// The unit of a weight (ns): one millisecond. The kernel uses jiffies instead.
+/// The unit (ns) in which weights are measured: one millisecond. The kernel uses jiffies instead.
 const TICK: u64 = 1_000_000;
 
-/// The index of the nonidle state in the times of a processor.
+/// The index of the nonidle state in a group's times on a processor.
 const NONIDLE: usize = 6;
 
-/// The indexes of the pressure quantities in the times of a processor: all times except nonidle.
+/// The indexes of the pressure quantities in a group's times on a processor. These are all times
+/// except nonidle.
 const PLACES: [usize; QUANTITIES] = [0, 1, 2, 3, 4, 5, 7];
 
-/// Returns a group's shares (ns) of an interval. There is one share for each state except nonidle,
-/// and one for interrupt time. A share is the weighted mean, over all processors, of the group's
-/// time in the interval. `deltas` has these times (ns) for each processor. The weight of a
-/// processor is the group's nonidle time on it in whole milliseconds.
+/// Returns a group's shares (ns) in an interval: one for each state except nonidle, and one for
+/// interrupt time. A share is the weighted mean, over all processors, of the group's time in the
+/// interval. `deltas` has these times (ns) for each processor. The weight of a processor is the
+/// group's nonidle time on it in whole milliseconds.
 pub fn share(deltas: &[Times]) -> Amounts
     requires few { length deltas.now ≤ 64 }
     requires short { All (AreTimesWithin longest_tick (longest_tick + longest_irq)) deltas.now }
@@ -42,10 +44,10 @@ pub fn share(deltas: &[Times]) -> Amounts
     sums
 }
 
-/// Returns a group's shares (ns) of an interval, as `share` does. `before` and `now` have the
-/// group's times (ns) on each processor at the start and at the end of the interval. If the group
-/// was nonidle on a processor for less than a millisecond, the weight of the processor is 0, and
-/// its other times aren't read.
+/// Returns a group's shares (ns) in an interval: the result of `share` for the increases from
+/// `before` to `now`. These arguments have the group's times (ns) on each processor at the start
+/// and at the end of the interval. If the group was nonidle on a processor for less than a
+/// millisecond, the weight of the processor is 0, and its other times aren't read.
 pub fn share_since(now: &[Times], before: &[Times]) -> Amounts
     requires few { length now.now ≤ 64 }
     requires each { length before.now ≡ length now.now }
@@ -69,7 +71,7 @@ pub fn share_since(now: &[Times], before: &[Times]) -> Amounts
     sums
 }
 
-/// Returns the weight of a processor: the increase of the group's nonidle time in whole
+/// Returns the weight of a processor: the increase of the group's nonidle time, in whole
 /// milliseconds.
 #[inline(always)]
 fn weight_since(now: &Times, before: &Times) -> u64
@@ -79,7 +81,7 @@ fn weight_since(now: &Times, before: &Times) -> u64
     (now[NONIDLE] - before[NONIDLE]) / TICK
 }
 
-/// Returns the increase of each time (ns) on a processor.
+/// Returns the increase of each time (ns) of a group on a processor.
 #[inline(always)]
 fn growth(now: &Times, before: &Times) -> Times
     requires { (place : ℕ) → slice_index before.now place ≤ slice_index now.now place }
@@ -92,7 +94,8 @@ fn growth(now: &Times, before: &Times) -> Times
     growth
 }
 
-/// Adds to each sum the corresponding time of a processor, multiplied by the processor's weight.
+/// For each pressure quantity, adds the group's time (ns) on a processor, multiplied by the
+/// processor's `weight`, to the sum of the quantity.
 fn add_weighted(sums: &mut Amounts, times: &Times, weight: u64)
     requires weight { weight ≤ 60000 }
     requires times { AreTimesWithin longest_tick (longest_tick + longest_irq) times.now }

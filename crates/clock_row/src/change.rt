@@ -1,5 +1,5 @@
-//! Makes one change of a row: the writer opens the change, updates the clocks of the slots that the
-//! change affects, and closes the change.
+//! Stores one change in a seqlock. The writer begins the change (odd sequence number), stores the
+//! clocks of the slots whose mask changes, and completes the change (even sequence number).
 ghost use Rattle.std.specs.Prelude.{◌≡◌, ◌+◌, ◌<◌, length, IfSome};
 ghost use Rattle.plan_laws.specs.Plan.{IsClock};
 ghost use Rattle.clock_row.specs.declared.view.View.TheVariants.{Writer};
@@ -15,8 +15,9 @@ use cpu_clock::Clock;
 use proc_plan::{PlainClocks, Plan, ProcClocks};
 use psi_base::Slot;
 
-// Stores the clock of `slot` after the open change. If the change doesn't affect the slot's mask,
-// nothing is stored, because the slot's words also represent its clock after the change.
+// Stores `clock`, which is the clock of `slot` after the change in progress. Stores nothing if the
+// change doesn't affect the slot's mask, because the stored words then also represent the clock
+// after the change.
 fn turn_slot(board: &Board, seat: &mut RowSeat, slot: Slot, clock: &Clock)
     requires turning { IsTurning board.now.shared.table_id seat.old }
     requires slot { slot.0 < length (writer_on seat.old).plan.parents }
@@ -32,8 +33,8 @@ fn turn_slot(board: &Board, seat: &mut RowSeat, slot: Slot, clock: &Clock)
     }
 }
 
-// Stores the clocks of `start` and of its ancestors. Precondition: `clocks` has already made the
-// open change.
+// Stores the clocks of the slot `start` and of its ancestors. Does nothing for `None`.
+// Precondition: `clocks` has already applied the change in progress.
 fn turn_chain(
     board: &Board,
     seat: &mut RowSeat,
@@ -80,7 +81,8 @@ fn turn_chains(
     }
 }
 
-/// Makes the next change of `plan`, both in `clocks` and in the row.
+/// Applies the next change of `plan`: updates `clocks`, and stores the nine words of each slot
+/// whose mask changes in the seqlock.
 pub(crate) fn make_change(
     board: &Board,
     seat: &mut RowSeat,

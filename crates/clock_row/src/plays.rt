@@ -1,13 +1,13 @@
-//! Defines a type for each kind of step on a row. Each type states how its step changes the view of
-//! a seat, and what the step's result means. The types have no values at run time; the functions
-//! that make the steps are in `steps`.
+//! Defines a type for each kind of step on a seqlock. Each type states how the step changes the
+//! view of a handle, and what the result of the step means. The types have no values at run time.
+//! The module `steps` has the functions that perform the steps.
 ghost use Rattle.clock_row.specs.Steps.{BeginsTry, Closes, EndsTry, Loads, Opens, Owns, Puts, note_of, reader_of, with_note};
 ghost use Rattle.clock_row.specs.declared.view.View.TheVariants.{Spent};
 
 use crate::view::View;
 use atomic_table::{Join, Play, Split};
 
-/// The writer opens a change (step 1).
+/// The writer begins a change (step 1).
 pub(crate) struct Opening;
 
 impl Play<(), View> for Opening {
@@ -21,7 +21,7 @@ impl Play<(), View> for Putting {
     ghost then = { Puts };
 }
 
-/// The writer closes a change (step 3).
+/// The writer completes a change (step 3).
 pub(crate) struct Closing;
 
 impl Play<(), View> for Closing {
@@ -35,7 +35,7 @@ impl Play<(), View> for Owning {
     ghost then = { Owns };
 }
 
-/// A reader begins a try: it loads the sequence number (step 5).
+/// A reader begins an attempt to take a sample: it loads the sequence number (step 5).
 pub(crate) struct Beginning;
 
 impl Play<(), View> for Beginning {
@@ -49,14 +49,14 @@ impl Play<(), View> for Loading {
     ghost then = { Loads };
 }
 
-/// A reader ends a try: it loads the sequence number again (step 7).
+/// A reader ends an attempt to take a sample: it loads the sequence number again (step 7).
 pub(crate) struct Ending;
 
 impl Play<(), View> for Ending {
     ghost then = { EndsTry };
 }
 
-/// The writer's seat creates the seat of a reader (step 8).
+/// The writer creates a reader, which gets its own handle (step 8).
 pub(crate) struct NewReader;
 
 impl Split<View> for NewReader {
@@ -65,7 +65,7 @@ impl Split<View> for NewReader {
     ghost right = { reader_of };
 }
 
-/// The writer's or a reader's seat creates a note (step 8).
+/// The writer or a reader creates a message (step 8).
 pub(crate) struct NewNote;
 
 impl Split<View> for NewNote {
@@ -74,7 +74,7 @@ impl Split<View> for NewNote {
     ghost right = { note_of };
 }
 
-/// A reader's or the writer's seat takes a note (step 9).
+/// A reader or the writer receives a message (step 9).
 pub(crate) struct TakenNote;
 
 impl Join<View> for TakenNote {

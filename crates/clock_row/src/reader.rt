@@ -1,5 +1,5 @@
-//! A reader of a row, which samples clocks while the writer may be making changes. A reader never
-//! changes the row's words.
+//! A reader of a seqlock, which samples clocks while the writer may be changing them. A reader
+//! never changes the seqlock's words.
 ghost use Rattle.std.specs.Prelude.{◌≡◌, ◌+◌, ◌<◌, ◌≤◌, ◌∷◌, [], length, IfErr, IfOk};
 ghost use Rattle.std.specs.Arc.{arc_value};
 ghost use Rattle.plan_laws.specs.Plan.{IsClock};
@@ -15,9 +15,9 @@ use std::alloc::Global;
 use std::marker::Model;
 use std::sync::Arc;
 
-/// A reader of a row. The reader samples the clocks while the row's writer may be making changes,
-/// without taking a lock and without waiting. A reader may be sent to another thread. In contracts
-/// a reader is its row together with what the reader knows about the row.
+/// A reader of a seqlock. It samples the clocks while the writer may be changing them, without a
+/// lock and without waiting. A reader may be sent to another thread. In contracts a reader is its
+/// seqlock together with what the reader knows about the seqlock.
 #[derive(Drop)]
 pub struct ClockReader {
     pub(crate) board: Arc<Board, Global>,
@@ -39,7 +39,7 @@ impl Model for ClockReader {
         × (r.seen ≡ (reader_on r.seat).seen) };
 }
 
-/// A clock sampled from a row.
+/// A clock sampled from a seqlock.
 #[derive(Clone, Copy, Debug)]
 pub struct Sample {
     /// The number of changes that the clock includes.
@@ -47,19 +47,21 @@ pub struct Sample {
     pub clock: Clock,
 }
 
-/// The result of a try during which the row changed: the two sequence numbers that the try loaded.
-/// If the first number is odd, no second number is loaded, and both fields hold the first number.
+/// The result of an attempt to take a sample while the seqlock changed: the two sequence numbers
+/// that the attempt loaded. If the first number is odd, no second number is loaded, and both fields
+/// have the first number.
 #[derive(Clone, Copy, Debug, PartialEq, Eq)]
 pub struct Busy {
     pub first: u64,
     pub second: u64,
 }
 
-/// The number of tries after which `sample_or` returns the earlier sample.
+/// The number of failed attempts after which `sample_or` returns the earlier sample.
 const TRIES: u64 = 8;
 
 impl ClockReader {
-    /// Returns the greatest number of changes that the reader has seen in the row.
+    /// Returns the number of changes that the reader has seen: the greatest number that came with a
+    /// sample, with `ClockWriter::meet` or with the reader's creation.
     pub fn seen(&self) -> u64
         ensures { result ≡ self.now.knows.seen }
     {
@@ -67,8 +69,8 @@ impl ClockReader {
     }
 
     /// Tries once to sample the clock of `slot`. The sample includes at least the changes that the
-    /// reader has already seen. Returns `Busy` if a change was open when the try began, or if a
-    /// change began during the try. Does not allocate.
+    /// reader has already seen. Returns `Busy` if a change was in progress when the attempt began,
+    /// or if a change began during the attempt. Does not allocate.
     pub fn try_sample(&mut self, slot: Slot) -> Result<Sample, Busy>
         requires { slot.0 < length self.old.knows.plan.parents }
         ensures row { self.new.row ≡ self.old.row }
@@ -100,10 +102,11 @@ impl ClockReader {
         })
     }
 
-    /// Samples the clock of `slot`. Tries at most eight times, and returns the sample of the first
-    /// successful try. If each try fails because of a change, returns `last`. Precondition: `last`
-    /// is a sample of the slot and includes exactly the changes that the reader has seen. So the
-    /// result includes at least as many changes as `last`. Does not allocate.
+    /// Samples the clock of `slot`. Makes at most eight attempts, and returns the sample of the
+    /// first successful attempt. Returns `last` if each attempt fails because of a change.
+    /// Precondition: `last` is a sample of the slot, and `last.count` is the number of changes that
+    /// the reader has seen. So the result includes at least as many changes as `last`. Does not
+    /// allocate.
     pub fn sample_or(&mut self, slot: Slot, last: &Sample) -> Sample
         requires slot { slot.0 < length self.old.knows.plan.parents }
         requires last { IsClock last.now.clock self.old.knows.plan slot.0 last.now.count }
@@ -125,9 +128,9 @@ impl ClockReader {
         *last
     }
 
-    /// Tries once to sample the clocks of all slots after the same number of changes. Returns this
-    /// number. `into` must have an entry for each slot; its contents are unspecified after `Busy`.
-    /// Does not allocate. No program of this repository calls this function.
+    /// Tries once to sample the clocks of all slots after the same number of changes, and returns
+    /// this number. `into` must have an entry for each slot; its contents are unspecified after
+    /// `Busy`. Does not allocate. No program of this repository calls this function.
     pub fn try_sample_all(&mut self, into: &mut [Clock]) -> Result<u64, Busy>
         requires { length into.old ≡ length self.old.knows.plan.parents }
         ensures row { self.new.row ≡ self.old.row }

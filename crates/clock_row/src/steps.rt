@@ -1,6 +1,6 @@
-//! The steps on a row, with one function for each. The writer, a reader or a note makes a step
-//! through its seat. The functions don't check the order of the steps at run time; their contracts
-//! require it.
+//! Functions that perform the steps on a seqlock, one for each kind of step. The writer, a reader
+//! or a message performs a step through its handle. The functions don't check the order of the
+//! steps at run time; their contracts require it.
 ghost use Rattle.std.specs.Prelude.{◌≡◌, ◌+◌, ◌*◌, ◌/◌, ◌^◌, ◌<◌, ◌≤◌, true, false, [], slice_index};
 ghost use Rattle.clock_row.specs.declared.view.View.TheVariants.{Reader, Writer};
 ghost use Rattle.clock_row.specs.Words.{AreClockWords, StoodTogether};
@@ -13,7 +13,7 @@ use crate::plays::{
 };
 use crate::view::{Board, RowSeat};
 
-/// Opens the writer's next change. `count` is the number of changes made before it.
+/// Begins the writer's next change. `count` is the number of changes applied before it.
 pub(crate) fn open_change(board: &Board, seat: &mut RowSeat, count: u64)
     requires board { seat.old.table_id ≡ board.now.shared.table_id }
     requires words { 0 < board.now.shared.table_id.words }
@@ -27,7 +27,8 @@ pub(crate) fn open_change(board: &Board, seat: &mut RowSeat, count: u64)
     board.shared.store::<Opening>(seat, 0, 2 * count + 1);
 }
 
-/// Stores `word` at index `place` after the sequence number, as part of the writer's open change.
+/// Stores `word` at index `place` after the sequence number, as part of the writer's change in
+/// progress.
 pub(crate) fn put_word(board: &Board, seat: &mut RowSeat, place: usize, word: u64)
     requires board { seat.old.table_id ≡ board.now.shared.table_id }
     requires words { place + 1 < board.now.shared.table_id.words }
@@ -40,8 +41,8 @@ pub(crate) fn put_word(board: &Board, seat: &mut RowSeat, place: usize, word: u6
     board.shared.store::<Putting>(seat, place + 1, word);
 }
 
-/// Closes the writer's open change. `count` is the number of changes made before it. Precondition:
-/// the words of each slot represent the slot's clock after this change.
+/// Completes the writer's change in progress. `count` is the number of changes applied before it.
+/// Precondition: the words of each slot represent the slot's clock after this change.
 pub(crate) fn close_change(board: &Board, seat: &mut RowSeat, count: u64)
     requires board { seat.old.table_id ≡ board.now.shared.table_id }
     requires words { 0 < board.now.shared.table_id.words }
@@ -57,7 +58,7 @@ pub(crate) fn close_change(board: &Board, seat: &mut RowSeat, count: u64)
     board.shared.store::<Closing>(seat, 0, 2 * count + 2);
 }
 
-/// Returns the word at index `place` after the sequence number, loaded by the writer.
+/// Loads the word at index `place` after the sequence number for the writer, and returns it.
 pub(crate) fn own_word(board: &Board, seat: &mut RowSeat, place: usize) -> u64
     requires board { seat.old.table_id ≡ board.now.shared.table_id }
     requires words { place + 1 < board.now.shared.table_id.words }
@@ -70,8 +71,8 @@ pub(crate) fn own_word(board: &Board, seat: &mut RowSeat, place: usize) -> u64
     board.shared.load::<Owning>(seat, place + 1)
 }
 
-/// Loads the sequence number for the writer. The load proves that the number of changes reported by
-/// readers is at most the number of changes that the writer has made.
+/// Loads the sequence number for the writer. The result isn't needed: the load proves that no
+/// reader has reported more changes than the writer has applied.
 pub(crate) fn own_number(board: &Board, seat: &mut RowSeat)
     requires board { seat.old.table_id ≡ board.now.shared.table_id }
     requires words { 0 < board.now.shared.table_id.words }
@@ -83,7 +84,7 @@ pub(crate) fn own_number(board: &Board, seat: &mut RowSeat)
     board.shared.load::<Owning>(seat, 0);
 }
 
-/// Begins a reader's try: loads the sequence number and returns it.
+/// Begins a reader's attempt to take a sample: loads the sequence number and returns it.
 pub(crate) fn begin_try(board: &Board, seat: &mut RowSeat) -> u64
     requires board { seat.old.table_id ≡ board.now.shared.table_id }
     requires words { 0 < board.now.shared.table_id.words }
@@ -95,7 +96,8 @@ pub(crate) fn begin_try(board: &Board, seat: &mut RowSeat) -> u64
     board.shared.load::<Beginning>(seat, 0)
 }
 
-/// Returns the word at index `place` after the sequence number, loaded during a reader's try.
+/// Loads the word at index `place` after the sequence number during a reader's attempt, and returns
+/// it.
 pub(crate) fn load_word(board: &Board, seat: &mut RowSeat, place: usize) -> u64
     requires board { seat.old.table_id ≡ board.now.shared.table_id }
     requires words { place + 1 < board.now.shared.table_id.words }
@@ -107,9 +109,9 @@ pub(crate) fn load_word(board: &Board, seat: &mut RowSeat, place: usize) -> u64
     board.shared.load::<Loading>(seat, place + 1)
 }
 
-/// Ends a reader's try that began with the sequence number `first`: loads the sequence number again
-/// and returns it. If the result equals `first`, all words that the try loaded were in the row at
-/// the same time.
+/// Ends a reader's attempt that began with the sequence number `first`: loads the sequence number
+/// again and returns it. If the result equals `first`, all words that the attempt loaded were in
+/// the seqlock at the same time.
 pub(crate) fn end_try(board: &Board, seat: &mut RowSeat, first: u64) -> u64
     requires board { seat.old.table_id ≡ board.now.shared.table_id }
     requires words { 0 < board.now.shared.table_id.words }
@@ -125,7 +127,7 @@ pub(crate) fn end_try(board: &Board, seat: &mut RowSeat, first: u64) -> u64
     board.shared.load::<Ending>(seat, 0)
 }
 
-/// Creates the seat of a new reader. The reader has seen all changes that the writer has made.
+/// Creates the handle of a new reader. The reader has seen all changes that the writer has applied.
 pub(crate) fn split_reader(board: &Board, seat: &mut RowSeat) -> RowSeat
     requires board { seat.old.table_id ≡ board.now.shared.table_id }
     requires words { 0 < board.now.shared.table_id.words }
@@ -139,7 +141,7 @@ pub(crate) fn split_reader(board: &Board, seat: &mut RowSeat) -> RowSeat
     board.shared.split_seat::<NewReader>(seat)
 }
 
-/// Creates a note that contains the number of changes that the writer has made.
+/// Creates a message that contains the number of changes that the writer has applied.
 pub(crate) fn note_count(board: &Board, seat: &mut RowSeat) -> RowSeat
     requires board { seat.old.table_id ≡ board.now.shared.table_id }
     requires words { 0 < board.now.shared.table_id.words }
@@ -154,7 +156,7 @@ pub(crate) fn note_count(board: &Board, seat: &mut RowSeat) -> RowSeat
     board.shared.split_seat::<NewNote>(seat)
 }
 
-/// Creates a note that contains the number of changes that a reader has seen.
+/// Creates a message that contains the number of changes that a reader has seen.
 pub(crate) fn note_seen(board: &Board, seat: &mut RowSeat) -> RowSeat
     requires board { seat.old.table_id ≡ board.now.shared.table_id }
     requires words { 0 < board.now.shared.table_id.words }
@@ -169,8 +171,8 @@ pub(crate) fn note_seen(board: &Board, seat: &mut RowSeat) -> RowSeat
     board.shared.split_seat::<NewNote>(seat)
 }
 
-/// Passes a note to a reader. After the call the reader has seen at least the number of changes in
-/// the note.
+/// Passes a message to a reader. After the call the reader has seen at least the number of changes
+/// in the message.
 pub(crate) fn show_note(board: &Board, seat: &mut RowSeat, note: RowSeat)
     requires board { seat.old.table_id ≡ board.now.shared.table_id }
     requires words { 0 < board.now.shared.table_id.words }
@@ -185,8 +187,8 @@ pub(crate) fn show_note(board: &Board, seat: &mut RowSeat, note: RowSeat)
     board.shared.join_seat::<TakenNote>(seat, note);
 }
 
-/// Passes a note to the writer. After the call the number of changes reported to the writer is at
-/// least the number in the note.
+/// Passes a message to the writer. After the call the number of changes reported to the writer is
+/// at least the number in the message.
 pub(crate) fn publish_note(board: &Board, seat: &mut RowSeat, note: RowSeat)
     requires board { seat.old.table_id ≡ board.now.shared.table_id }
     requires words { 0 < board.now.shared.table_id.words }

@@ -1,5 +1,5 @@
 //! Loads and stores the nine words of a slot, for the writer and for readers. Each word is loaded
-//! or stored in a step of its own.
+//! or stored in a separate step.
 ghost use Rattle.std.specs.Prelude.{◌≡◌, ◌+◌, ◌*◌, ◌^◌, ◌<◌, ◌≤◌, true, length, take, drop};
 ghost use Rattle.psi_counts.specs.Clock.{AreWordsOfClock, words_of};
 ghost use Rattle.clock_row.specs.Words.{ArePut, ClocksWereLoaded, StaysLoaded, WereLoaded};
@@ -15,10 +15,11 @@ pub(crate) const WORDS: usize = 9;
 /// The index of the mask within the nine words of a slot.
 pub(crate) const MASK_WORD: usize = 7;
 
-/// The bits that a mask may have, one for each of the seven states.
+/// The bits that a mask may contain, one for each of the seven states.
 const MASK_BITS: u64 = 0b111_1111;
 
-/// Returns the nine words from index `from`, loaded by the writer.
+/// Loads nine words for the writer, and returns them. `from` is the index of the first word,
+/// counted from the word after the sequence number.
 pub(crate) fn own_words(board: &Board, seat: &mut RowSeat, from: usize) -> [u64; 9]
     requires board { seat.old.table_id ≡ board.now.shared.table_id }
     requires words { from + 9 < board.now.shared.table_id.words }
@@ -36,8 +37,9 @@ pub(crate) fn own_words(board: &Board, seat: &mut RowSeat, from: usize) -> [u64;
     words
 }
 
-/// Stores the nine words `words` from index `from`. Words that the row already contains aren't
-/// stored again, because a store costs more than a load.
+/// Stores the nine words `words`. `from` is the index of the first word, counted from the word
+/// after the sequence number. Skips words that the seqlock already contains, because a store costs
+/// more than a load.
 pub(crate) fn put_words(board: &Board, seat: &mut RowSeat, from: usize, words: &[u64; 9])
     requires board { seat.old.table_id ≡ board.now.shared.table_id }
     requires words { from + 9 < board.now.shared.table_id.words }
@@ -56,8 +58,9 @@ pub(crate) fn put_words(board: &Board, seat: &mut RowSeat, from: usize, words: &
     }
 }
 
-/// Returns the nine words from index `from`, loaded during a reader's try. `first` is the sequence
-/// number with which the try began.
+/// Loads nine words during a reader's attempt, and returns them. `from` is the index of the first
+/// word, counted from the word after the sequence number. `first` is the sequence number with which
+/// the attempt began.
 pub(crate) fn load_words(board: &Board, seat: &mut RowSeat, from: usize, first: u64) -> [u64; 9]
     requires board { seat.old.table_id ≡ board.now.shared.table_id }
     requires words { from + 9 < board.now.shared.table_id.words }
@@ -78,8 +81,8 @@ pub(crate) fn load_words(board: &Board, seat: &mut RowSeat, from: usize, first: 
     words
 }
 
-/// Returns the clock with these nine words. If the words don't represent a clock, the result is an
-/// arbitrary clock.
+/// Returns the clock that these nine words represent. If they don't represent a clock, the result
+/// is an arbitrary clock.
 fn clock_like(mut words: [u64; 9]) -> Clock
     ensures { AreWordsOfClock words → words_of result ≡ words }
 {
@@ -87,9 +90,9 @@ fn clock_like(mut words: [u64; 9]) -> Clock
     Clock::from_words(words)
 }
 
-/// Loads the clocks of all slots into `into`, in order of slots, during a reader's try. `first` is
-/// the sequence number with which the try began. If the try succeeds, the clocks are in the row at
-/// the same time.
+/// Loads the clocks of all slots into `into`, in order of slots, during a reader's attempt. `first`
+/// is the sequence number with which the attempt began. If the attempt succeeds, all these clocks
+/// were in the seqlock at the same time.
 pub(crate) fn load_clocks(board: &Board, seat: &mut RowSeat, into: &mut [Clock], first: u64)
     requires board { seat.old.table_id ≡ board.now.shared.table_id }
     requires words { 9 * length into.old + 1 ≡ board.now.shared.table_id.words }

@@ -1,5 +1,5 @@
-//! The writer of a row, and the functions that create rows and readers. The module `change` makes a
-//! single change.
+//! The writer of a seqlock, and the functions that create seqlocks and readers. The module `change`
+//! stores a single change in the seqlock.
 ghost use Rattle.std.specs.Prelude.{◌≡◌, ◌+◌, ◌*◌, ◌<◌, ◌≤◌, length, replicate, IfOk, Ok};
 ghost use Rattle.atomic_table.specs.Seated.{TableId};
 ghost use Rattle.psi_counts.specs.Clock.{words_of};
@@ -21,17 +21,17 @@ use std::alloc::Global;
 use std::marker::Model;
 use std::sync::Arc;
 
-/// A seqlock over the clocks of one processor in shared words, with one writer and any number of
-/// readers. Readers don't change the words. This type has no values; it only holds the constructor
-/// `make`.
+/// A seqlock over the clocks of one processor, stored in shared words, with one writer and any
+/// number of readers. Readers don't change the words. This type has no values; it only provides the
+/// constructor `make`.
 pub struct Row;
 
-/// The writer of a row, which makes the changes of a plan while readers sample the clocks. In
-/// contracts a writer is its row together with what the writer knows about the row.
+/// The writer of a seqlock, which applies the changes of a plan while readers sample the clocks. In
+/// contracts a writer is its seqlock together with what the writer knows about the seqlock.
 ///
-/// The writer counts tasks, advances clocks and sums interrupt time in its own [`PlainClocks`], and
-/// copies the clocks that a change advanced to the row. Interrupt time isn't in the row, so no
-/// reader sees it.
+/// The writer counts tasks, advances clocks and sums interrupt time in its own [`PlainClocks`].
+/// After each change it copies the clocks whose mask changed into the seqlock. Interrupt time isn't
+/// in the seqlock, so no reader sees it.
 #[derive(Drop)]
 pub struct ClockWriter<'a> {
     plan: &'a Plan,
@@ -53,8 +53,8 @@ impl<'a> Model for ClockWriter<'a> {
         IsWriterEnd (arc_value w.board).shared.table_id w.seat w.plan.now w.clocks };
 }
 
-// Makes the invariant of a plan available to proofs, by the contract of `Plan::len`. Has no effect
-// at run time.
+// Makes the invariant of a plan available to proofs, through the contract of `Plan::len`. Has no
+// effect at run time.
 fn see_whole(plan: &Plan)
     ensures { IsPlan plan.now }
 {
@@ -62,8 +62,8 @@ fn see_whole(plan: &Plan)
 }
 
 impl Row {
-    /// Creates a row for `plan`, before the first change, and returns its writer. Precondition: the
-    /// plan has `slots` slots. Later calls of the writer allocate no memory. Fails with `NoMemory`
+    /// Creates a seqlock for `plan`, before the first change, and returns its writer. Precondition:
+    /// the plan has `slots` slots. Later calls of the writer don't allocate. Fails with `NoMemory`
     /// if memory runs out.
     pub fn make(alloc: Global, plan: &Plan, slots: u32) -> Result<ClockWriter<'_>, NoMemory>
         requires { slots ≡ length plan.now.parents }
@@ -97,7 +97,8 @@ impl<'a> ProcClocks for ClockWriter<'a> {
         self.clocks.count()
     }
 
-    /// Makes the next change of the plan. After the call the nine words of each slot represent the
+    /// Applies the next change of the plan: updates the writer's own clocks, and stores the nine
+    /// words of each slot whose mask changes. After the call the words of each slot represent the
     /// slot's clock after the change. The words of a slot whose mask doesn't change stay the same.
     /// Does not allocate, and doesn't wait for readers.
     fn apply(&mut self)
@@ -112,7 +113,7 @@ impl<'a> ProcClocks for ClockWriter<'a> {
         make_change(&self.board, &mut self.seat, self.plan, &mut self.clocks);
     }
 
-    /// Returns the clock of `slot`, loaded from its words in the row. Does not allocate.
+    /// Returns the clock of `slot`, loaded from its words in the seqlock. Does not allocate.
     fn own(&mut self, slot: Slot) -> Clock
         requires { slot.0 < length self.old.knows.plan.parents }
         ensures same { self.new ≡ self.old }
@@ -124,8 +125,8 @@ impl<'a> ProcClocks for ClockWriter<'a> {
 }
 
 impl<'a> IrqClocks for ClockWriter<'a> {
-    /// Returns the interrupt time (ns) of `slot`. The row doesn't contain it, so it comes from the
-    /// writer's own clocks. Does not allocate.
+    /// Returns the interrupt time (ns) of `slot`. The seqlock doesn't contain it, so it comes from
+    /// the writer's own clocks. Does not allocate.
     fn own_irq(&mut self, slot: Slot) -> u64
         requires { slot.0 < length self.old.knows.plan.parents }
         ensures same { self.new ≡ self.old }
@@ -137,8 +138,9 @@ impl<'a> IrqClocks for ClockWriter<'a> {
 }
 
 impl<'a> ClockWriter<'a> {
-    /// Creates a reader of the row. The reader has seen all changes made so far. Does not allocate.
-    /// Fails with `NoMemory` only if the row's reference count would overflow.
+    /// Creates a reader of the seqlock. The reader starts with the number of changes applied so
+    /// far, and its samples include at least that many. Does not allocate. Fails with `NoMemory`
+    /// only if the seqlock's reference count would overflow.
     pub fn reader(&mut self) -> Result<ClockReader, NoMemory>
         ensures same { self.new ≡ self.old }
         ensures row { IfOk result (λ reader. reader.row ≡ self.old.row) }
@@ -154,8 +156,8 @@ impl<'a> ClockWriter<'a> {
         })
     }
 
-    /// Passes the number of changes made so far to a reader of the row, so that all later samples
-    /// of the reader include at least that many. Does not allocate, and always returns `Ok`.
+    /// Sends a reader of the seqlock the number of changes applied so far. All later samples of the
+    /// reader include at least that many changes. Does not allocate, and always returns `Ok`.
     pub fn meet(&mut self, reader: &mut ClockReader) -> Result<(), NoMemory>
         requires { reader.old.row ≡ self.old.row }
         ensures ok { result ≡ Ok tt }
@@ -169,8 +171,8 @@ impl<'a> ClockWriter<'a> {
         Ok(())
     }
 
-    /// Passes the number of changes that a reader of the row has seen to the writer. The number is
-    /// at most the number of changes made. Does not allocate, and always returns `Ok`.
+    /// Sends the writer the number of changes that a reader of the seqlock has seen. This number is
+    /// at most the number of changes applied. Does not allocate, and always returns `Ok`.
     pub fn settle(&mut self, reader: &mut ClockReader) -> Result<(), NoMemory>
         requires { reader.old.row ≡ self.old.row }
         ensures ok { result ≡ Ok tt }

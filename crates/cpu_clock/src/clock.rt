@@ -1,5 +1,5 @@
-//! The clock of one group on one processor: reading it, advancing it, and converting it to nine
-//! words.
+//! The clock of one group on one processor, with functions that read it, advance it, and convert it
+//! to nine words.
 
 ghost use Rattle.std.specs.Prelude.{◌≡◌, if◌then◌else◌};
 ghost use Rattle.psi_counts.specs.Clock.{AreWordsOfClock, ClockFollows, IsInTime, IsWholeClock, advanced, opened, opened_time, words_of, zero_clock};
@@ -9,16 +9,17 @@ use state_mask::{Mask, STATES};
 use std::marker::Model;
 
 /// The time that a group was in each state on a processor. The fields correspond to `times`,
-/// `state_mask` and `state_start` of the kernel's `psi_group_cpu`. Two clocks with different fields
-/// can be equivalent, if one of them skipped a change that left the states unchanged. Therefore
-/// clocks have no `==`.
+/// `state_mask` and `state_start` of the kernel's `psi_group_cpu`. A clock may skip a change that
+/// leaves the states unchanged, so clocks with different fields can be equivalent. Therefore clocks
+/// have no `==`.
 #[derive(Clone, Copy, Debug)]
 pub struct Clock {
-    /// The time (ns) in each state up to `start`, ordered by state.
+    /// The time (ns) that the group was in each state up to `start`, ordered by state.
     pub times: [u64; 7],
-    /// The states that the group has been in since `start`.
+    /// The mask: the states that the group has been in since `start`.
     pub mask: Mask,
-    /// The time (ns) from which the mask applies. Later changes left the mask unchanged.
+    /// The time (ns) since which the group has been in the states of the mask. Later changes left
+    /// the mask unchanged.
     pub start: Ns,
 }
 
@@ -43,9 +44,9 @@ const MASK_WORD: usize = 7;
 /// The index of the start among the nine words of a clock.
 const START_WORD: usize = 8;
 
-/// Returns `time`, the time (ns) since a clock's start, if the state is in the clock's mask
-/// (`held`), otherwise 0. The function avoids a branch on the condition, which processors predict
-/// badly.
+/// Returns `time` if `held` is true, and 0 if it is false. `time` is the time (ns) since a clock's
+/// start, and `held` is whether a state is in the clock's mask. The function avoids a branch on
+/// `held`, which processors predict badly.
 fn open_time(held: bool, time: u64) -> u64
     ensures { result ≡ (if held then time else 0) }
 {
@@ -64,8 +65,8 @@ impl Clock {
         }
     }
 
-    /// Returns the time (ns) in `state` up to the time `at` (ns). Precondition: the clock can be
-    /// advanced to `at`.
+    /// Returns the time (ns) that the group was in `state` up to the time `at` (ns). Precondition:
+    /// the clock can be advanced to `at`.
     fn opened_time(&self, at: Ns, state: State) -> u64
         requires { IsInTime self.now at }
         ensures { result ≡ opened_time self.now at state }
@@ -74,23 +75,23 @@ impl Clock {
         self.times[state as usize] + open
     }
 
-    /// Returns the time (ns) in each state up to the time `at` (ns), ordered by state. The time
-    /// since the start counts for the states in the mask. Precondition: the clock can be advanced
-    /// to `at`. The kernel's `get_recent_times` does the same, and then subtracts the times of its
-    /// last call.
+    /// Returns the time (ns) that the group was in each state up to the time `at` (ns), ordered by
+    /// state. The time since the clock's start counts for the states in the mask. Precondition: the
+    /// clock can be advanced to `at`. The kernel's `get_recent_times` does the same, and then
+    /// subtracts the times of its last call.
     pub fn opened(&self, at: Ns) -> [u64; 7]
         requires { IsInTime self.now at }
         ensures { result ≡ opened self.now at }
     {
-        // Most groups are idle on most processors, so this case is handled first.
+        // Most groups are idle on most processors, so an empty mask is checked first.
         if self.mask.bits() == 0 {
             return self.times;
         }
         STATES.map(|state| self.opened_time(at, state))
     }
 
-    /// Advances the clock to the time `at` (ns), from which `mask` has the states. The kernel calls
-    /// `record_times`, and then sets the new mask.
+    /// Advances the clock to the time `at` (ns). From then on, the group is in the states of
+    /// `mask`. The kernel also calls `record_times` and then sets the new mask.
     pub fn advance(&mut self, at: Ns, mask: Mask)
         requires { IsInTime self.old at }
         ensures { self.new ≡ advanced self.old at mask }
@@ -100,11 +101,11 @@ impl Clock {
         self.start = at;
     }
 
-    /// Applies a change of the clock's processor at the time `at` (ns), from which `mask` has the
-    /// states. If the mask stays the same, the clock stays the same.
+    /// Applies a change of the clock's processor at the time `at` (ns), from which the group is in
+    /// the states of `mask`. If the mask stays the same, the clock stays the same.
     ///
-    /// So a clock that is correct for a slot before a change is also correct after the change, if
-    /// `mask` has the slot's states after the change: see [`plan_laws::law_plan_clocks`].
+    /// So if the clock is correct for a group before a change, and `mask` has the group's states
+    /// after it, the clock is also correct after the change. See [`plan_laws::law_plan_clocks`].
     pub fn turn(&mut self, at: Ns, mask: Mask)
         requires { IsInTime self.old at }
         ensures mask { self.new.mask ≡ mask }
@@ -129,8 +130,9 @@ impl Clock {
         words
     }
 
-    /// Returns the clock with these nine words. Precondition: the words represent a clock, like the
-    /// words that [`Clock::to_words`] returns. The function doesn't check the precondition.
+    /// Returns the clock with these nine words. Precondition: the words represent a clock, for
+    /// example because [`Clock::to_words`] returned them. The function doesn't check the
+    /// precondition.
     pub fn from_words(words: [u64; 9]) -> Clock
         requires { AreWordsOfClock words }
         ensures { words_of result ≡ words }

@@ -1,4 +1,4 @@
-//! The pressure averages of one group, and their update at a tick.
+//! The pressure averages of one group, and the function that updates them at a tick.
 //!
 //! The module `fixed_point` implements the arithmetic.
 ghost use Rattle.std.specs.Prelude.{◌≡◌, ◌≢◌, ◌≤◌, ◌<◌, ◌+◌, ◌^◌, ℕ, All, [], map, slice_index, slice_index_or};
@@ -20,8 +20,8 @@ const PERIOD: Ns = 2_000_000_000;
 /// The index of interrupt time among the quantities that have averages.
 const IRQ: usize = QUANTITIES - 1;
 
-/// The decay factors of the averages over 10, 60 and 300 seconds: the part of an average, in units
-/// of 1/2048, that remains after a period without pressure.
+/// The decay factors of the averages over 10, 60 and 300 seconds, in units of 1/2048. A decay
+/// factor is the part of an average that remains after a period without pressure.
 const FACTORS: [u64; 3] = [1677, 1981, 2034];
 
 /// The averages of a group's pressure over 10, 60 and 300 seconds. There are three averages for
@@ -33,9 +33,9 @@ pub struct Averages {
     last: Ns,
     /// The time at or after which the next update happens (ns).
     next: Ns,
-    /// The part of each total (ns) that has already entered the averages.
+    /// The part of each total (ns) that the averages already include.
     sampled: Amounts,
-    /// The three averages of each quantity, in fixed point.
+    /// The three averages of each quantity, as fixed-point numbers.
     averages: AverageRows,
 }
 
@@ -52,8 +52,8 @@ impl Model for Averages {
         (record { last = a.last; next = a.next; sampled = a.sampled; averages = a.averages }) };
 }
 
-/// Returns, for each total, the sample (ns) for an update over `time` (ns): the part of the total
-/// that hasn't entered the averages yet, but at most `time`.
+/// Returns the sample (ns) of each total for an update over `time` (ns). A sample is the part of
+/// the total that the averages don't include yet, but at most `time`.
 fn samples_of(time: Ns, sampled: &Amounts, totals: &Amounts) -> Amounts
     ensures value { result ≡ model.samples_of time sampled.now totals.now }
     ensures fits { (k : ℕ) → k < 7 →
@@ -66,7 +66,7 @@ fn samples_of(time: Ns, sampled: &Amounts, totals: &Amounts) -> Amounts
     samples
 }
 
-/// Adds each sample (ns) to the part of its total that has entered the averages.
+/// Adds each sample (ns) to the part of its total that the averages include.
 fn add_samples(sampled: &mut Amounts, samples: &Amounts)
     requires { (k : ℕ) → k < 7 →
         slice_index sampled.old k + slice_index samples.now k < 2 ^ 64 }
@@ -78,7 +78,7 @@ fn add_samples(sampled: &mut Amounts, samples: &Amounts)
     }
 }
 
-/// Returns each decay factor to the power of the number of missed periods.
+/// Returns each decay factor to the power `missed`, the number of missed periods.
 fn decays_of(missed: u64) -> [u64; 3]
     ensures { result ≡ map (λ factor. model.power factor missed) model.factors }
 {
@@ -90,7 +90,7 @@ fn decays_of(missed: u64) -> [u64; 3]
 }
 
 /// Returns an average after an update. The average first decays over the missed periods, if any,
-/// and then takes the sample `percent`. `decay` is `factor` to the power `missed`.
+/// and is then updated with the sample `percent`. `decay` is `factor` to the power `missed`.
 #[tactic(auto, using(pressure_spec::proofs::AverageLaws::power_most))]
 fn average_after(missed: u64, decay: u64, average: u64, factor: u64, percent: u64) -> u64
     requires decay { decay ≡ model.power factor missed }
@@ -123,8 +123,8 @@ fn row_after(missed: u64, decays: &[u64; 3], row: &[u64; 3], percent: u64) -> [u
     after
 }
 
-/// Updates the averages of all quantities. `samples` has one sample (ns) for each quantity, out of
-/// an interval of `time` (ns).
+/// Updates the averages of all quantities. `samples` has one sample (ns) for each quantity, from an
+/// interval of `time` ns. `missed` is the number of missed periods.
 fn update_rows(rows: &mut AverageRows, missed: u64, time: Ns, samples: &Amounts)
     requires time { 0 < time }
     requires short { time ≤ 4000000000 }
@@ -158,9 +158,9 @@ impl Averages {
     /// corresponds to the kernel's `update_averages`. `totals` has the totals of the group (ns):
     /// one for each state except nonidle, ordered by state, and one for interrupt time.
     ///
-    /// Each average first decays over the missed periods. Then it takes a sample: the part of its
-    /// total that hasn't entered it yet, but at most the time since the last update minus the
-    /// missed periods. The remaining part is left for the next update.
+    /// Each average first decays over the missed periods. Then it is updated with a sample: the
+    /// part of its total that it doesn't include yet, but at most the time since the last update
+    /// minus the missed periods. The remaining part is left for the next update.
     pub fn update(&mut self, now: Ns, totals: Amounts)
         requires { now ≤ last_moment }
         ensures { self.new ≡ model.average_step self.old now totals }
@@ -177,8 +177,8 @@ impl Averages {
         self.last = now;
     }
 
-    /// Returns the averages of a state over 10, 60 and 300 seconds, in fixed point. Precondition:
-    /// the state isn't nonidle.
+    /// Returns the averages of a state over 10, 60 and 300 seconds, as fixed-point numbers.
+    /// Precondition: the state isn't nonidle.
     pub fn get(&self, state: State) -> [u64; 3]
         requires { state ≢ state_of.Nonidle }
         ensures value { result ≡ slice_index_or self.now.averages (state_number state) [] }
@@ -187,7 +187,7 @@ impl Averages {
         self.averages[state as usize]
     }
 
-    /// Returns the averages of interrupt time over 10, 60 and 300 seconds, in fixed point.
+    /// Returns the averages of interrupt time over 10, 60 and 300 seconds, as fixed-point numbers.
     pub fn irq(&self) -> [u64; 3]
         ensures value { result ≡ slice_index_or self.now.averages irq_quantity [] }
         ensures most { All (λ average. average ≤ 204800) result }

@@ -8,7 +8,7 @@ ghost use Rattle.pressure_spec.specs.Average as model;
 const ONE: u64 = 2048;
 
 /// Returns the average `a` after a period with the sample `x`. `e` is the decay factor. The result
-/// is rounded up if `x` is at least `a`, and down otherwise, as in the kernel's `calc_load`.
+/// is rounded up if `x >= a`, and down if `x < a`, as in the kernel's `calc_load`.
 pub fn load(a: u64, e: u64, x: u64) -> u64
     requires average { a ≤ 204800 }
     requires factor { e ≤ 2048 }

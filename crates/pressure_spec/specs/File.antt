@@ -22,8 +22,8 @@ hundredths average = (average % 2048) * 100 / 2048
 abbrev pub percent_text : ℕ → List ℕ
 percent_text average = decimal (average / 2048) ++ codes "." ++ two_digits (hundredths average)
 
--- A line of a pressure file: the averages over 10, 60 and 300 s in percent, and the total (an
--- argument in ns) in whole microseconds.
+-- A line of a pressure file: the averages over 10, 60 and 300 s in percent, and the total in whole
+-- microseconds. The argument `total` is in ns.
 abbrev pub file_line : Level → List ℕ → ℕ → List ℕ
 file_line level averages total =
     level_word level ++ codes " avg10=" ++ percent_text (slice_index averages 0)
@@ -31,8 +31,8 @@ file_line level averages total =
     ++ codes " avg300=" ++ percent_text (slice_index averages 2)
     ++ codes " total=" ++ decimal (total / 1000) ++ codes "\n"
 
--- The line of a resource at level `some` or `full`, given the totals (ns) and averages of all
--- states.
+-- `state_line res level totals averages`: the line of the resource `res` at level `some` or `full`.
+-- `totals` and `averages` have the totals (ns) and averages of all states.
 abbrev pub state_line : Res → Level → List ℕ → List (List ℕ) → List ℕ
 state_line res level totals averages =
     file_line level (slice_index_or averages (state_number (state_of res level)) [])
@@ -53,7 +53,8 @@ full_line res is_root totals averages =
 unfoldable pub file_text : Res → Bool → List ℕ → List (List ℕ) → List ℕ
 file_text res is_root totals averages = state_line res SomeStalled totals averages ++ full_line res is_root totals averages
 
--- The text of irq.pressure, given the averages and the total (ns) of interrupt time. The file has
--- only the `full` line, because no task runs on a processor during an interrupt.
+-- `irq_text averages total`: the text of irq.pressure, with the averages and the total (ns) of
+-- interrupt time. The file has only the `full` line, because no task runs on a processor during an
+-- interrupt.
 abbrev pub irq_text : List ℕ → ℕ → List ℕ
 irq_text averages total = file_line FullStalled averages total

@@ -17,21 +17,22 @@ use Rattle.pressure_spec.specs.Samples.{group_averages, growths, has_fired, last
 use Rattle.psi_spec.specs.Within.{longest_tick}
 use Rattle.pressure_spec.specs.Signal.{TriggerState, fires, is_free, new_trigger, trigger_after, trigger_step}
 
--- ---- shares
+-- ---- laws of shares
 
--- A share lies between bounds of the processors' times: it is at most any upper bound of them, and
--- at least any lower bound of them if some processor has weight.
+-- A share is a mean of the processors' times. If all times are at most `most`, the share is at most
+-- `most`. If all times are at least `least` and some processor has weight, the share is at least
+-- `least`.
 abbrev pub ShareIsMean : Type 0
 ShareIsMean = (rows : List (List ℕ)) (place least most : ℕ) →
     All (λ times. (least ≤ slice_index times place) × (slice_index times place ≤ most)) rows →
     (share_of rows place ≤ most) × (0 < total_weight rows → least ≤ share_of rows place)
 
--- Upper bounds of the processors' times are upper bounds of the shares.
+-- If a group's times on each processor are within bounds, its shares are within the same bounds.
 abbrev pub SharesWithin : Type 0
 SharesWithin =
     (rows : List (List ℕ)) (most most_irq : ℕ) → All (AreTimesWithin most most_irq) rows → AreAmountsWithin most most_irq (shares rows)
 
--- A share is at most the sum of the processors' times of the quantity.
+-- The share of a quantity is at most the sum of the processors' times for this quantity.
 abbrev pub ShareWithinSum : Type 0
 ShareWithinSum = (rows : List (List ℕ)) (place : ℕ) → share_of rows place ≤ time_sum rows place
 
@@ -44,17 +45,19 @@ ShareSumFits =
     → All (AreTimesWithin longest_tick (longest_tick + longest_irq)) rows →
     (weighted_time rows place ≤ 64 * (longest_tick + longest_irq) * (longest_tick / 1000000)) × (weighted_time rows place < 2 ^ 64)
 
--- All shares are 0 if no processor has weight: each was nonidle for less than 1 ms.
+-- All shares are 0 if no processor has weight. A processor has no weight if the group was nonidle
+-- there for less than 1 ms.
 abbrev pub IdleHasNone : Type 0
 IdleHasNone = (rows : List (List ℕ)) (place : ℕ) → total_weight rows ≡ 0 → share_of rows place ≡ 0
 
--- ---- averages
+-- ---- laws of averages
 
 -- The average with index `factor` (for 10, 60 or 300 s) of the quantity with index `place`.
 abbrev pub average_of : AverageState → ℕ → ℕ → ℕ
 average_of s place factor = slice_index (slice_index_or s.averages place []) factor
 
--- The part (ns) of the total of the quantity with index `place` that updates have sampled.
+-- How much (ns) of the total of the quantity with index `place` the updates of the averages have
+-- sampled so far.
 abbrev pub sampled_of : AverageState → ℕ → ℕ
 sampled_of s place = slice_index s.sampled place
 
@@ -67,8 +70,8 @@ abbrev pub NeverFalls : List ℕ → List (ℕ × List ℕ) → Type 0
 NeverFalls before [] = Unit {0}
 NeverFalls before (tick ∷ ticks) = ((place : ℕ) → slice_index before place ≤ slice_index tick.1 place) × NeverFalls tick.1 ticks
 
--- Exponentiation by squaring: for the exponent 0 the product is `result`; for an even exponent, `x`
--- is squared and the exponent is halved; for an odd exponent, `result` is also multiplied by `x`.
+-- Exponentiation by squaring. For the exponent 0 the result is `result`. For an even exponent, `x`
+-- is squared and the exponent is halved. For an odd exponent, `result` is also multiplied by `x`.
 pub record PowerHalves : Type 0 where
   pub zero : (result x : ℕ) → power_from result x 0 ≡ result
   pub even : (result x n : ℕ) → power_from result x (2 * n) ≡ power_from result (product x x) n
@@ -116,15 +119,15 @@ CarriesTheRest = (old : AverageState) (now : ℕ) (totals : List ℕ) (place : �
     sampled_of (average_step old now totals) place ≡ sampled_of old place
     + min (slice_index totals place - sampled_of old place) (sampled_time old now)
 
--- Updates never sample more of a total than the total itself.
+-- Updates never sample more of a quantity than its total.
 abbrev pub SamplesWithinTotal : Type 0
 SamplesWithinTotal =
     (at : ℕ) (ticks : List (ℕ × List ℕ)) (place : ℕ) → HasTotals ticks → NeverFalls [] ticks → place < length pressure_places →
     sampled_of (averages_after at ticks) place ≤ slice_index (last_totals [] ticks) place
 
--- ---- signals
+-- ---- laws of the signals of triggers
 
--- Whether the trigger fires at `tick` after the earlier `ticks`.
+-- Whether the trigger fires at `tick`, after it was updated at the earlier `ticks`.
 abbrev pub fired_after : TriggerState → List (ℕ × ℕ) → ℕ × ℕ → Bool
 fired_after trigger ticks tick = fires (trigger_after trigger ticks) tick.0 tick.1
 
@@ -143,8 +146,8 @@ PendingIsSignalled = (trigger : TriggerState) (waits : List (ℕ × ℕ)) (tick 
     is_free trigger.last_event trigger.size tick.0 ≡ true →
     fired_after trigger waits tick ≡ true
 
--- A step at which a trigger fires sets the time of the trigger's last signal; any other step leaves
--- this time unchanged.
+-- If a trigger fires at a tick, the time of its last signal is set to the time of the tick. Any
+-- other tick leaves the time of the last signal unchanged.
 abbrev pub RemembersLast : Type 0
 RemembersLast = (trigger : TriggerState) (now value : ℕ) →
     (fires trigger now value ≡ true → (trigger_step trigger now value).last_event ≡ Some now)
@@ -159,7 +162,7 @@ abbrev pub QuietWhenStill : Type 0
 QuietWhenStill = (at value threshold_us window_us now : ℕ) (moments : List ℕ) →
     fires (trigger_after (new_trigger at value threshold_us window_us) (still value moments)) now value ≡ false
 
--- ---- groups over ticks
+-- ---- laws of groups over a list of ticks
 
 -- The totals (ns) of a group: for each quantity, the sum of its shares over a list of samples. Each
 -- sample has one share for each quantity.
@@ -171,9 +174,9 @@ abbrev pub TotalsGrow : Type 0
 TotalsGrow = (samples : List (List ℕ)) (sample : List ℕ) → length sample ≡ length pressure_places →
     totals_of (samples ++ sample ∷ []) ≡ plus (totals_of samples) sample
 
--- The samples of a group: for each tick at which the group is live, the tick's time and the group's
--- shares (ns) of the interval since the previous tick. `before` are the group's times at the tick
--- before the first.
+-- `samples_from life slot before ticks`: the samples of a group. For each tick at which the group
+-- is live, they have the tick's time and the group's shares (ns) of the interval since the previous
+-- tick. `before` are the group's times at the tick before the first.
 abbrev pub samples_from : GroupLife → ℕ → List (List ℕ) → List Tick → List (ℕ × List ℕ)
 samples_from life slot before [] = []
 samples_from life slot before (tick ∷ ticks) =

@@ -1,5 +1,5 @@
--- The relation between two successive ticks: how much the times in the states may grow from one
--- tick to the next.
+-- Defines which tick may follow another: how much the times in the states may grow from one tick to
+-- the next.
 use Rattle.std.specs.Prelude.{ℕ, ◌+◌, ◌-◌, ◌<◌, ◌≤◌, List, [], ◌∷◌, replicate, slice_index, slice_index_or}
 use Rattle.psi_spec.specs.World.{longest_irq}
 use Rattle.psi_spec.specs.Within.{last_moment, longest_tick}
@@ -16,8 +16,8 @@ abbrev pub last_tick : Tick → List Tick → Tick
 last_tick before [] = before
 last_tick before (tick ∷ ticks) = last_tick tick ticks
 
--- The time (ns) at index `place` on processor `cpu` in a group's row, or 0 if the row has no such
--- entry.
+-- The time (ns) at index `place` on processor `cpu` in `row`, which contains a group's times on
+-- each processor. The time is 0 if the row has no such entry.
 abbrev pub time_of : List (List ℕ) → ℕ → ℕ → ℕ
 time_of row cpu place = slice_index (slice_index_or row cpu []) place
 
@@ -26,10 +26,11 @@ time_of row cpu place = slice_index (slice_index_or row cpu []) place
 abbrev pub time_in : List (List (List ℕ)) → ℕ → ℕ → ℕ → ℕ
 time_in table slot cpu place = time_of (slice_index_or table slot []) cpu place
 
--- `tick` may follow `last`: it is later, by at most the longest tick, and not after the latest time
--- of a trace. No time of a group has decreased. A time in a state has grown by at most the time
--- between the ticks. An interrupt time may have grown by a second more, because a trace reports
--- interrupts after they happened, but it is at most the time of the tick.
+-- `IsNextTick last tick` holds if `tick` may follow `last`. It is later, by at most the longest
+-- tick, and not after the latest time of a trace. No time of a group has decreased. A time in a
+-- state has grown by at most the time between the ticks. An interrupt time may have grown by a
+-- second more, because a trace reports interrupts after they happened, but it is at most the time
+-- of the tick.
 pub record IsNextTick (last tick : Tick) : Type 0 where
   pub later : last.at < tick.at
   pub soon : tick.at ≤ last.at + longest_tick

@@ -13,8 +13,8 @@ in_hundredths average = average / 2048 * 100 + hundredths average
 abbrev pub hundredths_text : ℕ → List ℕ
 hundredths_text n = decimal (n / 100) ++ codes "." ++ two_digits (n % 100)
 
--- The line of a pressure file with these averages over 10, 60 and 300 s (in hundredths of a
--- percent) and this total (us).
+-- `known_line level averages total`: the line of a pressure file with the averages over 10, 60 and
+-- 300 s (in hundredths of a percent) and the total (us).
 abbrev pub known_line : Level → List ℕ → ℕ → List ℕ
 known_line level averages total =
     level_word level ++ codes " avg10=" ++ hundredths_text (slice_index averages 0)

@@ -1,4 +1,4 @@
--- The pressure of groups over any list of ticks: the totals of a group after each tick, its
+-- Defines the pressure of groups over any list of ticks: the totals of a group after each tick, its
 -- averages, and the signals of triggers.
 use Rattle.std.specs.Prelude.{ℕ, ◌-◌, List, [], ◌∷◌, ◌++◌, length, map, filter, slice_get, slice_index_or, nat_le, nat_lt, ◌&&◌, Bool, if◌then◌else◌}
 use Rattle.std.specs.List.{range_with_len}
@@ -24,18 +24,20 @@ life_of lives slot = slice_index_or lives slot root
 abbrev pub row_at : Tick → ℕ → List (List ℕ)
 row_at tick slot = slice_index_or tick.table slot []
 
--- The growth of each time (ns) on each processor from the times `before` to the times `now`.
+-- The difference `now - before` for each time (ns) of a group on each processor.
 abbrev pub growths : List (List ℕ) → List (List ℕ) → List (List ℕ)
 growths before now = zip_with (zip_with (λ time earlier. time - earlier)) now before
 
--- Adds the shares of an interval to the totals (ns). `before` and `now` are the group's times on
--- each processor at the start and at the end of the interval.
+-- `with_shares totals before now`: the totals (ns) after an interval, which are `totals` plus the
+-- shares of the interval. `before` and `now` are the group's times on each processor at the start
+-- and at the end of the interval.
 abbrev pub with_shares : List ℕ → List (List ℕ) → List (List ℕ) → List ℕ
 with_shares totals before now = plus totals (shares (growths before now))
 
--- The history of a group over a list of ticks: for each tick at which the group is live, the tick's
--- time and the group's totals (ns). The totals grow by the shares of the interval since the
--- previous tick. `before` and `totals` are the group's times and its totals before the first tick.
+-- `history_from life slot before totals ticks`: the history of a group over `ticks`. For each tick
+-- at which the group is live, it has the tick's time and the group's totals (ns). The totals grow
+-- by the shares of the interval since the previous tick. `before` and `totals` are the group's
+-- times and its totals before the first tick.
 abbrev pub history_from : GroupLife → ℕ → List (List ℕ) → List ℕ → List Tick → List (ℕ × List ℕ)
 history_from life slot before totals [] = []
 history_from life slot before totals (tick ∷ ticks) =
@@ -49,7 +51,7 @@ history_from life slot before totals (tick ∷ ticks) =
 abbrev pub history_of : ℕ → List GroupLife → List Tick → ℕ → List (ℕ × List ℕ)
 history_of cpus lives ticks slot = history_from (life_of lives slot) slot (no_row cpus) no_totals ticks
 
--- ---- totals and averages
+-- ---- the totals and averages of a group
 
 -- The totals (ns) at the end of a history, or `before` if the history is empty.
 abbrev pub last_totals : List ℕ → List (ℕ × List ℕ) → List ℕ
@@ -65,14 +67,15 @@ totals_after cpus lives ticks slot = last_totals no_totals (history_of cpus live
 unfoldable pub group_averages : ℕ → List GroupLife → List Tick → ℕ → AverageState
 group_averages cpus lives ticks slot = averages_after (life_of lives slot).made (history_of cpus lives ticks slot)
 
--- ---- signals
+-- ---- the signals of triggers
 
 -- The state whose stall time a trigger watches, for example memory `some`.
 abbrev pub watched_state : TriggerSpec → State
 watched_state trigger = state_of trigger.res trigger.level
 
--- The initial total (ns) of a trigger: the total of its watched state at the last tick strictly
--- before the trigger was set, or 0 if the group has no earlier tick.
+-- `first_value trigger history`: the initial total (ns) of a trigger. This is the total of its
+-- watched state at the last tick strictly before the trigger was set, or 0 if the group has no
+-- earlier tick.
 abbrev pub first_value : TriggerSpec → List (ℕ × List ℕ) → ℕ
 first_value trigger history =
     at_state (last_totals no_totals (filter (λ (at : ℕ × List ℕ). nat_lt at.0 trigger.at) history)) (watched_state trigger)
@@ -88,8 +91,9 @@ abbrev pub trigger_over : TriggerSpec → List (ℕ × List ℕ) → TriggerStat
 trigger_over trigger history =
     trigger_after (new_trigger trigger.at (first_value trigger history) trigger.threshold_us trigger.window_us) (seen_by trigger history)
 
--- Whether the trigger fires at `tick` after the earlier `ticks`: its group is live at the tick, it
--- was set at or before the tick, and the total of its watched state makes it fire.
+-- `has_fired cpus lives ticks tick trigger`: whether the trigger fires at `tick` after the earlier
+-- `ticks`. This is so if its group is live at the tick, the trigger was set at or before the tick,
+-- and the total of the trigger's state meets its condition.
 unfoldable pub has_fired : ℕ → List GroupLife → List Tick → Tick → TriggerSpec → Bool
 has_fired cpus lives ticks tick trigger =
     is_live_at (life_of lives trigger.slot.0) tick.at && nat_le trigger.at tick.at

@@ -27,12 +27,13 @@ pressure_places = 0 ∷ 1 ∷ 2 ∷ 3 ∷ 4 ∷ 5 ∷ irq_place ∷ []
 abbrev pub irq_quantity : ℕ
 irq_quantity = 6
 
--- The number for `state` in a list that begins with one number for each state.
+-- `at_state numbers state`: the number for `state` in a list that begins with one number for each
+-- state.
 abbrev pub at_state : List ℕ → State → ℕ
 at_state numbers state = slice_index numbers (state_number state)
 
--- The weight of a processor: the group's nonidle time on it in whole milliseconds, given the
--- group's times (ns) there.
+-- `weight times`: the weight of a processor, which is the group's nonidle time on it in whole
+-- milliseconds. `times` are the group's times (ns) there.
 abbrev pub weight : List ℕ → ℕ
 weight times = at_state times Nonidle / 1000000
 
@@ -40,17 +41,18 @@ weight times = at_state times Nonidle / 1000000
 abbrev pub total_weight : List (List ℕ) → ℕ
 total_weight rows = sum_by weight rows
 
--- The sum of the processors' times (ns) of the quantity at index `place`, each multiplied by the
--- weight of its processor.
+-- `weighted_time rows place`: the sum of the processors' times (ns) of the quantity at index
+-- `place`, each multiplied by the weight of its processor.
 abbrev pub weighted_time : List (List ℕ) → ℕ → ℕ
 weighted_time rows place = sum_by (λ times. slice_index times place * weight times) rows
 
--- The share (ns) of the quantity at index `place`: the mean of the processors' times, weighted by
--- the processors' weights and rounded down.
+-- `share_of rows place`: the share (ns) of the quantity at index `place`. It is the mean of the
+-- processors' times, weighted by the processors' weights and rounded down.
 abbrev pub share_of : List (List ℕ) → ℕ → ℕ
 share_of rows place = weighted_time rows place / max (total_weight rows) 1
 
--- The shares (ns) of all pressure quantities, given the group's times (ns) on each processor.
+-- `shares rows`: the shares (ns) of all pressure quantities. `rows` has the group's times (ns) on
+-- each processor.
 unfoldable pub shares : List (List ℕ) → List ℕ
 shares rows = map (share_of rows) pressure_places
 

@@ -1,6 +1,6 @@
--- The ticks, which are the times at which pressure is sampled, and the tables of stall times at the
--- ticks of a trace. All groups are sampled at each tick. The kernel, by contrast, samples each
--- group with a timer of its own.
+-- Defines the ticks, which are the times at which pressure is sampled, and the tables of stall
+-- times at the ticks of a trace. All groups are sampled at each tick. The kernel, by contrast,
+-- samples each group with a timer of its own.
 use Rattle.std.specs.Prelude.{ℕ, ◌+◌, ◌++◌, ◌-◌, ◌*◌, ◌/◌, List, [], ◌∷◌, length, map, replicate, nat_lt, ◌==◌, ◌&&◌, ◌||◌, Bool}
 use Rattle.std.specs.List.{range_with_len}
 use Rattle.psi_base.specs.declared.event.Event.{Event}
@@ -8,19 +8,20 @@ use Rattle.psi_base.specs.declared.event.State.{State}
 use Rattle.psi_spec.specs.World.{after, up_to}
 use Rattle.psi_spec.specs.Stall.{irq_time, stall, states}
 
--- ---- ticks
+-- ---- the times of ticks
 
--- The time (ns) of tick number `i` (from 1), given the length (ns) of a tick. For i = 0 the time is
--- 0.
+-- `tick_moment length i`: the time (ns) of tick number `i` (from 1), for ticks of `length` ns. For
+-- i = 0 the time is 0.
 abbrev pub tick_moment : ℕ → ℕ → ℕ
 tick_moment length i = i * length
 
--- The number of ticks up to and including time `end` (ns), given the length (ns) of a tick.
+-- `ticks_until length end`: the number of ticks up to and including the time `end` (ns), for ticks
+-- of `length` ns.
 abbrev pub ticks_until : ℕ → ℕ → ℕ
 ticks_until length end = end / length
 
--- Whether a multiple of `period` (ns) is after tick number `i` - 1, and at or before tick number
--- `i`.
+-- `is_due period length i`: whether a multiple of `period` (ns) is due at tick number `i`, for
+-- ticks of `length` ns. The multiple is after tick `i - 1`, and at or before tick `i`.
 abbrev pub is_due : ℕ → ℕ → ℕ → Bool
 is_due period length i = nat_lt (tick_moment length (i - 1) / period) (tick_moment length i / period)
 
@@ -34,7 +35,7 @@ is_evaluation interval length i = is_due interval length i
 abbrev pub is_report : ℕ → ℕ → ℕ → ℕ → Bool
 is_report period length last i = i == last || (nat_lt 0 period && is_due period length i)
 
--- ---- tables
+-- ---- tables of times
 
 -- A tick: its time (ns), and a table of the times (ns) of all groups up to the tick. The table is
 -- indexed by slot, processor and place; the places are the seven states and interrupt time.
@@ -42,8 +43,8 @@ pub record Tick : Type 0 where
   pub at : ℕ
   pub table : List (List (List ℕ))
 
--- Builds the times (ns) of a group on a processor: the time in each state, in the order of the
--- states' numbers, followed by the interrupt time `irq`.
+-- `times_with in_state irq`: the list of the times (ns) of a group on a processor. It has the time
+-- in each state, in the order of the states' numbers, and then the interrupt time `irq`.
 abbrev pub times_with : (State → ℕ) → ℕ → List ℕ
 times_with in_state irq = map in_state states ++ irq ∷ []
 
@@ -60,15 +61,17 @@ row_until cpus slot events at = map (λ cpu. times_until cpu slot events at) (ra
 abbrev pub table_until : ℕ → List Event → ℕ → List (List (List ℕ))
 table_until cpus events at = map (λ slot. row_until cpus slot events at) (range_with_len 0 (length (after events).groups))
 
--- Tick number `i` (from 1) of a trace on `cpus` processors, given the length (ns) of a tick.
+-- `tick_of cpus events length i`: tick number `i` (from 1) of a trace on `cpus` processors, for
+-- ticks of `length` ns.
 abbrev pub tick_of : ℕ → List Event → ℕ → ℕ → Tick
 tick_of cpus events length i = record { at = tick_moment length i; table = table_until cpus events (tick_moment length i) }
 
--- The first `count` ticks of a trace on `cpus` processors, given the length (ns) of a tick.
+-- `ticks_of cpus events length count`: the first `count` ticks of a trace on `cpus` processors, for
+-- ticks of `length` ns.
 unfoldable pub ticks_of : ℕ → List Event → ℕ → ℕ → List Tick
 ticks_of cpus events length count = map (tick_of cpus events length) (range_with_len 1 count)
 
--- ---- before the first tick
+-- ---- the times before the first tick
 
 -- The times of a group before the first tick, on each of `cpus` processors: all are 0.
 abbrev pub no_row : ℕ → List (List ℕ)

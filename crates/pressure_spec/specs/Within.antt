@@ -27,7 +27,8 @@ pub record AreAmountsWithin (most most_irq : ℕ) (amounts : List ℕ) : Type 0 
 
 -- ---- the range of averages
 
--- The row of a quantity has three averages of at most 100 percent (204,800) each.
+-- The row contains the three averages of one quantity. Each is at most 100 percent, which is
+-- 204,800 in fixed point (2,048 is one percent).
 pub record IsRow (row : List ℕ) : Type 0 where
   pub three : length row ≡ 3
   pub most : All (λ average. average ≤ 204800) row

@@ -18,13 +18,14 @@ suffix [] bytes = Some bytes
 suffix (byte ∷ text) [] = None
 suffix (byte ∷ text) (first ∷ bytes) = if first == byte then suffix text bytes else None
 
--- The number that the digits at the start spell, and the remaining bytes.
+-- The number that the digits at the start spell, and the remaining bytes. `None` if there are no
+-- digits, if there is a leading zero (except in `0`), or if the number doesn't fit in 64 bits.
 unfoldable pub number_at : List ℕ → Option (ℕ × List ℕ)
 number_at bytes = do
   n ← number_of (take_while is_ascii_digit bytes)
   Some (n, drop (prefix_len is_ascii_digit bytes) bytes)
 
--- The number that the first two bytes spell, and the remaining bytes. `None` unless both are
+-- The number that the first two bytes spell, and the remaining bytes. `None` unless both bytes are
 -- digits.
 unfoldable pub two_at : List ℕ → Option (ℕ × List ℕ)
 two_at [] = None
@@ -42,12 +43,13 @@ average_at bytes = do
   part ← two_at point
   if nat_le (whole.0 * 100 + part.0) 10000 then Some (whole.0 * 100 + part.0, part.1) else None
 
--- The result of the parser `read` on the bytes after `label`. `None` if the bytes don't begin with
+-- Applies the parser `read` to the bytes after `label`. `None` if the bytes don't begin with
 -- `label`.
 abbrev pub past : {A : Type 0} → List ℕ → (List ℕ → Option A) → List ℕ → Option A
 past label read bytes = suffix label bytes >>= read
 
--- The numbers of the line of the given level at the start, and the remaining bytes.
+-- The numbers in the line of level `level` (`some` or `full`) at the start of the bytes, and the
+-- remaining bytes.
 unfoldable pub line_at : Level → List ℕ → Option (PressureLine × List ℕ)
 line_at level bytes = do
   start ← suffix (level_word level) bytes
@@ -58,13 +60,13 @@ line_at level bytes = do
   end ← suffix (codes "\n") total.1
   Some (record { hundredths = short.0 ∷ middle.0 ∷ long.0 ∷ []; total_us = total.0 }, end)
 
--- The parsed value if no bytes remain, and `None` otherwise.
+-- `if_end rest read`: the parsed value `read` if no bytes remain in `rest`, and `None` otherwise.
 abbrev pub if_end : {A : Type 0} → List ℕ → A → Option A
 if_end [] read = Some read
 if_end (byte ∷ bytes) read = None
 
--- The numbers of the pressure file that the bytes spell. A pressure file is a `some` line and a
--- `full` line.
+-- The numbers of the pressure file that the bytes spell: a `some` line, a `full` line, and no
+-- further bytes.
 unfoldable pub file_at : List ℕ → Option PressureFile
 file_at bytes = do
   first ← line_at SomeStalled bytes
@@ -78,8 +80,9 @@ irq_at bytes = do
   line ← line_at FullStalled bytes
   if_end line.1 line.0
 
--- The result of a parsing function agrees with the specified result `read`: either both are `None`,
--- or both have the same value and `rest` is the list of remaining bytes.
+-- `TakesPiece result rest read`: the result of a parsing function agrees with the specified result
+-- `read`. Either both are `None`, or both have the same value and `rest` is the list of remaining
+-- bytes.
 abbrev pub TakesPiece : {A : Type 0} → Option A → List ℕ → Option (A × List ℕ) → Type 0
 TakesPiece None rest read = read ≡ None
 TakesPiece (Some x) rest read = read ≡ Some (x, rest)

@@ -5,7 +5,7 @@ use Rattle.pressure_spec.specs.File.{percent_text}
 use Rattle.pressure_text.specs.declared.pieces.Piece.{Piece}
 use Rattle.pressure_text.specs.declared.pieces.Piece.TheVariants.{Number, Text, Percent}
 
--- A space and the number in decimal.
+-- A space, followed by the number in decimal.
 abbrev pub spaced_number : ℕ → List ℕ
 spaced_number n = codes " " ++ decimal n
 

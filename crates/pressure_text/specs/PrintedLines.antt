@@ -1,5 +1,5 @@
--- Defines which bytes are a pressure file, and which numbers the file has. States the round-trip
--- laws of writing and parsing.
+-- Defines which bytes are a pressure file, and which numbers the file has. States that writing and
+-- then parsing a file returns the same numbers.
 use Rattle.std.specs.Prelude.{◌≡◌, ℕ, ◌/◌, ◌^◌, ◌<◌, List, [], ◌∷◌, ◌++◌, All}
 use Rattle.std.specs.Prelude.{slice_index, slice_index_or, ◌&&◌, Bool, if◌then◌else◌}
 use Rattle.psi_base.specs.declared.event.Res.{Res}
@@ -17,24 +17,25 @@ use Rattle.pressure_text.specs.declared.read.PressureFile.{PressureFile}
 abbrev pub spelled_line : Level → PressureLine → List ℕ
 spelled_line level line = known_line level line.hundredths line.total_us
 
--- The numbers of the line are in the range that a pressure file can have.
+-- The numbers of the line are in range: the averages are at most 100.00 percent, and the total (us)
+-- is below 2^64.
 abbrev pub IsTellable : PressureLine → Type 0
 IsTellable line = CanShow line.hundredths line.total_us
 
--- The bytes are the pressure file with these numbers: the `some` line, the `full` line, and no
--- further bytes.
+-- `Shows bytes file`: `bytes` are the pressure file with the numbers in `file`: the `some` line,
+-- the `full` line, and no further bytes.
 pub record Shows (bytes : List ℕ) (file : PressureFile) : Type 0 where
   pub some_line : IsTellable file.some_line
   pub full_line : IsTellable file.full_line
   pub spelled : bytes ≡ spelled_line SomeStalled file.some_line ++ spelled_line FullStalled file.full_line
 
--- The bytes are the pressure file of interrupts with these numbers: the `full` line and no further
--- bytes.
+-- `ShowsIrq bytes line`: `bytes` are the pressure file of interrupts with the numbers in `line`:
+-- the `full` line and no further bytes.
 pub record ShowsIrq (bytes : List ℕ) (line : PressureLine) : Type 0 where
   pub full_line : IsTellable line
   pub spelled : bytes ≡ spelled_line FullStalled line
 
--- Three fixed-point averages, converted to hundredths of a percent.
+-- Converts three fixed-point averages to hundredths of a percent.
 abbrev pub three_hundredths : List ℕ → List ℕ
 three_hundredths averages =
     in_hundredths (slice_index averages 0) ∷ in_hundredths (slice_index averages 1)
@@ -60,16 +61,16 @@ known_file res is_root totals averages = record {
   full_line = if is_root && is_cpu res then numbers_known [] 0 else known_by_line res FullStalled totals averages;
 }
 
--- Round trip: for totals (ns) below 2^64 and averages of at most 100 percent, the written pressure
--- file has these totals in whole microseconds and these averages in hundredths of a percent.
+-- Round trip. Totals (ns) must be below 2^64, and averages at most 100 percent. Then the written
+-- pressure file has the totals in whole microseconds, and the averages in hundredths of a percent.
 abbrev pub ReadsAgain : Type 0
 ReadsAgain = (res : Res) (is_root : Bool) (totals : List ℕ) (averages : List (List ℕ)) →
     All (λ total. total < 2 ^ 64) totals → All (λ row. IsRow row) averages →
     Shows (file_text res is_root totals averages) (known_file res is_root totals averages)
 
--- Round trip for the pressure file of interrupts: for a total (ns) below 2^64 and averages of at
--- most 100 percent, the written file has this total in whole microseconds and these averages in
--- hundredths of a percent.
+-- Round trip for the pressure file of interrupts. The total (ns) must be below 2^64, and the
+-- averages at most 100 percent. Then the written file has the total in whole microseconds, and the
+-- averages in hundredths of a percent.
 abbrev pub IrqReadsAgain : Type 0
 IrqReadsAgain = (averages : List ℕ) (total : ℕ) → total < 2 ^ 64 → IsRow averages →
     ShowsIrq (irq_text averages total) (numbers_known averages total)

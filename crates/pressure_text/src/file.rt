@@ -1,6 +1,6 @@
 //! Writes pressure files and reports. A report is a head line followed by a pressure file.
 //!
-//! The caller passes the averages and totals.
+//! The caller computes the averages and the totals.
 ghost use Rattle.std.specs.Prelude.{[], slice_index_or};
 ghost use Rattle.outside.specs.Outside.{HasCause, SameInner};
 ghost use Rattle.outside.specs.Calls.{PutsAll};
@@ -15,7 +15,7 @@ use pressure_spec::Amounts;
 use psi_base::{Level, Ns, Path, Res, State};
 
 // Writes one line of a pressure file: the level, the three averages, and the total. `total` is in
-// ns; the line has us.
+// ns, and is written in us.
 fn put_line<K: Sink>(
     out: &mut K,
     level: Level,

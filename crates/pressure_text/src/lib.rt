@@ -1,7 +1,7 @@
 //! Writes the lines that the commands print, and parses pressure files.
 //!
-//! The callers compute the values; this crate only formats them. psi_observe writes other lines
-//! from the same [`Piece`]s.
+//! The callers compute the values, and this crate only formats them. psi_observe writes its lines
+//! with the same [`Piece`]s.
 #![tactic(auto)]
 
 mod file;

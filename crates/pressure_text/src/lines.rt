@@ -28,7 +28,7 @@ pub fn put_timed<K: Sink>(out: &mut K, head: &[Piece], times: &[Ns]) -> Result<(
     put_all(out, b"\n")
 }
 
-// Writes the `stall` line of a group on a processor, with the given times (ns).
+// Writes the `stall` line of a group on a processor, with the times `times` (ns).
 #[tactic(auto, using(crate::proofs::Puts::times))]
 fn put_stall<K: Sink>(out: &mut K, cpu: Cpu, path: &Path, times: &[Ns]) -> Result<(), WriteFailed>
     ensures bytes { PutsAll (K.has out.old) (K.has out.new) result
@@ -64,8 +64,8 @@ pub fn write_stall<K: Sink>(
     put_stall(out, cpu, path, &seven)
 }
 
-/// Writes the `stall` line of a group on a processor, with the group's time (ns) in each of the
-/// seven states, ordered by state, and then the interrupt time (ns).
+/// Writes the `stall` line of a group on a processor: the group's time (ns) in each of the seven
+/// states, ordered by state, followed by the interrupt time (ns).
 pub fn write_stall_irq<K: Sink>(
     out: &mut K,
     cpu: Cpu,
@@ -80,8 +80,9 @@ pub fn write_stall_irq<K: Sink>(
     put_stall(out, cpu, path, &eight)
 }
 
-/// Writes the line for an accepted trace: the number of events, including the end event, and the
-/// end time (ns). The number of lines is one more, because of the header.
+/// Writes the line for an accepted trace: the number of lines, the number of events and the end
+/// time (ns). The end of the trace counts as an event. The number of lines is `events + 1`, because
+/// of the header.
 #[tactic(auto, using(outside::proofs::Grows::chain))]
 pub fn write_check<K: Sink>(out: &mut K, events: u64, end: Ns) -> Result<(), WriteFailed>
     requires { events < 2 ^ 64 - 1 }

@@ -10,17 +10,17 @@ ghost use Rattle.pressure_text.specs.Pieces.{piece_bytes, spaced_number};
 
 use outside::{Sink, WriteFailed, put_all, put_number};
 
-/// The fixed-point number for one percent.
+/// The fixed-point number that represents one percent.
 const PERCENT: u64 = 2048;
 
 /// A piece of a line.
 #[derive(Clone, Copy)]
 pub enum Piece<'a> {
-    /// A number, written in decimal.
+    /// A number that is written in decimal.
     Number(u64),
-    /// Bytes, written unchanged.
+    /// Bytes that are written unchanged.
     Text(&'a [u8]),
-    /// A fixed-point average (2048 is one percent), written in percent with two decimals.
+    /// A fixed-point average (2048 is one percent) that is written in percent with two decimals.
     Percent(u64),
 }
 

@@ -1,7 +1,7 @@
 //! Parses pressure files.
 //!
-//! No command parses pressure files. The parser exists for programs that do, and for the law
-//! `law_read_again`: what [`write_file`](crate::write_file) writes can be parsed again.
+//! No command of this repository parses pressure files. The parser is for other programs, and for
+//! the law `law_read_again`: the output of [`write_file`](crate::write_file) can be parsed again.
 ghost use Rattle.std.specs.Prelude.{◌≡◌, ◌↔◌, ◌≤◌, ◌<◌, IfSome, IsNone, MatchOption, None, Some};
 ghost use Rattle.std.specs.Prelude.{length};
 ghost use Rattle.std.specs.Char.{is_ascii_digit};
@@ -76,7 +76,8 @@ impl<'a> Rest<'a> {
         }
     }
 
-    // Consumes the digits at the start, and returns the number that they spell.
+    // Consumes the digits at the start, and returns their number. Returns `None` if there are no
+    // digits, if there is a leading zero (except in `0`), or if the number doesn't fit in 64 bits.
     #[tactic(auto, unfolding(crate::specs::FileRead::number_at))]
     fn number(&mut self) -> Option<u64>
         ensures { TakesPiece result self.new (number_at self.old) }
@@ -87,7 +88,8 @@ impl<'a> Rest<'a> {
         Some(number)
     }
 
-    // Consumes two digits, and returns the number that they spell.
+    // Consumes two digits, and returns their number. Returns `None` if the bytes don't begin with
+    // two digits.
     #[tactic(auto, unfolding(crate::specs::FileRead::two_at))]
     fn two_digits(&mut self) -> Option<u32>
         ensures found { TakesPiece result self.new (two_at self.old) }
@@ -105,7 +107,8 @@ impl<'a> Rest<'a> {
         Some(u32::from(tens - b'0') * 10 + u32::from(ones - b'0'))
     }
 
-    // Consumes an average with two decimals, and returns it in hundredths of a percent.
+    // Consumes an average in percent with two decimals, and returns it in hundredths of a percent.
+    // Returns `None` if it is malformed or above 100.00 percent.
     #[tactic(auto, unfolding(crate::specs::FileRead::average_at))]
     fn average(&mut self) -> Option<u32>
         ensures { TakesPiece result self.new (average_at self.old) }
@@ -139,7 +142,8 @@ impl<'a> Rest<'a> {
         self.number()
     }
 
-    // Consumes the line of the given level, including the newline, and returns its numbers.
+    // Consumes the line of level `level` (`some` or `full`) with its newline, and returns its
+    // numbers. Returns `None` if the line is malformed.
     #[tactic(auto, unfolding(crate::specs::FileRead::line_at))]
     fn line(&mut self, level: Level) -> Option<PressureLine>
         ensures { TakesPiece result self.new (line_at level self.old) }
@@ -157,7 +161,7 @@ impl<'a> Rest<'a> {
     }
 }
 
-// Parses a pressure file of exactly two lines.
+// Parses a pressure file of exactly two lines. Returns `None` if the file is malformed.
 #[tactic(auto, unfolding(crate::specs::FileRead::file_at))]
 fn file_of(bytes: &[u8]) -> Option<PressureFile>
     ensures { result ≡ file_at bytes.now }
@@ -174,7 +178,7 @@ fn file_of(bytes: &[u8]) -> Option<PressureFile>
     })
 }
 
-// Parses a pressure file that has only a `full` line.
+// Parses a pressure file that has only a `full` line. Returns `None` if the file is malformed.
 #[tactic(auto, unfolding(crate::specs::FileRead::irq_at))]
 fn irq_of(bytes: &[u8]) -> Option<PressureLine>
     ensures { result ≡ irq_at bytes.now }
@@ -199,7 +203,8 @@ pub fn read_file(bytes: &[u8]) -> Option<PressureFile>
 }
 
 /// Parses the pressure file of interrupts: the `full` line with its newline, and no further bytes.
-/// The numbers are as in [`read_file`]. Returns `None` if and only if the bytes aren't such a file.
+/// Averages and totals have the same ranges and forms as for [`read_file`]. Returns `None` if and
+/// only if the bytes aren't such a file.
 pub fn read_irq(bytes: &[u8]) -> Option<PressureLine>
     ensures exact { (line : PressureLine) → (result ≡ Some line) ↔ ShowsIrq bytes.now line }
     ensures none { IsNone result ↔ ((line : PressureLine) → ¬ ShowsIrq bytes.now line) }

@@ -1,5 +1,5 @@
-//! The list of the changes of one processor. The list grows while a trace is planned, and each
-//! change takes 16 bytes.
+//! The list of the changes of one processor. It grows while a planner reads a trace. Each change
+//! occupies 16 bytes.
 
 ghost use Rattle.std.specs.Prelude.{◌≡◌, ◌++◌, ◌<◌, ◌≤◌, [], ◌∷◌, OnOk};
 ghost use Rattle.psi_counts.specs.Touch.{HasSlotsBelow, IsOfOne};
@@ -12,7 +12,7 @@ use std::alloc::Global;
 use std::marker::Model;
 
 /// The changes of a processor, in order. In contracts this is a list, together with the number of
-/// changes that can be appended without allocating.
+/// further changes for which memory is reserved.
 #[derive(Drop)]
 pub(crate) struct Changes {
     list: Vec<PackedChange>,
@@ -29,7 +29,7 @@ impl Model for Changes {
 }
 
 impl Changes {
-    /// Returns an empty list.
+    /// Returns an empty list of changes.
     pub(crate) fn new(alloc: Global) -> Changes
         ensures { result.list ≡ [] }
     {
@@ -49,8 +49,9 @@ impl Changes {
         Ok(())
     }
 
-    /// Appends a change. Preconditions: memory for the change is reserved, its slots are less than
-    /// 1,024, and it concerns either one task, only interrupt time, or only a switch of accounting.
+    /// Appends a change. Preconditions: memory for the change is reserved, and its slots are less
+    /// than 1,024. The change concerns one task, only interrupt time, or only an on/off switch of
+    /// accounting.
     #[inline(always)]
     pub(crate) fn push(&mut self, change: Change)
         requires room { 0 < self.old.room }
@@ -61,7 +62,7 @@ impl Changes {
         self.list.push_reserved(PackedChange::new(change));
     }
 
-    /// Returns all changes, in order.
+    /// Returns all changes of the processor, in order.
     pub(crate) fn all(&self) -> &[PackedChange]
         ensures { result.now ≡ self.now.list }
     {

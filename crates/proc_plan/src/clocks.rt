@@ -1,6 +1,6 @@
-//! Clocks of one processor that advance by the processor's plan: the traits, and an implementation
-//! for one thread (`PlainClocks`). clock_row has an implementation whose clocks other threads can
-//! read.
+//! The clocks of one processor, which apply the changes of the processor's plan. Defines the traits
+//! for clocks, and an implementation for use by one thread (`PlainClocks`). The crate clock_row has
+//! an implementation whose clocks other threads can read.
 
 ghost use Rattle.std.specs.Prelude.{◌≡◌, ◌+◌, ◌<◌, ℕ, length, IfOk};
 ghost use Rattle.plan_laws.specs.Plan.{IsClock, PlanView, planned_irq};
@@ -13,34 +13,34 @@ use slot_clocks::SlotClocks;
 use std::alloc::Global;
 use std::marker::Model;
 
-/// The clocks of all groups on one processor. They make the changes of the processor's plan in
+/// The clocks of all groups on one processor. They apply the changes of the processor's plan in
 /// order.
 pub trait ProcClocks {
-    /// The plan of the processor.
+    /// The plan of the processor, which lists its changes.
     ghost plan: { Self → PlanView };
 
-    /// The number of the plan's changes that the clocks have made.
+    /// The number of the plan's changes that the clocks have applied.
     ghost made: { Self → ℕ };
 
-    /// The identity of these clocks, which no call changes. Contracts use it to state that a reader
+    /// The identity of these clocks, which never changes. Contracts use it to state that a reader
     /// and a writer share the same clocks.
     ghost Home: { Type 0 };
 
     ghost home: { Self → Home };
 
-    /// Returns the number of the plan's changes that the clocks have made.
+    /// Returns the number of the plan's changes that the clocks have applied.
     fn count(&self) -> u64
         ensures { result ≡ made self.now };
 
-    /// Makes the next change of the plan.
+    /// Applies the next change of the plan to the clocks.
     fn apply(&mut self)
         requires { made self.old < length (plan self.old).changes }
         ensures plan { plan self.new ≡ plan self.old }
         ensures made { made self.new ≡ made self.old + 1 }
         ensures home { home self.new ≡ home self.old };
 
-    /// Returns the clock of `slot` after the changes made so far. The clock may have started before
-    /// the last change, if the changes since its start didn't affect the slot's states.
+    /// Returns the clock of `slot` after the changes applied so far. The clock may have started
+    /// before the last change, if later changes didn't affect the slot's states.
     fn own(&mut self, slot: Slot) -> Clock
         requires made { slot.0 < length (plan self.old).parents }
         ensures plan { plan self.new ≡ plan self.old }
@@ -49,11 +49,11 @@ pub trait ProcClocks {
         ensures clock { IsClock result (plan self.old) slot.0 (made self.old) };
 }
 
-/// Clocks that also sum the time that interrupts took from each group while the group's accounting
-/// was on.
+/// Clocks that also count interrupt time: for each group, the time that interrupts took from it
+/// while its accounting was on.
 pub trait IrqClocks: ProcClocks {
-    /// Returns the time (ns) that interrupts took from the group in `slot` in the changes made so
-    /// far.
+    /// Returns the time (ns) that interrupts took from the group in `slot`, over the changes
+    /// applied so far.
     fn own_irq(&mut self, slot: Slot) -> u64
         requires made { slot.0 < length (Self.plan self.old).parents }
         ensures plan { Self.plan self.new ≡ Self.plan self.old }
@@ -62,16 +62,16 @@ pub trait IrqClocks: ProcClocks {
         ensures irq { result ≡ planned_irq (Self.plan self.old) slot.0 (Self.made self.old) };
 }
 
-/// Clocks for use by one thread. In contracts these are the plan and the number of its changes that
-/// were made.
+/// Clocks for use by a single thread. In contracts they are the plan and the number of its changes
+/// that were applied.
 #[derive(Drop)]
 pub struct PlainClocks<'a> {
     plan: &'a Plan,
     /// The parent of each slot of the plan.
     parents: &'a [Option<Slot>],
     clocks: SlotClocks,
-    /// The time (ns) that interrupts took from each group, by slot. Only changes with interrupt
-    /// time access this list.
+    /// The time (ns) that interrupts took from each group, indexed by slot. Only changes with
+    /// interrupt time write to this list.
     irqs: Vec<u64>,
     count: u64,
 }
@@ -93,7 +93,7 @@ impl<'a> Model for PlainClocks<'a> {
 
 impl<'a> PlainClocks<'a> {
     /// Creates the clocks of a plan, before its first change. Precondition: the plan has `slots`
-    /// slots. No later call allocates memory.
+    /// slots. Later calls don't allocate.
     pub fn make(alloc: Global, plan: &'a Plan, slots: u32) -> Result<PlainClocks<'a>, NoMemory>
         requires { slots ≡ length plan.now.parents }
         ensures { IfOk result (λ clocks. clocks ≡ record { plan = plan.now; made = 0 }) }

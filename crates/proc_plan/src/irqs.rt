@@ -1,5 +1,4 @@
-//! Sums the time that interrupts took from each group on one processor. Only changes with interrupt
-//! time take this path.
+//! Sums the time that interrupts took from each group on one processor.
 
 ghost use Rattle.std.specs.Prelude.{◌≡◌, ◌+◌, ◌<◌, ◌^◌, ℕ, length, if◌then◌else◌, IfSome};
 ghost use Rattle.psi_spec.specs.LegalGroups.{AreOlder};
@@ -16,9 +15,9 @@ fn time_if(on: bool, irq: u64) -> u64
     if on { irq } else { 0 }
 }
 
-// Adds a time (ns) to the running task's group and to each of its ancestors, if the group's
-// accounting is on in `clocks`. The function isn't inlined, because changes with interrupt time are
-// rare.
+// Adds `irq` (ns) to the interrupt time of the group of the running task `current` and of each
+// ancestor. Skips groups whose accounting is off in `clocks`. The function isn't inlined, because
+// changes with interrupt time are rare.
 #[inline(never)]
 fn climb(
     times: &mut [u64],
@@ -45,8 +44,8 @@ fn climb(
     }
 }
 
-/// Adds the interrupt time of a change to the running task's group and to each of its ancestors, if
-/// the group's accounting is on in `clocks`.
+/// Adds the interrupt time of `change` to the time in `times` of the running task's group and of
+/// each ancestor. Skips groups whose accounting is off in `clocks`.
 #[inline(always)]
 pub(crate) fn add_irq(
     times: &mut [u64],

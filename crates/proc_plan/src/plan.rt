@@ -1,5 +1,5 @@
-//! The plan of one processor: the processor's changes in a trace, which can be looked up by number
-//! and by time.
+//! The plan of one processor: the list of the processor's changes in a trace. Changes are looked up
+//! by number or by time.
 
 ghost use Rattle.std.specs.Prelude.{◌≡◌, ◌+◌, ◌-◌, ◌<◌, ◌≤◌, ◌↔◌, length, nat_le, slice_get, slice_index_or, None, Some};
 ghost use Rattle.psi_counts.specs.Touch.{IsOfOne};
@@ -16,8 +16,7 @@ use slot_clocks::PackedChange;
 use std::marker::Model;
 
 /// The changes of one processor in a trace, and the parent of each slot. A change also affects the
-/// ancestors of the slots in the change, which are found through the parents. In contracts both are
-/// lists.
+/// ancestors of its slots, which are found through the parents. In contracts both are lists.
 ///
 /// There are at most 4,000,000 changes. Their times never decrease and are at most 60,000,000 s.
 /// Each change subtracts the counts of at most one task and adds the counts of at most one task.
@@ -48,8 +47,8 @@ fn part_slot(part: Option<(Slot, Counts)>) -> Option<Slot>
     part.map(|(slot, _)| slot)
 }
 
-/// Returns the slot of a pair, which describes either the running task or a switch of accounting.
-/// Returns `None` if there is no pair.
+/// Returns the slot in a pair, or `None` if there is no pair. The pair describes either the running
+/// task or a group whose accounting is turned on or off.
 pub(crate) fn current_slot(current: Option<(Slot, bool)>) -> Option<Slot>
     ensures { result ≡ slot_in current }
 {
@@ -66,7 +65,7 @@ impl Plan {
         Plan { changes, parents }
     }
 
-    /// Returns the number of changes.
+    /// Returns the number of changes in the plan.
     pub fn len(&self) -> u64
         ensures len { result ≡ length self.now.changes }
         ensures whole { IsPlan self.now }
@@ -75,7 +74,7 @@ impl Plan {
     }
 
     /// Returns change `k`, numbered from 1. A change subtracts the counts of at most one task and
-    /// adds the counts of at most one task. A change that switches accounting has no counts.
+    /// adds the counts of at most one task. A change that turns accounting on or off has no counts.
     pub fn change(&self, k: u64) -> Change
         requires from { 1 ≤ k }
         requires to { k ≤ length self.now.changes }
@@ -85,7 +84,7 @@ impl Plan {
         self.packed(k).change()
     }
 
-    /// Returns change `k`, numbered from 1, in its packed form.
+    /// Returns change `k`, numbered from 1, as it is packed into 16 bytes.
     #[inline(always)]
     pub(crate) fn packed(&self, k: u64) -> &PackedChange
         requires from { 1 ≤ k }
@@ -105,10 +104,11 @@ impl Plan {
         self.packed(k).at()
     }
 
-    /// Returns the slots that change `k` (numbered from 1) affects directly: the slot of the
-    /// subtracted counts or of the switched accounting, the slot of the added counts, and the slots
-    /// of the tasks that run before and after the change. The change also affects the ancestors of
-    /// these slots, but no other slot.
+    /// Returns the slots that change `k` (numbered from 1) affects directly. These are the slots of
+    /// the subtracted counts, of the added counts, and of the tasks that run before and after the
+    /// change. If the change turns a group's accounting on or off, it subtracts no counts, and the
+    /// group's slot is returned instead. The change also affects the ancestors of these slots, but
+    /// no other slot.
     pub fn concerned(&self, k: u64) -> [Option<Slot>; 4]
         requires from { 1 ≤ k }
         requires to { k ≤ length self.now.changes }
@@ -124,8 +124,8 @@ impl Plan {
         ]
     }
 
-    // Returns the task that runs before change `k` (numbered from 1): its slot, and whether it is
-    // in a memory stall. Returns `None` if no task runs.
+    // Returns the slot of the task that runs before change `k` (numbered from 1), and whether the
+    // task is in a memory stall. Returns `None` if no task runs.
     fn current_before(&self, k: u64) -> Option<(Slot, bool)>
         requires from { 1 ≤ k }
         requires to { k ≤ length self.now.changes }

@@ -1,5 +1,5 @@
-//! The planner, which splits a trace by processor, one event at a time. The planner checks each
-//! event, and rejects the trace at the first illegal event.
+//! The planner, which splits a trace by processor, one event at a time. It checks each event, and
+//! rejects the trace at the first illegal event.
 
 ghost use Rattle.std.specs.Prelude.{◌≡◌, ◌≤◌, ℕ, [], false, length, IfOk, OnErr};
 ghost use Rattle.std.specs.List.{All};
@@ -27,8 +27,8 @@ use std::marker::Model;
 use task_table::Table;
 use trace_player::TaskAct;
 
-/// Splits a trace by processor. Holds the table of tasks after the events taken so far, and the
-/// contents of the plans.
+/// Splits a trace by processor. A planner has the table of tasks after the events added so far, and
+/// the changes, triggers and side events that these events caused.
 #[derive(Drop)]
 pub struct Planner {
     table: Table,
@@ -74,7 +74,7 @@ fn parents_of(alloc: Global, groups: &Tree) -> Result<Vec<Option<Slot>>, NoMemor
     Ok(parents)
 }
 
-// Returns one plan for each list of changes. Each plan has the parents of all groups.
+// Returns one plan for each processor's list of changes. Each plan has the parents of all groups.
 fn make_plans(alloc: Global, changes: Vec<Changes>, groups: &Tree) -> Result<Vec<Plan>, NoMemory>
     requires { All (λ changes. IsPlan (plan_over groups.now changes.list)) changes.items }
     ensures { IfOk result (λ plans. plans.items ≡ plans_over groups.now changes.items) }
@@ -103,7 +103,7 @@ impl Planner {
         })
     }
 
-    /// Returns the number of events taken so far, at most 4,000,000.
+    /// Returns the number of events added so far, at most 4,000,000.
     pub fn lines(&self) -> u32
         ensures lines { result ≡ self.now.table.world.lines }
         ensures few { result ≤ most_events }
@@ -111,16 +111,16 @@ impl Planner {
         self.table.lines()
     }
 
-    /// Whether the event that ends the trace has been taken.
+    /// Returns whether the event that ends the trace has been added.
     pub fn is_ended(&self) -> bool
         ensures { result ≡ self.now.table.world.ended }
     {
         self.table.is_ended()
     }
 
-    /// The fast path of [`Planner::take`] for a task act at the time `at` (ns). A task act is the
-    /// act of an event that concerns only tasks. Precondition: the act doesn't make a task exit.
-    /// Such an act adds changes to plans, but no trigger and no side.
+    /// The fast path of [`Planner::take`] for a task event (`TaskAct`: a wakeup, switch, stall,
+    /// unstall or migration) at the time `at` (ns). Precondition: the event doesn't make a task
+    /// exit. Such an event adds changes to plans, but no trigger and no side event.
     #[inline(always)]
     pub fn take_task(&mut self, at: Ns, act: TaskAct) -> Result<(), Fault<Cause>>
         requires fits { Fits (as_event at act) }
@@ -135,8 +135,8 @@ impl Planner {
         Ok(())
     }
 
-    /// Takes the next event: checks the event, reserves memory for everything that it adds to the
-    /// plans, and adds it. Fails with `Refused` and the first cause if the event is illegal, or
+    /// Adds the next event: checks the event, reserves memory for everything that it adds to the
+    /// plans, and appends it. Fails with `Refused` and the first cause if the event is illegal, or
     /// with `NoMemory` if memory runs out for a legal event. The planner is unchanged on failure.
     #[inline(always)]
     pub fn take(&mut self, event: &Event) -> Result<(), Fault<Cause>>
@@ -150,7 +150,7 @@ impl Planner {
         }
     }
 
-    /// The general path of [`Planner::take`], for any event. The function isn't inlined, which
+    /// The general path of [`Planner::take`], for all events. The function isn't inlined, which
     /// keeps the fast path small enough to be inlined.
     #[inline(never)]
     pub(crate) fn take_other(&mut self, event: &Event) -> Result<(), Fault<Cause>>
@@ -176,7 +176,7 @@ impl Planner {
         Ok(())
     }
 
-    /// Returns the plans of the events taken so far.
+    /// Returns the plans of the events added so far.
     pub fn finish(self, alloc: Global) -> Result<Plans, NoMemory>
         requires { HasTrace self }
         ensures { IfOk result (RepresentTaken self) }

@@ -1,5 +1,5 @@
-//! The plans of all processors of a trace, together with the groups, the triggers and the sides of
-//! the trace.
+//! The plans of all processors of a trace (the list of each processor's changes), with the groups,
+//! the triggers and the side events of the trace.
 
 ghost use Rattle.std.specs.Prelude.{◌≡◌, ◌<◌, ◌≤◌, length, IfErr, IfOk, OnOk};
 ghost use Rattle.plan_laws.specs.Plan.{IsPlan};
@@ -18,8 +18,9 @@ use psi_spec::GroupLife;
 use std::alloc::Global;
 use std::marker::Model;
 
-/// A trace split by processor: the plan of each processor, all groups ever created, the triggers,
-/// the sides, and the time of the trace's end. Contracts refer to all of these parts.
+/// A trace that is split by processor: the plan of each processor, all groups ever created, the
+/// triggers, the side events, and the time of the trace's end. In contracts these are the parts of
+/// a `PlansView`.
 #[derive(Drop)]
 pub struct Plans {
     /// The plan of each processor.
@@ -51,8 +52,8 @@ fn at_line(line: u32, fault: Fault<Cause>) -> Fault<Refusal>
     }
 }
 
-// Makes the planner take all events of a trace. Fails if an event is illegal, or if the last event
-// isn't the end of the trace.
+// Adds all events of a trace to a planner. Fails if an event is illegal, or if the last event isn't
+// `end`.
 fn take_all(planner: &mut Planner, events: &[Event]) -> Result<(), Fault<Refusal>>
     requires fit { AllFit events.now }
     ensures taken { OnOk result (HasTakenAll planner.old planner.new events.now) }
@@ -70,7 +71,7 @@ fn take_all(planner: &mut Planner, events: &[Event]) -> Result<(), Fault<Refusal
 }
 
 impl Plans {
-    /// Creates the plans from their parts.
+    /// Creates the plans of a trace from their parts.
     pub(crate) fn new(
         plans: Vec<Plan>,
         groups: Tree,
@@ -95,8 +96,7 @@ impl Plans {
     ///
     /// Fails with `Refused` at the first illegal event, with the first cause for rejecting it. The
     /// event with index `i` (from 0) is reported at line `i + 2`. If all events are legal but the
-    /// last event isn't the end of the trace, the cause is `NoEnd`, reported at the line after the
-    /// last event.
+    /// last event isn't `end`, the cause is `NoEnd`, reported at the line after the last event.
     pub fn build(
         alloc: Global,
         cpus: u32,
@@ -165,8 +165,8 @@ impl Plans {
         &self.triggers
     }
 
-    /// Returns the sides, in the order of the trace. Each number of bytes or pages in a side is at
-    /// most 2^60.
+    /// Returns the side events in the order of the trace. Each number of bytes or pages in a side
+    /// event is at most 2^60.
     pub fn sides(&self) -> &[Side]
         ensures sides { result.now ≡ self.now.sides }
         ensures small { AreSmall result.now }

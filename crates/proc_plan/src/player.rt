@@ -1,5 +1,5 @@
-//! Implements `Player` for the planner, for commands that replay a trace. Playing an event adds the
-//! event to the plans.
+//! Implements the trait `Player` for the planner, for commands that replay a trace. Playing an
+//! event adds the event to the plans.
 
 use crate::planner::Planner;
 use psi_base::{Cause, Event, Fault, NoMemory, Ns};

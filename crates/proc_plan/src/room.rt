@@ -1,5 +1,5 @@
-//! Adds the contents of an event to a planner. Memory for all contents of the event is reserved
-//! first, so that adding them can't fail.
+//! Adds the parts of an event to a planner: changes, a trigger and side events. Memory for all
+//! parts is reserved first, so that adding them can't fail.
 
 ghost use Rattle.std.specs.Prelude.{◌≡◌, ◌++◌, ◌+◌, ◌<◌, ◌≤◌, ℕ, [], ◌∷◌, length, IfSome, IsSome, None, OnOk, vec_capacity, vec_len};
 ghost use Rattle.psi_counts.specs.Legal.{with_change};
@@ -21,7 +21,7 @@ use psi_spec::Task;
 use task_table::Table;
 use trace_player::TaskAct;
 
-// Returns the number of the processor that an act names, or `None` if the act names no processor.
+// Returns the number of the processor that an event names, or `None` if it names no processor.
 #[inline(always)]
 fn named_cpu(act: &Act) -> Option<u32>
     ensures { result ≡ (names act.now).cpu }
@@ -94,8 +94,8 @@ fn task_cpu(task: Option<Task>) -> Option<u32>
     }
 }
 
-// Reserves memory for a change of processor `named`, which an act names, and for a change of the
-// processor of `task`, which the act changes.
+// Reserves memory for two changes: a change of processor `named`, which an event names, and a
+// change of the processor of `task`, which the event changes.
 #[inline(always)]
 fn reserve_two(
     changes: &mut [Changes],
@@ -111,7 +111,8 @@ fn reserve_two(
     reserve_at(changes, task_cpu(task))
 }
 
-/// Reserves memory for the changes of a task act. `task` is the task that the act changes.
+/// Reserves memory for the changes of a task event (`TaskAct`). `task` is the task that the event
+/// changes.
 #[inline(always)]
 pub(crate) fn reserve_task(
     changes: &mut [Changes],
@@ -125,9 +126,9 @@ pub(crate) fn reserve_task(
     reserve_two(changes, act.cpu(), task)
 }
 
-// Reserves memory for a change on each processor that an act affects. These are the processor that
-// the act names and the processor of `task`, or all processors if the act switches a group's
-// accounting.
+// Reserves memory for a change of each processor that an event affects. These are the processor
+// that the event names and the processor of `task`. An event that turns a group's accounting on or
+// off affects all processors.
 #[inline(always)]
 fn reserve_changes(changes: &mut [Changes], act: &Act, task: Option<Task>) -> Result<(), NoMemory>
     ensures same { lists_of changes.new ≡ lists_of changes.old }
@@ -140,8 +141,8 @@ fn reserve_changes(changes: &mut [Changes], act: &Act, task: Option<Task>) -> Re
     reserve_two(changes, named_cpu(act), task)
 }
 
-/// Reserves memory for everything that an event adds: the changes of its act, its trigger and its
-/// sides. `task` is the task that the act changes.
+/// Reserves memory for everything that an event adds to the plans: changes, a trigger and side
+/// events. `task` is the task that the event changes.
 #[inline(always)]
 pub(crate) fn make_room(
     changes: &mut [Changes],
@@ -168,8 +169,8 @@ pub(crate) fn make_room(
     Ok(())
 }
 
-// Returns the change of a processor at the time `at` (ns) that switches accounting. `current` is
-// the running task of the processor.
+// Returns the change of a processor for an event at the time `at` (ns) that turns a group's
+// accounting on or off. `current` is the running task of the processor.
 fn account_change(at: Ns, current: Option<(Slot, bool)>, account: (Slot, bool)) -> Change
     ensures change { result ≡ account_change at current account }
     ensures one { IsOfOne result }
@@ -184,8 +185,8 @@ fn account_change(at: Ns, current: Option<(Slot, bool)>, account: (Slot, bool)) 
     }
 }
 
-// Appends a switch of accounting at the time `at` (ns) to the changes of every processor. The
-// running tasks stay the same.
+// Appends to the plan of every processor a change at the time `at` (ns) that turns a group's
+// accounting on or off. The running tasks stay the same.
 fn add_account(changes: &mut [Changes], at: Ns, account: (Slot, bool), table: &Table)
     requires each { length changes.old ≡ table.now.limits.cpus }
     requires room { (cpu : ℕ) → HasRoomWithin changes.old cpu }
@@ -203,7 +204,7 @@ fn add_account(changes: &mut [Changes], at: Ns, account: (Slot, bool), table: &T
     }
 }
 
-// Appends the change of an event to the list of the change's processor. Does nothing for `None`.
+// Appends a change to the list of the change's processor. Does nothing for `None`.
 #[inline(always)]
 fn add_change(changes: &mut [Changes], touched: Option<(Cpu, Change)>)
     requires room { IfSome touched (λ touched. HasRoom changes.old touched.0.0) }
@@ -221,8 +222,8 @@ fn add_change(changes: &mut [Changes], touched: Option<(Cpu, Change)>)
     changes[cpu.0 as usize].push(change);
 }
 
-/// Appends the changes of an event that switches no accounting. Preconditions: memory for the
-/// changes is reserved, and each change concerns one task or only interrupt time.
+/// Appends the changes of an event that doesn't turn accounting on or off. Preconditions: memory
+/// for the changes is reserved, and each change concerns one task or only interrupt time.
 #[inline(always)]
 pub(crate) fn add_touched(changes: &mut [Changes], touch: &Touch)
     requires room { (cpu : ℕ) → IsSome (change_by_cpu touch.now cpu) → HasRoom changes.old cpu }
@@ -237,8 +238,8 @@ pub(crate) fn add_touched(changes: &mut [Changes], touch: &Touch)
 }
 
 /// Appends the changes of an event at the time `at` (ns). Preconditions: memory for the changes is
-/// reserved, each change concerns one task or only interrupt time, and `table` is the table after
-/// the event.
+/// reserved, each change concerns one task or only interrupt time, and `table` is the table of
+/// tasks after the event.
 #[inline(always)]
 pub(crate) fn add_changes(changes: &mut [Changes], at: Ns, touch: &Touch, table: &Table)
     requires each { length changes.old ≡ table.now.limits.cpus }
@@ -262,7 +263,8 @@ pub(crate) fn add_changes(changes: &mut [Changes], at: Ns, touch: &Touch, table:
     }
 }
 
-/// Appends a trigger. Does nothing for `None`. Precondition: memory for the trigger is reserved.
+/// Appends a trigger to the list, or does nothing for `None`. Precondition: memory for the trigger
+/// is reserved.
 #[inline(always)]
 pub(crate) fn add_trigger(triggers: &mut Vec<TriggerSpec>, trigger: Option<TriggerSpec>)
     requires { vec_len triggers.old + length (listed trigger) ≤ vec_capacity triggers.old }
@@ -273,7 +275,8 @@ pub(crate) fn add_trigger(triggers: &mut Vec<TriggerSpec>, trigger: Option<Trigg
     }
 }
 
-/// Appends a side. Does nothing for `None`. Precondition: memory for the side is reserved.
+/// Appends a side event to the list, or does nothing for `None`. Precondition: memory for the side
+/// event is reserved.
 #[inline(always)]
 pub(crate) fn add_side(sides: &mut Vec<Side>, side: Option<Side>)
     requires room { vec_len sides.old + length (listed side) ≤ vec_capacity sides.old }

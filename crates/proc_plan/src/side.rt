@@ -1,19 +1,19 @@
-//! Sides: the contents of a trace that are neither changes of a processor nor triggers. The module
-//! `sides` computes the sides of an event.
+//! Side events: the parts of a trace that are neither changes of a processor nor triggers. The
+//! module `sides` computes the side events of an event.
 
 use psi_base::{Ns, Preference, Slot};
 
-/// A memory sample, a preference, or a task that joins or leaves a group, with its time. The clocks
-/// don't depend on sides; the oomd rules read them.
+/// A side event with its time: a memory sample, a preference, or a task that joins or leaves a
+/// group. The oomd rules read side events; the clocks don't depend on them.
 #[derive(Clone, Copy, Debug, PartialEq, Eq)]
 pub struct Side {
-    /// The time (ns) at which this happened.
+    /// The time (ns) of the side event.
     pub at: Ns,
-    /// What happened at this time.
+    /// What happened at the time of the side event.
     pub what: SideAct,
 }
 
-/// What happened at the time of a side.
+/// The kind and the values of a side event.
 #[derive(Clone, Copy, Debug, PartialEq, Eq)]
 pub enum SideAct {
     /// A memory sample of a group: the memory and the swap in use (bytes), and the total number of
@@ -35,8 +35,8 @@ pub enum SideAct {
         swap_total: u64,
         swap_free: u64,
     },
-    /// A task joined the group itself (`added` is 1), or left it (`added` is -1). A task that moves
-    /// into the group that it is already in does neither.
+    /// A task joined the group itself (`added` is 1), or left it (`added` is -1). Moving a task
+    /// into the group that it is already in counts as neither.
     Tasks {
         slot: Slot,
         added: i8,

@@ -1,5 +1,5 @@
-//! Computes the trigger and the sides of one event. Sides are memory samples, preferences, and
-//! tasks that join or leave groups.
+//! Computes the trigger and the side events of one event. A side event is a memory sample, a
+//! preference, or a task that joins or leaves a group.
 
 ghost use Rattle.std.specs.Prelude.{◌≡◌, ◌++◌, IfSome, List};
 ghost use Rattle.psi_spec.specs.Grammar.{ActFits};
@@ -15,18 +15,18 @@ use crate::side::{Side, SideAct};
 use psi_base::{Act, Event, How, Ns, Slot, TriggerSpec};
 use psi_spec::Task;
 
-/// The trigger and the sides of an event.
+/// The trigger and the side events of an event.
 #[derive(Clone, Copy)]
 pub(crate) struct SideValues {
-    /// The trigger that the event sets.
+    /// The trigger that the event sets, or `None`.
     pub(crate) trigger: Option<TriggerSpec>,
-    /// The first side of the event. `second` is the second side.
+    /// The first side event, or `None`. `second` is the second side event.
     pub(crate) first: Option<Side>,
     pub(crate) second: Option<Side>,
 }
 
-// Returns the trigger that an act at the time `at` (ns) sets, or `None`. `slot` is the slot of the
-// group that the act names.
+// Returns the trigger that an event at the time `at` (ns) sets, or `None`. `slot` is the slot of
+// the group that the event names.
 #[inline(always)]
 fn trigger_by(at: Ns, act: &Act, slot: Slot) -> Option<TriggerSpec>
     ensures { (groups : List GroupLife) → slot ≡ named_slot groups act.now →
@@ -51,8 +51,9 @@ fn trigger_by(at: Ns, act: &Act, slot: Slot) -> Option<TriggerSpec>
     }
 }
 
-// Returns the side for the memory sample (of a group or of the host) or the preference in an act at
-// the time `at` (ns), or `None`. `slot` is the slot of the group that the act names.
+// Returns the side event for a memory sample (of a group or of the host) or a preference at the
+// time `at` (ns). Returns `None` for any other event. `slot` is the slot of the group that the
+// event names.
 #[inline(always)]
 fn sample_by(at: Ns, act: &Act, slot: Slot) -> Option<Side>
     requires { ActFits act.now }
@@ -96,8 +97,8 @@ fn group_of(task: Option<Task>) -> Option<Slot>
     task.map(|task| task.slot)
 }
 
-// Returns the sides at the time `at` (ns) of a task that moves from group `old` to group `new`: the
-// task leaves `old` and joins `new`. If the groups are the same, there is no side.
+// Returns the side events of a task that moves from group `old` to group `new` at the time `at`
+// (ns): the task leaves `old` and joins `new`. There is no side event if the groups are the same.
 fn passage(at: Ns, old: Option<Slot>, new: Option<Slot>) -> (Option<Side>, Option<Side>)
     ensures sides { listed result.0 ++ listed result.1 ≡ passage at old new }
     ensures first { IfSome result.0 (λ side. IsSmall side.what) }
@@ -116,8 +117,8 @@ fn passage(at: Ns, old: Option<Slot>, new: Option<Slot>) -> (Option<Side>, Optio
     }
 }
 
-// Returns the sides of an event in order, at most two. `task` is the task that the event changes,
-// before the event. `slot` is the slot of the group that the event names.
+// Returns the side events of an event in order, at most two. `task` is the task that the event
+// changes, in its state before the event. `slot` is the slot of the group that the event names.
 #[inline(always)]
 fn sides_by(event: &Event, task: Option<Task>, slot: Slot) -> (Option<Side>, Option<Side>)
     requires { ActFits event.now.act }
@@ -135,13 +136,13 @@ fn sides_by(event: &Event, task: Option<Task>, slot: Slot) -> (Option<Side>, Opt
             Some(old) => passage(event.at, Some(old), Some(slot)),
             None => (None, None),
         },
-        // All other acts leave each task in its group.
+        // All other events leave each task in its group.
         act => (sample_by(event.at, act, slot), None),
     }
 }
 
-/// Returns the trigger and the sides of an event. `task` is the task that the event changes, before
-/// the event. `slot` is the slot of the group that the event names.
+/// Returns the trigger and the side events of an event. `task` is the task that the event changes,
+/// in its state before the event. `slot` is the slot of the group that the event names.
 #[inline(always)]
 pub(crate) fn known_by(event: &Event, task: Option<Task>, slot: Slot) -> SideValues
     requires { ActFits event.now.act }

@@ -1,4 +1,4 @@
-//! Access for callers that sample clocks with their own readers between the ticks of a replay.
+//! Functions for callers that sample clocks with their own readers between the ticks of a replay.
 //!
 //! This module starts no threads and takes no samples.
 ghost use Rattle.std.specs.Prelude.{◌≡◌, ◌+◌, ◌<◌, ◌≤◌, ℕ, List, length, IfOk, Some, is_some, true};
@@ -46,9 +46,9 @@ impl<'a> Replay<'a> {
         self.advance(rt, None, gate);
     }
 
-    /// Returns a new reader of the clocks of processor `cpu`. The reader has seen all changes made
-    /// so far. Precondition: the clocks of the processor are stored in a row, which other threads
-    /// can read.
+    /// Returns a new reader of the clocks of processor `cpu`. The reader has seen all changes
+    /// applied so far. Precondition: the clocks of the processor are in a seqlock, which other
+    /// threads can read.
     pub fn reader(&mut self, cpu: Cpu) -> Result<ClockReader, NoMemory>
         requires replay { IsSomeReplay self.old }
         requires cpu { cpu.0 < length self.old.plans.plans }
@@ -61,7 +61,7 @@ impl<'a> Replay<'a> {
         self.crew.reader(cpu)
     }
 
-    /// Passes the number of changes made so far to `reader`, a reader of the clocks of processor
+    /// Passes the number of changes applied so far to `reader`, a reader of the clocks of processor
     /// `cpu`. Afterwards the reader has seen at least this number of changes. Doesn't allocate.
     pub fn meet(&mut self, cpu: Cpu, reader: &mut ClockReader)
         requires replay { IsSomeReplay self.old }
@@ -76,8 +76,8 @@ impl<'a> Replay<'a> {
         let _met = self.crew.meet(cpu, reader);
     }
 
-    /// Establishes that `reader`, a reader of the clocks of processor `cpu`, has seen no more
-    /// changes than were made. Doesn't allocate.
+    /// Synchronises with `reader`, a reader of the clocks of processor `cpu`. The contract then
+    /// states that the reader has seen at most the changes that were applied. Doesn't allocate.
     pub fn settle(&mut self, cpu: Cpu, reader: &mut ClockReader)
         requires replay { IsSomeReplay self.old }
         requires cpu { cpu.0 < length self.old.plans.plans }
@@ -90,8 +90,8 @@ impl<'a> Replay<'a> {
         let _settled = self.crew.settle(cpu, reader);
     }
 
-    /// Returns the clock of the group in slot `slot` on processor `cpu`, as the writer has it, and
-    /// the number of changes that the processor has made.
+    /// Returns the writer's own clock of the group in slot `slot` on processor `cpu`, and the
+    /// number of changes that the processor has applied.
     pub fn last(&mut self, cpu: Cpu, slot: Slot) -> Sample
         requires replay { IsSomeReplay self.old }
         requires cpu { cpu.0 < length self.old.plans.plans }

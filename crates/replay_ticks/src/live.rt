@@ -1,6 +1,6 @@
 //! Live samples: finds the slot of the watched path, and writes the lines of the samples.
 //!
-//! The worker pool (the crew) takes the samples.
+//! The worker pool (`Crew`) takes the samples.
 ghost use Rattle.std.specs.Prelude.{◌≡◌, ◌<◌, ◌^◌, length, IfSome};
 ghost use Rattle.std.specs.List.{All};
 ghost use Rattle.outside.specs.Outside.{HasCause, SameInner};
@@ -19,8 +19,8 @@ use psi_spec::GroupLife;
 use replay_workers::{Crew, Sample};
 use tick_engine::is_live_at;
 
-/// Returns the slot of the group that has the path `path` and is live at time `at` (ns). `None` if
-/// there is no such group.
+/// Returns the slot of the group that has the path `path` and is live at time `at` (ns), or `None`
+/// if there is no such group.
 pub(crate) fn watched_slot(lives: &[GroupLife], path: &Path, at: Ns) -> Option<Slot>
     requires few { length lives.now < 2 ^ 32 }
     ensures slot { number_of_slot result ≡ live_slot 0 lives.now path.now at }
@@ -35,7 +35,7 @@ pub(crate) fn watched_slot(lives: &[GroupLife], path: &Path, at: Ns) -> Option<S
     None
 }
 
-// Writes the lines of the samples of one processor, at the tick at time `at` (ns).
+// Writes the lines of the live samples of one processor, at the tick at time `at` (ns).
 #[tactic(auto, using(outside::proofs::Grows::growth))]
 fn put_samples<K: Sink>(
     out: &mut K,
@@ -56,8 +56,8 @@ fn put_samples<K: Sink>(
     Ok(())
 }
 
-/// Writes the lines of all samples that the worker pool took in the last interval, for the first
-/// `cpus` processors, at the tick at time `at` (ns).
+/// Writes the lines of all live samples that the worker pool took in the last interval, for the
+/// first `cpus` processors. `at` is the time (ns) of the tick.
 #[tactic(auto, using(outside::proofs::Grows::growth))]
 pub(crate) fn put_live<K: Sink>(
     out: &mut K,

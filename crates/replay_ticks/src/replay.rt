@@ -1,6 +1,6 @@
 //! The replay of a trace, tick by tick: sampling, rules and output lines.
 //!
-//! This module combines the types of the crates that do the single steps.
+//! This module combines the types of other crates, which perform the individual steps.
 ghost use Rattle.std.specs.Prelude.{◌≡◌, ◌+◌, ◌<◌, ℕ, List, length, IfSome};
 ghost use Rattle.psi_base.specs.declared.event.Slot.{Slot};
 ghost use Rattle.outside.specs.Outside.{HasCause, SameInner};
@@ -46,7 +46,7 @@ impl From<WriteFailed> for TickFault {
     }
 }
 
-/// The state of a replay after some ticks. Contracts refer to all fields.
+/// The state of a replay after some of its ticks. Contracts refer to all fields.
 #[derive(Drop)]
 pub struct Replay<'a> {
     pub(crate) plans: &'a Plans,
@@ -57,7 +57,7 @@ pub struct Replay<'a> {
     /// All slots, sorted by the paths of their groups in byte order.
     pub(crate) order: Vec<Slot>,
     pub(crate) run_timing: RunTiming,
-    /// The path whose group is sampled live, or `None` if no path is watched.
+    /// The path of the group that is sampled live, or `None` if no path is watched.
     pub(crate) live: Option<Path>,
     /// The number of ticks replayed so far.
     pub(crate) made: u64,
@@ -88,9 +88,9 @@ impl<'a> Model for Replay<'a> {
 }
 
 // Advances the clocks after tick `made`, unless the table of the next tick is ready. Without a
-// watched path, advances by all remaining ticks for which the worker pool has room. With a watched
-// path, advances by one tick, because the slot of the path may change at every tick, and samples
-// the slot `watched` meanwhile.
+// watched path, advances over all remaining ticks for which the worker pool has room. With a
+// watched path, advances over a single tick, because the slot of the path may change at every tick.
+// In this case the slot `watched` is sampled while the changes are applied.
 fn look_ahead<R: Threads + Sync, G: Gate>(
     rt: &R,
     crew: &mut Crew<'_>,
@@ -129,8 +129,9 @@ fn look_ahead<R: Threads + Sync, G: Gate>(
     }
 }
 
-// Copies the times of all groups at the next tick, whose time is `at` (ns), to `rows`, and passes
-// them to the engine. Precondition: the table of that tick is ready.
+// Copies the times of all groups at the next tick, whose time is `at` (ns), to `rows`. Then updates
+// the averages and triggers of `engine` with these times. Precondition: the table of that tick is
+// ready.
 fn sample(crew: &mut Crew<'_>, rows: &mut Rows, engine: &mut Engine, at: Ns)
     requires { (trace : Trace) × (timing : Timing) × (i : ℕ)
         × IsToSample crew.old.plans crew.old rows.old engine.old trace timing i at }
@@ -143,8 +144,9 @@ fn sample(crew: &mut Crew<'_>, rows: &mut Rows, engine: &mut Engine, at: Ns)
     engine.tick(at, rows);
 }
 
-// Writes the reports of tick `tick`, if reports are due at that tick. Ticks are counted from 1, and
-// `at` is the time of the tick (ns). Precondition: `tick` is the last tick that `engine` has taken.
+// Writes the pressure reports of tick `tick`, if reports are due at that tick. Ticks are counted
+// from 1, and `at` is the time of the tick (ns). Precondition: `tick` is the last tick up to which
+// `engine` has been updated.
 fn put_due<K: Sink>(
     out: &mut K,
     plans: &Plans,
@@ -168,8 +170,8 @@ fn put_due<K: Sink>(
     Ok(())
 }
 
-// Writes the pressure files of the root at tick `tick`, counted from 1. Precondition: `tick` is the
-// last tick that `engine` has taken.
+// Writes the root group's pressure files at tick `tick`, counted from 1. Precondition: `tick` is
+// the last tick up to which `engine` has been updated.
 fn put_root<K: Sink>(
     out: &mut K,
     plans: &Plans,
@@ -193,8 +195,9 @@ fn put_root<K: Sink>(
 }
 
 impl<'a> Replay<'a> {
-    /// Returns the slot of the watched path at the next tick. `None` if there is no next tick, if
-    /// no path is watched, or if no group with the path is live at that tick.
+    /// Returns the slot of the group with the watched path at the next tick. Returns `None` if
+    /// there is no next tick, if no path is watched, or if no group with the path is live at that
+    /// tick.
     pub fn next_slot(&self) -> Option<Slot>
         requires { IsSomeReplay self.now }
         ensures slot { (trace : Trace) (timing : Timing) (rules : List Rule) (i : ℕ) →
@@ -214,8 +217,8 @@ impl<'a> Replay<'a> {
         }
     }
 
-    // Replays the next tick, and samples the slot `watched`, if any, up to that tick. Precondition:
-    // there is a next tick.
+    // Replays the next tick. If a slot is `watched`, takes live samples of it up to that tick.
+    // Precondition: there is a next tick.
     pub(crate) fn advance<R: Threads + Sync, G: Gate>(
         &mut self,
         rt: &R,
@@ -255,8 +258,8 @@ impl<'a> Replay<'a> {
         self.kills += self.judge.kills().len() as u64;
     }
 
-    /// Replays the next tick without writing anything. Returns whether there was a next tick; if
-    /// not, nothing changes. Doesn't allocate.
+    /// Replays the next tick without writing anything. Returns false, and changes nothing, if there
+    /// is no next tick. Doesn't allocate.
     pub fn pass<R: Threads + Sync, G: Gate>(&mut self, rt: &R, gate: &G) -> bool
         requires { IsSomeReplay self.old }
         ensures { (trace : Trace) (timing : Timing) (rules : List Rule) (i : ℕ) →
@@ -299,8 +302,8 @@ impl<'a> Replay<'a> {
         )
     }
 
-    /// Replays the next tick and writes its lines. Returns whether there was a next tick; if not,
-    /// nothing is written. After an error the replay can't be used any longer. Doesn't allocate.
+    /// Replays the next tick and writes its lines. Returns false, and writes nothing, if there is
+    /// no next tick. After an error the replay must not be used again. Doesn't allocate.
     pub fn tick<R: Threads + Sync, K: Sink, G: Gate>(
         &mut self,
         rt: &R,
@@ -332,7 +335,7 @@ impl<'a> Replay<'a> {
         self.judge.kills()
     }
 
-    /// Writes the pressure files of the root at the last replayed tick. Precondition: at least one
+    /// Writes the root group's pressure files at the last replayed tick. Precondition: at least one
     /// tick has been replayed.
     pub fn put_root<K: Sink>(&self, out: &mut K) -> Result<(), WriteFailed>
         requires { (trace : Trace) × (timing : Timing) × (rules : List Rule) × (i : ℕ)

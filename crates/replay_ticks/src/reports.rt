@@ -1,4 +1,4 @@
-//! Writes the lines of a tick: fired triggers, kills and reports.
+//! Writes the lines of a tick: fired triggers, kills and pressure reports.
 //!
 //! This module skips groups that aren't live. It doesn't decide when reports are due.
 ghost use Rattle.std.specs.Prelude.{◌≡◌, ◌<◌, length, ◌==◌};
@@ -23,10 +23,10 @@ use psi_spec::GroupLife;
 use replay_rules::Kill;
 use tick_engine::{Engine, is_live_at};
 
-/// The version of traces that have interrupts.
+/// The version number of traces that contain interrupts.
 const WITH_IRQ: u32 = 2;
 
-/// The index of interrupt time among the pressure quantities.
+/// The index of interrupt time among the quantities that are reported.
 const IRQ: usize = QUANTITIES - 1;
 
 /// Writes one line for each trigger that fired at the tick at time `at` (ns). `fired` has the
@@ -96,8 +96,8 @@ fn put_resources<K: Sink>(
     write_report(out, at, path, Res::Cpu, is_root, totals, averages)
 }
 
-// Writes the report on interrupts of one group, at the tick at time `at` (ns), if traces of this
-// version have interrupts.
+// Writes the report on interrupts of one group, at the tick at time `at` (ns). Writes nothing if
+// traces of this version have no interrupts.
 fn put_irq<K: Sink>(
     out: &mut K,
     version: u32,

@@ -24,11 +24,11 @@ use run_spec::Options;
 use std::alloc::Global;
 use tick_engine::Engine;
 
-/// One second (ns).
+/// The number of ns in a second.
 const SECOND: Ns = 1_000_000_000;
 
-// Returns a copy of the watched path and the number of samples per processor and interval, or
-// `None` and 0 if no path is watched.
+// Returns a copy of the watched path, and the number of live samples per processor and interval.
+// Returns `None` and 0 if no path is watched.
 fn watched(alloc: Global, options: &Options) -> Result<(Option<Path>, u32), NoMemory>
     ensures path { IfOk result (λ watched. watched.0 ≡ watched_path (watch_of options.now)) }
     ensures requested { IfOk result (λ watched. watched.1 ≡ requested_by (watch_of options.now)) }
@@ -71,8 +71,8 @@ pub fn prepare<'a>(
     let ahead = if live.is_some() { 1 } else { last };
     Ok(Replay {
         plans,
-        // The largest allocations come last. If one of them fails, only smaller allocations need to
-        // be freed.
+        // The largest allocation comes last. If it fails, only smaller allocations need to be
+        // freed.
         order: plans.groups().path_order(alloc)?,
         rows: Rows::make(alloc, plans.cpus(), slots)?,
         engine: Engine::make(alloc, plans.lives(), plans.triggers(), plans.cpus())?,

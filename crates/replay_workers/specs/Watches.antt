@@ -1,5 +1,5 @@
--- Defines watchers, which take live samples of the lanes of a crew, and the invariant of a crew. A
--- lane is one processor, and a crew is the pool of worker threads.
+-- Defines watchers and the invariant of a worker pool. A watcher takes live samples of the clocks
+-- of one processor, while a worker thread applies the processor's changes.
 use Rattle.std.specs.Prelude.{◌≡◌, ℕ, ◌+◌, ◌*◌, ◌/◌, ◌%◌, ◌<◌, ◌≤◌, true, List, [], drop, length, map, slice_index_or, Option, Some, is_some}
 use Rattle.std.specs.List.{All}
 use Rattle.atomic_table.specs.Seated.{TableId}
@@ -16,11 +16,12 @@ use Rattle.replay_workers.specs.declared.ticks.Ticks.{Ticks}
 use Rattle.replay_workers.specs.Crew.{CrewView, IsSampled, WatchView, counts_sampled, moments_of}
 use Rattle.replay_workers.specs.Lanes.{AreLanes, LaneView, batch_at, clocks_of, lane_of, rows_of}
 
--- ---- one watcher
+-- ---- a single watcher
 
--- The state of a watcher: the processor's number, the row of its clocks, the state of the reader of
--- that row, the writer's own clock when reader and writer last synchronised, the samples of the
--- last interval, and the number of samples in an interval.
+-- The state of a watcher, which samples the clocks of one processor. It has the processor's number,
+-- the seqlock of its clocks, and the state of the reader of that seqlock. It also has the writer's
+-- clock when reader and writer last synchronised, the samples of the last interval, and the number
+-- of samples in an interval.
 pub record WatcherView : Type 0 where
   pub cpu : ℕ
   pub row : TableId
@@ -29,11 +30,11 @@ pub record WatcherView : Type 0 where
   pub samples : List Sample
   pub requested : ℕ
 
--- A placeholder for the identity of a row.
+-- A placeholder for the identity of a seqlock.
 abbrev pub no_table_id : TableId
 no_table_id = record { words = 0; slots = 0; views_name = 0; atom = 0; block = 0; offset = 0; slot_names = [] }
 
--- A placeholder, used for an index without a watcher.
+-- A placeholder watcher. `watcher_at` returns it for an index past the end of the list.
 abbrev pub no_watcher : WatcherView
 no_watcher =
     record {
@@ -49,21 +50,21 @@ no_watcher =
 abbrev pub watcher_at : List WatcherView → ℕ → WatcherView
 watcher_at watchers k = slice_index_or watchers k no_watcher
 
--- Returns the samples and the reader of a watcher, which are the parts that a crew's contracts
--- refer to.
+-- Returns the samples and the reader of a watcher. The contracts of a worker pool refer only to
+-- these two parts.
 abbrev pub watch_seen : WatcherView → WatchView
 watch_seen watcher = record { samples = watcher.samples; reader = watcher.knows }
 
--- `IsSameWatcher old new`: the watcher's processor, row, plan and number of samples in an interval
--- are unchanged.
+-- `IsSameWatcher old new`: the watcher's processor, seqlock, plan and number of samples in an
+-- interval are unchanged.
 pub record IsSameWatcher (old new : WatcherView) : Type 0 where
   pub cpu : new.cpu ≡ old.cpu
   pub row : new.row ≡ old.row
   pub plan : new.knows.plan ≡ old.knows.plan
   pub requested : new.requested ≡ old.requested
 
--- `IsNewWatcher cpu requested row plan watcher`: the watcher is a new watcher of the processor's
--- row and has no samples.
+-- `IsNewWatcher cpu requested row plan watcher`: `watcher` is a new watcher of the seqlock `row` of
+-- processor `cpu`. It has no samples yet.
 pub record IsNewWatcher (cpu requested : ℕ) (row : Option TableId) (plan : PlanView) (watcher : WatcherView) : Type 0 where
   pub cpu_is : watcher.cpu ≡ cpu
   pub row_is : Some watcher.row ≡ row
@@ -71,8 +72,8 @@ pub record IsNewWatcher (cpu requested : ℕ) (row : Option TableId) (plan : Pla
   pub requested_is : watcher.requested ≡ requested
   pub none : watcher.samples ≡ []
 
--- `MaySample slot watcher`: the precondition for sampling `slot`. The watcher's last sample is the
--- slot's clock after all changes that the watcher has seen.
+-- `MaySample slot watcher`: the precondition for taking live samples of `slot`. The watcher's last
+-- sample is the slot's clock after all changes that the watcher has seen.
 pub record MaySample (slot : ℕ) (watcher : WatcherView) : Type 0 where
   pub slot_is : slot < length watcher.knows.plan.parents
   pub clock : IsClock watcher.last.clock watcher.knows.plan slot watcher.last.count
@@ -80,7 +81,8 @@ pub record MaySample (slot : ℕ) (watcher : WatcherView) : Type 0 where
 
 -- `HasMet slot on old new`: the watcher synchronised with the writer of the clocks `on`. The
 -- watcher has seen all the writer's changes, and its last sample is the writer's own clock of
--- `slot`. Synchronising took no try.
+-- `slot`. Synchronising changed neither the number of the reader's failed attempts (`met`) nor its
+-- successful attempts (`got`).
 pub record HasMet (slot : ℕ) (on : OnPlan) (old new : WatcherView) : Type 0 where
   pub same : IsSameWatcher old new
   pub got : new.knows.got ≡ old.knows.got
@@ -89,9 +91,9 @@ pub record HasMet (slot : ℕ) (on : OnPlan) (old new : WatcherView) : Type 0 wh
   pub count : new.last.count ≡ on.made
   pub clock : IsClock new.last.clock on.plan slot on.made
 
--- `HasSampled slot old new`: the watcher took its samples of `slot`. Their numbers of changes lie
--- between the number in its last sample and the number that the watcher has now seen. Each sample
--- took at most eight tries.
+-- `HasSampled slot old new`: the watcher took its samples of `slot`. The number of changes in each
+-- sample lies between the number in the watcher's previous sample and the number that it has now
+-- seen. Each sample needed at most eight attempts.
 pub record HasSampled (slot : ℕ) (old new : WatcherView) : Type 0 where
   pub same : IsSameWatcher old new
   pub many : length new.samples ≡ old.requested
@@ -100,8 +102,8 @@ pub record HasSampled (slot : ℕ) (old new : WatcherView) : Type 0 where
   pub tried : IsTried (counts_sampled new.samples) old.last.count old.knows new.knows
   pub few : tries_of new.knows ≤ tries_of old.knows + 8 * old.requested
 
--- `HasWatched slot lane_old lane_new old new`: the watcher sampled `slot` while its lane made
--- changes.
+-- `HasWatched slot lane_old lane_new old new`: the watcher sampled `slot` while its processor
+-- applied changes.
 pub record HasWatched (slot : ℕ) (lane_old lane_new : LaneView) (old new : WatcherView) : Type 0 where
   pub same : IsSameWatcher old new
   pub sampled : IsSampled old.knows.plan slot old.requested lane_old.on.made lane_new.on.made (watch_seen old) (watch_seen new)
@@ -111,30 +113,30 @@ pub record HasCleared (old new : WatcherView) : Type 0 where
   pub same : IsSameWatcher old new
   pub none : new.samples ≡ []
 
--- ---- the watchers of all processors, in their order
+-- ---- the watchers of all processors, in order of processors
 
--- The clocks of the lane are in a row.
+-- The clocks of the processor are in a seqlock.
 abbrev pub IsInRow : LaneView → Type 0
 IsInRow lane = is_some lane.row ≡ true
 
--- `IsLaneThere batches cpu`: the lane of processor `cpu` exists.
+-- `IsLaneThere batches cpu`: the batches contain processor `cpu`.
 pub record IsLaneThere (batches : List (List LaneView)) (cpu : ℕ) : Type 0 where
   pub some : 0 < length batches
   pub place : cpu / length batches < length (batch_at batches (cpu % length batches))
 
--- `IsWatcherThere batches cpu watcher`: the lane of processor `cpu` exists, and the watcher has the
--- row and the plan of this lane.
+-- `IsWatcherThere batches cpu watcher`: the batches contain processor `cpu`, and the watcher has
+-- the seqlock and the plan of this processor.
 pub record IsWatcherThere (batches : List (List LaneView)) (cpu : ℕ) (watcher : WatcherView) : Type 0 where
   pub there : IsLaneThere batches cpu
   pub cpu_is : watcher.cpu ≡ cpu
   pub row : Some watcher.row ≡ (lane_of batches cpu).row
   pub plan : watcher.knows.plan ≡ (lane_of batches cpu).on.plan
 
--- `AreWatching batches watchers`: for each k, watcher `k` watches the lane of processor `k`.
+-- `AreWatching batches watchers`: for each k, watcher `k` watches processor `k`.
 abbrev pub AreWatching : List (List LaneView) → List WatcherView → Type 0
 AreWatching batches watchers = (k : ℕ) → k < length watchers → IsWatcherThere batches k (watcher_at watchers k)
 
--- `HaveSlot slot watchers`: the plan of each watcher has this slot.
+-- `HaveSlot slot watchers`: the plan of each watcher has the slot `slot`.
 abbrev pub HaveSlot : ℕ → List WatcherView → Type 0
 HaveSlot slot watchers = (k : ℕ) → k < length watchers → slot < length (watcher_at watchers k).knows.plan.parents
 
@@ -142,7 +144,7 @@ HaveSlot slot watchers = (k : ℕ) → k < length watchers → slot < length (wa
 abbrev pub MayAllSample : ℕ → List WatcherView → Type 0
 MayAllSample slot watchers = (k : ℕ) → k < length watchers → MaySample slot (watcher_at watchers k)
 
--- `HaveMet slot batches old new`: each watcher synchronised with the lane of its processor.
+-- `HaveMet slot batches old new`: each watcher synchronised with its processor.
 pub record HaveMet (slot : ℕ) (batches : List (List LaneView)) (old new : List WatcherView) : Type 0 where
   pub many : length new ≡ length old
   pub each : (k : ℕ) → k < length old → HasMet slot (lane_of batches k).on (watcher_at old k) (watcher_at new k)
@@ -152,13 +154,12 @@ pub record HaveSampled (slot : ℕ) (old new : List WatcherView) : Type 0 where
   pub many : length new ≡ length old
   pub each : (k : ℕ) → k < length old → HasSampled slot (watcher_at old k) (watcher_at new k)
 
--- `AreSettled batches watchers`: no watcher has seen more changes than the lane of its processor
--- has made.
+-- `AreSettled batches watchers`: no watcher has seen more changes than its processor has applied.
 abbrev pub AreSettled : List (List LaneView) → List WatcherView → Type 0
 AreSettled batches watchers = (k : ℕ) → k < length watchers → (watcher_at watchers k).knows.seen ≤ (lane_of batches k).on.made
 
--- `HaveWatched slot batches_old batches_new old new`: each watcher sampled `slot` while the lane of
--- its processor made changes.
+-- `HaveWatched slot batches_old batches_new old new`: each watcher sampled `slot` while its
+-- processor applied changes.
 pub record HaveWatched (slot : ℕ) (batches_old batches_new : List (List LaneView)) (old new : List WatcherView) : Type 0 where
   pub many : length new ≡ length old
   pub each : (k : ℕ) → k < length old → HasWatched slot (lane_of batches_old k) (lane_of batches_new k) (watcher_at old k)
@@ -169,17 +170,17 @@ pub record HaveCleared (old new : List WatcherView) : Type 0 where
   pub many : length new ≡ length old
   pub each : (k : ℕ) → k < length old → HasCleared (watcher_at old k) (watcher_at new k)
 
--- `AreNewWatchers batches cpus requested watchers`: these are new watchers of the first `cpus`
--- processors, which take `requested` samples in an interval.
+-- `AreNewWatchers batches cpus requested watchers`: `watchers` has a new watcher for each of the
+-- first `cpus` processors. Each watcher takes `requested` samples in an interval.
 pub record AreNewWatchers (batches : List (List LaneView)) (cpus requested : ℕ) (watchers : List WatcherView) : Type 0 where
   pub many : length watchers ≡ cpus
   pub each : (cpu : ℕ) → cpu < length watchers → IsNewWatcher cpu requested (lane_of batches cpu).row (lane_of batches cpu).on.plan
       (watcher_at watchers cpu)
 
--- ---- crews
+-- ---- the invariant of a worker pool
 
 -- `IsWatcherOf plans batches requested cpu watcher`: the watcher belongs to processor `cpu` of a
--- crew. It has the row and the plan of the processor's lane, and takes `requested` samples in an
+-- worker pool. It has the processor's seqlock and plan, and takes `requested` samples in an
 -- interval.
 pub record IsWatcherOf (plans : PlansView) (batches : List (List LaneView)) (requested cpu : ℕ) (watcher : WatcherView) : Type 0 where
   pub cpu_is : watcher.cpu ≡ cpu
@@ -187,21 +188,21 @@ pub record IsWatcherOf (plans : PlansView) (batches : List (List LaneView)) (req
   pub plan : watcher.knows.plan ≡ plan_at plans cpu
   pub requested_is : watcher.requested ≡ requested
 
--- `AreWatchers plans batches requested watchers`: a crew has one watcher for each processor if the
--- crew takes samples, otherwise none.
+-- `AreWatchers plans batches requested watchers`: a worker pool that takes samples has one watcher
+-- for each processor. A pool that takes no samples has no watchers.
 pub record AreWatchers (plans : PlansView) (batches : List (List LaneView)) (requested : ℕ) (watchers : List WatcherView) : Type 0 where
   pub none : requested ≡ 0 → length watchers ≡ 0
   pub all : 0 < requested → length watchers ≡ length plans.plans
   pub each : (cpu : ℕ) → cpu < length watchers → IsWatcherOf plans batches requested cpu (watcher_at watchers cpu)
 
--- `IsCrew plans batches ticks out room requested watchers`: the invariant of a crew. Its lanes and
--- its watchers are valid.
+-- `IsCrew plans batches ticks out room requested watchers`: the invariant of a worker pool. Its
+-- processors (`AreLanes`) and its watchers (`AreWatchers`) are valid.
 pub record IsCrew (plans : PlansView) (batches : List (List LaneView)) (ticks : Ticks) (out room requested : ℕ)
     (watchers : List WatcherView) : Type 0 where
   pub lanes : AreLanes plans batches ticks out room
   pub watched : AreWatchers plans batches requested watchers
 
--- Builds the state of a crew from its parts.
+-- Builds the state of a worker pool from its parts.
 abbrev pub crew_of : PlansView → List (List LaneView) → Ticks → ℕ → ℕ → ℕ → List WatcherView → CrewView
 crew_of plans batches ticks out room requested watchers = record {
   plans = plans;

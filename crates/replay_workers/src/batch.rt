@@ -1,5 +1,5 @@
-//! A batch: the processors that one worker thread advances. This module runs the batches of all
-//! workers in threads; `deal` creates the batches.
+//! A batch: the processors whose clocks one worker thread advances. This module runs the batches of
+//! all workers in threads. The module `deal` creates the batches.
 ghost use Rattle.std.specs.Prelude.{◌<◌, ◌≤◌};
 ghost use Rattle.std.specs.List.{All};
 ghost use Rattle.psi_spec.specs.Within.{last_moment};
@@ -14,7 +14,8 @@ use std::marker::Model;
 use std::thread;
 use std::thread::Threads;
 
-/// The lanes of one worker, each for one processor. In contracts this is a list of lanes.
+/// The processors of one worker, each with its clocks and stored times (`Lane`). In contracts this
+/// is a list.
 #[derive(Drop)]
 pub(crate) struct Batch<'a> {
     pub(crate) lanes: Vec<Lane<'a>>,
@@ -30,8 +31,8 @@ impl<'a> Model for Batch<'a> {
 }
 
 impl<'a> Batch<'a> {
-    /// Makes the changes of all lanes up to each tick, and stores the times of all groups at that
-    /// tick.
+    /// For each tick, applies the changes of the batch's processors up to the tick, and stores the
+    /// times of all groups at the tick.
     pub(crate) fn go_over<G: Gate>(&mut self, ticks: Ticks, gate: &G)
         requires some { 0 < ticks.count }
         requires early { last_of ticks ≤ last_moment }
@@ -43,7 +44,8 @@ impl<'a> Batch<'a> {
         }
     }
 
-    /// Returns the number of changes up to the time `until` (ns) that the lanes haven't made yet.
+    /// Returns the number of changes up to the time `until` (ns) that the batch's processors
+    /// haven't applied yet.
     fn changes_left(&self, until: Ns) -> u64 {
         let mut left = 0u64;
         'lanes: for lane in &self.lanes {
@@ -54,8 +56,8 @@ impl<'a> Batch<'a> {
 }
 
 // Returns the number of threads to use: one for every `worth` changes up to the time `until` (ns),
-// but at most one for each batch. Returns 1 (only the caller's thread) if at most one batch has
-// changes to make.
+// and at most one for each batch. Returns 1 (only the caller's thread) if at most one batch has
+// changes to apply.
 fn threads_for(batches: &[Batch<'_>], until: Ns, worth: u64) -> usize
     requires { 0 < worth }
     ensures { 0 < result }
@@ -73,9 +75,9 @@ fn threads_for(batches: &[Batch<'_>], until: Ns, worth: u64) -> usize
     batches.len().min((changes / worth) as usize).max(1)
 }
 
-/// Makes the changes of all batches up to each tick, and stores the times of all groups at that
-/// tick. Each batch runs in its own thread if the thread can be started, but at most one thread is
-/// used for every `worth` changes. Batches don't depend on each other.
+/// For each tick, applies the changes of all batches up to the tick, and stores the times of all
+/// groups at the tick. Each batch runs in a thread of its own if the thread can be started, with at
+/// most one thread for every `worth` changes. Batches don't depend on each other.
 pub(crate) fn go_all<R: Threads + Sync, G: Gate>(
     rt: &R,
     batches: &mut [Batch<'_>],

@@ -1,5 +1,5 @@
-//! Takes live samples of all processors while their changes are made. One extra thread samples the
-//! clock rows that the worker threads write.
+//! Takes live samples of all processors while their changes are applied. One extra thread samples
+//! the seqlocks that the worker threads write.
 ghost use Rattle.std.specs.Prelude.{◌≡◌, ◌<◌, ◌≤◌, ℕ, length, IfOk};
 ghost use Rattle.std.specs.List.{All};
 ghost use Rattle.std.specs.Thread.{IsSync};
@@ -34,12 +34,13 @@ fn watcher_of(
     batch.lanes[at.place].watcher(alloc, requested)
 }
 
-/// The number of changes for which a thread is worth its start, if a crew advances by one interval
-/// at a time. Making them takes about as long as starting a thread.
+/// The number of changes from which it pays to start another thread, if a worker pool advances by
+/// one interval at a time. Applying this number of changes takes about as long as starting a
+/// thread.
 pub(crate) const WORTH_THREAD: u64 = 2_000;
 
-/// Creates watchers for the lanes of the first `cpus` processors, whose clocks must be in rows.
-/// Each watcher takes `requested` samples in an interval. Sampling allocates no further memory.
+/// Creates watchers for the first `cpus` processors, whose clocks must be in seqlocks. Each watcher
+/// takes `requested` samples in an interval, without allocating further memory.
 pub(crate) fn watch(
     alloc: Global,
     batches: &mut [Batch<'_>],
@@ -131,7 +132,7 @@ fn gone<'a, R: Threads + Sync, G: Gate>(
     batches
 }
 
-// Makes each watcher take all its samples of `slot`. Returns the watchers in the same order.
+// Takes all samples of `slot` with each watcher. Returns the watchers in the same order.
 fn sampled<G: Gate>(mut watchers: Vec<Watcher>, slot: Slot, gate: &G) -> Vec<Watcher>
     requires { MayAllSample slot.0 watchers.items }
     ensures { HaveSampled slot.0 watchers.items result.items }
@@ -142,10 +143,10 @@ fn sampled<G: Gate>(mut watchers: Vec<Watcher>, slot: Slot, gate: &G) -> Vec<Wat
     watchers
 }
 
-/// Makes the changes of all batches up to each tick, like [`go_all`], with at most one thread for
-/// every `WORTH_THREAD` changes. In the meantime an extra thread takes the samples of `slot` for
-/// all watchers. Each watcher synchronises with its lane before the changes (`meet`) and after them
-/// (`settle`). The extra thread isn't started if there are no watchers.
+/// Applies the changes of all batches up to each tick, with at most one thread for every
+/// `WORTH_THREAD` changes. At the same time an extra thread takes the samples of `slot` for all
+/// watchers. Each watcher synchronises with its processor's clocks before the changes (`meet`) and
+/// after them (`settle`). If there are no watchers, the extra thread isn't started.
 pub(crate) fn go_beside<'a, R: Threads + Sync, G: Gate>(
     rt: &R,
     batches: Vec<Batch<'a>>,

@@ -1,5 +1,5 @@
 //! Creates the clocks of processors, applies changes to them, and reads their times. All functions
-//! here run in the caller's thread; `crew` starts the threads.
+//! here run in the caller's thread. The module `crew` starts threads.
 ghost use Rattle.std.specs.Prelude.{◌≡◌, ◌<◌, ◌≤◌, ℕ, length, IfOk};
 ghost use Rattle.plan_laws.specs.Plan.{IsPlan, last_change};
 ghost use Rattle.psi_spec.specs.Within.{last_moment};
@@ -12,8 +12,8 @@ use proc_plan::{IrqClocks, PlainClocks, Plans, ProcClocks};
 use psi_base::{Cpu, NoMemory, Ns, Slot};
 use std::alloc::Global;
 
-/// Creates the clocks of all processors, before the first change. Applying changes allocates no
-/// further memory.
+/// Creates the clocks of all processors, before the first change. Applying changes doesn't
+/// allocate.
 pub fn first_clocks(alloc: Global, plans: &Plans) -> Result<Vec<PlainClocks<'_>>, NoMemory>
     ensures on { IfOk result (λ clocks. AreOnPlans plans.now clocks.items) }
     ensures fresh { IfOk result (λ clocks. (cpu : ℕ) → cpu < length clocks.items →
@@ -27,8 +27,8 @@ pub fn first_clocks(alloc: Global, plans: &Plans) -> Result<Vec<PlainClocks<'_>>
     Ok(clocks)
 }
 
-/// Applies the next changes of a processor's plan until the clocks have made `changes` changes in
-/// total. Each change is reported to the gate.
+/// Applies the next changes of a processor's plan until `changes` changes have been applied in
+/// total. Reports each change to the gate, a hook for tests.
 pub fn make_until<C: ProcClocks, G: Gate>(clocks: &mut C, cpu: Cpu, changes: u64, gate: &G)
     requires all { changes ≤ length (C.plan clocks.old).changes }
     requires within { C.made clocks.old ≤ changes }
@@ -42,13 +42,13 @@ pub fn make_until<C: ProcClocks, G: Gate>(clocks: &mut C, cpu: Cpu, changes: u64
     }
 }
 
-/// The index of the interrupt time among the times of a group. It follows the times in the seven
-/// states.
+/// The index of the interrupt time in the list of a group's times. It follows the times in the
+/// seven states.
 const IRQ_PLACE: usize = 7;
 
-/// Returns the times (ns) of a slot at the time `at` (ns): the time in each of the seven states, in
-/// their order, followed by the interrupt time. Precondition: the last change that `clocks` has
-/// made isn't later than `at`.
+/// Returns the times (ns) of a slot at the time `at` (ns): the time in each of the seven states,
+/// ordered by state, followed by the interrupt time. Precondition: the last change that `clocks`
+/// has applied isn't later than `at`.
 pub fn own_times<C: IrqClocks>(clocks: &mut C, slot: Slot, at: Ns) -> Times
     requires slot { slot.0 < length (C.plan clocks.old).parents }
     requires whole { IsPlan (C.plan clocks.old) }

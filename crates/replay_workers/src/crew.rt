@@ -1,5 +1,5 @@
 //! The clocks of all processors of a trace, which a pool of worker threads advances tick by tick.
-//! A crew doesn't compute pressure: it returns a table of times for each tick.
+//! The pool doesn't compute pressure: it returns a table of times for each tick.
 ghost use Rattle.std.specs.Prelude.{◌≡◌, ◌<◌, ◌≤◌, ℕ, ◌∷◌, [], drop, length, slice_get, IfOk, IfSome, None, Ok, Some, is_some, true};
 ghost use Rattle.plan_laws.specs.Plan.{IsClock};
 ghost use Rattle.psi_spec.specs.Within.{last_moment};
@@ -26,32 +26,31 @@ use std::marker::Model;
 use std::mem;
 use std::thread::Threads;
 
-/// The pool of worker threads of a replay, with the clocks of all processors. The workers make the
-/// changes of a trace for several ticks at a time; each worker makes the changes of its own
-/// processors. The times of all groups at each tick are stored until [`Crew::fill`] returns them.
-/// During an interval the clocks of one group can be sampled live. In contracts a crew consists of
-/// the plans, the number of changes that each processor has made, the rows of the clocks, the ticks
-/// whose times are ready, the maximum number of ticks by which the crew advances at once, and the
-/// samples.
+/// The pool of worker threads of a replay, with the clocks of all processors. The workers apply the
+/// changes of a trace for several ticks at a time, each for its own processors. The times of all
+/// groups at each tick are stored until [`Crew::fill`] returns them. During an interval (the time
+/// from one tick to the next) the clocks of one group can be sampled live. Contracts see a `Crew`
+/// as a record `CrewView`, which is defined in `specs/Crew`.
 ///
-/// A crew that takes live samples keeps its clocks in rows, even if no group is watched. A caller
+/// A pool that takes live samples has its clocks in seqlocks, even if no group is watched. A caller
 /// that samples with its own readers gets them from [`Crew::reader`], and calls [`Crew::settle`]
 /// and [`Crew::meet`] for each reader between two intervals.
 #[derive(Drop)]
 pub struct Crew<'a> {
     alloc: Global,
     plans: &'a Plans,
-    /// The batch of each worker. Processor `c` belongs to worker `c % workers`.
+    /// The batch of processors of each worker. Processor `c` belongs to worker `c % workers`.
     batches: Vec<Batch<'a>>,
-    /// The ticks of the crew's latest advance.
+    /// The ticks over which the pool last advanced.
     ticks: Ticks,
     /// The number of ticks in `ticks` whose tables have been returned.
     out: u32,
-    /// The maximum number of ticks for which the lanes can store times.
+    /// The maximum number of ticks for which each processor can store times.
     room: u32,
     /// The number of live samples of each processor in an interval.
     requested: u32,
-    /// A watcher for each processor if live samples are taken, otherwise empty.
+    /// The watcher of each processor, which takes its live samples. Empty if no live samples are
+    /// taken.
     watchers: Vec<Watcher>,
 }
 
@@ -70,9 +69,9 @@ impl<'a> Model for Crew<'a> {
 
 impl<'a> Crew<'a> {
     /// Creates the clocks of all processors before the first change, for 1 to 64 workers. `moments`
-    /// is the trace's number of ticks, which limits how many ticks are computed ahead. `live` is
-    /// the number of samples taken of each processor in an interval in which a group is watched.
-    /// Allocates all memory that the crew needs.
+    /// is the trace's number of ticks, which limits how many ticks are computed ahead. If a group
+    /// is watched, `live` samples of each processor are taken in an interval. Allocates all memory
+    /// that the pool ever needs.
     pub fn make(
         alloc: Global,
         plans: &'a Plans,
@@ -117,7 +116,7 @@ impl<'a> Crew<'a> {
         })
     }
 
-    /// Returns the maximum number of ticks by which the crew can advance at once.
+    /// Returns the maximum number of ticks by which the worker pool can advance at once.
     pub fn room(&self) -> u32
         ensures room { result ≡ self.now.room }
         ensures some { 1 ≤ result }
@@ -125,16 +124,16 @@ impl<'a> Crew<'a> {
         self.room
     }
 
-    /// Returns the number of ticks whose tables haven't been returned by `fill` yet.
+    /// Returns the number of ready ticks: ticks whose tables `fill` hasn't returned yet.
     pub fn ready(&self) -> u32
         ensures { result ≡ length self.now.ready }
     {
         self.ticks.count - self.out
     }
 
-    /// Advances by `ticks`. Each worker makes the changes of its processors up to and including
-    /// each tick, and stores the times of all groups at that tick. No group is watched. Discards
-    /// earlier samples, and ticks that `fill` hasn't returned. Does not allocate.
+    /// Advances over the ticks `ticks` without watching a group. Each worker applies the changes of
+    /// its processors up to and including each tick, and stores the times of all groups at that
+    /// tick. Discards earlier samples, and ticks that `fill` hasn't returned. Does not allocate.
     pub fn intervals<R: Threads + Sync, G: Gate>(&mut self, rt: &R, ticks: Ticks, gate: &G)
         requires some { 0 < ticks.count }
         requires within { ticks.count ≤ self.old.room }
@@ -148,9 +147,9 @@ impl<'a> Crew<'a> {
         ensures ready { self.new.ready ≡ moments_of ticks }
         ensures live { AreSampled None self.old self.new }
     {
-        // A crew that takes samples advances by one interval at a time, even if no group is
-        // watched. A call then has few changes, so a thread must have enough of them to be worth
-        // its start.
+        // A pool that takes samples advances by one interval at a time, even if no group is
+        // watched. Such a call has few changes, so another thread is started only for a minimum
+        // number of changes.
         let worth = if self.requested > 0 { WORTH_THREAD } else { 1 };
         go_all(rt, &mut self.batches, ticks, worth, gate);
         clear(&mut self.watchers);
@@ -158,8 +157,8 @@ impl<'a> Crew<'a> {
         self.out = 0;
     }
 
-    // Advances by `ticks` like `intervals`, but also takes live samples of `slot` while the changes
-    // are made.
+    // Advances over the ticks `ticks` as `intervals` does, and takes live samples of `slot` while
+    // the changes are applied.
     fn intervals_beside<R: Threads + Sync, G: Gate>(
         &mut self,
         rt: &R,
@@ -189,10 +188,10 @@ impl<'a> Crew<'a> {
         self.out = 0;
     }
 
-    /// Makes the changes of all processors up to and including the tick at `until` (ns), and stores
-    /// the times of all groups at that tick. If a slot is watched and the crew takes samples, each
-    /// processor's clock of the slot is sampled `requested` times in the meantime. Discards earlier
-    /// samples. Does not allocate.
+    /// Applies the changes of all processors up to and including the tick at `until` (ns), and
+    /// stores the times of all groups at that tick. If a slot is watched and the pool takes
+    /// samples, `requested` samples of the slot's clock are taken on each processor at the same
+    /// time. Discards earlier samples. Does not allocate.
     pub fn interval<R: Threads + Sync, G: Gate>(
         &mut self,
         rt: &R,
@@ -235,7 +234,7 @@ impl<'a> Crew<'a> {
     }
 
     /// Copies the times (ns) of all groups on all processors at the first ready tick to `rows`.
-    /// `at` is the time (ns) of this tick, which isn't ready afterwards. Does not allocate.
+    /// `at` is the time (ns) of this tick, which is no longer ready afterwards. Does not allocate.
     pub fn fill(&mut self, at: Ns, rows: &mut Rows)
         requires first { slice_get self.old.ready 0 ≡ Some at }
         requires sizes { HasSizes (length self.old.plans.plans)
@@ -247,7 +246,7 @@ impl<'a> Crew<'a> {
         self.out += 1;
     }
 
-    /// Returns the number of changes that processor `cpu` has made.
+    /// Returns the number of changes that processor `cpu` has applied.
     pub fn count(&self, cpu: Cpu) -> u64
         requires { cpu.0 < length self.now.plans.plans }
         ensures { result ≡ (clocks_at self.now.clocks cpu.0).made }
@@ -256,7 +255,7 @@ impl<'a> Crew<'a> {
     }
 
     /// Returns the clock of `slot` on processor `cpu`, after all changes that the processor has
-    /// made.
+    /// applied.
     pub fn own(&mut self, cpu: Cpu, slot: Slot) -> Clock
         requires cpu { cpu.0 < length self.old.plans.plans }
         requires slot { slot.0 < length self.old.plans.lives }
@@ -269,8 +268,8 @@ impl<'a> Crew<'a> {
         batch.lanes[at.place].own(slot)
     }
 
-    /// Creates a reader of the row of processor `cpu`. The reader has seen all changes that the
-    /// processor has made, and may be sent to another thread.
+    /// Creates a reader of the seqlock with the clocks of processor `cpu`. The reader has seen all
+    /// changes that the processor has applied, and may be sent to another thread.
     pub fn reader(&mut self, cpu: Cpu) -> Result<ClockReader, NoMemory>
         requires cpu { cpu.0 < length self.old.plans.plans }
         requires in_row { is_some (row_at self.old.rows cpu.0) ≡ true }
@@ -284,8 +283,8 @@ impl<'a> Crew<'a> {
         batch.lanes[at.place].reader()
     }
 
-    /// Passes the number of changes made by processor `cpu` to `reader`, a reader of the
-    /// processor's row. After the call the reader has seen at least that many changes. Does not
+    /// Passes the number of changes applied by processor `cpu` to `reader`, a reader of the
+    /// processor's clocks. After the call the reader has seen at least that many changes. Doesn't
     /// allocate, and always returns `Ok`.
     pub fn meet(&mut self, cpu: Cpu, reader: &mut ClockReader) -> Result<(), NoMemory>
         requires cpu { cpu.0 < length self.old.plans.plans }
@@ -301,9 +300,9 @@ impl<'a> Crew<'a> {
         batch.lanes[at.place].meet(reader)
     }
 
-    /// Synchronises with `reader`, a reader of the row of processor `cpu`. The contract then states
-    /// that the reader has seen at most the changes that were made. Does not allocate, and always
-    /// returns `Ok`.
+    /// Synchronises with `reader`, a reader of the clocks of processor `cpu`. The contract then
+    /// states that the reader has seen at most the changes that were applied. Does not allocate,
+    /// and always returns `Ok`.
     pub fn settle(&mut self, cpu: Cpu, reader: &mut ClockReader) -> Result<(), NoMemory>
         requires cpu { cpu.0 < length self.old.plans.plans }
         requires own { Some reader.old.row ≡ row_at self.old.rows cpu.0 }

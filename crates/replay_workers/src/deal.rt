@@ -1,5 +1,5 @@
-//! Distributes the processors of a trace over the workers, in turn, and computes the number of
-//! ticks that a crew can store.
+//! Distributes the processors of a trace over the workers in round-robin order, and computes the
+//! number of ticks whose times a worker pool can store.
 ghost use Rattle.std.specs.Prelude.{◌≡◌, ◌<◌, ◌≤◌, IfOk};
 ghost use Rattle.replay_workers.specs.Crew.{room_of};
 ghost use Rattle.replay_workers.specs.Lanes.{AreNewBatches, IsNewBatch};
@@ -10,18 +10,18 @@ use proc_plan::Plans;
 use psi_base::{Cpu, NoMemory};
 use std::alloc::Global;
 
-/// The maximum size (bytes) of the stored times of ticks, unless a single tick needs more.
+/// The maximum size (bytes) of the stored times of all ticks. A single tick may need more.
 const MOST_KEPT: u64 = 64_000_000;
 
-/// The maximum number of ticks by which a crew advances at once.
+/// The maximum number of ticks by which a worker pool advances at once.
 const MOST_AHEAD: u64 = 256;
 
 /// The size (bytes) of a group's eight times on one processor.
 const TIMES_BYTES: u64 = 64;
 
-/// Returns the maximum number of ticks by which a crew advances at once, for a trace with `moments`
-/// ticks. This is the number of ticks whose times fit into `MOST_KEPT` bytes, limited to
-/// `MOST_AHEAD` and `moments`, but at least one.
+/// Returns the maximum number of ticks by which a worker pool advances at once, for a trace with
+/// `moments` ticks. This is the number of ticks whose times fit into `MOST_KEPT` bytes, limited to
+/// `MOST_AHEAD` and to `moments`. The result is at least 1.
 pub(crate) fn room_for(cpus: u32, slots: u32, moments: u64) -> u32
     requires { cpus ≤ 64 }
     ensures room { result ≡ room_of cpus slots moments }
@@ -32,8 +32,9 @@ pub(crate) fn room_for(cpus: u32, slots: u32, moments: u64) -> u32
     fits.min(moments).min(MOST_AHEAD).max(1) as u32
 }
 
-// Creates the lanes of `worker` before the first change. Lane `k` belongs to processor k * workers
-// + worker. The clocks are in rows if `in_rows` is true, otherwise plain.
+// Creates the processors of the worker `worker` before the first change. The processor with index
+// `k` in the result is processor `k * workers + worker`. The clocks are in seqlocks if `in_rows` is
+// true, and are plain clocks if it is false.
 fn deal_batch<'a>(
     alloc: Global,
     plans: &'a Plans,
@@ -57,8 +58,8 @@ fn deal_batch<'a>(
     Ok(Batch { lanes })
 }
 
-/// Creates the batches of `workers` workers with the lanes of all processors, before the first
-/// change. The clocks are in rows if `in_rows` is true, as live sampling requires.
+/// Creates one batch of processors for each of `workers` workers, before the first change. The
+/// clocks are in seqlocks if `in_rows` is true, as live sampling requires.
 pub(crate) fn deal<'a>(
     alloc: Global,
     plans: &'a Plans,

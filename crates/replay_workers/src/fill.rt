@@ -1,5 +1,5 @@
-//! Copies the stored times of all groups at a tick to a table. The times are stored by processor,
-//! and the table is ordered by group.
+//! Copies the stored times of all groups at a tick to a table. The stored times are ordered by
+//! processor, and the table by group.
 ghost use Rattle.std.specs.Prelude.{◌<◌, ℕ, length};
 ghost use Rattle.aggregate.specs.Table.{HasSizes};
 ghost use Rattle.replay_workers.specs.Crew.{IsTableAt};
@@ -31,8 +31,8 @@ fn fill_row(plans: &Plans, batches: &[Batch<'_>], tick: u32, slot: Slot, rows: &
     }
 }
 
-/// Copies the times (ns) of all groups on all processors, stored for tick `tick` (numbered from 0),
-/// to `rows`, row by row.
+/// Copies the times (ns) of all groups on all processors to `rows`. The times are those stored for
+/// tick `tick`, numbered from 0.
 pub(crate) fn fill(plans: &Plans, batches: &[Batch<'_>], tick: u32, rows: &mut Rows)
     requires sizes { HasSizes (length plans.now.plans) (length plans.now.lives) rows.old }
     requires unchanged { (at : ℕ) × AreKept plans.now batches.now tick at }

@@ -1,5 +1,6 @@
-//! A lane: one processor, which advances tick by tick and stores the times at each tick. A lane
-//! starts no threads; a worker advances all lanes of its batch in one thread.
+//! A lane: one processor with its clocks, which advances tick by tick, and the times stored at each
+//! tick. This module starts no threads. A worker advances all processors of its batch in one
+//! thread.
 ghost use Rattle.std.specs.Prelude.{◌≡◌, ◌*◌, ◌<◌, ◌≤◌, length, IfOk, Ok, Some, is_some};
 ghost use Rattle.plan_laws.specs.Plan.{IsClock, IsPlan};
 ghost use Rattle.psi_spec.specs.Within.{last_moment};
@@ -21,16 +22,16 @@ use psi_base::{Cpu, NoMemory, Ns, Slot};
 use std::alloc::Global;
 use std::marker::Model;
 
-/// The clocks of one processor, and the times of all groups at the last ticks by which the lane
-/// advanced. In contracts a lane consists of the processor, the row that holds the clocks (or
-/// `None`), the plan, the number of changes made, and the stored times.
+/// The clocks of one processor, and the times of all groups at the ticks over which the clocks last
+/// advanced. In contracts a lane consists of the processor, the seqlock that contains the clocks
+/// (or `None`), the plan, the number of changes applied, and the stored times.
 #[derive(Drop)]
 pub(crate) struct Lane<'a> {
     cpu: Cpu,
     plan: &'a Plan,
     slots: u32,
     clocks: LaneClocks<'a>,
-    /// The stored times: `slots` entries for each tick, in order of ticks.
+    /// The stored times (ns) of all groups: `slots` entries for each tick, in order of ticks.
     kept: Vec<Times>,
 }
 
@@ -57,9 +58,9 @@ fn places(alloc: Global, count: usize) -> Result<Vec<Times>, NoMemory>
 }
 
 impl<'a> Lane<'a> {
-    /// Creates the lane of processor `cpu` before the first change. The lane can store the times of
-    /// `room` ticks. The clocks are in a row if `in_row` is true. Applying changes allocates no
-    /// further memory.
+    /// Creates the lane of processor `cpu` before the first change. There is room to store the
+    /// times of `room` ticks. The clocks are in a seqlock if `in_row` is true. Applying changes
+    /// doesn't allocate.
     pub(crate) fn make(
         alloc: Global,
         plans: &'a Plans,
@@ -88,19 +89,20 @@ impl<'a> Lane<'a> {
         })
     }
 
-    /// Returns the number of changes made.
+    /// Returns the number of changes that the processor has applied.
     pub(crate) fn count(&self) -> u64
         ensures { result ≡ self.now.on.made }
     {
         self.clocks.count()
     }
 
-    /// Returns the number of changes up to the time `until` (ns) that the lane hasn't made yet.
+    /// Returns the number of changes up to the time `until` (ns) that the processor hasn't applied
+    /// yet.
     pub(crate) fn changes_left(&self, until: Ns) -> u64 {
         self.plan.until(until).saturating_sub(self.clocks.count())
     }
 
-    /// Returns the clock of `slot` after all changes that the processor has made.
+    /// Returns the clock of `slot` after all changes that the processor has applied.
     pub(crate) fn own(&mut self, slot: Slot) -> Clock
         requires { slot.0 < length self.old.on.plan.parents }
         ensures unchanged { self.new ≡ self.old }
@@ -116,7 +118,7 @@ impl<'a> Lane<'a> {
         &self.kept
     }
 
-    /// Creates a reader of the processor's row. Precondition: the clocks are in a row.
+    /// Creates a reader of the processor's clocks. Precondition: the clocks are in a seqlock.
     pub(crate) fn reader(&mut self) -> Result<ClockReader, NoMemory>
         requires { IsInRow self.old }
         ensures same { self.new ≡ self.old }
@@ -130,8 +132,8 @@ impl<'a> Lane<'a> {
         writer.reader()
     }
 
-    /// Passes the number of changes made to `reader`, a reader of the processor's row. Does not
-    /// allocate, and always returns `Ok`.
+    /// Passes the number of changes applied to `reader`, a reader of the processor's clocks. Does
+    /// not allocate, and always returns `Ok`.
     pub(crate) fn meet(&mut self, reader: &mut ClockReader) -> Result<(), NoMemory>
         requires { Some reader.old.row ≡ self.old.row }
         ensures ok { result ≡ Ok tt }
@@ -145,9 +147,9 @@ impl<'a> Lane<'a> {
         writer.meet(reader)
     }
 
-    /// Synchronises with `reader`, a reader of the processor's row. The contract then states that
-    /// the reader has seen at most the changes that were made. Does not allocate, and always
-    /// returns `Ok`.
+    /// Synchronises with `reader`, a reader of the processor's clocks. The contract then states
+    /// that the reader has seen at most the changes that were applied. Does not allocate, and
+    /// always returns `Ok`.
     pub(crate) fn settle(&mut self, reader: &mut ClockReader) -> Result<(), NoMemory>
         requires { Some reader.old.row ≡ self.old.row }
         ensures ok { result ≡ Ok tt }
@@ -161,8 +163,8 @@ impl<'a> Lane<'a> {
         writer.settle(reader)
     }
 
-    /// Creates a watcher of the processor, which takes `requested` samples in an interval.
-    /// Precondition: the clocks are in a row. Sampling allocates no further memory.
+    /// Creates a watcher of the processor's clocks, which takes `requested` samples in an interval.
+    /// Precondition: the clocks are in a seqlock. Sampling doesn't allocate.
     pub(crate) fn watcher(&mut self, alloc: Global, requested: u32) -> Result<Watcher, NoMemory>
         requires { IsInRow self.old }
         ensures same { self.new ≡ self.old }
@@ -175,8 +177,8 @@ impl<'a> Lane<'a> {
         Watcher::make(alloc, self.cpu, writer, requested)
     }
 
-    /// Passes the number of changes made, and the clock of `slot` after them, to the processor's
-    /// watcher.
+    /// Passes the number of changes applied, and the clock of `slot` after these changes, to the
+    /// processor's watcher.
     pub(crate) fn meet_watcher(&mut self, watcher: &mut Watcher, slot: Slot)
         requires row { Some watcher.old.row ≡ self.old.row }
         requires plan { watcher.old.knows.plan ≡ self.old.on.plan }
@@ -191,7 +193,7 @@ impl<'a> Lane<'a> {
     }
 
     /// Synchronises with the processor's watcher. The contract then states that the watcher has
-    /// seen at most the changes that were made.
+    /// seen at most the changes that were applied.
     pub(crate) fn settle_watcher(&mut self, watcher: &mut Watcher)
         requires { Some watcher.old.row ≡ self.old.row }
         ensures lane { self.new ≡ self.old }
@@ -204,7 +206,8 @@ impl<'a> Lane<'a> {
         watcher.settle(writer);
     }
 
-    /// Makes the changes up to each tick, and stores the times of all groups at that tick.
+    /// For each tick, applies the changes up to the tick, and stores the times of all groups at the
+    /// tick.
     pub(crate) fn go_over<G: Gate>(&mut self, ticks: Ticks, gate: &G)
         requires some { 0 < ticks.count }
         requires early { last_of ticks ≤ last_moment }

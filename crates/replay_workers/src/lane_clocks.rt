@@ -1,5 +1,5 @@
-//! The clocks of one processor, either plain or in a row. Only clocks that are sampled live are in
-//! a row. The same generic code advances both kinds.
+//! The clocks of one processor, either plain or in a seqlock. They are in a seqlock only if a
+//! reader may sample them while changes are applied. The same generic code advances both kinds.
 ghost use Rattle.std.specs.Prelude.{◌≡◌, ◌+◌, ◌*◌, ◌<◌, ◌≤◌, length, IfOk, is_some};
 ghost use Rattle.plan_laws.specs.Plan.{IsClock, IsPlan, changes_up_to, last_change};
 ghost use Rattle.psi_spec.specs.Within.{last_moment};
@@ -16,17 +16,17 @@ use proc_plan::{IrqClocks, PlainClocks, Plan, ProcClocks};
 use psi_base::{Cpu, NoMemory, Ns, Slot};
 use std::alloc::Global;
 
-/// The clocks of a processor. A change costs about twice as much in a row as in plain clocks.
+/// The clocks of a processor. A change costs about twice as much in a seqlock as in plain clocks.
 #[derive(Drop)]
 pub(crate) enum LaneClocks<'a> {
-    /// Plain clocks: no other thread reads them.
+    /// Plain clocks, which no other thread reads.
     Plain(PlainClocks<'a>),
-    /// Clocks in a row: watchers in other threads may read them while changes are made.
+    /// Clocks in a seqlock: watchers in other threads may read them while changes are applied.
     Row(ClockWriter<'a>),
 }
 
-// Stores the times (ns) of all groups at tick `tick`, whose time is `at` (ns). Precondition: the
-// clocks have made all changes up to `at`.
+// Stores the times (ns) of all groups for tick `tick`, whose time is `at` (ns). Precondition: the
+// clocks have applied all changes up to `at`.
 fn keep_tick<C: IrqClocks>(clocks: &mut C, slots: u32, tick: u32, at: Ns, kept: &mut [Times])
     requires known { slots ≡ length (C.plan clocks.old).parents }
     requires whole { IsPlan (C.plan clocks.old) }
@@ -45,7 +45,7 @@ fn keep_tick<C: IrqClocks>(clocks: &mut C, slots: u32, tick: u32, at: Ns, kept: 
     }
 }
 
-// Makes the changes of a plan tick by tick, and stores the times of all groups at each tick.
+// Applies the changes of a plan tick by tick, and stores the times of all groups at each tick.
 fn go_over<C: IrqClocks, G: Gate>(
     plan: &Plan,
     clocks: &mut C,
@@ -78,7 +78,7 @@ fn go_over<C: IrqClocks, G: Gate>(
 
 impl<'a> LaneClocks<'a> {
     /// Creates the clocks of a plan with `slots` slots, before its first change. The clocks are in
-    /// a row if `in_row` is true. Applying changes allocates no further memory.
+    /// a seqlock if `in_row` is true. Applying changes doesn't allocate.
     pub(crate) fn make(
         alloc: Global,
         plan: &'a Plan,
@@ -96,7 +96,7 @@ impl<'a> LaneClocks<'a> {
         Ok(LaneClocks::Plain(PlainClocks::make(alloc, plan, slots)?))
     }
 
-    /// Returns the number of changes made.
+    /// Returns the number of changes that the clocks have applied.
     pub(crate) fn count(&self) -> u64
         ensures { result ≡ (clocks_in self.now).made }
     {
@@ -106,7 +106,7 @@ impl<'a> LaneClocks<'a> {
         }
     }
 
-    /// Returns the clock of `slot` after all changes that the clocks have made.
+    /// Returns the clock of `slot` after all changes that the clocks have applied.
     pub(crate) fn own(&mut self, slot: Slot) -> Clock
         requires { slot.0 < length (clocks_in self.old).plan.parents }
         ensures unchanged { clocks_in self.new ≡ clocks_in self.old }
@@ -120,7 +120,7 @@ impl<'a> LaneClocks<'a> {
         }
     }
 
-    /// Makes the changes of a plan tick by tick, and stores the times of all groups at each tick.
+    /// Applies the changes of a plan tick by tick, and stores the times of all groups at each tick.
     pub(crate) fn go_over<G: Gate>(
         &mut self,
         plan: &Plan,

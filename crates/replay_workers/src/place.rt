@@ -1,5 +1,5 @@
-//! Finds the lane of a processor in the batches of the workers. The processors are distributed over
-//! the workers in turn.
+//! Finds the position of a processor in the batches of the workers. The processors are distributed
+//! over the workers in round-robin order.
 ghost use Rattle.std.specs.Prelude.{◌≡◌, ◌+◌, ◌*◌, ◌<◌, ◌/◌, ◌%◌, length};
 ghost use Rattle.replay_workers.specs.Lanes.{batch_at, lane_at, lane_of};
 
@@ -7,8 +7,7 @@ use crate::batch::Batch;
 use crate::lane::Lane;
 use psi_base::Cpu;
 
-/// The position of a processor's lane: the index of the worker's batch, and the index of the lane
-/// within the batch.
+/// The position of a processor: the index of its worker's batch, and its index within the batch.
 #[derive(Clone, Copy, Debug)]
 pub(crate) struct LanePlace {
     pub(crate) worker: usize,
@@ -16,8 +15,8 @@ pub(crate) struct LanePlace {
 }
 
 impl LanePlace {
-    /// Returns the position of the lane of processor `cpu`, if the processors are distributed over
-    /// `workers` workers.
+    /// Returns the position of processor `cpu`, if the processors are distributed over `workers`
+    /// workers.
     pub(crate) fn of(cpu: Cpu, workers: usize) -> LanePlace
         requires { 0 < workers }
         ensures worker { result.worker ≡ cpu.0 % workers }
@@ -29,8 +28,7 @@ impl LanePlace {
         }
     }
 
-    /// Returns the position of the lane of processor 0, which is the same for any number of
-    /// workers.
+    /// Returns the position of processor 0, which is the same for any number of workers.
     pub(crate) fn first() -> LanePlace
         ensures worker { result.worker ≡ 0 }
         ensures place { result.place ≡ 0 }
@@ -41,7 +39,7 @@ impl LanePlace {
         }
     }
 
-    /// Returns the position of the next processor's lane. Unlike `of`, this takes no division.
+    /// Returns the position of the next processor. Unlike `of`, this function needs no division.
     pub(crate) fn next(self, workers: usize) -> LanePlace
         requires worker { self.worker < workers }
         requires few { self.place < 64 }
@@ -61,7 +59,7 @@ impl LanePlace {
         }
     }
 
-    /// Returns the lane at this position.
+    /// Returns the lane (clocks and stored times) at this position.
     pub(crate) fn lane<'b, 'a>(self, batches: &'b [Batch<'a>]) -> &'b Lane<'a>
         requires worker { self.worker < length batches.now }
         requires place { self.place < length (batch_at batches.now self.worker) }
@@ -72,7 +70,7 @@ impl LanePlace {
     }
 }
 
-/// Returns the lane of processor `cpu`.
+/// Returns the lane (clocks and stored times) of processor `cpu`.
 pub(crate) fn lane_in<'b, 'a>(batches: &'b [Batch<'a>], cpu: Cpu) -> &'b Lane<'a>
     requires some { 0 < length batches.now }
     requires place { cpu.0 / length batches.now

@@ -1,16 +1,16 @@
-//! The ticks by which a crew advances at once. The tables of these ticks are computed before the
-//! caller needs them.
+//! The ticks over which a worker pool advances at once. The tables of these ticks are computed
+//! before the caller needs them.
 ghost use Rattle.std.specs.Prelude.{◌≡◌, ◌<◌, ◌^◌};
 ghost use Rattle.replay_workers.specs.Crew.{last_of, moment_in};
 
 use psi_base::Ns;
 
-/// Ticks with equal distances.
+/// A sequence of ticks at equal distances.
 #[derive(Clone, Copy, Debug)]
 pub struct Ticks {
     /// The time (ns) of the first tick.
     pub first: Ns,
-    /// The time (ns) from each tick to the next.
+    /// The time (ns) between two consecutive ticks.
     pub length: Ns,
     /// The number of ticks.
     pub count: u32,

@@ -1,5 +1,5 @@
-//! A watcher, which takes live samples of one processor. It runs in another thread than the worker
-//! that makes the processor's changes.
+//! A watcher, which takes live samples of one processor's clocks. It runs in another thread than
+//! the worker that applies the processor's changes.
 ghost use Rattle.std.specs.Prelude.{◌≡◌, ◌+◌, ◌*◌, ◌<◌, ◌≤◌, [], length, vec_capacity, vec_len, IfOk, Some};
 ghost use Rattle.std.specs.List.{All};
 ghost use Rattle.plan_laws.specs.Plan.{IsClock};
@@ -18,13 +18,15 @@ use psi_base::{Cpu, NoMemory, Slot};
 use std::alloc::Global;
 use std::marker::Model;
 
-/// A reader of one processor's row, and the samples that it took in the last interval. In contracts
-/// a watcher consists of the processor, the row, the state of the reader, and the samples.
+/// A reader of one processor's clocks, and the samples that it took in the last interval. In
+/// contracts a watcher consists of the processor, the seqlock of the clocks, the state of the
+/// reader, and the samples.
 #[derive(Drop)]
 pub(crate) struct Watcher {
     cpu: Cpu,
     reader: ClockReader,
-    /// The clock that the writer passed before the interval. It precedes the first sample.
+    /// The writer's clock at the last call of `meet`, with the number of changes applied until
+    /// then. The first sample of an interval has at least this number of changes.
     last: Sample,
     samples: Vec<Sample>,
     /// The number of samples in an interval.
@@ -49,8 +51,8 @@ impl Model for Watcher {
     ghost invariant = { λ w. w.requested ≤ vec_capacity w.samples };
 }
 
-// Takes `requested` samples of `slot` after the sample `last`, and reports each sample to the gate.
-// Precondition: `samples` has enough capacity.
+// Takes `requested` samples of `slot`, starting from the sample `last`. Reports each sample to the
+// gate, a hook for tests. Precondition: `samples` has enough capacity.
 fn sample_on<G: Gate>(
     reader: &mut ClockReader,
     samples: &mut Vec<Sample>,
@@ -89,8 +91,8 @@ fn sample_on<G: Gate>(
 }
 
 impl Watcher {
-    /// Creates a watcher of the row of `writer`, which takes `requested` samples in an interval.
-    /// Sampling allocates no further memory.
+    /// Creates a watcher of the seqlock of `writer`, which takes `requested` samples in an
+    /// interval. Sampling doesn't allocate.
     pub(crate) fn make(
         alloc: Global,
         cpu: Cpu,
@@ -114,21 +116,21 @@ impl Watcher {
         })
     }
 
-    /// Returns the watched processor.
+    /// Returns the number of the watched processor.
     pub(crate) fn cpu(&self) -> Cpu
         ensures { result.0 ≡ self.now.cpu }
     {
         self.cpu
     }
 
-    /// Returns the samples of the last interval.
+    /// Returns the live samples of the last interval.
     pub(crate) fn samples(&self) -> &[Sample]
         ensures { result.now ≡ self.now.samples }
     {
         &self.samples
     }
 
-    /// Discards the samples.
+    /// Discards the samples of the last interval.
     pub(crate) fn clear(&mut self)
         ensures { HasCleared self.old self.new }
     {
@@ -136,7 +138,7 @@ impl Watcher {
     }
 
     /// Synchronises the watcher with the writer before an interval. The watcher has then seen all
-    /// changes that `writer` made, and its last sample is the writer's own clock of `slot`.
+    /// changes that `writer` has applied, and its last sample is the writer's own clock of `slot`.
     pub(crate) fn meet(&mut self, writer: &mut ClockWriter<'_>, slot: Slot)
         requires row { self.old.row ≡ writer.old.row }
         requires plan { self.old.knows.plan ≡ writer.old.knows.plan }
@@ -145,7 +147,7 @@ impl Watcher {
         ensures on { on_of writer.new ≡ on_of writer.old }
         ensures met { HasMet slot.0 (on_of writer.old) self.old self.new }
     {
-        // Both results are always `Ok`.
+        // `settle` and `meet` always return `Ok`.
         let _known = writer.settle(&mut self.reader);
         let _met = writer.meet(&mut self.reader);
         self.last = Sample {
@@ -155,7 +157,7 @@ impl Watcher {
     }
 
     /// Synchronises with the writer after an interval. The contract then states that this watcher
-    /// has seen at most the changes that `writer` made.
+    /// has seen at most the changes that `writer` has applied.
     pub(crate) fn settle(&mut self, writer: &mut ClockWriter<'_>)
         requires { self.old.row ≡ writer.old.row }
         ensures same { self.new ≡ self.old }
@@ -163,12 +165,12 @@ impl Watcher {
         ensures on { on_of writer.new ≡ on_of writer.old }
         ensures seen { self.old.knows.seen ≤ writer.old.knows.count }
     {
-        // The result is always `Ok`.
+        // `settle` always returns `Ok`.
         let _known = writer.settle(&mut self.reader);
     }
 
-    /// Takes the watcher's samples of `slot`, and reports each sample to the gate. Each sample
-    /// takes at most eight tries. Does not allocate.
+    /// Takes the watcher's samples of `slot`, with at most eight attempts for each sample. Reports
+    /// each sample to the gate, a hook for tests. Does not allocate.
     pub(crate) fn sample<G: Gate>(&mut self, slot: Slot, gate: &G)
         requires { MaySample slot.0 self.old }
         ensures { HasSampled slot.0 self.old self.new }

@@ -1,6 +1,6 @@
--- Laws about side events: memory samples, preferences, and tasks that join or leave groups. The
--- side events of a trace have the same latest memory samples, preferences and counts of tasks as
--- all its events.
+-- States laws about side events: memory samples, preferences, and tasks that join or leave groups.
+-- The latest memory samples, the latest preferences and the counts of tasks can be computed from
+-- the side events of a trace instead of all its events.
 use Rattle.std.specs.Prelude.{◌≡◌, ℕ, List, [], ◌∷◌, nat_lt, ◌==◌, if◌then◌else◌}
 use Rattle.std.specs.List.{flat_map}
 use Rattle.psi_base.specs.declared.event.Event.{Event}
@@ -17,27 +17,27 @@ use Rattle.proc_plan.specs.declared.side.SideAct.TheVariants as side
 use Rattle.proc_plan.specs.Sides.{sides_of}
 use Rattle.side_watch.specs.Watch.{tasks_under}
 
--- The memory sample of the group in slot `slot` that the side event reports, as a list of one
--- element. Empty for any other side event.
+-- The memory sample of the group in slot `slot` that the side event reports, as a list with one
+-- element. The list is empty for any other side event.
 abbrev pub memory_in : ℕ → SideAct → List MemorySample
 memory_in slot (side.Mem of current swap scan) =
     if of.0 == slot then record { current = current; swap = swap; scan = scan } ∷ [] else []
 memory_in slot _ = []
 
--- The preference of the group in slot `slot` that the side event sets, as a list of one element.
--- Empty for any other side event.
+-- The preference of the group in slot `slot` that the side event sets, as a list with one element.
+-- The list is empty for any other side event.
 abbrev pub preference_in : ℕ → SideAct → List Preference
 preference_in slot (side.Prefer of preference) = if of.0 == slot then preference ∷ [] else []
 preference_in slot _ = []
 
--- The sample of the host's memory that the side event reports, as a list of one element. Empty for
--- any other side event.
+-- The sample of the host's memory that the side event reports, as a list with one element. The list
+-- is empty for any other side event.
 abbrev pub host_in : SideAct → List HostReading
 host_in (side.Host mem_total swap_total swap_free) =
     record { mem_total = mem_total; swap_total = swap_total; swap_free = swap_free } ∷ []
 host_in _ = []
 
--- The values that `shows` returns for all side events, in order.
+-- The concatenated results of the function `shows` for all side events, in order.
 abbrev pub known_in : {A : Type 0} → (SideAct → List A) → List Side → List A
 known_in shows sides = flat_map (λ (side : Side). shows side.what) sides
 

@@ -14,20 +14,19 @@ pub struct GroupMemory {
     pub current: u64,
     /// The swap in use (bytes).
     pub swap: u64,
-    /// The number of pages that memory reclaim had scanned for the group, up to the time of the
-    /// sample.
+    /// The number of pages that memory reclaim had scanned for the group before the sample.
     pub scan: u64,
 }
 
-/// The state of a group after the side events that the watch has taken: memory samples,
-/// preferences, and tasks that joined or left.
+/// The state of a group after the side events applied so far: memory samples, preferences, and
+/// tasks that joined or left.
 #[derive(Clone, Copy, Debug)]
 pub(crate) struct SideCell {
     /// The latest memory sample of the group.
     pub(crate) memory: GroupMemory,
     /// The latest preference of the group.
     pub(crate) preference: Preference,
-    /// The number of live tasks in the group or in its descendants.
+    /// The number of live tasks in the group and in its descendants.
     pub(crate) tasks: u32,
 }
 
@@ -48,8 +47,8 @@ impl SideCell {
         }
     }
 
-    /// Updates the number of tasks. If `came`, a task joined the group or one of its descendants;
-    /// otherwise a task left.
+    /// Updates the number of tasks after a task joined the group or one of its descendants (if
+    /// `came` is true), or left it.
     pub(crate) fn count(&mut self, came: bool)
         ensures { self.new ≡ counted came self.old }
     {

@@ -1,11 +1,11 @@
 //! Follows the state of a trace's groups other than their stall times: the memory of each group,
 //! its preference, and whether it has live tasks. Also follows the memory of the host.
 //!
-//! [`SideWatch`] takes the *side events* of a trace in order: memory samples, preferences, and
+//! [`SideWatch`] reads the *side events* of a trace in order: memory samples, preferences, and
 //! tasks that join or leave groups. Its contracts state that its content at each time is the state
 //! that `kill_spec` defines for the events up to that time.
 //!
-//! This crate doesn't extract side events from events (proc_plan does), and it makes no decisions
+//! This crate doesn't extract side events from a trace (proc_plan does), and it makes no decisions
 //! (the rules do).
 #![tactic(auto)]
 

@@ -17,8 +17,8 @@ use kill_spec::HostReading;
 use proc_plan::{Side, SideAct};
 use psi_base::{Ns, Preference, Slot};
 
-// Counts a task that joined the group in slot `slot` (if `came`) or left it. Updates the number of
-// tasks of this group and of all its ancestors.
+// Updates the number of tasks in the group in slot `slot` and in all its ancestors. If `came` is
+// true, a task joined the group; if it is false, a task left the group.
 fn count_task(cells: &mut [SideCell], parents: &[Option<Slot>], slot: Slot, came: bool)
     requires older { AreOlder (parent_numbers parents.now) }
     requires each { length cells.old ≡ length parents.now }
@@ -94,7 +94,7 @@ fn take_cells(cells: &mut [SideCell], parents: &[Option<Slot>], what: SideAct)
     }
 }
 
-// Returns the host's memory after a side event. `host` is the host's memory before the event.
+// Returns the memory of the host after a side event. `host` is the memory before it.
 fn host_after(host: HostReading, what: SideAct) -> HostReading
     requires fits { IsSmall what }
     requires small { IsHostReading host }
@@ -115,9 +115,9 @@ fn host_after(host: HostReading, what: SideAct) -> HostReading
     }
 }
 
-/// Applies side events to the state of all groups and of the host: all events at or before time
-/// `at` (ns), except the first `from` events, which have been applied already. Returns the number
-/// of events applied so far, including the first `from`.
+/// Applies side events to the state of all groups and of the host: all side events at or before
+/// time `at` (ns) except the first `from`, which have been applied already. Returns the number of
+/// side events applied so far, including the first `from`.
 pub(crate) fn take_due(
     cells: &mut [SideCell],
     parents: &[Option<Slot>],

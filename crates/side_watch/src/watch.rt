@@ -1,4 +1,4 @@
-//! The watch: the state of all groups and of the host after the side events of a trace up to a
+//! A watch has the state of all groups and of the host after the side events of a trace up to a
 //! time.
 //!
 //! A side event is a memory sample, a preference, or a task that joins or leaves a group.
@@ -21,8 +21,8 @@ use psi_spec::GroupLife;
 use std::alloc::Global;
 use std::marker::Model;
 
-/// The state of all groups and of the host after the side events of a trace up to a time. Contracts
-/// refer to all fields.
+/// The state of all groups and of the host after the side events of a trace (such as memory
+/// samples) up to a time. Contracts refer to all fields.
 #[derive(Drop)]
 pub struct SideWatch {
     /// The state of each group, indexed by slot.
@@ -30,7 +30,7 @@ pub struct SideWatch {
     /// The parent of each group, indexed by slot. `None` for the root.
     parents: Vec<Option<Slot>>,
     host: HostReading,
-    /// The number of side events taken so far.
+    /// The number of side events applied so far.
     taken: usize,
 }
 
@@ -56,8 +56,8 @@ fn parents_of(alloc: Global, lives: &[GroupLife]) -> Result<Vec<Option<Slot>>, N
 }
 
 impl SideWatch {
-    /// Returns the watch of the groups `lives` before any side event: memory samples of zeros,
-    /// plain preferences, and no tasks. Allocates all memory that the watch ever needs.
+    /// Creates the watch of the groups `lives` before the first side event: memory samples of
+    /// zeros, plain preferences, and no tasks. Allocates all memory that the watch ever needs.
     ///
     /// `lives` has all groups that the trace ever creates, indexed by slot.
     pub fn make(alloc: Global, lives: &[GroupLife]) -> Result<SideWatch, NoMemory>
@@ -77,12 +77,12 @@ impl SideWatch {
         })
     }
 
-    /// Takes the side events at or before time `at` (ns) that the watch hasn't taken yet. `sides`
+    /// Applies the side events at or before time `at` (ns) that haven't been applied yet. `sides`
     /// has all side events of the trace in order, and must be the same list at each call. Doesn't
     /// allocate.
     ///
-    /// The running time is proportional to the number of events taken. A task that joins or leaves
-    /// a group takes time proportional to the number of the group's ancestors.
+    /// The running time is proportional to the number of events applied. If a task joins or leaves
+    /// a group, it is also proportional to the number of the group's ancestors.
     pub fn advance(&mut self, sides: &[Side], at: Ns)
         requires small { AreSmall sides.now }
         ensures advances { Advances self.old self.new sides.now at }
@@ -115,8 +115,8 @@ impl SideWatch {
         self.cell(slot).preference
     }
 
-    /// Returns whether there is a live task in the group or in one of its descendants. False if the
-    /// slot doesn't exist.
+    /// Returns whether there is a live task in the group or in one of its descendants. Returns
+    /// false if the slot doesn't exist.
     pub fn is_populated(&self, slot: Slot) -> bool
         ensures { result ≡ has_tasks self.now slot.0 }
     {

@@ -1,5 +1,5 @@
-//! The counts, the accounting and the clock of one group on one processor. The module `chains`
-//! finds the groups that a change affects.
+//! The counts of tasks, the accounting and the clock of one group on one processor. The module
+//! `chains` finds the groups that a change affects.
 
 ghost use Rattle.std.specs.Prelude.{◌≡◌, ◌&&◌, ◌+◌, ◌<◌, ◌≤◌, ◌^◌};
 ghost use Rattle.psi_base.specs.declared.event.State.{State};
@@ -13,7 +13,7 @@ use cpu_clock::Clock;
 use psi_base::Ns;
 use state_mask::{Counts, Mask, mask_of};
 
-/// Counts that are all zero.
+/// Counts of tasks that are all zero.
 pub(crate) const NO_COUNTS: Counts = Counts {
     io: 0,
     stalled: 0,
@@ -22,7 +22,7 @@ pub(crate) const NO_COUNTS: Counts = Counts {
 };
 
 /// The counts and the clock of a group on a processor. Both are also updated while the group's
-/// accounting is off, but in that time the group is in no state.
+/// accounting is off, but the group is then in no state.
 #[derive(Clone, Copy, Debug)]
 pub(crate) struct Cell {
     pub(crate) counts: Counts,
@@ -57,7 +57,7 @@ fn follow(counts: &Counts, minus: &Counts, plus: &Counts) -> Counts
 }
 
 impl Cell {
-    /// Returns the state of a group before the first change.
+    /// Returns the counts and the clock of a group before the first change.
     pub(crate) fn zero() -> Cell
         ensures { result ≡ zero_cell }
     {
@@ -68,7 +68,9 @@ impl Cell {
         }
     }
 
-    // Returns the states that the group is in. The group is in no state if its accounting is off.
+    // Returns the states that the group is in, or no state if its accounting is off. `on_cpu` is
+    // whether the running task is in the group or below it. `current_stalled` is whether the
+    // running task is in a memory stall.
     #[inline(always)]
     fn mask(&self, on_cpu: bool, current_stalled: bool) -> Mask
         ensures few { IsMask result }
@@ -84,7 +86,9 @@ impl Cell {
     }
 
     /// Applies a change at the time `at` (ns), which subtracts `minus` from the group's counts and
-    /// adds `plus`. The clock stays the same if the group's states stay the same.
+    /// adds `plus`. After the change, `on_cpu` is whether the running task is in the group or below
+    /// it, and `current_stalled` whether the running task is in a memory stall. The clock stays the
+    /// same if the group's states stay the same.
     #[inline(always)]
     pub(crate) fn turn(
         &mut self,

@@ -1,5 +1,5 @@
 //! Applies a change to the groups on its chains. A chain is a slot and its ancestors. A change has
-//! four chains: two for counts and two for the running tasks.
+//! four chains: two for the counts and two for the running tasks before and after the change.
 
 ghost use Rattle.std.specs.Prelude.{◌≡◌, ◌&&◌, ◌⊎◌, ◌+◌, ◌==◌, ◌<◌, ◌≤◌, length, true, false, if◌then◌else◌, None, IfSome};
 ghost use Rattle.psi_base.specs.declared.event.State.{State};
@@ -16,35 +16,39 @@ use crate::part::Part;
 use crate::running::Running;
 use psi_base::{Ns, Slot};
 
-/// The current heights on the four chains of a change. The height of a slot is its number plus one,
-/// and the height past the root is 0. So one comparison shows both whether a chain continues and at
-/// which slot.
+/// The height that a walk has reached on each of the four chains of a change. The height of a slot
+/// is its number plus one, and the height after the root is 0. So one comparison of heights tests
+/// both that a chain hasn't ended and that the walk has reached a certain slot on it.
 #[derive(Clone, Copy)]
 pub(crate) struct Chains {
-    /// The height on the chain of the subtracted counts.
+    /// The height (slot number plus one) that the walk has reached on the chain of the subtracted
+    /// counts.
     minus: u64,
-    /// The height on the chain of the added counts.
+    /// The height (slot number plus one) that the walk has reached on the chain of the added
+    /// counts.
     plus: u64,
-    /// The height on the chain of the task that ran before the change.
+    /// The height (slot number plus one) that the walk has reached on the chain of the task that
+    /// ran before the change.
     before: u64,
-    /// The height on the chain of the task that runs after the change.
+    /// The height (slot number plus one) that the walk has reached on the chain of the task that
+    /// runs after the change.
     after: u64,
 }
 
-/// The parts of a change that can affect a group. Which parts do depends on which of the four
-/// chains the group is on.
+/// The parts of a change that can affect a group. Which parts affect a group depends on which of
+/// the four chains contain it.
 #[derive(Drop)]
 pub(crate) struct Parts {
     /// The time (ns) of the change.
     at: Ns,
-    /// The counts to subtract.
+    /// The counts that the change subtracts.
     minus: Part,
-    /// The counts to add.
+    /// The counts that the change adds.
     plus: Part,
     /// Whether the task that runs after the change is in a memory stall.
     stalled: bool,
-    /// True only if the change leaves the running task's slot and stall as they are, or no task
-    /// runs before and after the change.
+    /// True only if the change doesn't affect the running task's slot and stall, or if no task runs
+    /// before and after the change.
     stays: bool,
 }
 
@@ -57,17 +61,16 @@ fn height(slot: Option<Slot>) -> u64
     }
 }
 
-// Returns the height of a chain after the walk passes the height `here`. This is `parent`, the
-// height of the parent, if the chain was at `here`. Otherwise the height `place` of the chain is
-// unchanged.
+// Returns the height of a walk after it passes the height `here`. If the walk was at `here`, the
+// result is `parent`, the height of the parent. If not, the result is its old height `place`.
 fn pass(place: u64, here: u64, parent: u64) -> u64
     ensures { result ≡ passed here parent place }
 {
     if place == here { parent } else { place }
 }
 
-// Whether a chain at height `place` can be merged with a chain at height `other`: the heights are
-// equal, or the first chain is empty.
+// Returns whether a chain at height `place` can be merged with a chain at height `other`: the
+// heights are equal, or the first chain is empty.
 fn fits(place: u64, other: u64) -> bool
     ensures { result ≡ true → (place ≡ 0) ⊎ (place ≡ other) }
 {
@@ -75,9 +78,9 @@ fn fits(place: u64, other: u64) -> bool
 }
 
 impl Chains {
-    /// Returns the chains of a change at their first slots. `current` is the task that ran before
-    /// the change. A change that switches accounting subtracts no counts, so its chain `minus`
-    /// starts at the slot whose accounting is switched, which the walk must visit.
+    /// Returns the heights at which the four chains of a change start. `current` is the task that
+    /// ran before the change. A change that turns accounting on or off subtracts no counts, so its
+    /// chain `minus` starts at that group's slot, which the walk must visit.
     fn of(current: &Running, change: &PackedChange) -> Chains
         ensures { result ≡ chains_of current.now change.now }
     {
@@ -90,7 +93,7 @@ impl Chains {
         }
     }
 
-    /// Returns the greatest of the four heights.
+    /// Returns the greatest height of the four chains.
     pub(crate) fn top(&self) -> u64
         ensures { result ≡ top self.now }
     {
@@ -99,9 +102,9 @@ impl Chains {
         counted.max(running)
     }
 
-    // Moves each chain at height `here` to `parent`, the height of the parent. If `together` is
-    // true, the chains of the counts and of the task that ran before are at the same height and are
-    // moved as one.
+    // Moves each walk at height `here` to `parent`, the height of the parent. If `together` is
+    // true, the walks for the counts and for the task that ran before are at the same height and
+    // are moved together.
     fn pass(&mut self, here: u64, parent: u64, together: bool)
         requires together { together ≡ true → AreTogether self.old }
         ensures { self.new ≡ all_passed here parent self.old }
@@ -117,11 +120,11 @@ impl Chains {
         }
     }
 
-    // Returns the chains of a change of a task if three of them can start at the same slot: the two
-    // chains of the counts, and the chain of the task that ran before. Otherwise returns `None`. An
-    // empty chain can start anywhere. So can the chain of the task that ran before, if the change
-    // leaves the running task and its stall as they are, because nothing changes on that chain
-    // then.
+    // Returns the start heights of the chains of a change of a task if three of them can start at
+    // the same slot: the two chains of the counts, and the chain of the task that ran before.
+    // Returns `None` if they can't. An empty chain can start anywhere. If the change doesn't affect
+    // the running task and its stall, the chain of the task that ran before can also start
+    // anywhere, because nothing changes on it.
     #[tactic(auto, using(crate::proofs::StartLaws::start_together))]
     #[inline(always)]
     fn together(current: &Running, change: &PackedChange, stays: bool) -> Option<Chains>
@@ -202,10 +205,10 @@ fn turn_at(cell: &mut Cell, parts: &Parts, chains: &Chains, here: u64)
     );
 }
 
-// Applies a change to the groups on its chains, which start at the heights in `chains`. A parent
-// has a smaller slot than its child, so the walk always continues at the greatest slot of the four
-// chains and visits each group once. If `together` is known at compile time, the compiler merges
-// three of the four chains into one.
+// Applies a change to the groups on its chains, which start at the heights in `starts`. A parent
+// has a smaller slot than its child. So the walk always continues at the greatest slot of the four
+// chains, and it visits each group once. If `together` is known at compile time, the compiler
+// merges three of the four chains.
 #[inline(always)]
 fn climb(
     cells: &mut [Cell],
@@ -234,8 +237,8 @@ fn climb(
     }
 }
 
-// Applies a change by climbing the four chains without merging them. The function isn't inlined,
-// because this case is rare.
+// Applies a change to a slot and its ancestors on each of the four chains, without merging chains.
+// The function isn't inlined, because this case is rare.
 #[inline(never)]
 fn climb_each(
     cells: &mut [Cell],
@@ -253,8 +256,8 @@ fn climb_each(
     climb(cells, parents, current, change, &parts, starts, false);
 }
 
-/// Applies a switch of accounting. Does nothing for `None`. The counts and the clock of the group
-/// are updated later, when the walk visits the group.
+/// Turns a group's accounting on or off. Does nothing for `None`. The counts and the clock of the
+/// group are updated later, when the walk visits the group.
 pub(crate) fn switch(cells: &mut [Cell], account: Option<(Slot, bool)>)
     requires made { IfSome account (λ g. g.0.0 < length cells.old) }
     ensures on_with { AreOnWith account cells.old cells.new }
@@ -265,8 +268,9 @@ pub(crate) fn switch(cells: &mut [Cell], account: Option<(Slot, bool)>)
     }
 }
 
-/// Applies a change to the groups on its chains. Most changes need two chains instead of four: one
-/// for the task that runs after the change, and one for the counts and the task that ran before.
+/// Applies a change to the groups on its chains (a slot and its ancestors). Most changes need two
+/// chains instead of four: one for the task that runs after the change, and one for the counts and
+/// the task that ran before.
 #[inline(always)]
 pub(crate) fn walk(
     cells: &mut [Cell],

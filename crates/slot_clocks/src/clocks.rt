@@ -41,8 +41,7 @@ impl Model for SlotClocks {
 }
 
 impl SlotClocks {
-    /// Creates the clocks of `slots` slots, before the first change. No later call allocates
-    /// memory.
+    /// Creates the clocks of `slots` slots, before the first change. Later calls don't allocate.
     pub fn make(alloc: Global, slots: u32) -> Result<SlotClocks, NoMemory>
         ensures { IfOk result (λ clocks. clocks ≡ first_clocks slots) }
     {
@@ -53,14 +52,14 @@ impl SlotClocks {
         })
     }
 
-    /// Applies a change of the processor to the counts and clocks of the groups on the change's
-    /// chains. `parents` has the parent of each slot, and `None` for the root. Preconditions: there
-    /// is a clock for each slot in `parents`, and a change that switches a group's accounting
-    /// subtracts no counts. Does not allocate.
+    /// Applies a change of the processor to the counts and clocks of the groups that it affects.
+    /// `parents` has the parent of each slot, and `None` for the root. Preconditions: there is a
+    /// clock for each slot in `parents`, and a change that turns accounting on or off subtracts no
+    /// counts. Does not allocate.
     ///
-    /// The running time is proportional to the number of groups on the chains of four slots: the
-    /// slots of the subtracted and of the added counts, and the slots of the tasks that run before
-    /// and after the change.
+    /// The change affects up to four slots and their ancestors: the slots of the subtracted and of
+    /// the added counts, and the slots of the tasks that run before and after the change. The
+    /// running time is proportional to the number of these groups.
     #[tactic(auto, using(crate::proofs::AccountLaws::turned_since))]
     pub fn apply(&mut self, parents: &[Option<Slot>], change: &PackedChange)
         requires older { AreOlder (parent_numbers parents.now) }
@@ -73,8 +72,7 @@ impl SlotClocks {
         requires later { self.old.last ≤ change.now.at }
         requires early { change.now.at ≤ last_moment }
 
-        // The counts of each group follow the change, including groups that are on none of the
-        // chains.
+        // The counts of each group follow from the change, even if no chain contains the group.
         ensures counts { AllFollow (parent_numbers parents.now) change.now self.old self.new }
         ensures accounts { AllOnWith change.now self.old self.new }
         ensures clocks { AllClocksFollow change.now.at self.old self.new }
@@ -92,8 +90,8 @@ impl SlotClocks {
         self.last = change.at();
     }
 
-    /// Whether a group's accounting is on after the last change. Returns true for a slot without a
-    /// clock.
+    /// Returns whether a group's accounting is on after the last change. Returns true for a slot
+    /// without a clock.
     pub fn is_on(&self, slot: Slot) -> bool
         ensures { result ≡ (cell_at self.now slot.0).on }
     {
@@ -103,8 +101,8 @@ impl SlotClocks {
         }
     }
 
-    /// Returns the clock of a group, or the zero clock for a slot without a clock. The clock can be
-    /// read for any time from the last change on.
+    /// Returns the clock of a group, or the clock at time 0 for a slot without a clock. The result
+    /// can be advanced to any time at or after the last change.
     pub fn clock(&self, slot: Slot) -> Clock
         ensures value { result ≡ (cell_at self.now slot.0).clock }
         ensures in_time { (at : ℕ) → self.now.last ≤ at → at ≤ last_moment →

@@ -1,8 +1,12 @@
-//! The clocks of all groups on one processor, which follow the changes of that processor.
+//! The clocks of all groups on one processor. They follow the changes of that processor.
+//!
+//! A *change* of a processor subtracts and adds counts of tasks, sets the running task, reports
+//! interrupt time, or turns a group's accounting on or off. A *slot* is the number of a group, from
+//! 0 for the root.
 //!
 //! [`SlotClocks`] corresponds to the kernel's `psi_group_cpu` of all groups on one processor. A
-//! change is applied to the groups on its chains (a slot and its ancestors), just as the kernel
-//! calls `psi_group_change` for a task's group and for each ancestor.
+//! change is applied to the groups on its chains. A chain is a slot and its ancestors. The kernel
+//! also calls `psi_group_change` for a task's group and for each ancestor.
 //!
 //! The crate doesn't derive changes from a trace: proc_plan does.
 #![tactic(auto)]

@@ -14,34 +14,36 @@ use psi_base::{Ns, Slot};
 use psi_counts::{Change, Counts};
 use std::marker::Model;
 
-/// The kind of a change, which determines the contents other than the time and the running task.
+/// The kind of a change. It determines the meaning of all fields except the time and the running
+/// task.
 #[derive(Clone, Copy)]
 enum Kind {
-    /// The counts of one task are subtracted, added or both.
+    /// The change subtracts, adds, or subtracts and adds the counts of one task.
     Task,
     /// Interrupts took time on the processor.
     Irq,
-    /// The accounting of a group is switched on.
+    /// The pressure accounting of a group is turned on.
     SwitchedOn,
-    /// The accounting of a group is switched off.
+    /// The pressure accounting of a group is turned off.
     SwitchedOff,
 }
 
-/// A change in 16 bytes. The change concerns either a single task, only interrupt time, or only a
-/// switch of accounting. In contracts it is the unpacked change.
+/// A change in 16 bytes. It concerns a single task, only interrupt time, or only an on/off switch
+/// of accounting. In contracts it is the unpacked change.
 ///
-/// The size matters in a plan of 4,000,000 changes, because the first access to a page of memory
-/// costs more than writing to it. So a slot is stored as its height (the slot's number plus one, or
-/// 0 for no slot), and a task's counts as four bits. Interrupt time and switches of accounting are
-/// stored in the fields for a task's slots.
+/// A plan has up to 4,000,000 changes, and the first access to each page of memory is slow. So the
+/// changes are kept small. A slot is stored as its height: the slot's number plus one, or 0 for no
+/// slot. The counts of a task are stored as four bits. Interrupt time and on/off switches of
+/// accounting are stored in the fields for a task's slots.
 #[derive(Drop)]
 pub struct PackedChange {
     at: Ns,
-    /// Depends on the kind: the height of the slot with the subtracted counts, the number of the
-    /// slot whose accounting is switched, or the lower 16 bits of the interrupt time.
+    /// For a change of a task, the slot with the subtracted counts, stored as its height (the
+    /// slot's number plus one, or 0 for no slot). For interrupts, the lower 16 bits of the
+    /// interrupt time. For accounting, the number of the slot whose accounting is turned on or off.
     first: u16,
-    /// Depends on the kind: the height of the slot with the added counts, or the upper 16 bits of
-    /// the interrupt time.
+    /// For a change of a task, the slot with the added counts, stored as its height. For
+    /// interrupts, the upper 16 bits of the interrupt time.
     second: u16,
     current: Running,
     /// The bits of the subtracted counts in the upper four bits, and the bits of the added counts
@@ -70,8 +72,9 @@ impl Model for PackedChange {
         IsPart p.kind p.first (p.bits / 16) × IsPart p.kind p.second (p.bits % 16) };
 }
 
-// Returns the height of the slot and the bits of the counts that a change subtracts or adds.
-// Preconditions: the slot is less than 1,024, and each count is at most 1.
+// Packs the slot and the counts that a change subtracts or adds. Returns the height of the slot
+// (the slot's number plus one) and the counts as four bits, or two zeros for `None`. Preconditions:
+// the slot is less than 1,024, and each count is at most 1.
 #[inline(always)]
 fn pack_part(part: Option<(Slot, Counts)>) -> (u16, u8)
     requires low { IfSome part (λ part. part.0.0 < most_groups) }
@@ -97,8 +100,8 @@ fn unpack_part(height: u16, bits: u8) -> Option<(Slot, Counts)>
 }
 
 impl PackedChange {
-    /// Packs a change. Preconditions: the change concerns one task, only interrupt time, or only a
-    /// switch of accounting, and its slots are less than 1,024.
+    /// Packs a change. Preconditions: the change concerns one task, only interrupt time, or only an
+    /// on/off switch of accounting, and its slots are less than 1,024.
     #[inline(always)]
     pub fn new(change: Change) -> PackedChange
         requires one { IsOfOne change }
@@ -112,7 +115,7 @@ impl PackedChange {
         }
     }
 
-    // Packs a change of a task.
+    // Packs a change that concerns a task.
     #[inline(always)]
     fn of_task(
         at: Ns,
@@ -169,8 +172,8 @@ impl PackedChange {
         }
     }
 
-    // Packs a change that only switches accounting. The function isn't inlined, because this case
-    // is rare.
+    // Packs a change that only turns accounting on or off. The function isn't inlined, because this
+    // case is rare.
     #[inline(never)]
     fn of_account(at: Ns, current: Option<(Slot, bool)>, account: (Slot, bool)) -> PackedChange
         requires running { IfSome current (λ current. current.0.0 < most_groups) }
@@ -248,8 +251,8 @@ impl PackedChange {
         }
     }
 
-    /// Returns the slot whose accounting the change switches, and whether accounting is on after
-    /// the change. Returns `None` if the change switches no accounting.
+    /// Returns the slot of the group whose accounting the change turns on or off, and whether it is
+    /// on afterwards. Returns `None` if the change doesn't concern accounting.
     #[inline(always)]
     pub fn account(&self) -> Option<(Slot, bool)>
         ensures { result ≡ self.now.account }
@@ -275,8 +278,9 @@ impl PackedChange {
         }
     }
 
-    /// Returns the heights of the slots with the subtracted and the added counts. Returns `None` if
-    /// the change doesn't concern a task.
+    /// Returns the heights of the slots with the subtracted and the added counts. The height of a
+    /// slot is its number plus one, and 0 if the change has no such slot. Returns `None` if the
+    /// change doesn't concern a task.
     #[inline(always)]
     pub(crate) fn heights(&self) -> Option<(u64, u64)>
         ensures task { IfSome result (λ _. self.now.account ≡ None) }
@@ -289,7 +293,7 @@ impl PackedChange {
         }
     }
 
-    /// Returns the counts that the change subtracts, or zeros.
+    /// Returns the counts that the change subtracts, which are zeros if it subtracts none.
     #[inline(always)]
     pub(crate) fn taken(&self) -> Part
         ensures { result ≡ counts_in self.now.minus }
@@ -297,7 +301,7 @@ impl PackedChange {
         Part::of(self.bits / 16)
     }
 
-    /// Returns the counts that the change adds, or zeros.
+    /// Returns the counts that the change adds, which are zeros if it adds none.
     #[inline(always)]
     pub(crate) fn added(&self) -> Part
         ensures { result ≡ counts_in self.now.plus }
@@ -305,7 +309,7 @@ impl PackedChange {
         Part::of(self.bits % 16)
     }
 
-    /// Returns the running task after the change, in its packed form.
+    /// Returns the running task after the change, packed into two bytes.
     #[inline(always)]
     pub(crate) fn running(&self) -> &Running
         ensures { result.now ≡ self.now.current }

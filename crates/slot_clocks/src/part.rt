@@ -8,14 +8,15 @@ ghost use Rattle.slot_clocks.specs.Bits.{counts_by};
 use psi_counts::Counts;
 use std::marker::Model;
 
-// The four counts for each number from 0 to 15, in the order of the fields of `Counts`. The table
-// consists of plain numbers, because a table of structs would be built anew at each use.
+// The counts that each number from 0 to 15 represents: four entries for each number, in the order
+// of the fields of `Counts`. The table consists of plain numbers, because a table of structs would
+// be rebuilt at each use.
 const COUNTS: [u32; 64] = [
     0, 0, 0, 0, 1, 0, 0, 0, 0, 1, 0, 0, 1, 1, 0, 0, 0, 0, 1, 0, 1, 0, 1, 0, 0, 1, 1, 0, 1, 1, 1, 0,
     0, 0, 0, 1, 1, 0, 0, 1, 0, 1, 0, 1, 1, 1, 0, 1, 0, 0, 1, 1, 1, 0, 1, 1, 0, 1, 1, 1, 1, 1, 1, 1,
 ];
 
-/// Returns counts as four bits. Precondition: each count is at most 1.
+/// Returns the counts as four bits. Precondition: each count is at most 1.
 #[inline(always)]
 pub(crate) fn bits_of(counts: &Counts) -> u8
     requires { AreAtMost 1 counts.now }
@@ -43,9 +44,9 @@ pub(crate) fn counts_at(bits: u8) -> Counts
 /// The counts that a change subtracts, or the counts that it adds. In contracts this is a value of
 /// type `Counts`.
 ///
-/// The counts for a group are looked up in a table: at the index of this part if its chain is at
-/// the group, otherwise at index 0, which has zeros. This avoids a branch on the order of the four
-/// chains, which processors predict badly.
+/// The method `at` looks up the counts for a group in a table. The index is the part's bits if the
+/// walk on the part's chain has reached the group, and 0 (all counts are zero) if it hasn't. The
+/// table replaces a branch on the order of the four chains, which processors predict badly.
 #[derive(Drop)]
 pub(crate) struct Part(u8);
 
@@ -62,7 +63,7 @@ impl Model for Part {
 }
 
 impl Part {
-    /// Returns the part with these four bits.
+    /// Creates the part with the counts that the four bits `bits` represent.
     #[inline(always)]
     pub(crate) fn of(bits: u8) -> Part
         requires { bits < 16 }
@@ -71,8 +72,8 @@ impl Part {
         Part(bits)
     }
 
-    /// Returns the counts for a group. These are the part's counts if `here` is true, which means
-    /// that the part's chain is at the group. Otherwise they are zeros.
+    /// Returns this part's counts if `here` is true, and zeros if it is false. `here` is whether
+    /// the walk on this part's chain has reached the group.
     #[inline(always)]
     pub(crate) fn at(&self, here: bool) -> Counts
         ensures { result ≡ (if here then self.now else no_counts) }

@@ -9,11 +9,11 @@ ghost use Rattle.slot_clocks.specs.Walk.{height, slot_in};
 use psi_base::Slot;
 use std::marker::Model;
 
-/// The running task of a processor, or no task. A task is given by its slot and whether it is in a
-/// memory stall. In contracts this is an `Option`.
+/// The running task of a processor, or no task. A task is represented by its slot and whether it is
+/// in a memory stall. In contracts this is an `Option`.
 ///
-/// The number is twice the height of the slot (the slot's number plus one), plus one if the task is
-/// in a stall. It is 0 for no task.
+/// The stored number is twice the height of the slot (the slot's number plus one), plus one if the
+/// task is in a memory stall. It is 0 for no task.
 #[derive(Drop)]
 pub(crate) struct Running(u16);
 
@@ -30,14 +30,15 @@ impl Model for Running {
 }
 
 impl Running {
-    /// Returns the value for no running task.
+    /// Returns the value that represents no running task.
     pub(crate) fn none() -> Running
         ensures { result ≡ None }
     {
         Running(0)
     }
 
-    /// Packs the running task or `None`. Precondition: the task's slot is less than 1,024.
+    /// Packs the running task, or `None` if no task is running. Precondition: the task's slot is
+    /// less than 1,024.
     #[inline(always)]
     pub(crate) fn of(current: Option<(Slot, bool)>) -> Running
         requires { IfSome current (λ running. running.0.0 < most_groups) }
@@ -49,7 +50,7 @@ impl Running {
         }
     }
 
-    /// Returns a copy of the value.
+    /// Returns a copy of the packed running task.
     #[inline(always)]
     pub(crate) fn again(&self) -> Running
         ensures { result ≡ self.now }
@@ -68,8 +69,8 @@ impl Running {
         Some((Slot(u32::from(height) - 1), self.0 % 2 == 1))
     }
 
-    /// Returns the height of the running task's slot, at which the walk up its chain starts, or 0
-    /// if no task is running.
+    /// Returns the height of the running task's slot (its number plus one), at which the walk over
+    /// the group and its ancestors starts. Returns 0 if no task is running.
     #[inline(always)]
     pub(crate) fn height(&self) -> u64
         ensures { result ≡ height (slot_in self.now) }
@@ -77,7 +78,7 @@ impl Running {
         u64::from(self.0 / 2)
     }
 
-    /// Whether a task is running and in a memory stall.
+    /// Returns whether a task is running and is in a memory stall.
     #[inline(always)]
     pub(crate) fn is_stalled(&self) -> bool
         ensures { result ≡ is_current_stalled self.now }
@@ -85,7 +86,8 @@ impl Running {
         self.0 % 2 == 1
     }
 
-    /// Whether both values have the same slot and the same stall, or both have no task.
+    /// Returns whether both values represent the same slot and the same stall, or both represent no
+    /// task.
     #[inline(always)]
     pub(crate) fn is_same(&self, other: &Running) -> bool
         ensures { result ≡ true → self.now ≡ other.now }

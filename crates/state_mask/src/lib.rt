@@ -2,7 +2,7 @@
 //!
 //! [`mask_of`] corresponds to the kernel's `test_states`, together with the part of
 //! `psi_group_change` for a running task in a memory stall. The result is a [`Mask`] with one bit
-//! for each state. The crate doesn't measure how long a state lasts: cpu_clock does.
+//! for each state. This crate doesn't measure how long a state lasts; cpu_clock does.
 #![tactic(auto)]
 
 mod mask;

@@ -27,7 +27,7 @@ impl Model for Mask {
     ghost inverse = { λ bits. record { 0 = bits } };
 }
 
-/// Returns the bit of a state.
+/// Returns the bit of a state in a mask.
 fn bit(state: State) -> u8
     ensures { result ≡ 2 ^ state_number state }
 {
@@ -35,7 +35,7 @@ fn bit(state: State) -> u8
 }
 
 impl Mask {
-    /// Returns the mask without states.
+    /// Returns the empty mask.
     pub fn empty() -> Mask
         ensures { result ≡ 0 }
     {
@@ -51,7 +51,8 @@ impl Mask {
         Mask(bits)
     }
 
-    /// Returns the bits of the mask. Bit `n` stands for the state with the number `n`.
+    /// Returns the bits of the mask. Bit `n` is set if the state with the number `n` is in the
+    /// mask.
     pub fn bits(self) -> u8
         ensures value { result ≡ self }
         ensures few { IsMask result }
@@ -59,7 +60,7 @@ impl Mask {
         self.0
     }
 
-    /// Whether `state` is in the mask.
+    /// Returns whether `state` is in the mask.
     pub fn holds(self, state: State) -> bool
         ensures { result ≡ mask_holds self state }
     {

@@ -1,5 +1,5 @@
-//! The list of states, and the table that gives the mask of states for each combination of
-//! conditions on task counts.
+//! The list of states, and a table with the mask of states for each combination of conditions on
+//! task counts.
 
 ghost use Rattle.std.specs.Prelude.{◌≡◌, ◌<◌};
 ghost use Rattle.psi_base.specs.declared.event.State.{State};
@@ -10,7 +10,7 @@ use crate::mask::Mask;
 use psi_base::State;
 use psi_counts::Counts;
 
-/// The states, ordered by number.
+/// The seven states, ordered by number.
 pub const STATES: [State; 7] = [
     State::IoSome,
     State::IoFull,
@@ -21,8 +21,8 @@ pub const STATES: [State; 7] = [
     State::Nonidle,
 ];
 
-// The mask of states for each index that `place` returns. The masks are stored as bytes, because a
-// table of structs such as `Mask` would be built anew at each use.
+// The mask of states for each index that the function `place` returns. The masks are stored as
+// bytes, because a table of `Mask` values would be rebuilt at each use.
 const MASKS: [u8; 128] = [
     0, 67, 68, 71, 96, 97, 100, 101, 0, 67, 76, 79, 96, 97, 108, 109, 0, 67, 68, 71, 64, 65, 68,
     69, 0, 67, 76, 79, 64, 65, 76, 77, 0, 67, 68, 71, 96, 97, 100, 101, 0, 67, 76, 79, 96, 97, 108,
@@ -32,8 +32,9 @@ const MASKS: [u8; 128] = [
     92, 95, 88, 89, 92, 93, 24, 91, 92, 95, 88, 89, 92, 93,
 ];
 
-// Returns the index of a mask in `MASKS`. The function avoids branches on the conditions, which
-// processors predict badly.
+// Returns the index in `MASKS` for the task counts of a group. `on_cpu` is whether the processor's
+// running task is in the group, and `current_stalled` is whether it is in a memory stall. The index
+// is computed without branches, because a processor would often mispredict them.
 fn place(counts: &Counts, on_cpu: bool, current_stalled: bool) -> usize
     ensures place { result ≡ place_by counts.now on_cpu current_stalled }
     ensures within { result < 128 }

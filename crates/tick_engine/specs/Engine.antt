@@ -1,5 +1,5 @@
--- Relates the state of the engine to the ticks that the engine has taken. An engine *represents* a
--- list of ticks if taking these ticks leads to its state.
+-- Relates the state of the engine to the ticks with which it has been updated. An engine
+-- *represents* a list of ticks if updating a new engine with these ticks leads to its state.
 use Rattle.std.specs.Prelude.{◌≡◌, ℕ, ◌<◌, ◌≤◌, List, [], ◌∷◌, ◌++◌, length, map, nat_le, Bool, if◌then◌else◌, None, Some, All, IfSome}
 use Rattle.std.specs.List.{list_any}
 use Rattle.psi_base.specs.declared.event.TriggerSpec.{TriggerSpec}
@@ -16,8 +16,8 @@ use Rattle.tick_engine.specs.declared.group.Group.{Group}
 use Rattle.tick_engine.specs.declared.watch.TriggerWatch.{TriggerWatch}
 use Rattle.tick_engine.specs.Step.{AreGroupsWithin, engine_group}
 
--- An engine: the number of processors, the last tick, the state of each group and of each trigger,
--- and the indexes of the triggers that fired at the last tick.
+-- The state of the engine: the number of processors, the last tick, the state of each group and of
+-- each trigger, and the indexes of the triggers that fired at the last tick.
 pub record EngineView : Type 0 where
   pub cpus : ℕ
   pub last : Tick
@@ -25,21 +25,22 @@ pub record EngineView : Type 0 where
   pub watches : List TriggerWatch
   pub fired : List ℕ
 
--- The engine with these components.
+-- `seen_as cpus last groups watches fired`: the state of an engine with these parts.
 abbrev pub seen_as : ℕ → Tick → List Group → List TriggerWatch → List ℕ → EngineView
 seen_as cpus last groups watches fired = record { cpus = cpus; last = last; groups = groups; watches = watches; fired = fired }
 
--- The totals (ns) of the group in slot `slot`.
+-- `totals_in engine slot`: the engine's totals (ns) of the group in slot `slot`.
 abbrev pub totals_in : EngineView → ℕ → List ℕ
 totals_in engine slot = (engine_group engine.groups slot).totals
 
--- The averages of the group in slot `slot`.
+-- `averages_in engine slot`: the engine's averages of the group in slot `slot`.
 abbrev pub averages_in : EngineView → ℕ → AverageState
 averages_in engine slot = (engine_group engine.groups slot).averages
 
--- ---- the ticks that an engine represents
+-- ---- the list of ticks that an engine represents
 
--- The state of the group in slot `slot` after the ticks `ticks`.
+-- `group_after cpus lives ticks slot`: the specified state of the group in slot `slot` after the
+-- ticks `ticks`. `lives` are all groups, by slot.
 abbrev pub group_after : ℕ → List GroupLife → List Tick → ℕ → Group
 group_after cpus lives ticks slot =
     record {
@@ -49,12 +50,13 @@ group_after cpus lives ticks slot =
       averages = group_averages cpus lives ticks slot;
     }
 
--- Whether the trigger is active after `ticks`: at least one tick is at or after the time of its
--- line in the trace.
+-- `has_begun ticks trigger`: whether a trigger is active after `ticks`. It is active if at least
+-- one tick is at or after the time of the line that sets the trigger.
 abbrev pub has_begun : List Tick → TriggerSpec → Bool
 has_begun ticks trigger = list_any (λ (tick : Tick). nat_le trigger.at tick.at) ticks
 
--- The state of a trigger after the ticks `ticks`.
+-- `watch_after cpus lives ticks trigger`: the specified state of a trigger after the ticks `ticks`.
+-- `lives` are all groups, by slot.
 abbrev pub watch_after : ℕ → List GroupLife → List Tick → TriggerSpec → TriggerWatch
 watch_after cpus lives ticks trigger =
     record {
@@ -63,10 +65,10 @@ watch_after cpus lives ticks trigger =
           then Some (trigger_over trigger (history_of cpus lives ticks trigger.slot.0)) else None;
     }
 
--- The engine's state is the state after `ticks`, for `cpus` processors, the groups `lives` and
--- these triggers. Each tick is a legal successor of the tick before it. The engine has the state of
--- each group and of each trigger after `ticks`, the last tick, and the triggers that fired at the
--- last tick.
+-- `Represents engine cpus lives triggers ticks`: the engine has the state after `ticks`, for `cpus`
+-- processors, the groups `lives` and these triggers. Each tick is a legal successor of the tick
+-- before it. The state has each group and each trigger after `ticks`, the last tick, and the
+-- triggers that fired at the last tick.
 pub record Represents (engine : EngineView) (cpus : ℕ) (lives : List GroupLife) (triggers : List TriggerSpec)
     (ticks : List Tick) : Type 0 where
   pub ordered : AreNextTicks (no_tick cpus (length lives)) ticks
@@ -78,21 +80,21 @@ pub record Represents (engine : EngineView) (cpus : ℕ) (lives : List GroupLife
   pub fired : (prefix : List Tick) (tick : Tick) → ticks ≡ prefix ++ tick ∷ [] → engine.fired ≡ fired_at cpus lives triggers prefix tick
   pub unfired : ticks ≡ [] → engine.fired ≡ []
 
--- Taking `tick` leads from the engine's state `old` to its state `new`: if `old` represents
--- `ticks`, `new` represents `ticks` followed by `tick`.
+-- `EngineTakes old tick new`: updating the engine `old` with `tick` leads to `new`. That is, if
+-- `old` represents `ticks`, then `new` represents `ticks` followed by `tick`.
 abbrev pub EngineTakes : EngineView → Tick → EngineView → Type 0
 EngineTakes old tick new = (cpus : ℕ) (lives : List GroupLife) (triggers : List TriggerSpec) (ticks : List Tick) →
     Represents old cpus lives triggers ticks → Represents new cpus lives triggers (ticks ++ tick ∷ [])
 
--- ---- the invariant of an engine
+-- ---- the invariant of the engine
 
--- Each trigger is legal for a trace with `slots` groups.
+-- `AreWatchesWithin slots watches`: each trigger is legal for a trace with `slots` groups.
 abbrev pub AreWatchesWithin : ℕ → List TriggerWatch → Type 0
 AreWatchesWithin slots watches = All (λ watch. IsTriggerWithin last_moment slots watch.spec) watches
 
--- The invariant of an engine: the numbers of processors, groups and triggers are within their
--- limits, the table of the last tick has the right size, no total exceeds the time up to the last
--- tick, and the triggers are legal.
+-- The invariant of the engine. The numbers of processors, groups and triggers are within their
+-- limits. The table of the last tick has the right size. Each total is at most the time of the last
+-- tick. The triggers are legal.
 pub record IsEngine (engine : EngineView) : Type 0 where
   pub few_cpus : engine.cpus ≤ 64
   pub few_groups : length engine.groups ≤ most_groups
@@ -102,32 +104,32 @@ pub record IsEngine (engine : EngineView) : Type 0 where
   pub totals : AreGroupsWithin engine.last engine.groups
   pub watches : AreWatchesWithin (length engine.groups) engine.watches
 
--- The capacity suffices for `count` elements.
+-- `IsRoom count capacity`: `count` elements fit into a list with this capacity.
 pub record IsRoom (count capacity : ℕ) : Type 0 where
   pub room : count ≤ capacity
 
--- The time of the group's creation and the time of its removal, if it is removed, are at most
--- `latest` (ns).
+-- `IsLifeWithin latest life`: the group was created at or before `latest` (ns). If it was removed,
+-- the removal was also at or before `latest`.
 pub record IsLifeWithin (latest : ℕ) (life : GroupLife) : Type 0 where
   pub made : life.made ≤ latest
   pub gone : IfSome life.gone (λ gone. gone ≤ latest)
 
--- ---- laws
+-- ---- laws of the engine
 
--- The totals that an engine returns for a group are the specified totals after the ticks that the
+-- The totals that the engine returns for a group are the specified totals after the ticks that the
 -- engine represents.
 abbrev pub ShowsTotals : Type 0
 ShowsTotals = (engine : EngineView) (cpus : ℕ) (lives : List GroupLife) (triggers : List TriggerSpec) (ticks : List Tick) (slot : ℕ) →
     Represents engine cpus lives triggers ticks → slot < length lives → totals_in engine slot ≡ totals_after cpus lives ticks slot
 
--- The averages that an engine returns for a group are the specified averages after the ticks that
+-- The averages that the engine returns for a group are the specified averages after the ticks that
 -- the engine represents.
 abbrev pub ShowsAverages : Type 0
 ShowsAverages = (engine : EngineView) (cpus : ℕ) (lives : List GroupLife) (triggers : List TriggerSpec) (ticks : List Tick) (slot : ℕ) →
     Represents engine cpus lives triggers ticks → slot < length lives → averages_in engine slot ≡ group_averages cpus lives ticks slot
 
--- The triggers that an engine returns as fired are the triggers that, by the specification, fire at
--- the last tick that the engine represents.
+-- The triggers that the engine returns as fired are the triggers that the specification says fire
+-- at the last tick that the engine represents.
 abbrev pub ShowsFired : Type 0
 ShowsFired = (engine : EngineView) (cpus : ℕ) (lives : List GroupLife) (triggers : List TriggerSpec) (prefix : List Tick) (tick : Tick) →
     Represents engine cpus lives triggers (prefix ++ tick ∷ []) → engine.fired ≡ fired_at cpus lives triggers prefix tick

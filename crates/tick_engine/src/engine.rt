@@ -1,5 +1,5 @@
-//! The engine: the pressure totals and averages of all groups and the state of all triggers,
-//! updated tick by tick.
+//! The engine stores the pressure totals and averages of all groups and the state of all triggers,
+//! and updates them tick by tick.
 //!
 //! The module `group` updates one group, and the module `watch` updates one trigger.
 
@@ -25,9 +25,9 @@ use psi_spec::GroupLife;
 use std::alloc::Global;
 use std::marker::Model;
 
-/// The totals and averages of all groups, and the triggers that fired, after the ticks taken so
-/// far. The engine corresponds to the kernel's `psi_avgs_work` and `update_triggers`, except that
-/// all groups are updated at the same ticks. Memory is allocated only when the engine is made.
+/// The totals and averages of all groups, and the triggers that fired, after the ticks so far. The
+/// engine corresponds to the kernel's `psi_avgs_work` and `update_triggers`, except that all groups
+/// are updated at the same ticks. Memory is allocated only when the engine is created.
 #[derive(Drop)]
 pub struct Engine {
     last: LastTick,
@@ -76,7 +76,7 @@ fn watches_of(alloc: Global, triggers: &[TriggerSpec]) -> Result<Vec<TriggerWatc
 }
 
 impl Engine {
-    /// Returns an engine for the groups `lives` (indexed by slot) and these triggers, on `cpus`
+    /// Creates an engine for the groups `lives` (indexed by slot) and these triggers, on `cpus`
     /// processors, before the first tick. Allocates all memory that the engine ever needs.
     pub fn make(
         alloc: Global,
@@ -103,17 +103,17 @@ impl Engine {
         })
     }
 
-    /// Takes the next tick. `now` is the time of the tick (ns), and `rows` has the times (ns) of
-    /// all groups on all processors up to `now`. First, each trigger whose line in the trace is at
-    /// or before `now` becomes active. Then each live group is sampled. Then each active trigger of
-    /// a live group is stepped. Doesn't allocate.
+    /// Updates the engine at the next tick. `now` is the time of the tick (ns), and `rows` has the
+    /// times (ns) of all groups on all processors up to `now`. First, each trigger whose line in
+    /// the trace is at or before `now` becomes active. Then each live group is sampled. Then each
+    /// active trigger of a live group is updated. Doesn't allocate.
     pub fn tick(&mut self, now: Ns, rows: &Rows)
         requires sizes { HasSizes self.old.cpus (length self.old.groups) rows.now }
         requires next { IsNextTick self.old.last (tick_at now rows.now) }
         ensures stands { EngineTakes self.old (tick_at now rows.now) self.new }
 
-        // The next three clauses hold for every state, even for a state that no list of ticks leads
-        // to.
+        // The next three clauses hold for every state of the engine, even for a state that no list
+        // of ticks leads to.
         ensures last { self.new.last ≡ tick_at now rows.now }
         ensures cpus { self.new.cpus ≡ self.old.cpus }
         ensures slots { length self.new.groups ≡ length self.old.groups }
@@ -149,8 +149,8 @@ impl Engine {
     }
 }
 
-/// Laws of the engine: the results that it returns are the specified results for the ticks that it
-/// has taken.
+/// Laws of the engine: its results are the specified results for the ticks with which it has been
+/// updated.
 pub fn law_engine()
     ensures totals { ShowsTotals }
     ensures averages { ShowsAverages }

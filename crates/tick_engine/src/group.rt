@@ -1,6 +1,6 @@
-//! The state of one group, and the update of all groups at a tick.
+//! The state of one group, and the function that updates all groups at a tick.
 //!
-//! The crate `aggregate` computes the share of an interval that is added to a group's totals.
+//! The crate `aggregate` computes the times that are added to a group's totals in an interval.
 
 ghost use Rattle.std.specs.Prelude.{◌≡◌, ℕ, ◌≤◌, ◌<◌, ◌&&◌, length, nat_le, not};
 ghost use Rattle.aggregate.specs.Table.{HaveSameSizes};
@@ -71,8 +71,8 @@ impl Group {
         is_live(self.made, self.gone, at)
     }
 
-    /// Adds the shares (ns) of an interval to the totals, and updates the averages at time `now`
-    /// (ns), the end of the interval.
+    /// Adds the shares (ns) of an interval to the totals, and updates the averages. The interval
+    /// ends at time `now` (ns).
     fn sample(&mut self, now: Ns, shares: Amounts)
         requires early { now ≤ last_moment }
         requires fits { AreAmountsWithin last_moment most_irq_total (plus self.old.totals shares) }
@@ -83,8 +83,8 @@ impl Group {
     }
 
     /// Samples the group at the tick at time `now` (ns) if the group is live. The sample is
-    /// computed from the growth of the group's times since the last tick. If the group isn't live,
-    /// its state doesn't change.
+    /// computed from the increase of the group's times since the last tick. If the group isn't
+    /// live, its state doesn't change.
     fn tick(&mut self, slot: Slot, last: &LastTick, now: Ns, rows: &Rows)
         requires few { length (row_at (tick_at now rows.now) slot.0) ≤ 64 }
         requires each { length (row_at last.now slot.0)

@@ -1,13 +1,13 @@
-//! The last tick. The growth of times is computed as the difference to this tick.
+//! Stores the last tick. The increase of a group's times at the next tick is computed from it.
 //!
-//! Triggers don't use it: they store their own totals.
+//! Triggers don't use this module: they store their own totals.
 
 use aggregate::Rows;
 use psi_base::Ns;
 use std::marker::Model;
 
 /// The last tick: its time (ns), and the times (ns) of all groups on all processors up to it.
-/// Before the first tick, all of them are 0.
+/// Before the first tick, all values are 0.
 #[derive(Drop)]
 pub(crate) struct LastTick {
     pub(crate) at: Ns,

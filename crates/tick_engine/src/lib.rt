@@ -1,4 +1,4 @@
-//! Updates all groups and triggers at each tick: totals, averages and signals of triggers.
+//! Updates the totals and averages of all groups and the state of all triggers at each tick.
 //!
 //! The caller (replay_ticks) passes the times of each tick, which replay_workers collects. This
 //! crate doesn't compute these times. Rules and reports use its results.

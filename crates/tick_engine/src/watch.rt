@@ -1,4 +1,4 @@
-//! The state of one trigger of a trace, and the update of all triggers at a tick.
+//! The state of one trigger of a trace, and the function that updates all triggers at a tick.
 //!
 //! The crate `window_trigger` implements the window and the threshold of a trigger.
 
@@ -15,14 +15,14 @@ use psi_base::{Ns, State, TriggerSpec};
 use window_trigger::Trigger;
 
 /// A trigger of the trace, and its state. The state is `None` until the first tick at or after the
-/// time of the trigger's line in the trace.
+/// time of the line that sets the trigger.
 #[derive(Drop)]
 pub(crate) struct TriggerWatch {
     pub(crate) spec: TriggerSpec,
     pub(crate) trigger: Option<Trigger>,
 }
 
-/// Returns the total (ns) that the trigger watches.
+/// Returns the total (ns) on whose growth the trigger fires.
 fn watched_total(groups: &[Group], spec: &TriggerSpec) -> u64
     requires slot { spec.now.slot.0 < length groups.now }
     ensures { result ≡ watched_total groups.now spec.now }
@@ -31,8 +31,8 @@ fn watched_total(groups: &[Group], spec: &TriggerSpec) -> u64
     totals[State::of(spec.res, spec.level) as usize]
 }
 
-/// Returns the state of a trigger at the time of its line in the trace, at which its total is
-/// `total` (ns).
+/// Returns the state that a trigger has at the time of the line that sets it. `total` is the
+/// trigger's total (ns) at that time.
 fn trigger_with(spec: &TriggerSpec, total: u64) -> Trigger
     requires at { spec.now.at ≤ last_moment }
     requires window { is_window spec.now.threshold_us spec.now.window_us ≡ true }
@@ -56,8 +56,9 @@ impl TriggerWatch {
         }
     }
 
-    /// Activates the trigger with its total at the previous tick. Does nothing if the trigger is
-    /// active already, or if its line is later than the tick.
+    /// Activates the trigger at the tick at time `now` (ns), with its total at the previous tick.
+    /// Does nothing if the trigger is active already, or if the line that sets it is later than the
+    /// tick.
     fn begin(&mut self, groups: &[Group], now: Ns)
         requires spec { IsTriggerWithin last_moment (length groups.now) self.old.spec }
         requires totals { All (λ group. AreStatesWithin last_moment group) groups.now }
@@ -69,8 +70,8 @@ impl TriggerWatch {
         }
     }
 
-    /// Steps the trigger at the tick at time `now` (ns) if the trigger is active and its group is
-    /// live. Returns whether the trigger fires.
+    /// Updates the trigger at the tick at time `now` (ns). Does nothing if the trigger isn't active
+    /// or its group isn't live. Returns whether the trigger fires.
     fn step(&mut self, groups: &[Group], now: Ns) -> bool
         requires spec { IsTriggerWithin last_moment (length groups.now) self.old.spec }
         requires totals { All (λ group. AreStatesWithin last_moment group) groups.now }
@@ -89,8 +90,9 @@ impl TriggerWatch {
     }
 }
 
-/// Activates each trigger whose line in the trace is at or before the tick, with its total at the
-/// previous tick. Active triggers don't change.
+/// Activates the triggers that become active at the tick at time `now` (ns): those whose line in
+/// the trace is at or before `now`. They start from their totals at the previous tick. Active
+/// triggers don't change.
 pub(crate) fn begin_all(watches: &mut [TriggerWatch], groups: &[Group], now: Ns)
     requires watches { AreWatchesWithin (length groups.now) watches.old }
     requires totals { All (λ group. AreStatesWithin last_moment group) groups.now }
@@ -101,7 +103,8 @@ pub(crate) fn begin_all(watches: &mut [TriggerWatch], groups: &[Group], now: Ns)
     }
 }
 
-/// Appends the index `number` to `fired` if `has_signalled`. Precondition: the list isn't full.
+/// Appends the index `number` to `fired` if `has_signalled` is true. Precondition: the list isn't
+/// full.
 fn add_where(fired: &mut Vec<u32>, number: u32, has_signalled: bool)
     requires { vec_len fired.old < vec_capacity fired.old }
     ensures items { fired.new.items
@@ -114,8 +117,8 @@ fn add_where(fired: &mut Vec<u32>, number: u32, has_signalled: bool)
     }
 }
 
-/// Steps each active trigger of a live group at the tick at time `now` (ns). Afterwards `fired` has
-/// the indexes of the triggers that fire.
+/// Updates each active trigger of a live group at the tick at time `now` (ns). Afterwards `fired`
+/// has the indexes of the triggers that fire.
 pub(crate) fn step_all(
     watches: &mut [TriggerWatch],
     groups: &[Group],

@@ -1,6 +1,6 @@
-//! The state of one trigger.
+//! The state of a single pressure trigger.
 //!
-//! The caller passes the total stall time that the trigger watches.
+//! The caller passes the total stall time on which the trigger depends.
 ghost use Rattle.std.specs.Prelude.{◌≡◌, ◌≤◌, ◌<◌, ◌*◌, ◌/◌, ◌+◌, ◌-◌, MatchResult, true, false};
 ghost use Rattle.psi_base.specs.declared.event.Cause.TheVariants as cause;
 ghost use Rattle.psi_spec.specs.Refusal.{is_window};
@@ -13,12 +13,12 @@ use std::marker::Model;
 /// The number of ns in a microsecond.
 const MICROSECOND: Ns = 1000;
 
-/// A trigger on the growth of a group's stall time in a sliding time window. A user sets it by
-/// writing to a pressure file. It corresponds to the kernel's `psi_trigger`. Two signals of a
-/// trigger are at least a window apart.
+/// A trigger on the growth of a group's stall time in a sliding time window. It corresponds to the
+/// kernel's `psi_trigger`, which a user sets by writing to a pressure file. Two signals of a
+/// trigger are at least one window apart.
 #[derive(Drop)]
 pub struct Trigger {
-    /// The growth (ns) within a window that makes a signal pending.
+    /// The growth (ns) of the total within a window that makes a signal pending.
     threshold: Ns,
     /// The length of the window (ns).
     size: Ns,
@@ -28,9 +28,9 @@ pub struct Trigger {
     start_value: u64,
     /// The total (ns) at the last tick.
     last_value: u64,
-    /// The growth (ns) of the total in the previous window.
+    /// The growth (ns) of the total during the previous window.
     previous: u64,
-    /// Whether a signal is pending.
+    /// Whether a signal is pending, which means that the trigger fires as soon as it may.
     pending: bool,
     /// The time of the last signal (ns), or `None` if there was no signal.
     last_event: Option<Ns>,
@@ -56,10 +56,10 @@ impl Model for Trigger {
     ghost invariant = { λ t. IsTrigger t.size t.previous t.last_event };
 }
 
-/// Returns the estimated growth (ns) of a total in the sliding window, while the current window
-/// hasn't expired. The estimate is the growth since the start of the current window, plus the part
-/// of the previous window's growth that corresponds to the remaining time. The intermediate product
-/// needs up to 89 bits.
+/// Returns the estimated growth (ns) of a total in the sliding window. Precondition: the current
+/// window hasn't expired. The estimate is the growth since the start of the current window, plus
+/// the part of the previous window's growth that corresponds to the remaining time. The
+/// intermediate product needs up to 89 bits.
 fn slid(growth: u64, previous: u64, size: Ns, elapsed: Ns) -> u64
     requires growth { growth ≤ last_moment }
     requires previous { previous ≤ last_moment }
@@ -72,7 +72,7 @@ fn slid(growth: u64, previous: u64, size: Ns, elapsed: Ns) -> u64
 }
 
 impl Trigger {
-    /// Returns a trigger that is set at time `at` (ns), when the total is `value` (ns). Fails with
+    /// Creates a trigger that is set at time `at` (ns), when its total is `value` (ns). Fails with
     /// `BadWindow` if the window isn't between 500 ms and 10 s, or if the threshold isn't between 1
     /// us and the window.
     pub fn new(at: Ns, value: u64, threshold_us: u64, window_us: u64) -> Result<Trigger, Cause>
@@ -101,8 +101,8 @@ impl Trigger {
         })
     }
 
-    /// Takes a tick at time `now` (ns), at which the total is `value` (ns). Returns whether the
-    /// trigger fires.
+    /// Updates the trigger at the tick at time `now` (ns), at which the total is `value` (ns).
+    /// Returns whether the trigger fires.
     #[tactic(auto, unfolding(pressure_spec::specs::Signal::trigger_step, pressure_spec::specs::Signal::fires))]
     pub fn step(&mut self, now: Ns, value: u64) -> bool
         requires now { now ≤ last_moment }
@@ -116,8 +116,8 @@ impl Trigger {
         self.signal(now)
     }
 
-    /// Processes a changed total at time `now` (ns). Starts a new window if the current window has
-    /// expired, and makes a signal pending if the growth reaches the threshold.
+    /// Updates the state for a changed total at time `now` (ns). Starts a new window if the current
+    /// window has expired, and makes a signal pending if the growth reaches the threshold.
     fn grow(&mut self, now: Ns, value: u64)
         requires now { now ≤ last_moment }
         requires value { value ≤ last_moment }
@@ -139,8 +139,8 @@ impl Trigger {
         self.last_value = value;
     }
 
-    /// Fires the pending signal, if any, unless the last signal was less than a window ago. Returns
-    /// whether the trigger fires.
+    /// Fires the pending signal, if any, unless the last signal was less than one window ago.
+    /// Returns whether the trigger fires.
     fn signal(&mut self, now: Ns) -> bool
         requires { now ≤ last_moment }
         ensures state { self.new ≡ model.settled self.old now }
