@@ -11,7 +11,7 @@ use Rattle.kill_spec.specs.Victims.{names_slot}
 
 -- ---- places
 
--- A dummy group. `group_at` returns it for an index past the end of the list.
+-- A dummy group: the result of `group_at` for an index past the end of the list.
 abbrev pub no_group : GroupReading
 no_group = record {
   slot = record { 0 = 0 };
@@ -41,7 +41,7 @@ AreAmong groups places = All (λ place. place < length groups) places
 abbrev pub is_child : List GroupLife → ℕ → GroupReading → Bool
 is_child lives slot group = names_slot slot (slice_index_or (parents_of lives) group.slot.0 None)
 
--- The number of children of the group in slot `slot`, among all groups that the trace ever creates.
+-- The number of children that the trace ever creates in the group in slot `slot`.
 abbrev pub child_count : List GroupLife → ℕ → ℕ
 child_count lives slot = length (filter (names_slot slot) (parents_of lives))
 
@@ -55,30 +55,30 @@ pub record PlacesView : Type 0 where
 abbrev pub places_with : List ℕ → ℕ → PlacesView
 places_with places room = record { places = places; room = room }
 
--- The list `held` has the places of exactly the groups that pass `test`, in the order of `groups`.
--- The capacity of `held` is at least `room`.
+-- The list `held` has the places of all groups that pass `test`, and only these, in the order of
+-- `groups`. The capacity of `held` is at least `room`.
 pub record AreHeld (test : GroupReading → Bool) (groups : List GroupReading) (room : ℕ)
     (held : PlacesView) : Type 0 where
   pub passed : groups_at groups held.places ≡ filter test groups
   pub within : AreAmong groups held.places
   pub spare : room ≤ held.room
 
--- For every slot, `below` has the list of the places of that group's children in the reading. The
--- capacity of each list suffices for all children that the trace ever creates.
+-- For every slot, `below` has the places of the group's children in the reading. Each list has
+-- capacity for all children that the trace ever creates in the group.
 abbrev pub AreBelow : List GroupLife → List GroupReading → List PlacesView → Type 0
 AreBelow lives groups below = (slot : ℕ) (d : PlacesView) → slot < length lives →
     AreHeld (is_child lives slot) groups (child_count lives slot) (slice_index_or below slot d)
 
--- The invariant of the place lists of a reading. The list `all` has the places of all groups;
--- `below` has, for each slot, the places of the children of its group.
+-- The invariant of the place lists of a reading. The list `all` has the places of all groups. For
+-- each slot, `below` has the places of the children of the slot's group.
 pub record ArePlaces (lives : List GroupLife) (groups : List GroupReading) (all : PlacesView)
     (below : List PlacesView) : Type 0 where
   pub each : AreHeld (λ group. true) groups (length lives) all
   pub slots : length below ≡ length lives
   pub children : AreBelow lives groups below
 
--- If `is_placed`, the list `new` is `old` with `place` appended; otherwise `new` has the places of
--- `old`. The capacity doesn't shrink.
+-- If `is_placed` is true, `new` is `old` with `place` appended. If it is false, `new` has the same
+-- places as `old`. The capacity doesn't shrink.
 pub record HasPlaced (is_placed : Bool) (place : ℕ) (old new : PlacesView) : Type 0 where
   pub places : new.places ≡ (if is_placed then old.places ++ place ∷ [] else old.places)
   pub room : old.room ≤ new.room

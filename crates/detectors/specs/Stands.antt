@@ -1,5 +1,5 @@
--- Relates the state of a detector to the readings that the detector has taken. A detector
--- *represents* a list of readings if taking these readings leads to its state.
+-- Relates the state of a detector to the readings that the detector has processed. A detector
+-- *represents* a list of readings if processing these readings leads to its state.
 use Rattle.std.specs.Prelude.{◌≡◌, ℕ, ◌≤◌, List, [], ◌∷◌, length, Bool, false, if◌then◌else◌}
 use Rattle.std.specs.Prelude.{Option, None, Some}
 use Rattle.psi_spec.specs.declared.machine.GroupLife.{GroupLife}
@@ -27,8 +27,8 @@ IsMatchTable lives patterns [] matched = Unit {0}
 IsMatchTable lives patterns (reading ∷ past) matched = matched ≡ match_table lives patterns
 
 -- Whether the detector's condition on pressure or memory holds at `reading`. The detector is true
--- only after this condition has held for the detector's duration. Always false for a detector
--- without such a duration condition.
+-- only after this condition has held for the detector's duration. The result is false for detectors
+-- of memory reclaim, of free swap and of existence, which have no such condition.
 abbrev pub condition_of : List GroupLife → DetectorSpec → Reading → Bool
 condition_of lives (detector.PressureAbove cgroup resource threshold duration_s) reading =
     is_pressed lives cgroup resource ten_seconds threshold reading
@@ -38,26 +38,27 @@ condition_of lives (detector.MemoryAbove cgroup threshold duration_s) reading =
     is_memory_above lives cgroup threshold reading
 condition_of lives _ reading = false
 
--- For a detector of rising pressure, the greatest `full` average over 10 s among its matches at the
--- newest reading. 0 for any other detector.
+-- For a detector of rising pressure, the greatest `full` average over 10 s at the newest reading,
+-- among the groups that its patterns match. 0 for any other detector.
 abbrev pub greatest_kept : List GroupLife → DetectorSpec → List Reading → ℕ
 greatest_kept lives (detector.PressureRisingBeyond cgroup resource _ _ _) history =
     greatest_before lives cgroup resource history
 greatest_kept lives _ history = 0
 
 -- The scan count of the group in slot `slot` at the newest reading, or `None` if the group wasn't
--- live then.
+-- live at that reading. `None` also if the list of readings is empty.
 abbrev pub last_scan : List Reading → ℕ → Option ℕ
 last_scan [] slot = None
 last_scan (reading ∷ past) slot = scan_of (group_in reading slot)
 
--- The scan count that the detector stores for slot `slot`: `last_scan` for a detector of memory
--- reclaim, `None` for any other detector.
+-- The scan count that the detector stores for slot `slot`: for a detector of memory reclaim the
+-- count at the newest reading, for any other detector `None`.
 abbrev pub scan_kept : DetectorSpec → List Reading → ℕ → Option ℕ
 scan_kept spec history slot = if keeps_scans spec then last_scan history slot else None
 
--- For a detector of memory reclaim, whether reclaim scanned pages of a match at a reading at most
--- `duration` (ns) before time `at` (ns). Always false for any other detector.
+-- For a detector of memory reclaim, whether a reading at most `duration` (ns) before time `at` (ns)
+-- shows new page scans: the scan count of a group that the patterns match is greater than at the
+-- previous reading. False for any other detector.
 abbrev pub is_scanned_kept : List GroupLife → DetectorSpec → ℕ → ℕ → List Reading → Bool
 is_scanned_kept lives spec duration at history =
     if keeps_scans spec
@@ -66,10 +67,9 @@ is_scanned_kept lives spec duration at history =
 
 -- ---- the readings that a detector represents
 
--- The state of `detector` is the state after taking the readings `history` (newest first), for the
--- arguments `spec`. The stored start of the current run determines, for every duration, whether the
--- condition has held that long. The stored time of the last increase determines, for every
--- duration, whether pages were scanned within it.
+-- The state of `detector` is the state of a detector with the arguments `spec` after the readings
+-- `history` (newest first). The stored times determine, for every duration, whether the condition
+-- has held that long, and whether pages were scanned within that time.
 pub record Represents (detector : DetectorView) (lives : List GroupLife) (spec : DetectorSpec)
     (history : List Reading) : Type 0 where
   pub spec_is : detector.spec ≡ spec
@@ -90,8 +90,8 @@ Answers old reading answer = (spec : DetectorSpec) (history : List Reading) →
     Represents old reading.lives spec history →
     answer ≡ is_true reading.lives spec reading.seen history
 
--- Taking `reading` leads from the state `old` to the state `new`: if `old` represents the readings
--- `history`, `new` represents `reading` followed by `history`.
+-- Processing `reading` changes the state from `old` to `new`: if the readings `history` lead to
+-- `old`, the readings `reading ∷ history` lead to `new`.
 abbrev pub DetectorTakes : DetectorView → ReadingView → DetectorView → Type 0
 DetectorTakes old reading new = (spec : DetectorSpec) (history : List Reading) →
     Represents old reading.lives spec history →
@@ -100,8 +100,8 @@ DetectorTakes old reading new = (spec : DetectorSpec) (history : List Reading) �
 -- ---- the invariant of a detector
 
 -- The invariant of a detector. The current run began, and the last increase occurred, no later than
--- the last reading. The greatest average is at most 100 percent (204800 = 100 * 2048). Only a
--- detector of memory reclaim has scan counts, one for each slot.
+-- the last reading. The greatest average is at most 204800 = 100 * 2048, which means 100 percent. A
+-- detector of memory reclaim has one scan count for each slot, and any other detector has none.
 pub record IsDetector (detector : DetectorView) : Type 0 where
   pub run : IsBy detector.run detector.last
   pub increased : IsBy detector.increased detector.last

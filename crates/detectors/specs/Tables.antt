@@ -1,6 +1,6 @@
--- The values that a detector computes from a reading and from its stored tables. The *matches* of a
--- detector are the groups that its patterns match. The *scan count* of a group is the number of its
--- pages that memory reclaim has scanned.
+-- The values that a detector computes from a reading and from its stored tables. A table of matches
+-- says for each slot whether the detector's patterns match its group. The *scan count* of a group
+-- is the number of its pages that memory reclaim has scanned.
 use Rattle.std.specs.Prelude.{◌≡◌, ℕ, ◌-◌, ◌*◌, max, List, [], map, filter, fold, slice_index_or}
 use Rattle.std.specs.Prelude.{nat_le, nat_lt}
 use Rattle.std.specs.Prelude.{◌&&◌, Bool, false, true, Option, None, Some, not, if◌then◌else◌}
@@ -18,7 +18,7 @@ use Rattle.kill_spec.specs.Readings.{Reading, full_average, sixty_seconds, ten_s
 use Rattle.kill_spec.specs.Detectors.{is_above, of_seconds}
 use Rattle.detectors.specs.Views.{DetectorView, ReadingView}
 
--- ---- matches
+-- ---- groups that a detector's patterns match
 
 -- The patterns of a detector. A detector of free swap has no patterns.
 abbrev pub detector_patterns : DetectorSpec → List Pattern
@@ -33,15 +33,15 @@ detector_patterns (detector.Exists cgroup negate) = cgroup
 abbrev pub match_table : List GroupLife → List Pattern → List Bool
 match_table lives patterns = map (λ (life : GroupLife). is_match patterns life.path) lives
 
--- Whether the group is a match according to the table `matched`.
+-- Whether the detector's patterns match the group, according to the table `matched`.
 abbrev pub has : List Bool → GroupReading → Bool
 has matched group = slice_index_or matched group.slot.0 false
 
--- The groups that are matches according to the table `matched`.
+-- The groups that the detector's patterns match, according to the table `matched`.
 abbrev pub found : List Bool → List GroupReading → List GroupReading
 found matched groups = filter (has matched) groups
 
--- ---- conditions on the matches
+-- ---- conditions on the matched groups
 
 -- The greatest `full` pressure average of a resource over a window among the groups, or 0 if there
 -- are no groups.
@@ -58,8 +58,9 @@ abbrev pub is_some_above : Size → HostReading → List GroupReading → Bool
 is_some_above threshold host groups =
     list_any (λ (group : GroupReading). is_above threshold host group.current) groups
 
--- Whether the detector's condition on pressure or memory holds for the host and the matches
--- `groups`. Always false for a detector without a duration condition.
+-- Whether the detector's condition on pressure or memory holds. `groups` are the groups that the
+-- detector's patterns match. The result is false for detectors of memory reclaim, of free swap and
+-- of existence.
 abbrev pub condition_among : DetectorSpec → HostReading → List GroupReading → Bool
 condition_among (detector.PressureAbove cgroup resource threshold duration_s) host groups =
     are_pressed resource ten_seconds threshold groups
@@ -69,8 +70,8 @@ condition_among (detector.MemoryAbove cgroup threshold duration_s) host groups =
     is_some_above threshold host groups
 condition_among _ host groups = false
 
--- For a detector of rising pressure, the greatest `full` average over 10 s among the matches
--- `groups`. 0 for any other detector.
+-- For a detector of rising pressure, the greatest `full` average over 10 s among `groups`, the
+-- groups that its patterns match. 0 for any other detector.
 abbrev pub greatest_of : DetectorSpec → List GroupReading → ℕ
 greatest_of (detector.PressureRisingBeyond cgroup resource threshold duration_s ratio) groups =
     greatest_among resource ten_seconds groups
@@ -87,7 +88,7 @@ abbrev pub keeps_scans : DetectorSpec → Bool
 keeps_scans (detector.MemoryReclaim cgroup duration_s) = true
 keeps_scans _ = false
 
--- The number of slots for which a detector stores scan counts: all `slots` for a detector of memory
+-- The number of slots whose scan counts a detector stores: all `slots` for a detector of memory
 -- reclaim, 0 for any other detector.
 abbrev pub scan_slots : DetectorSpec → ℕ → ℕ
 scan_slots spec slots = if keeps_scans spec then slots else 0
@@ -96,7 +97,7 @@ scan_slots spec slots = if keeps_scans spec then slots else 0
 abbrev pub scan_in : List (Option ℕ) → ℕ → Option ℕ
 scan_in scans slot = slice_index_or scans slot None
 
--- The scan count of a group, or `None` if there is no group.
+-- The scan count of an optional group, or `None` if there is no group.
 abbrev pub scan_of : Option GroupReading → Option ℕ
 scan_of None = None
 scan_of (Some group) = Some group.scan
@@ -118,14 +119,15 @@ have_risen scans groups = list_any (has_risen scans) groups
 abbrev pub scan_among : List GroupReading → ℕ → Option ℕ
 scan_among groups slot = scan_of (find (λ (group : GroupReading). group.slot.0 == slot) groups)
 
--- The stored scan count of slot `slot` after a reading with these groups. The stored count doesn't
--- change if the detector stores no scan counts.
+-- The stored scan count of slot `slot` after a reading with these groups. A detector that stores no
+-- scan counts leaves `scans` unchanged.
 abbrev pub scan_after : DetectorSpec → List (Option ℕ) → List GroupReading → ℕ → Option ℕ
 scan_after spec scans groups slot =
     if keeps_scans spec then scan_among groups slot else scan_in scans slot
 
--- The time (ns) of the last increase of a match's scan count, after a reading at time `now` (ns)
--- with the matches `groups`. `increased` is that time before the reading.
+-- The time (ns) of the last increase of the scan count of a group in `groups`, after a reading at
+-- time `now` (ns). `increased` is the time of the last increase before the reading. `groups` are
+-- the groups that the detector's patterns match.
 abbrev pub last_rise :
     DetectorSpec → List (Option ℕ) → Option ℕ → List GroupReading → ℕ → Option ℕ
 last_rise spec scans increased groups now =
@@ -133,30 +135,31 @@ last_rise spec scans increased groups now =
 
 -- ---- tests of times
 
--- Whether a run of a condition that began at time `start` (ns) has lasted at least `duration` (ns)
--- at time `at` (ns). False if there is no run.
+-- Whether a condition that has held since time `start` (ns) has held for at least `duration` (ns)
+-- at time `at` (ns). False for `None`, if the condition doesn't hold.
 abbrev pub is_long : Option ℕ → ℕ → ℕ → Bool
 is_long None duration at = false
 is_long (Some start) duration at = nat_le duration (at - start)
 
--- Whether `moment` (ns) is at most `duration` (ns) before time `at` (ns). False if there is no such
--- time.
+-- Whether `moment` (ns) is at most `duration` (ns) before time `at` (ns). False if `moment` is
+-- `None`.
 abbrev pub is_recent : Option ℕ → ℕ → ℕ → Bool
 is_recent None duration at = false
 is_recent (Some moment) duration at = nat_le (at - moment) duration
 
--- The time (ns) since which a condition has held without interruption, after it was tested at time
--- `now` (ns). `None` if the condition doesn't hold.
+-- `run_after run holds now`: the time (ns) since which a condition has held without interruption,
+-- or `None` if it doesn't hold. `holds` is the result of testing the condition at time `now` (ns),
+-- and `run` is the time after the previous test.
 abbrev pub run_after : Option ℕ → Bool → ℕ → Option ℕ
 run_after run false now = None
 run_after None true now = Some now
 run_after (Some start) true now = Some start
 
--- ---- taking a reading
+-- ---- processing a reading
 
 -- Whether a detector with these arguments is true at the reading `now`. `kept` is the detector's
--- state after it has taken `now`. `before` is the greatest average among its matches at the
--- previous reading.
+-- state after this reading. `before` is the greatest average at the previous reading, among the
+-- groups that the detector's patterns match.
 abbrev pub answer_by : DetectorSpec → DetectorView → ℕ → Reading → Bool
 answer_by (detector.PressureAbove cgroup resource threshold duration_s) kept before now =
     is_long kept.run (of_seconds duration_s) now.at
@@ -174,25 +177,28 @@ answer_by (detector.Exists cgroup negate) kept before now =
     then not (list_any (has kept.matched) now.groups)
     else list_any (has kept.matched) now.groups
 
--- Whether a detector is true at the reading `now`, by `answer_by` with the detector's own
--- arguments.
+-- Whether the detector is true at the reading `now`. `kept` is its state after this reading.
+-- `before` is the greatest average at the previous reading, among the groups that its patterns
+-- match.
 abbrev pub answer_of : DetectorView → ℕ → Reading → Bool
 answer_of kept before now = answer_by kept.spec kept before now
 
--- The table of matches after a reading. The first reading sets it to `table`; later readings leave
--- the stored table `known` unchanged.
+-- `matched_after last known table`: the table of matches after a reading. `last` is the time (ns)
+-- of the previous reading, or `None` at the first reading. The first reading sets the table to
+-- `table`, and later readings leave the stored table `known` unchanged.
 abbrev pub matched_after : Option ℕ → List Bool → List Bool → List Bool
 matched_after None known table = table
 matched_after (Some last) known table = known
 
--- The detector with its table of matches computed. Only the first reading computes the table.
+-- The detector after its table of matches was computed. The first reading computes the table, and
+-- later readings don't change it.
 abbrev pub begun : DetectorView → List GroupLife → DetectorView
 begun detector lives =
     let table = match_table lives (detector_patterns detector.spec) in
     record detector { matched = matched_after detector.last detector.matched table }
 
--- Taking `reading` changes the detector's state from `old` to `new`. The table of matches has
--- already been computed.
+-- Processing `reading` changes the detector's state from `old` to `new`. Requires that the table of
+-- matched groups has been computed.
 pub record IsTaken (old : DetectorView) (reading : ReadingView) (new : DetectorView) : Type 0 where
   pub spec : new.spec ≡ old.spec
   pub last : new.last ≡ Some reading.seen.at

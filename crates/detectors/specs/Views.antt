@@ -11,7 +11,7 @@ use Rattle.kill_spec.specs.LegalReadings.{Ascend, IsReading}
 
 -- ---- readings
 
--- A reading. `lives` has all groups that the trace ever creates; the index of a group in this list
+-- A reading. `lives` has all groups that the trace ever creates. The index of a group in this list
 -- is its *slot*. `seen` has the time, the host's memory and the live groups.
 pub record ReadingView : Type 0 where
   pub lives : List GroupLife
@@ -25,7 +25,7 @@ seen_at at host groups = record { at = at; host = host; groups = groups }
 abbrev pub reading_of : List GroupLife → Reading → ReadingView
 reading_of lives seen = record { lives = lives; seen = seen }
 
--- The reading `seen` with `group` appended to its live groups.
+-- The reading `seen` after `group` was appended to its live groups.
 abbrev pub with_group : Reading → GroupReading → Reading
 with_group seen group = seen_at seen.at seen.host (seen.groups ++ group ∷ [])
 
@@ -40,18 +40,19 @@ pub record IsReadingView (reading : ReadingView) : Type 0 where
   pub few : length reading.lives ≤ most_groups
   pub within : IsReading reading.lives reading.seen
 
--- The capacity suffices for `count` elements.
+-- `count <= capacity`: there is capacity for `count` elements.
 pub record IsRoom (count capacity : ℕ) : Type 0 where
   pub room : count ≤ capacity
 
 -- ---- detectors
 
--- The state of a detector. `spec` has its arguments and `last` the time (ns) of its last reading.
--- `matched` says for each slot whether its group is a match. `run` is the time (ns) since which the
--- condition has held. `greatest` is, for a detector of rising pressure, the greatest `full` average
--- over 10 s among the matches at the last reading. `scans` has, for a detector of memory reclaim,
--- the scan count of each slot's group at the last reading. `increased` is the time (ns) of the last
--- increase of a match's scan count.
+-- The state of a detector. `spec` has its arguments, and `last` is the time (ns) of its last
+-- reading. `matched` says for each slot whether the detector's patterns match its group. `run` is
+-- the time (ns) since which the condition has held, or `None` if the condition doesn't hold.
+-- `greatest` is used by a detector of rising pressure: the greatest `full` average over 10 s among
+-- the matched groups at the last reading. `scans` and `increased` are used by a detector of memory
+-- reclaim: the scan count of each slot's group at the last reading, and the time (ns) of the last
+-- increase of a matched group's scan count.
 pub record DetectorView : Type 0 where
   pub spec : DetectorSpec
   pub last : Option ℕ
@@ -61,7 +62,7 @@ pub record DetectorView : Type 0 where
   pub scans : List (Option ℕ)
   pub increased : Option ℕ
 
--- The detector with these components.
+-- Builds the state of a detector. The arguments are the fields of `DetectorView`, in order.
 abbrev pub detector_with : DetectorSpec → Option ℕ → List Bool → Option ℕ → ℕ → List (Option ℕ) →
     Option ℕ → DetectorView
 detector_with spec last matched run greatest scans increased = record {
@@ -74,16 +75,16 @@ detector_with spec last matched run greatest scans increased = record {
   increased = increased;
 }
 
--- The number of groups for which the detector was made.
+-- The number of slots in the detector's table of matches.
 abbrev pub slots_of : DetectorView → ℕ
 slots_of detector = length detector.matched
 
--- `at` is later than `last` (both ns), or there is no `last`.
+-- `last < at` (both ns), or `last` is `None`.
 abbrev pub IsAfter : Option ℕ → ℕ → Type 0
 IsAfter None at = Unit {0}
 IsAfter (Some last) at = last < at
 
--- `moment` is at or before `last` (both ns), or there is no `moment`.
+-- `moment <= last` (both ns), or `moment` is `None`.
 abbrev pub IsBy : Option ℕ → Option ℕ → Type 0
 IsBy None last = Unit {0}
 IsBy (Some moment) None = ⊥

@@ -1,5 +1,5 @@
-//! Evaluates the conditions of oomd's detectors on one reading of the control groups. The *matches*
-//! of a detector are the groups whose paths its patterns match.
+//! Evaluates the conditions of oomd's detectors at one reading, the input of one evaluation of the
+//! rules.
 //!
 //! The module `moments` measures how long a condition has held.
 ghost use Rattle.std.specs.Prelude.{◌≡◌, ◌<◌, false, length};
@@ -16,12 +16,14 @@ use psi_base::{Level, Path, Res, State};
 use psi_spec::GroupLife;
 use ruleset_json::{DetectorSpec, Size};
 
-/// The indexes of the 10 s and the 60 s average in a row of pressure averages.
+/// Pressure averages are stored in the order 10 s, 60 s, 300 s. These are the indexes of the first
+/// two.
 const TEN_SECONDS: usize = 0;
 
 const SIXTY_SECONDS: usize = 1;
 
-/// Returns whether the group is a match. `matched` says for each slot whether its group is a match.
+/// Returns whether the detector's patterns match the group. `matched` says for each slot whether
+/// the patterns match its group.
 pub(crate) fn has(matched: &[bool], group: &GroupReading) -> bool
     ensures { result ≡ has matched.now group.now }
 {
@@ -31,8 +33,8 @@ pub(crate) fn has(matched: &[bool], group: &GroupReading) -> bool
     }
 }
 
-/// Returns whether at least one pattern of the detector matches `path`. False for a detector of
-/// free swap, which has no patterns.
+/// Returns whether at least one pattern of the detector matches `path`. Returns false for a
+/// detector of free swap, which has no patterns.
 #[tactic(auto, unfolding(path_match::specs::Match::is_match))]
 fn is_match(spec: &DetectorSpec, path: &Path) -> bool
     ensures { result ≡ is_match (detector_patterns spec.now) path.now }
@@ -47,7 +49,8 @@ fn is_match(spec: &DetectorSpec, path: &Path) -> bool
     }
 }
 
-/// Stores in `matched`, for each slot, whether its group is a match of the detector.
+/// Computes for each slot whether the detector's patterns match its group, and stores the results
+/// in `matched`.
 pub(crate) fn find_matches(matched: &mut [bool], spec: &DetectorSpec, lives: &[GroupLife])
     requires { length matched.old ≡ length lives.now }
     ensures { matched.new ≡ match_table lives.now (detector_patterns spec.now) }
@@ -64,8 +67,8 @@ fn full_average(group: &GroupReading, resource: Res, window: usize) -> u64
     group.averages[State::of(resource, Level::FullStalled) as usize][window]
 }
 
-/// Returns the greatest `full` pressure average of a resource over a window, among all matches.
-/// Returns 0 if no group matches.
+/// Returns the greatest `full` pressure average of a resource over a window, among the groups that
+/// the detector's patterns match. Returns 0 if no group matches.
 fn greatest_full(matched: &[bool], groups: &[GroupReading], resource: Res, window: usize) -> u64
     requires { window < 3 }
     ensures { result ≡ greatest_among resource window (found matched.now groups.now) }
@@ -78,7 +81,7 @@ fn greatest_full(matched: &[bool], groups: &[GroupReading], resource: Res, windo
 }
 
 /// Returns, for a detector of rising pressure, the greatest `full` average over 10 s among the
-/// matches. Returns 0 for any other detector.
+/// groups that its patterns match. Returns 0 for any other detector.
 pub(crate) fn greatest_of(spec: &DetectorSpec, matched: &[bool], groups: &[GroupReading]) -> u64
     ensures { result ≡ greatest_of spec.now (found matched.now groups.now) }
 {
@@ -103,7 +106,8 @@ fn is_above(threshold: Size, host: &HostReading, current: u64) -> bool
     }
 }
 
-/// Returns whether at least one match uses more memory than `threshold`.
+/// Returns whether at least one group that the detector's patterns match uses more memory than
+/// `threshold`.
 fn is_some_above(
     matched: &[bool],
     groups: &[GroupReading],
@@ -118,9 +122,9 @@ fn is_some_above(
         .any(|group| is_above(threshold, host, group.current))
 }
 
-/// Returns whether the detector's condition on pressure or memory holds at this reading. The
-/// detector is true only after its condition has held for the detector's duration. False for a
-/// detector without such a duration condition.
+/// Returns whether the detector's condition on pressure or memory use holds at a reading. The
+/// detector is true only after its condition has held for the detector's duration. Returns false
+/// for detectors of memory reclaim, of free swap and of existence, which have no such condition.
 pub(crate) fn has_condition(
     spec: &DetectorSpec,
     matched: &[bool],
@@ -151,7 +155,7 @@ pub(crate) fn has_condition(
     }
 }
 
-/// Returns whether at least one group of the reading is a match.
+/// Returns whether the detector's patterns match at least one group of the reading.
 pub(crate) fn has_match(matched: &[bool], groups: &[GroupReading]) -> bool
     ensures { result ≡ list_any (has matched.now) groups.now }
 {

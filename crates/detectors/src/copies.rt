@@ -1,6 +1,4 @@
-//! Copies the list of a trace's groups, so that each reading owns its copy.
-//!
-//! Other crates copy patterns and detector arguments.
+//! Copies the list of a trace's groups. A reading owns a copy of this list.
 ghost use Rattle.std.specs.Prelude.{◌≡◌, IfOk};
 
 use psi_base::NoMemory;

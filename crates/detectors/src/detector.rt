@@ -1,5 +1,5 @@
-//! One oomd detector with its state. The detector takes readings one by one and says after each
-//! reading whether it is true.
+//! An oomd detector with its state. The detector processes readings one by one, and reports after
+//! each reading whether it is true.
 //!
 //! The module `conditions` evaluates the condition at a single reading.
 ghost use Rattle.std.specs.Prelude.{◌≡◌, ◌≤◌, List, [], None, Some, IfOk, length};
@@ -18,8 +18,8 @@ use ruleset_json::DetectorSpec;
 use std::alloc::Global;
 use std::marker::Model;
 
-/// An oomd detector and its state after the readings that it has taken. The readings themselves
-/// aren't stored.
+/// An oomd detector, with its state after the readings that it has processed. The readings
+/// themselves aren't stored.
 #[derive(Drop)]
 pub struct Detector {
     spec: DetectorSpec,
@@ -31,14 +31,14 @@ pub struct Detector {
     /// The time (ns) since which the detector's condition has held without interruption. `None` if
     /// the condition didn't hold at the last reading.
     run: Option<Ns>,
-    /// For a detector of rising pressure, the greatest `full` average over 10 s among the matches
-    /// at the last reading. 0 for any other detector.
+    /// For a detector of rising pressure, the greatest `full` average over 10 s at the last
+    /// reading, among the groups that its patterns match. 0 for any other detector.
     greatest: u64,
     /// For each slot, the scan count of its group at the last reading, or `None` if the group
     /// wasn't live then. Empty unless this is a detector of memory reclaim.
     scans: Vec<Option<u64>>,
-    /// The time (ns) of the last reading at which the scan count of a match was greater than at the
-    /// reading before. `None` if there was no such reading.
+    /// The time (ns) of the last reading at which the scan count of a matched group was greater
+    /// than at the reading before. `None` if there was no such reading.
     increased: Option<Ns>,
 }
 
@@ -84,8 +84,8 @@ impl Detector {
         })
     }
 
-    /// Takes the next reading, and returns whether the detector is true at that reading. Doesn't
-    /// allocate. Precondition: `reading` is later than the previous reading.
+    /// Updates the state for the next reading, and returns whether the detector is true at that
+    /// reading. Doesn't allocate. Precondition: `reading` is later than the previous reading.
     pub fn step(&mut self, reading: &Reading) -> bool
         requires later { IsAfter self.old.last reading.now.seen.at }
         requires slots { length reading.now.lives ≡ slots_of self.old }
@@ -93,7 +93,7 @@ impl Detector {
         ensures stands { DetectorTakes self.old reading.now self.new }
 
         // The next three clauses hold for every state, even for a state that no list of readings
-        // leads to.
+        // can produce.
         ensures last { self.new.last ≡ Some reading.now.seen.at }
         ensures slots { slots_of self.new ≡ slots_of self.old }
         ensures spec { self.new.spec ≡ self.old.spec }
@@ -104,7 +104,8 @@ impl Detector {
         self.answer(before, reading)
     }
 
-    /// Computes the table of matches if this is the first reading.
+    /// If this is the first reading, computes the table that says which groups the detector's
+    /// patterns match.
     fn begin(&mut self, reading: &Reading)
         requires { length reading.now.lives ≡ slots_of self.old }
         ensures { self.new ≡ begun self.old reading.now.lives }
@@ -137,8 +138,8 @@ impl Detector {
         self.last = Some(now);
     }
 
-    /// Returns whether the detector is true at a reading that it has just taken. `before` is the
-    /// greatest average at the previous reading.
+    /// Returns whether the detector is true at `reading`. Precondition: the state has been updated
+    /// for this reading. `before` is the value of `greatest` before that update.
     fn answer(&self, before: u64, reading: &Reading) -> bool
         requires last { self.now.last ≡ Some reading.now.seen.at }
         requires before { before ≤ 204800 }

@@ -15,9 +15,9 @@ pub(crate) fn of_seconds(seconds: u32) -> Ns
     u64::from(seconds) * 1_000_000_000
 }
 
-/// Returns the time (ns) since which a condition has held without interruption, after it was tested
-/// at time `now` (ns). `run` is that time before the test, and `holds` is the result of the test.
-/// Returns `None` if the condition doesn't hold.
+/// Returns the time (ns) since which a condition has held without interruption, or `None` if the
+/// condition doesn't hold. `holds` is the result of testing the condition at time `now` (ns), and
+/// `run` is the return value for the previous test.
 pub(crate) fn run_after(run: Option<Ns>, holds: bool, now: Ns) -> Option<Ns>
     ensures { result ≡ run_after run holds now }
 {
@@ -30,16 +30,17 @@ pub(crate) fn run_after(run: Option<Ns>, holds: bool, now: Ns) -> Option<Ns>
     }
 }
 
-/// Returns the time (ns) of the last increase of a scan count, after a comparison at time `now`
-/// (ns). `increased` is the time of the last increase before that comparison.
+/// Returns the time (ns) of the last increase of a scan count at a reading at time `now` (ns).
+/// `has_risen` says whether a count increased at this reading. `increased` is the time of the last
+/// earlier increase.
 pub(crate) fn rise_after(increased: Option<Ns>, has_risen: bool, now: Ns) -> Option<Ns>
     ensures { result ≡ (if has_risen then Some now else increased) }
 {
     if has_risen { Some(now) } else { increased }
 }
 
-/// Returns whether a run that began at time `run` (ns) has lasted at least `duration` (ns) at time
-/// `now` (ns). False if there is no run.
+/// Returns whether a condition that has held since time `run` (ns) has held for at least `duration`
+/// (ns) at time `now` (ns). Returns false if `run` is `None`.
 pub(crate) fn is_long(run: Option<Ns>, duration: Ns, now: Ns) -> bool
     requires { IsBy run (Some now) }
     ensures { result ≡ is_long run duration now }
@@ -50,8 +51,8 @@ pub(crate) fn is_long(run: Option<Ns>, duration: Ns, now: Ns) -> bool
     }
 }
 
-/// Returns whether `moment` (ns) is at most `duration` (ns) before time `now` (ns). False if
-/// `moment` is `None`.
+/// Returns whether `moment` (ns) is at most `duration` (ns) before time `now` (ns). Returns false
+/// if `moment` is `None`.
 pub(crate) fn is_recent(moment: Option<Ns>, duration: Ns, now: Ns) -> bool
     requires { IsBy moment (Some now) }
     ensures { result ≡ is_recent moment duration now }

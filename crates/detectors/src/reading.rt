@@ -18,8 +18,8 @@ use std::alloc::Global;
 use std::marker::Model;
 
 /// The input of one evaluation: the time, the host's memory, and the live groups in the byte order
-/// of their paths. A reading also has the list of all groups that the trace ever creates. `make`
-/// allocates all memory, and a reading is reused for later evaluations.
+/// of their paths. A reading also has the list of all groups that the trace ever creates.
+/// [`Reading::make`] allocates all memory, and the same reading is reused for each evaluation.
 #[derive(Drop)]
 pub struct Reading {
     lives: Vec<GroupLife>,
@@ -71,8 +71,7 @@ impl Reading {
         })
     }
 
-    /// Starts a new reading at time `at` (ns), with the last sample of the host's memory and
-    /// without groups.
+    /// Starts a new reading at time `at` (ns), with the host's memory `host` and no groups.
     pub fn start(&mut self, at: Ns, host: HostReading)
         requires { IsHostReading host }
         ensures { self.new ≡ reading_of self.old.lives (seen_at at host []) }

@@ -22,8 +22,8 @@ fn scan_in(scans: &[Option<u64>], slot: Slot) -> Option<u64>
     }
 }
 
-/// Returns whether the count `scan` is greater than the previous count `before`. False if there is
-/// no previous count.
+/// Returns whether the count `scan` is greater than the previous count `before`. Returns false if
+/// there is no previous count.
 fn has_risen(before: Option<u64>, scan: u64) -> bool
     ensures { result ≡ nat_lt 0 (risen_from before scan) }
 {
@@ -33,7 +33,8 @@ fn has_risen(before: Option<u64>, scan: u64) -> bool
     }
 }
 
-/// Returns whether the scan count of at least one match is greater than its stored count.
+/// Returns whether the scan count of at least one group that the detector's patterns match is
+/// greater than its stored count.
 pub(crate) fn have_risen(scans: &[Option<u64>], matched: &[bool], groups: &[GroupReading]) -> bool
     ensures { result ≡ have_risen scans.now (found matched.now groups.now) }
 {
@@ -43,9 +44,9 @@ pub(crate) fn have_risen(scans: &[Option<u64>], matched: &[bool], groups: &[Grou
         .any(|group| has_risen(scan_in(scans, group.slot), group.scan))
 }
 
-/// Replaces the stored scan counts by the counts of the groups in a reading. A slot without a group
-/// in the reading gets `None`. No two groups of a reading have the same slot; if two had, the first
-/// group's count would be stored.
+/// Replaces the stored scan counts by the counts of the groups in a reading. A slot whose group
+/// isn't in the reading gets `None`. If two groups had the same slot, the first group's count would
+/// be stored.
 pub(crate) fn take_scans(scans: &mut [Option<u64>], groups: &[GroupReading])
     requires { All (λ (group : GroupReading). group.slot.0 < length scans.old) groups.now }
     ensures { (slot : ℕ) → scan_in scans.new slot ≡ scan_among groups.now slot }
@@ -59,9 +60,10 @@ pub(crate) fn take_scans(scans: &mut [Option<u64>], groups: &[GroupReading])
     }
 }
 
-/// For a detector of memory reclaim, stores the scan counts of a reading at time `now` (ns), and
-/// returns the time (ns) of the last increase of a match's count. For any other detector, changes
-/// nothing and returns `increased`.
+/// Stores the scan counts of a reading at time `now` (ns). Returns the time (ns) of the last
+/// increase of a matched group's count, or `None` if no count has increased. `increased` is this
+/// time before the reading. If the detector isn't a detector of memory reclaim, changes nothing and
+/// returns `increased`.
 pub(crate) fn take_rise(
     spec: &DetectorSpec,
     scans: &mut [Option<u64>],

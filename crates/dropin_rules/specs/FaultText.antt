@@ -11,6 +11,7 @@ drop_cause_name (cause.Rules what) = rules_cause_name what
 drop_cause_name cause.NoParts = codes "NoParts"
 drop_cause_name cause.UnknownRule = codes "UnknownRule"
 
--- The printed text of a fault: its place in the drop-in file, a colon, and the name of its cause.
+-- The printed text of a fault: the position of the fault in the drop-in file, a colon, and the name
+-- of the cause.
 abbrev pub drop_fault_text : DropFault → List ℕ
 drop_fault_text fault = placed_text (codes "drop-in") fault.place (drop_cause_name fault.what)

@@ -1,4 +1,4 @@
--- States that the path patterns in rules are well formed, for each part of a ruleset.
+-- States that the path patterns in detectors, actions and rulesets are well formed.
 use Rattle.std.specs.Prelude.{List, All}
 use Rattle.path_match.specs.Answers.{ArePatterns}
 use Rattle.ruleset_json.specs.declared.types.Action.{Action}

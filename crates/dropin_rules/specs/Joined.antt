@@ -15,12 +15,12 @@ use Rattle.dropin_rules.specs.declared.fault.DropCause.{DropCause}
 use Rattle.dropin_rules.specs.declared.fault.DropCause.TheVariants as cause
 use Rattle.dropin_rules.specs.declared.fault.DropFault.{DropFault}
 
--- Rejection of the part at index `i` of a drop-in file, with the cause `what`.
+-- Rejects the ruleset at index `i` of a drop-in file, with the cause `what`.
 abbrev pub refused_part : {A : Type 0} → ℕ → DropCause → Result A DropFault
 refused_part i what = Err (record { place = place.Rule i; what = what })
 
--- The value in the option, or rejection of the part at index `i` with the cause `what` if the
--- option is `None`.
+-- Returns the value in the option. If the option is `None`, rejects the ruleset at index `i` of a
+-- drop-in file, with the cause `what`.
 abbrev pub or_refused_part : {A : Type 0} → ℕ → DropCause → Option A → Result A DropFault
 or_refused_part i what None = refused_part i what
 or_refused_part i what (Some x) = Ok x
@@ -29,13 +29,13 @@ or_refused_part i what (Some x) = Ok x
 abbrev pub is_named : List ℕ → Rule → Bool
 is_named name rule = bytes_eq rule.name name
 
--- Whether the part has neither groups nor actions.
+-- Whether the part (a ruleset of a drop-in file) has neither groups of detectors nor actions.
 abbrev pub gives_nothing : Part → Bool
 gives_nothing part = is_none part.groups && is_none part.actions
 
--- The rulesets after the part at index `i` is applied: the part replaces the groups, the actions or
--- both of the first ruleset with its name. The part is rejected if it has neither groups nor
--- actions, or if no ruleset has its name.
+-- Applies the part at index `i` of a drop-in file to the rulesets. The part replaces the groups of
+-- detectors, the actions, or both, of the first ruleset with its name. The part is rejected if it
+-- has neither groups nor actions, or if no ruleset has its name.
 unfoldable pub part_joined : ℕ → Part → List Rule → Result (List Rule) DropFault
 part_joined i part rules =
     if gives_nothing part then refused_part i cause.NoParts
@@ -43,30 +43,32 @@ part_joined i part rules =
       first ← or_refused_part i cause.UnknownRule (position (is_named part.name) rules)
       Ok (replaced_at first part.groups part.actions rules)
 
--- The rulesets after the parts are applied in order. The first part has the index `i`.
+-- Applies the parts (rulesets of a drop-in file) to the rulesets, in order. `i` is the index of the
+-- first part.
 abbrev pub joined_from : ℕ → List Part → List Rule → Result (List Rule) DropFault
 joined_from i [] rules = Ok rules
 joined_from i (part ∷ parts) rules = do
   with_part ← part_joined i part rules
   joined_from (i + 1) parts with_part
 
--- The rules after the parts of a drop-in file are applied, or the first fault.
+-- Applies all parts (rulesets) of a drop-in file to the rules `base`. Returns the new rules or the
+-- first fault.
 unfoldable pub parts_joined : Rules → List Part → Result Rules DropFault
 parts_joined base parts = do
   rules ← joined_from 0 parts base.rules
   Ok (record { rules = rules })
 
--- A fault of parsing, as a fault of a drop-in file.
+-- Converts a parse error to a fault of a drop-in file.
 abbrev pub of_reading : RulesFault → DropFault
 of_reading fault = record { place = fault.place; what = cause.Rules fault.what }
 
--- The parsed parts of a drop-in file, or the fault of parsing as a fault of a drop-in file.
+-- Converts the result of parsing a drop-in file: a parse error becomes a fault of the drop-in file.
 abbrev pub parts_read : Result (List Part) RulesFault → Result (List Part) DropFault
 parts_read (Ok parts) = Ok parts
 parts_read (Err fault) = Err (of_reading fault)
 
--- The rules after the drop-in file with these bytes is applied to `base`, or the file's first
--- fault. Faults of parsing take precedence over faults of applying.
+-- Applies the drop-in file with these bytes to the rules `base`. Returns the new rules or the
+-- file's first fault. Parse errors take precedence over other faults.
 unfoldable pub dropped_in : Rules → List ℕ → Result Rules DropFault
 dropped_in base bytes = do
   parts ← parts_read (parts_of bytes)

@@ -15,7 +15,7 @@ ReadAgain =
     (rules : List Rule) → FitsRules rules → RulesHavePatterns rules → length (rules_text rules) ≤ 1048576
     → rules_of (rules_text rules) ≡ Ok (record { rules = rules })
 
--- Writing rules, parsing the text, and writing the parsed rules gives the same text.
+-- Writing rules, parsing the text, and writing the parsed rules returns the same text.
 abbrev pub SameText : Type 0
 SameText = (rules : List Rule) (again : Rules) → FitsRules rules → RulesHavePatterns rules → length (rules_text rules) ≤ 1048576
     → rules_of (rules_text rules) ≡ Ok again

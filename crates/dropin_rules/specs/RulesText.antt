@@ -23,7 +23,7 @@ use Rattle.ruleset_json.specs.Names.{action_word, detector_word, key_word}
 
 -- ---- arguments
 
--- The text of a ratio, given in thousandths: a decimal number with three decimals.
+-- The text of a ratio `n` in thousandths: a decimal number with three decimals.
 abbrev pub ratio_text : ℕ → List ℕ
 ratio_text n = decimal (n / 1000) ++ codes "." ++ decimal (n / 100 % 10) ++ decimal (n / 10 % 10) ++ decimal (n % 10)
 

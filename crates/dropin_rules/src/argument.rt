@@ -44,8 +44,7 @@ fn truth_word(truth: bool) -> &'static str
     if truth { "true" } else { "false" }
 }
 
-// Returns a JSON string with a ratio, given in thousandths, as a decimal number with three
-// decimals.
+// Converts a ratio in thousandths to a JSON string: a decimal number with three decimals.
 fn ratio_value(alloc: Global, ratio: u32) -> Result<Value, NoMemory>
     ensures { IfOk result (λ v. view v ≡ string (ratio_text ratio)) }
 {
@@ -125,7 +124,7 @@ impl Arguments {
         self.put(key, Value::String(text))
     }
 
-    /// Adds an argument whose value is a ratio, given in thousandths.
+    /// Adds an argument whose value is a ratio. `ratio` is in thousandths.
     pub fn ratio(&mut self, key: Key, ratio: u32) -> Result<(), NoMemory>
         ensures { OnOk result (members_view self.new.members.entries
             ≡ with_member (key_word key) (string (ratio_text ratio))

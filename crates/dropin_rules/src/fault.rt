@@ -1,4 +1,4 @@
-//! Faults of a drop-in file: the cause of the rejection and the place in the file.
+//! Faults of a drop-in file: the reason for the rejection and the position in the file.
 //!
 //! The specification `FaultText` defines the printed text of a fault.
 use psi_base::Fault;
@@ -18,7 +18,7 @@ pub enum DropCause {
 /// The first fault of a drop-in file.
 #[derive(Clone, Copy, Debug, PartialEq, Eq)]
 pub struct DropFault {
-    /// The place of the fault in the drop-in file.
+    /// The position of the fault in the drop-in file.
     pub place: Place,
     /// The reason for the rejection.
     pub what: DropCause,

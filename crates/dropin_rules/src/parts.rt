@@ -44,10 +44,10 @@ fn put_part(rules: &mut RuleList, number: u32, part: Part) -> Result<(), DropFau
 }
 
 /// Applies the parts (rulesets) of a drop-in file to the rules `base`, in order. A part replaces
-/// the groups or the actions, or both, of the first ruleset with its name. Fails with `NoParts` at
-/// the first part that has neither groups nor actions, and with `UnknownRule` at the first part
-/// whose name no ruleset has. On failure, the rules and the parts are dropped. Doesn't allocate, so
-/// `NoMemory` never occurs. Precondition: there are fewer than 2^32 parts.
+/// the groups of detectors, the actions, or both, of the first ruleset with its name. Fails with
+/// `NoParts` at the first part that has neither groups nor actions, and with `UnknownRule` at the
+/// first part whose name no ruleset has. On failure, the rules and the parts are dropped. Doesn't
+/// allocate, so `NoMemory` never occurs. Precondition: there are fewer than 2^32 parts.
 #[tactic(auto, unfolding(crate::specs::Joined::parts_joined))]
 pub fn join(base: Rules, parts: Vec<Part>) -> Result<Rules, Fault<DropFault>>
     requires { length parts.items < 2 ^ 32 }

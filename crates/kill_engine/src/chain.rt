@@ -24,7 +24,7 @@ fn end_of_rest(at: Ns, delay_s: u32) -> u128
 }
 
 /// Returns the kill of an action, or `None` if the action has no victim. `number` is the index of
-/// the ruleset, `act` the index of the action.
+/// the ruleset, and `act` is the index of the action in the ruleset.
 fn kill_by(
     number: u32,
     act: u32,

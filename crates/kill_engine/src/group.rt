@@ -1,6 +1,6 @@
 //! A group of detectors in a ruleset. The group *holds* if all its detectors are true.
 //!
-//! The crate `detectors` implements the single detectors.
+//! The crate `detectors` implements the detectors themselves.
 ghost use Rattle.std.specs.Prelude.{◌≤◌, [], IfOk, All, Some, length};
 ghost use Rattle.psi_spec.specs.World.{most_groups};
 ghost use Rattle.kill_engine.specs.Rulesets.{AllAnswer, AllTake, DetectorsRepresent, IsAt, IsStateReady};

@@ -21,8 +21,8 @@ use victim_rank::Past;
 /// The greatest number of kills at one evaluation: 64 rulesets with 16 actions each.
 const MOST_KILLS: usize = 1024;
 
-/// All rulesets and their state after the readings that the killer has taken, and the kills at the
-/// last reading.
+/// All rulesets with their state after the readings evaluated so far, and the kills at the last
+/// reading.
 #[derive(Drop)]
 pub struct Killer {
     rulesets: Vec<RuleState>,
@@ -98,9 +98,9 @@ impl Killer {
         })
     }
 
-    /// Takes the next reading. Each ruleset that fires at the reading and isn't in its delay after
-    /// a kill runs its actions in order. Then [`Killer::kills`] returns the kills. Doesn't
-    /// allocate. Precondition: `reading` is later than the previous reading.
+    /// Evaluates all rulesets at the next reading. A ruleset that fires runs its actions in order,
+    /// unless it is in its delay after a kill. Afterwards [`Killer::kills`] returns the kills.
+    /// Doesn't allocate. Precondition: `reading` is later than the previous reading.
     pub fn evaluate(&mut self, reading: &Reading)
         requires later { IsAfter self.old.last reading.now.seen.at }
         requires stands { IsStanding self.old reading.now.lives }

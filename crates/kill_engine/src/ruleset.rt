@@ -18,7 +18,7 @@ use std::alloc::Global;
 use std::marker::Model;
 use victim_rank::{MatchTable, Past};
 
-/// A ruleset and its state after the readings that it has taken.
+/// A ruleset, with its state after the readings evaluated so far.
 #[derive(Drop)]
 pub(crate) struct RuleState {
     groups: Vec<GroupState>,
@@ -127,8 +127,8 @@ impl RuleState {
         u128::from(at) < self.rests_until
     }
 
-    /// Takes the next reading, and appends the ruleset's kills to `found`. `number` is the index of
-    /// the ruleset. Doesn't allocate.
+    /// Evaluates the ruleset at the next reading, and appends its kills to `found`. `number` is the
+    /// index of the ruleset. Doesn't allocate.
     pub(crate) fn evaluate(
         &mut self,
         number: u32,

@@ -34,14 +34,15 @@ pub record IsChoice (Beats : GroupReading → GroupReading → Type 0) (groups :
   pub none : (choice ≡ None) ↔ (groups ≡ [])
   pub some : (group : GroupReading) → (choice ≡ Some group) ↔ IsUnbeaten Beats groups group
 
--- In a list in the order of paths, the search by a ranking value finds the unbeaten group.
+-- If a list of groups is sorted by path, the search by a ranking value finds the group that no
+-- other group beats.
 abbrev pub UnbeatenIsChoice : Type 0
 UnbeatenIsChoice = (lives : List GroupLife) (measure : GroupReading → ℕ)
     (groups : List GroupReading) → Ascend (map (path_of lives) groups) →
     IsChoice (BeatsBy lives measure) groups (unbeaten (beats_by lives measure) groups)
 
--- In a list in the order of paths, the search for the largest group finds the group than which no
--- other group is larger.
+-- If a list of groups is sorted by path, the search for the largest group finds the group that uses
+-- the most memory. Among groups of equal size, it finds the group with the lowest path.
 abbrev pub LargestIsChoice : Type 0
 LargestIsChoice = (lives : List GroupLife) (groups : List GroupReading) →
     Ascend (map (path_of lives) groups) →

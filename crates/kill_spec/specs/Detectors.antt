@@ -1,5 +1,6 @@
--- The conditions under which a detector is true and a ruleset fires. A detector depends on the
--- current reading and on the readings of all earlier evaluations. The newest reading comes first.
+-- Defines when a detector is true and when a ruleset fires. A detector depends on the current
+-- reading (the state of the machine at an evaluation) and on the readings at all earlier
+-- evaluations. In lists of readings, the newest reading comes first.
 use Rattle.std.specs.Prelude.{ℕ, ◌-◌, ◌*◌, max, List, [], ◌∷◌, map, filter, fold}
 use Rattle.std.specs.Prelude.{nat_le, nat_lt, ◌&&◌, ◌||◌, not, Bool, false, if◌then◌else◌}
 use Rattle.std.specs.List.{list_all, list_any}
@@ -18,12 +19,12 @@ use Rattle.kill_spec.specs.Readings.{Reading, full_average, path_of, rise, sixty
 
 -- ---- groups that match patterns
 
--- The live groups whose paths match at least one of the patterns, in the order of paths.
+-- The live groups whose paths match at least one of the patterns, sorted by path.
 abbrev pub matches : List GroupLife → List Pattern → Reading → List GroupReading
 matches lives patterns reading =
     filter (λ (group : GroupReading). is_match patterns (path_of lives group)) reading.groups
 
--- ---- durations
+-- ---- durations of conditions
 
 -- Converts seconds to nanoseconds.
 abbrev pub of_seconds : ℕ → ℕ
@@ -54,8 +55,8 @@ abbrev pub is_pressed : List GroupLife → List Pattern → Res → ℕ → ℕ 
 is_pressed lives patterns resource window threshold reading =
     nat_lt (threshold * 2048) (greatest_full lives patterns resource window reading)
 
--- Whether `current` bytes are more than a size, which is given in bytes or as a percentage of the
--- host's memory.
+-- Whether `current` bytes are more than a size. The size is a number of bytes, or a percentage of
+-- the host's memory.
 abbrev pub is_above : Size → HostReading → ℕ → Bool
 is_above (size.Bytes n) host current = nat_lt n current
 is_above (size.Percent n) host current = nat_lt (n * host.mem_total) (current * 100)
@@ -89,8 +90,8 @@ abbrev pub is_scanned : List GroupLife → List Pattern → Reading → List Rea
 is_scanned lives patterns now past =
     list_any (λ (group : GroupReading). nat_lt 0 (rise past group)) (matches lives patterns now)
 
--- Whether, at some reading at most `duration` (ns) before time `at`, pages of some matching group
--- had been scanned since the reading before that reading.
+-- Whether pages of some matching group were scanned between two successive readings. The later of
+-- these readings is at most `duration` (ns) before time `at` (ns).
 abbrev pub is_scanned_within : List GroupLife → List Pattern → ℕ → ℕ → List Reading → Bool
 is_scanned_within lives patterns duration at [] = false
 is_scanned_within lives patterns duration at (reading ∷ past) =
@@ -102,7 +103,7 @@ abbrev pub has_match : List GroupLife → List Pattern → Reading → Bool
 has_match lives patterns reading =
     list_any (λ (group : GroupReading). is_match patterns (path_of lives group)) reading.groups
 
--- ---- detectors
+-- ---- the conditions of detectors and rulesets
 
 -- Whether a detector is true at the reading `now`, given the earlier readings `past`.
 unfoldable pub is_true : List GroupLife → DetectorSpec → Reading → List Reading → Bool

@@ -1,4 +1,4 @@
--- The readings of a trace: the pressure and memory that the rules see at each evaluation.
+-- Defines the readings of a trace: the pressure and memory that the rules see at each evaluation.
 use Rattle.std.specs.Prelude.{ℕ, zero, suc, ◌==◌, List, [], ◌∷◌, map, take, Bool, if◌then◌else◌}
 use Rattle.std.specs.List.{list_any}
 use Rattle.std.specs.FinMap as tasks_by
@@ -25,7 +25,7 @@ abbrev pub last_or : {A : Type 0} → A → List A → A
 last_or before [] = before
 last_or before (x ∷ xs) = last_or x xs
 
--- ---- the latest samples
+-- ---- the latest samples of memory and preferences
 
 -- A sample of a group's memory: memory and swap in use (bytes), and the number of scanned pages.
 pub record MemorySample : Type 0 where
@@ -33,12 +33,12 @@ pub record MemorySample : Type 0 where
   pub swap : ℕ
   pub scan : ℕ
 
--- The memory sample of a group before its first sample: all numbers are 0.
+-- The memory sample that is used for a group before its first sample: all numbers are 0.
 abbrev pub no_memory_sample : MemorySample
 no_memory_sample = record { current = 0; swap = 0; scan = 0 }
 
--- The memory sample of the group in slot `slot` that an act (what an event does) contains, as a
--- list of at most one element.
+-- The memory sample of the group in slot `slot` that an event contains, as a list. The list is
+-- empty if the event contains no such sample.
 abbrev pub memory_known : ℕ → List GroupLife → Act → List MemorySample
 memory_known slot groups (act.Mem path current swap scan) =
     if (slot_named groups path).0 == slot then record { current = current; swap = swap; scan = scan } ∷ [] else []
@@ -49,8 +49,8 @@ abbrev pub memory_of : ℕ → List Event → MemorySample
 memory_of slot events =
     last_or no_memory_sample (values_from (λ (w : World) (event : Event). memory_known slot w.groups event.act) first_world events)
 
--- The kill preference that an act sets for the group in slot `slot`, as a list of at most one
--- element.
+-- The kill preference that an event sets for the group in slot `slot`, as a list. The list is empty
+-- if the event sets no preference for this group.
 abbrev pub preference_known : ℕ → List GroupLife → Act → List Preference
 preference_known slot groups (act.Prefer path preference) =
     if (slot_named groups path).0 == slot then preference ∷ [] else []
@@ -62,7 +62,8 @@ abbrev pub preference_of : ℕ → List Event → Preference
 preference_of slot events =
     last_or Plain (values_from (λ (w : World) (event : Event). preference_known slot w.groups event.act) first_world events)
 
--- The sample of the host's memory that an act contains, as a list of at most one element.
+-- The sample of the host's memory that an event contains, as a list. The list is empty if the event
+-- contains no such sample.
 abbrev pub host_known : Act → List HostReading
 host_known (act.Host mem_total swap_total swap_free) =
     record { mem_total = mem_total; swap_total = swap_total; swap_free = swap_free } ∷ []
@@ -73,15 +74,15 @@ abbrev pub host_of : List Event → HostReading
 host_of events =
     last_or no_host (values_from (λ (w : World) (event : Event). host_known event.act) first_world events)
 
--- Whether some live task is in the group in slot `slot` or in a descendant.
+-- Whether some live task is in the group in slot `slot` or in a descendant of the group.
 abbrev pub is_populated : World → ℕ → Bool
 is_populated w slot =
     list_any (λ (task : Task). is_under (parents_of w.groups) task.slot.0 slot) (tasks_by.values w.tasks)
 
--- ---- readings
+-- ---- the readings at evaluations
 
--- The reading of the group in slot `slot` after the events, given the group's averages over 10, 60
--- and 300 s.
+-- The state of the group in slot `slot` after the events, as the rules see it. `averages` are the
+-- group's averages over 10, 60 and 300 s.
 abbrev pub group_seen : List Event → List (List ℕ) → ℕ → GroupReading
 group_seen events averages slot = record {
   slot = record { 0 = slot };
@@ -112,7 +113,9 @@ reading_at cpus events length i = record {
       (live_groups (after (up_to events (tick_moment length i))).groups);
 }
 
--- The numbers of the ticks at which an evaluation is due, from a given tick back to tick 1.
+-- `evaluations interval length n`: the numbers of the ticks at which the rules are evaluated, from
+-- tick number `n` back to tick 1. `interval` is the time (ns) between evaluations, and `length` is
+-- the length (ns) of a tick.
 abbrev pub evaluations : ℕ → ℕ → ℕ → List ℕ
 evaluations interval length zero = []
 evaluations interval length (suc i) =

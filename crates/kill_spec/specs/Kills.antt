@@ -1,5 +1,5 @@
--- The groups that are killed at an evaluation: chains of actions, and the pause of a ruleset after
--- a kill.
+-- Defines which groups are killed at an evaluation. A ruleset tries its actions as a chain, and
+-- pauses after a kill.
 use Rattle.std.specs.Prelude.{ℕ, ◌+◌, List, [], ◌∷◌, ◌++◌, find, nat_lt, ◌&&◌, not}
 use Rattle.std.specs.Prelude.{Bool, false, if◌then◌else◌, slice_get, Option, None, Some}
 use Rattle.psi_base.specs.Missing.{is_some_and}
@@ -12,22 +12,21 @@ use Rattle.kill_spec.specs.Readings.{Reading}
 use Rattle.kill_spec.specs.Detectors.{of_seconds, ruleset_fires}
 use Rattle.kill_spec.specs.Victims.{◌or_else◌, after_of, victim}
 
--- ---- chains
+-- ---- chains of actions
 
 -- The kill of `group` at time `at` (ns) by action number `act` of ruleset number `rule` (both from
 -- 0).
 abbrev pub kill_of : ℕ → ℕ → ℕ → GroupReading → Kill
 kill_of at rule act group = record { at = at; rule = rule; action = act; victim = group.slot }
 
--- The kills of an action and of the actions after it, given the kills `rest` of the later actions.
--- Without a kill of the action, `rest` is the result. A kill of the action comes first, and `rest`
--- follows only if the action always continues.
+-- The kills of an action, followed by the kills `rest` of the later actions. If the action kills a
+-- group, the later actions run only if the action always continues (`goes_on`).
 abbrev pub and_then : Bool → Option Kill → List Kill → List Kill
 and_then goes_on None rest = rest
 and_then goes_on (Some kill) rest = kill ∷ (if goes_on then rest else [])
 
--- The kill of an optional victim by action number `act` of ruleset number `rule`; `None` without a
--- victim.
+-- `kill_by rule act now victim`: the kill of the group `victim` at the reading `now` by action
+-- number `act` of ruleset number `rule`, or `None` if `victim` is `None`.
 abbrev pub kill_by : ℕ → ℕ → Reading → Option GroupReading → Option Kill
 kill_by rule act now None = None
 kill_by rule act now (Some group) = Some (kill_of now.at rule act group)
@@ -44,32 +43,33 @@ chain lives rule act (first ∷ rest) now past =
 
 -- ---- pauses of rulesets
 
--- Whether a kill ended its chain: its action doesn't always continue.
+-- Whether a kill ended its chain of actions: the action of the kill doesn't always continue.
 abbrev pub ends_chain : List Action → Kill → Bool
 ends_chain actions kill = is_some_and (slice_get actions kill.action) (λ act. not (after_of act).always_continue)
 
--- The latest kill that ended a chain, given the kills at each reading with the newest reading
--- first.
+-- The latest kill that ended a chain of actions, or `None`. The argument contains the kills at each
+-- reading, with the newest reading first.
 abbrev pub last_ending : List Action → List (List Kill) → Option Kill
 last_ending actions [] = None
 last_ending actions (kills ∷ earlier) = find (ends_chain actions) kills or_else last_ending actions earlier
 
--- The delay (ns) of an optional action, or 0 for `None`.
+-- `delay_of act`: the delay (ns) for which a ruleset pauses after a kill by the action `act`. The
+-- delay is 0 if `act` is `None`.
 abbrev pub delay_of : Option Action → ℕ
 delay_of None = 0
 delay_of (Some act) = of_seconds (after_of act).delay_s
 
--- Whether a ruleset pauses at time `at` (ns): the time since its latest chain-ending kill is less
--- than the delay of that kill's action.
+-- Whether a ruleset pauses at time `at` (ns): the time since the latest kill that ended its chain
+-- of actions is less than the delay of that kill's action.
 abbrev pub is_resting : List Action → ℕ → Option Kill → Bool
 is_resting actions at None = false
 is_resting actions at (Some kill) = nat_lt at (kill.at + delay_of (slice_get actions kill.action))
 
--- ---- kills
+-- ---- the kills of rulesets
 
 -- The kills of a ruleset at the reading `now`. `past` are the earlier readings, and `earlier` are
--- the ruleset's kills at them. A ruleset that fires and doesn't pause has the kills of its chain;
--- any other ruleset has no kills.
+-- the ruleset's kills at the earlier readings. The actions run only if the ruleset fires and
+-- doesn't pause; any other ruleset kills no group.
 abbrev pub kills_at : List GroupLife → ℕ → Rule → Reading → List Reading → List (List Kill) → List Kill
 kills_at lives number rule now past earlier =
     if ruleset_fires lives rule now past && not (is_resting rule.actions now.at (last_ending rule.actions earlier))

@@ -14,11 +14,11 @@ use Rattle.kill_spec.specs.declared.kill.Kill.{Kill}
 use Rattle.kill_spec.specs.Victims.{action_patterns, after_of, descended, victim}
 use Rattle.kill_spec.specs.Kills.{delay_of, ends_chain, kills, kills_at, kills_of}
 
--- ---- detectors
+-- ---- laws of durations
 
--- `condition` has been true for `duration` (ns) at time `at` (ns), as a relation. Among the
--- readings (the newest first) there is a reading at least `duration` earlier than `at` at which the
--- condition is true, and the condition is true at every later reading.
+-- `condition` has been true for `duration` (ns) at time `at` (ns). Among the readings (the newest
+-- first) there is a reading at least `duration` earlier than `at` at which the condition is true,
+-- and the condition is true at every later reading.
 pub record HeldFor (condition : Reading → Bool) (duration at : ℕ) (readings : List Reading) : Type 0 where
   pub since : List Reading
   pub first : Reading
@@ -50,7 +50,7 @@ abbrev pub LongerIsLater : Type 0
 LongerIsLater = (condition : Reading → Bool) (shorter_s longer_s : ℕ) (now : Reading) (past : List Reading) →
     shorter_s ≤ longer_s → holds_for condition longer_s now past ≡ true → holds_for condition shorter_s now past ≡ true
 
--- ---- victims
+-- ---- laws of victims
 
 -- The group is live at the reading, and some live task is in the group or in a descendant.
 abbrev pub IsPopulatedIn : Reading → GroupReading → Type 0
@@ -63,21 +63,22 @@ VictimsMatch = (lives : List GroupLife) (act : Action) (now : Reading) (past : L
     victim lives act now past ≡ Some group →
     IsPopulatedIn now group × ((after_of act).recursive ≡ false → is_match (action_patterns act) (path_of lives group) ≡ true)
 
--- A descent takes at most one step for each group: allowing more steps doesn't change its result.
+-- A recursive action repeats its choice at most once for each group: allowing more repetitions
+-- doesn't change the result.
 abbrev pub DescentEnds : Type 0
 DescentEnds = (lives : List GroupLife) (act : Action) (now : Reading) (past : List Reading) (more : ℕ) (group : GroupReading) →
     AreOlder (parents_of lives) → IsReading lives now →
     descended lives act now past (length lives + more) group ≡ descended lives act now past (length lives) group
 
--- ---- kills
+-- ---- laws of kills
 
--- The kill is among the ruleset's kills at some reading, and it ended its chain.
+-- The kill is among the ruleset's kills at some reading, and it ended the chain of actions.
 abbrev pub EndedBy : List GroupLife → ℕ → Rule → List Reading → Kill → Type 0
 EndedBy lives number rule readings kill =
     Any (λ kills. Contains kills kill) (kills_of lives number rule readings) × (ends_chain rule.actions kill ≡ true)
 
--- The times of two chain-ending kills of a ruleset differ by at least the delay of the earlier
--- kill's action.
+-- The times of two kills that each ended a ruleset's chain of actions differ by at least the delay
+-- of the earlier kill's action.
 abbrev pub EndingsApart : Type 0
 EndingsApart = (lives : List GroupLife) (number : ℕ) (rule : Rule) (now : Reading) (past : List Reading) (first second : Kill) →
     AreReadings lives (now ∷ past) →
@@ -86,7 +87,7 @@ EndingsApart = (lives : List GroupLife) (number : ℕ) (rule : Rule) (now : Read
     ends_chain rule.actions second ≡ true →
     first.at + delay_of (slice_get rule.actions first.action) ≤ second.at
 
--- At one reading a ruleset has at most one chain-ending kill.
+-- At one reading, at most one kill of a ruleset ends the chain of actions.
 abbrev pub EndsOnce : Type 0
 EndsOnce = (lives : List GroupLife) (number : ℕ) (rule : Rule) (now : Reading) (past : List Reading)
     (first second : Kill) →
@@ -106,8 +107,8 @@ pub record IsKillOf (lives : List GroupLife) (number : ℕ) (rule : Rule) (now :
   pub slot : kill.victim ≡ group.slot
   pub fired : ruleset_fires lives rule now past ≡ true
 
--- An action of the ruleset decided each of the ruleset's kills: a group is killed only as the
--- victim of an action of a ruleset that fires.
+-- Each kill of a ruleset was decided by one of its actions: a group is killed only as the victim of
+-- an action of a ruleset that fires.
 abbrev pub KillsAreOfActions : Type 0
 KillsAreOfActions = (lives : List GroupLife) (number : ℕ) (rule : Rule) (now : Reading) (past : List Reading) (kill : Kill) →
     Contains (kills_at lives number rule now past (kills_of lives number rule past)) kill →

@@ -37,14 +37,14 @@ Ascend [] = Unit {0}
 Ascend (first ∷ []) = Unit {0}
 Ascend (first ∷ second ∷ paths) = ComesBefore first second × Ascend (second ∷ paths)
 
--- `reading` is a legal reading for `lives`, the groups that a trace ever creates: each group is in
--- range, and the paths are in ascending order.
+-- `reading` is a legal reading for `lives`, the groups that a trace ever creates: the values of
+-- each group and of the host are in range, and the paths are in ascending order.
 pub record IsReading (lives : List GroupLife) (reading : Reading) : Type 0 where
   pub host : IsHostReading reading.host
   pub each : All (IsGroupReading (length lives)) reading.groups
   pub order : Ascend (map (path_of lives) reading.groups)
 
--- The reading `now` is later than all readings of `past`, which has the newest reading first.
+-- The reading `now` is later than the newest reading of `past`, which is the first in the list.
 abbrev pub IsLater : Reading → List Reading → Type 0
 IsLater now [] = Unit {0}
 IsLater now (before ∷ past) = before.at < now.at

@@ -1,6 +1,7 @@
--- The readings on which rules decide. A reading is the state of the machine at an evaluation: the
--- live groups with their pressure, memory, kill preference and whether they have live tasks, and
--- the host's memory. In lists of readings, the newest reading comes first.
+-- Defines the readings on which rules decide. A reading is the state of the machine at an
+-- evaluation. It contains the host's memory and, for each live group, the pressure, the memory, the
+-- kill preference and whether the group has live tasks. In lists of readings, the newest reading
+-- comes first.
 use Rattle.std.specs.Prelude.{ℕ, ◌-◌, List, [], ◌∷◌, slice_index, slice_index_or}
 use Rattle.std.specs.Prelude.{find, ◌==◌, Option, None, Some}
 use Rattle.psi_base.specs.declared.event.Res.{Res}
@@ -28,11 +29,11 @@ no_host = record { mem_total = 0; swap_total = 0; swap_free = 0 }
 abbrev pub path_of : List GroupLife → GroupReading → List ℕ
 path_of lives group = path_at lives group.slot.0
 
--- The group in slot `slot` at a reading, or `None` if it wasn't live at the reading.
+-- The group in slot `slot` at a reading, or `None` if the group wasn't live then.
 abbrev pub group_in : Reading → ℕ → Option GroupReading
 group_in reading slot = find (λ (group : GroupReading). group.slot.0 == slot) reading.groups
 
--- ---- pressure
+-- ---- the pressure of a group
 
 -- The index of the average over 10 s in the list of a state's averages.
 abbrev pub ten_seconds : ℕ
@@ -48,17 +49,17 @@ abbrev pub full_average : Res → ℕ → GroupReading → ℕ
 full_average resource window group =
     slice_index (slice_index_or group.averages (state_number (state_of resource FullStalled)) []) window
 
--- ---- scanned pages
+-- ---- the scanned pages of a group
 
--- The increase of the count of scanned pages from an optional earlier reading of the group to the
--- count `scan`. The increase is 0 if the group wasn't live at the earlier reading, or if the count
--- decreased.
+-- `grown_from scan before`: the increase of a group's count of scanned pages from its earlier
+-- reading `before` to the count `scan`. The increase is 0 if the count decreased, or if `before` is
+-- `None` because the group wasn't live then.
 abbrev pub grown_from : ℕ → Option GroupReading → ℕ
 grown_from scan None = 0
 grown_from scan (Some before) = scan - before.scan
 
--- The number of pages scanned for a group since the previous reading. The number is 0 if there is
--- no previous reading, if the group wasn't live at it, or if the count decreased.
+-- The number of pages scanned for a group since the previous reading. The number is 0 for the first
+-- reading, for a group that wasn't live at the previous reading, and if the count decreased.
 abbrev pub rise : List Reading → GroupReading → ℕ
 rise [] group = 0
 rise (before ∷ past) group = grown_from group.scan (group_in before group.slot.0)

@@ -1,4 +1,4 @@
--- The victim of an action: how each action chooses a group to kill.
+-- Defines how each action chooses its victim, which is the group to kill.
 use Rattle.std.specs.Prelude.{ℕ, zero, suc, ◌+◌, ◌-◌, ◌*◌, ◌/◌, max, List, [], ◌∷◌, ◌++◌}
 use Rattle.std.specs.Prelude.{filter, find, length, take, sum, sum_by, option_map, nat_le, nat_lt, ◌==◌, ◌&&◌, ◌||◌, not}
 use Rattle.std.specs.Prelude.{Bool, true, false, if◌then◌else◌, Option, None, Some}
@@ -40,7 +40,7 @@ after_of (action.SwapUsage cgroup threshold after) = after
 after_of (action.Pressure cgroup resource after) = after
 after_of (action.PgScan cgroup after) = after
 
--- ---- candidates
+-- ---- the candidates of an action
 
 -- The candidates of an action: the groups that match the patterns and have a live task in them or
 -- in a descendant.
@@ -48,7 +48,7 @@ abbrev pub candidates : List GroupLife → List Pattern → Reading → List Gro
 candidates lives patterns reading =
     filter (λ (group : GroupReading). group.populated) (matches lives patterns reading)
 
--- Whether an optional slot is present and equals `slot`.
+-- `names_slot slot other`: whether the optional slot `other` is present and equals `slot`.
 abbrev pub names_slot : ℕ → Option ℕ → Bool
 names_slot slot None = false
 names_slot slot (Some other) = other == slot
@@ -100,9 +100,9 @@ beats_by lives measure first second =
     nat_lt (rank_of second) (rank_of first)
     || (rank_of first == rank_of second && is_greater_by lives measure first second)
 
--- ---- swap, pressure and scanned pages
+-- ---- choices by swap, pressure or scanned pages
 
--- Whether `swap` bytes are at least a size, which is given in bytes or as a percentage of the
+-- Whether `swap` bytes are at least a size. The size is a number of bytes, or a percentage of the
 -- host's swap.
 abbrev pub is_at_least : Size → HostReading → ℕ → Bool
 is_at_least (size.Bytes n) host swap = nat_le n swap
@@ -119,7 +119,7 @@ pressure_measure resource group =
 abbrev pub chosen_by : List GroupLife → (GroupReading → Bool) → (GroupReading → ℕ) → List GroupReading → Option GroupReading
 chosen_by lives is_eligible measure groups = unbeaten (beats_by lives measure) (filter is_eligible groups)
 
--- ---- size or growth
+-- ---- choices by size or growth
 
 -- A group's memory in use (bytes).
 abbrev pub memory_in_use : GroupReading → ℕ
@@ -157,7 +157,8 @@ abbrev pub largest_few : List GroupLife → ℕ → List GroupReading → List G
 largest_few lives count groups =
     filter (λ group. nat_lt (length (filter (λ other. is_larger lives other group) groups)) count) groups
 
--- The size (bytes) of an optional group as a list of at most one element.
+-- `size_at group`: a list with the size (bytes) of the group, or an empty list if `group` is
+-- `None`.
 abbrev pub size_at : Option GroupReading → List ℕ
 size_at None = []
 size_at (Some group) = group.current ∷ []
@@ -180,9 +181,9 @@ is_growing ratio past group =
     nat_lt 0 (sum (past_of past group))
     && nat_le (ratio * sum (past_of past group)) (memory_in_use group * length (past_of past group) * 1000)
 
--- A ranking value for growth, relative to `other`: the group's size divided by the mean of its
--- history, multiplied by the sums of both histories. Comparing two such products compares the
--- quotients without division.
+-- A value that ranks the growth of `group` relative to `other`: the group's size divided by the
+-- mean of its history, multiplied by the sums of both histories. Comparing two such products
+-- compares the quotients without division.
 abbrev pub growth_by : List Reading → GroupReading → GroupReading → ℕ
 growth_by past group other = memory_in_use group * length (past_of past group) * sum (past_of past other)
 
@@ -201,15 +202,16 @@ growing_choice lives percentile ratio past groups =
     (filter (is_growing ratio past)
     (largest_few lives (count_above percentile (length (best_of groups))) (best_of groups)))
 
--- The first optional value if it isn't `None`, otherwise the second.
+-- `first or_else second`: the value `first`, or `second` if `first` is `None`.
 infixr 5 ◌or_else◌
 abbrev pub ◌or_else◌ : {A : Type 0} → Option A → Option A → Option A
 (Some x) or_else other = Some x
 None or_else other = other
 
--- ---- victims
+-- ---- the victim of an action
 
--- The choice of an action among `groups` at the reading `now`, given the earlier readings `past`.
+-- The group that an action chooses among `groups` at the reading `now`, or `None`. `past` are the
+-- earlier readings.
 unfoldable pub choice : List GroupLife → Action → Reading → List Reading → List GroupReading → Option GroupReading
 choice lives (action.SizeOrGrowth cgroup size_threshold percentile ratio after) now past groups =
     large_choice lives size_threshold groups
@@ -222,23 +224,23 @@ choice lives (action.Pressure cgroup resource after) now past groups =
 choice lives (action.PgScan cgroup after) now past groups =
     chosen_by lives (λ group. nat_lt 0 (rise past group)) (rise past) groups
 
--- The result of one step of a descent: it continues with `next` from the chosen child, or ends at
--- `group` if no child is chosen.
+-- One step of the descent of a recursive action from `group`. The descent continues with `next`
+-- from the chosen child, and ends at `group` if no child is chosen.
 abbrev pub below : Option GroupReading → GroupReading → (GroupReading → GroupReading) → GroupReading
 below None group next = group
 below (Some child) group next = next child
 
--- The group at which a descent from `group` ends. Each step chooses among the children of the
--- current group. The descent ends if no child is chosen, or after `n` steps.
+-- The group at which the descent of a recursive action from `group` ends. Each step chooses among
+-- the children of the current group. The descent ends if no child is chosen, or after `n` steps.
 abbrev pub descended : List GroupLife → Action → Reading → List Reading → ℕ → GroupReading → GroupReading
 descended lives act now past zero group = group
 descended lives act now past (suc n) group =
     below (choice lives act now past (children lives group.slot.0 now)) group (descended lives act now past n)
 
--- The victim of an action at the reading `now`, given the earlier readings `past`, or `None`. It is
--- the choice among the candidates. A recursive action repeats the choice among the children of the
--- chosen group until no child is chosen. A child's slot is greater than its parent's, so there are
--- at most as many steps as groups.
+-- The victim of an action at the reading `now`, or `None`. `past` are the earlier readings. The
+-- victim is the action's choice among its candidates. A recursive action repeats the choice among
+-- the children of the chosen group until no child is chosen. A child's slot is greater than its
+-- parent's, so there are at most as many steps as groups.
 unfoldable pub victim : List GroupLife → Action → Reading → List Reading → Option GroupReading
 victim lives act now past =
     if (after_of act).recursive

@@ -21,17 +21,17 @@ pub fn law_choices()
     ensures largest { LargestIsChoice }
 {}
 
-/// A victim has a live task in it or in a descendant. It matches the patterns of its action; for a
-/// recursive action it may instead be a descendant of a matching group. A descent takes at most one
-/// step for each group.
+/// A victim, or a descendant of the victim, has a live task. The victim matches the patterns of its
+/// action; for a recursive action it may instead be a descendant of a matching group. A recursive
+/// action repeats its choice at most once for each group.
 pub fn law_victims()
     ensures matching { VictimsMatch }
     ensures ends { DescentEnds }
 {}
 
-/// Two chain-ending kills of a ruleset are apart by at least the delay of the first kill's action,
-/// and never happen at one reading. A group is killed only as the victim of an action of a ruleset
-/// that fires.
+/// Two kills that each ended a ruleset's chain of actions are apart by at least the delay of the
+/// first kill's action, and are never at the same reading. A group is killed only as the victim of
+/// an action of a ruleset that fires.
 pub fn law_kills()
     ensures apart { EndingsApart }
     ensures once { EndsOnce }

@@ -1,6 +1,5 @@
 //! The meaning of rules: the definitions of readings, detectors, victims and kills that the
-//! contracts of the crates above use, their types, and laws about them. This crate computes
-//! nothing.
+//! contracts of other crates use, their types, and laws about them. This crate computes nothing.
 //!
 //! Read the files of `specs/` in this order: `Readings` (the state that rules see at an
 //! evaluation), `LegalReadings` (invariants of readings), `Detectors` (when a detector is true and

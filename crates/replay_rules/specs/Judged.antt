@@ -23,8 +23,9 @@ use Rattle.replay_rules.specs.Planned.{HasTicked, IsPlanned}
 
 -- ---- the state of a judge
 
--- An evaluator of rules. `killer` has the state of the rules, `watch` the latest memory,
--- preferences and tasks that the trace reports, and `reading` the values of the current evaluation.
+-- An evaluator of rules. `killer` has the state of the rules, and `reading` has the values of the
+-- current evaluation. `watch` has the latest values of memory, preferences and tasks that the trace
+-- reports.
 pub record EvaluatorView : Type 0 where
   pub killer : KillerView
   pub watch : SideView
@@ -37,7 +38,7 @@ pub record JudgeView : Type 0 where
   pub evaluator : Option EvaluatorView
   pub evaluated : Bool
 
--- The judge with these components.
+-- Builds a judge from its parts.
 abbrev pub judge_of : ℕ → Option EvaluatorView → Bool → JudgeView
 judge_of interval evaluator evaluated = record {
   interval = interval;
@@ -59,9 +60,10 @@ abbrev pub rules_of_options : Option Rules → List Rule
 rules_of_options None = []
 rules_of_options (Some maybe_rules) = maybe_rules.rules
 
--- ---- the judge's state by the trace
+-- ---- which state follows from the trace
 
--- The reading of the trace at tick `i`.
+-- The reading of the trace at tick `i`: the time, the host's memory and the values of the live
+-- groups.
 abbrev pub read_at : Trace → Timing → ℕ → Reading
 read_at trace timing i = reading_at trace.cpus trace.events timing.length i
 
@@ -69,30 +71,32 @@ read_at trace timing i = reading_at trace.cpus trace.events timing.length i
 abbrev pub readings_of : Trace → Timing → ℕ → List Reading
 readings_of trace timing i = readings_until trace.cpus trace.events timing.length timing.interval i
 
--- The evaluator has taken `readings` (newest first) of the trace with these rules. Its killer is in
--- the state after these readings. Its watch is in the state after all events up to the newest
--- reading.
+-- `HasRead evaluator trace rules readings` holds if the evaluator of `rules` has taken `readings`
+-- (newest first) of the trace. The state of its rules is the state after these readings. Its values
+-- of memory, preferences and tasks are the values after all events up to the newest reading.
 pub record HasRead (evaluator : EvaluatorView) (trace : Trace) (rules : List Rule)
     (readings : List Reading) : Type 0 where
   pub killer : Represents evaluator.killer (lives_of trace) rules readings
   pub watch : HasFollowed trace.events (newest_moment readings) evaluator.watch
   pub lives : evaluator.reading.lives ≡ lives_of trace
 
--- The evaluator, if there is one, has taken `readings`. Without an evaluator there are no rules.
+-- `HasReadAll` holds if the evaluator has taken `readings` (`HasRead`), or if there is no evaluator
+-- and the list of rules is empty.
 abbrev pub HasReadAll : Option EvaluatorView → Trace → List Rule → List Reading → Type 0
 HasReadAll None trace rules readings = rules ≡ []
 HasReadAll (Some evaluator) trace rules readings = HasRead evaluator trace rules readings
 
--- The judge has decided at the first `i` ticks of the trace. Its interval is the interval of
--- `timing`, it has taken the readings of all evaluations among these ticks, and its kills are the
--- kills at tick `i`.
+-- The judge has taken the first `i` ticks of the trace. The time between evaluations is the
+-- interval of `timing`, the readings of all evaluations among these ticks were taken, and the kills
+-- are the kills at tick `i`.
 pub record HasJudged (judge : JudgeView) (trace : Trace) (timing : Timing) (rules : List Rule) (i : ℕ)
     : Type 0 where
   pub interval : judge.interval ≡ timing.interval
   pub read : HasReadAll judge.evaluator trace rules (readings_of trace timing i)
   pub kills : judge_kills judge ≡ kills_in trace timing rules i
 
--- The effect of a tick without an evaluation: the evaluator doesn't change, and there are no kills.
+-- `Rests old new`: the effect of a tick without an evaluation on a judge. The evaluator doesn't
+-- change, and there are no kills.
 pub record Rests (old new : JudgeView) : Type 0 where
   pub evaluator : new.evaluator ≡ old.evaluator
   pub kills : judge_kills new ≡ []
@@ -107,8 +111,8 @@ pub record IsToBegin (plans : PlansView) (trace : Trace) (timing : Timing) (inte
   pub interval_is : interval ≡ timing.interval
 
 -- The preconditions of an evaluation at tick i + 1, whose time is `at` (ns). The engine has taken
--- this tick, `order` has all slots sorted by the paths of their groups, and the evaluator has taken
--- the readings up to tick `i`.
+-- this tick, and the evaluator has taken the readings up to tick `i`. `order` has all slots, sorted
+-- by the paths of their groups.
 pub record IsToEvaluate (evaluator : EvaluatorView) (plans : PlansView) (engine : EngineView)
     (order : List Slot) (trace : Trace) (timing : Timing) (rules : List Rule) (i at : ℕ) : Type 0 where
   pub planned : IsPlanned plans trace timing
@@ -118,8 +122,8 @@ pub record IsToEvaluate (evaluator : EvaluatorView) (plans : PlansView) (engine 
   pub read : HasRead evaluator trace rules (readings_of trace timing i)
 
 -- The preconditions of a decision at tick i + 1, whose time is `at` (ns), for ticks of `length` ns.
--- The engine has taken this tick, `order` has all slots sorted by the paths of their groups, and
--- the judge has decided at the first `i` ticks.
+-- The engine has taken this tick, and the judge has taken the first `i` ticks. `order` has all
+-- slots, sorted by the paths of their groups.
 pub record IsToJudge (judge : JudgeView) (plans : PlansView) (engine : EngineView)
     (order : List Slot) (trace : Trace) (timing : Timing) (rules : List Rule) (i at length : ℕ)
     : Type 0 where

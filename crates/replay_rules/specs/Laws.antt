@@ -8,25 +8,25 @@ use Rattle.kill_spec.specs.Kills.{kills}
 use Rattle.run_spec.specs.Replay.{Timing, kills_in, lives_of}
 use Rattle.replay_rules.specs.Judged.{read_at, readings_of}
 
--- A tick without an evaluation adds no reading.
+-- A tick at which the rules aren't evaluated adds no reading to the list of readings.
 abbrev pub ReadingsStay : Type 0
 ReadingsStay = (trace : Trace) (timing : Timing) (i : ℕ) →
     is_evaluation timing.interval timing.length (i + 1) ≡ false →
     readings_of trace timing (i + 1) ≡ readings_of trace timing i
 
--- A tick with an evaluation adds one reading.
+-- A tick at which the rules are evaluated adds one reading to the list of readings.
 abbrev pub OneReadingMore : Type 0
 OneReadingMore = (trace : Trace) (timing : Timing) (i : ℕ) →
     is_evaluation timing.interval timing.length (i + 1) ≡ true →
     readings_of trace timing (i + 1) ≡ read_at trace timing (i + 1) ∷ readings_of trace timing i
 
--- A tick without an evaluation has no kills.
+-- A tick at which the rules aren't evaluated has no kills.
 abbrev pub NoKillsBetween : Type 0
 NoKillsBetween = (trace : Trace) (timing : Timing) (rules : List Rule) (i : ℕ) →
     is_evaluation timing.interval timing.length i ≡ false → kills_in trace timing rules i ≡ []
 
--- The kills at an evaluation are the kills of the rules at its reading, given the previous
--- readings.
+-- The kills at an evaluation depend only on the rules, the groups, the reading and the previous
+-- readings: kill_spec defines them.
 abbrev pub KillsAtReading : Type 0
 KillsAtReading = (trace : Trace) (timing : Timing) (rules : List Rule) (i : ℕ) →
     is_evaluation timing.interval timing.length (i + 1) ≡ true →

@@ -18,7 +18,7 @@ pub record IsPlanned (plans : PlansView) (trace : Trace) (timing : Timing) : Typ
   pub short : timing.length ≤ longest_tick
   pub due : 0 < timing.interval
 
--- The engine is in the state after the first `i` ticks of the trace.
+-- The engine, which computes pressure, is in the state after the first `i` ticks of the trace.
 abbrev pub HasTicked : EngineView → Trace → Timing → ℕ → Type 0
 HasTicked engine trace timing i =
     Represents engine trace.cpus (lives_of trace) (triggers_of trace.events)

@@ -1,5 +1,5 @@
--- Defines the reading of an evaluation by the states of an engine and a side watch. The engine has
--- the pressure averages of the groups. The watch has their memory, preferences and tasks.
+-- Defines the reading of an evaluation. The pressure averages of the groups come from the engine.
+-- Their memory, preferences and tasks come from the side watch.
 use Rattle.std.specs.Prelude.{◌≡◌, ℕ, List, length, map, filter, take}
 use Rattle.psi_spec.specs.declared.machine.GroupLife.{GroupLife}
 use Rattle.psi_spec.specs.Groups.{path_at}
@@ -16,7 +16,8 @@ use Rattle.side_watch.specs.Watch.{SideView, has_tasks, side_cell_at}
 abbrev pub HasRows : EngineView → ℕ → Type 0
 HasRows engine slot = length (averages_in engine slot).averages ≡ length pressure_places
 
--- The values of the group in slot `slot` for a reading, taken from the engine and the watch.
+-- The values of the group in slot `slot` for a reading. The pressure averages come from the engine,
+-- and the other values from the side watch.
 abbrev pub group_by : EngineView → SideView → ℕ → GroupReading
 group_by engine watch slot = record {
   slot = record { 0 = slot };
@@ -37,13 +38,13 @@ slots_live_at lives at order = filter (is_live_slot lives at) order
 abbrev pub LiveAscend : List GroupLife → ℕ → List ℕ → Type 0
 LiveAscend lives at order = Ascend (map (path_at lives) (slots_live_at lives at order))
 
--- The values of the groups in `order` that are live at time `at` (ns), taken from the engine and
--- the watch.
+-- The values of the groups in `order` that are live at time `at` (ns). The pressure averages come
+-- from the engine, and the other values from the side watch.
 abbrev pub groups_by :
     EngineView → SideView → List GroupLife → ℕ → List ℕ → List GroupReading
 groups_by engine watch lives at order = map (group_by engine watch) (slots_live_at lives at order)
 
--- The reading of all live groups at time `at` (ns), with the host's memory from the watch.
+-- The reading of all live groups at time `at` (ns). The host's memory comes from the side watch.
 abbrev pub reading_by : EngineView → SideView → List GroupLife → ℕ → List ℕ → Reading
 reading_by engine watch lives at order =
     seen_at at watch.host (groups_by engine watch lives at order)

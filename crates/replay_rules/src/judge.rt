@@ -19,7 +19,7 @@ use std::alloc::Global;
 use std::marker::Model;
 use tick_engine::Engine;
 
-/// Decides which groups the rules kill at the ticks of a replay, which are taken in order.
+/// Decides at each tick of a replay which groups the rules kill. The ticks are taken in order.
 /// Contracts refer to all fields.
 #[derive(Drop)]
 pub struct Judge {

@@ -23,19 +23,20 @@ use Rattle.run_spec.specs.Stops.{StopsAtRefusal}
 
 -- ---- one file
 
--- The shelf's counts of failed reads and of missing files didn't change.
+-- The counts of failed reads and of missing files didn't change.
 pub record Stays (before now : ShelfCounts) : Type 0 where
   pub faults : now.faults ≡ before.faults
   pub absent : now.absent ≡ before.absent
 
--- `bytes` was read from the file `name` without a fault. If the content of the file is known,
--- `bytes` is its prefix up to the size limit. The file isn't known to be missing.
+-- `bytes` was read from the file `name` without a failure. If the content of the file is known,
+-- `bytes` are its first `most_of_rules` bytes, or all bytes of a shorter file. The file isn't known
+-- to be missing.
 pub record IsPrefixOf (bytes name : List ℕ) (files : Option Files) (before now : ShelfCounts) : Type 0 where
   pub prefix : (whole : List ℕ) → content_of files name ≡ Some whole → bytes ≡ take most_of_rules whole
   pub held : IsAbsent files name → ⊥
   pub stays : Stays before now
 
--- The status says why the file `name` couldn't be read. `which` is the kind of the file.
+-- The status reports why the file `name` couldn't be read. `which` is the kind of the file.
 abbrev pub Unread : Which → List ℕ → Option Files → ShelfCounts → ShelfCounts → Status → Type 0
 Unread which name files before now (status.NoFile kind) =
     (kind ≡ which) × (content_of files name ≡ None) × (now.faults ≡ before.faults) × Increased before.absent now.absent
@@ -50,7 +51,7 @@ pub record BaseOption (name : List ℕ) (files : Option Files) (before now : She
   pub held : IsAbsent files name → ⊥
   pub stays : Stays before now
 
--- The status says why reading the rules file `name` gave no rules.
+-- The status reports why the rules file `name` couldn't be read or was rejected.
 abbrev pub BaseFails : List ℕ → Option Files → ShelfCounts → ShelfCounts → Status → Type 0
 BaseFails name files before now (status.Rules fault) =
     ((bytes : List ℕ) → content_of files name ≡ Some bytes → rules_of bytes ≡ Err fault) × (IsAbsent files name → ⊥) × Stays before now
@@ -64,47 +65,53 @@ pub record OverOption (base : Rules) (name : List ℕ) (files : Option Files) (b
   pub held : IsAbsent files name → ⊥
   pub stays : Stays before now
 
--- The status says why the drop-in file `name` couldn't be applied to the rules `base`.
+-- The status reports why the drop-in file `name` couldn't be read or applied to the rules `base`.
 abbrev pub OverFails : Rules → List ℕ → Option Files → ShelfCounts → ShelfCounts → Status → Type 0
 OverFails base name files before now (status.DropIn fault) =
     ((bytes : List ℕ) → content_of files name ≡ Some bytes → dropped_in base bytes ≡ Err fault)
     × (IsAbsent files name → ⊥) × Stays before now
 OverFails base name files before now result = Unread DropInFile name files before now result
 
--- ---- both files, as the beginning of a run
+-- ---- reading both files at the start of a run
 
--- The counts of a run, made from the counts of its shelf and the number of failed writes.
+-- The failure counts of a run: the numbers of failed reads, missing files and failed writes.
 abbrev pub counts_with : ShelfCounts → ℕ → RunCounts
 counts_with shelf writes = record { shelf = shelf; writes = writes }
 
--- For every command that names these two files: a run that ends now with this status, without any
--- output, satisfies the specification `Runs`.
+-- `EndsRun named drop_in files before now result`: a run that ends now with the status `result` and
+-- without output satisfies the specification `Runs`. This holds for each command with the rules
+-- file `named` and the drop-in file `drop_in`.
 abbrev pub EndsRun : Option (List ℕ) → Option (List ℕ) → Option Files → ShelfCounts → ShelfCounts → Status → Type 0
 EndsRun named drop_in files before now result =
     (command : Command) (writes : ℕ) (had : Option (List ℕ)) → rules_name command ≡ named → drop_in_name command ≡ drop_in
     → Runs command files (counts_with before writes) (counts_with now writes) had had result
 
--- For every command that names these two files: a run that ends now with this status has read no
--- more bytes than the specification allows. `bytes_read` and `read_now` are the numbers of bytes
--- read before and after.
+-- `StopsRun named drop_in files bytes_read read_now result`: a run that ends now with the status
+-- `result` has read at most as many bytes as the specification allows. This holds for each command
+-- with the rules file `named` and the drop-in file `drop_in`. `bytes_read` and `read_now` are the
+-- numbers of bytes read before the run and until now.
 abbrev pub StopsRun : Option (List ℕ) → Option (List ℕ) → Option Files → ℕ → ℕ → Status → Type 0
 StopsRun named drop_in files bytes_read read_now result =
     (command : Command) → rules_name command ≡ named → drop_in_name command ≡ drop_in
     → StopsAtRefusal command files bytes_read read_now result
 
--- The shelf's fault that the status reports, or `None` if it reports another cause.
+-- The failure of file access that the status reports: a missing file or a failed read. `None` for
+-- any other status.
 abbrev pub status_fault : Status → Option ShelfFault
 status_fault (status.NoFile which) = Some shelf.NoFile
 status_fault status.ReadFault = Some shelf.Failed
 status_fault _ = None
 
--- The shelf's fault that the status of a failed result reports, or `None`.
+-- The failure of file access that a result reports: a missing file or a failed read. `None` for any
+-- other result.
 abbrev pub status_fault_in : {A : Type 0} → Result A Status → Option ShelfFault
 status_fault_in (Ok x) = None
 status_fault_in (Err found) = status_fault found
 
--- For every command that names these two files: a run that ends now with this status has read the
--- files in the specified order. `before` and `now` are the logs of read calls before and after.
+-- `OrdersRun named drop_in files before now result`: a run that ends now with the status `result`
+-- has read the files in the specified order. This holds for each command with the rules file
+-- `named` and the drop-in file `drop_in`. `before` and `now` are the logs of read calls before the
+-- run and until now.
 abbrev pub OrdersRun : Option (List ℕ) → Option (List ℕ) → Option Files → List ReadCall → List ReadCall → Status → Type 0
 OrdersRun named drop_in files before now result =
     (command : Command) → rules_name command ≡ named → drop_in_name command ≡ drop_in → ReadsInOrder command files before now result

@@ -26,9 +26,9 @@ fn cause_name(cause: RulesCause) -> &'static [u8]
     }
 }
 
-// Writes the message for a fault of a file: the word `file`, the words for the place, a colon, and
-// the name of the cause. The words for a place have the indexes of the ruleset and of the group,
-// item or action. There are no words for the whole file.
+// Writes the message for a fault of a file: the word `file`, the position of the fault, a colon,
+// and the name of the cause. The position consists of the indexes of the ruleset and of the group,
+// item or action. If the fault concerns the whole file, the position is empty.
 fn put_placed<K: Sink>(
     out: &mut K,
     file: &[u8],
@@ -93,8 +93,8 @@ fn put_placed<K: Sink>(
     }
 }
 
-/// Writes the message for a fault of a rules file: the word `rules`, the place and the cause.
-/// Doesn't allocate.
+/// Writes the message for a fault of a rules file: the word `rules`, the position of the fault and
+/// the cause. Doesn't allocate.
 pub fn put_fault<K: Sink>(out: &mut K, fault: RulesFault) -> Result<(), WriteFailed>
     ensures bytes { PutsAll (K.has out.old) (K.has out.new) result (fault_text fault) }
     ensures cause { HasCause (K.faults out.old) (K.faults out.new) result }
@@ -112,8 +112,8 @@ fn drop_cause_name(cause: DropCause) -> &'static [u8]
     }
 }
 
-/// Writes the message for a fault of a drop-in file: the word `drop-in`, the place as for a rules
-/// file, and the cause. Doesn't allocate.
+/// Writes the message for a fault of a drop-in file: the word `drop-in`, the position of the fault
+/// and the cause. Doesn't allocate.
 pub fn put_drop_fault<K: Sink>(out: &mut K, fault: DropFault) -> Result<(), WriteFailed>
     ensures bytes { PutsAll (K.has out.old) (K.has out.new) result (drop_fault_text fault) }
     ensures cause { HasCause (K.faults out.old) (K.faults out.new) result }

@@ -1,7 +1,6 @@
 //! Reads the rules of a command from a shelf, the trait for access to files.
 //!
-//! The result has the rules of the rules file. If the command names a drop-in file, it is applied
-//! to them.
+//! If the command names a drop-in file, it is applied to the rules of the rules file.
 ghost use Rattle.std.specs.Prelude.{◌≡◌, ◌+◌, ◌≤◌, None, Some, IfSome, IsUtf8, MatchResult, ⊤};
 ghost use Rattle.psi_base.specs.Gives.{Gives};
 ghost use Rattle.outside.specs.Outside.{counts_of};
@@ -39,8 +38,8 @@ fn in_ranges(rules: Rules) -> Rules
     }
 }
 
-// Returns the bytes of a rules file or a drop-in file. Of a file that is too long, returns only a
-// prefix, which is itself too long.
+// Returns the bytes of a rules file or a drop-in file. If the file is longer than the limit,
+// returns a prefix that is longer than the limit.
 fn read_bytes<S: Shelf>(
     alloc: Global,
     name: &str,
@@ -134,8 +133,8 @@ fn read_over<S: Shelf>(
 }
 
 /// Reads the rules file `name`, and applies the drop-in file `drop_in` if it isn't `None`. Reads
-/// the drop-in file only if the rules file is accepted. On failure, returns the status that says
-/// why.
+/// the drop-in file only if the rules file is accepted. On failure, returns the status that reports
+/// the cause.
 pub fn read_joined<S: Shelf>(
     alloc: Global,
     name: &str,
@@ -175,7 +174,7 @@ pub fn read_joined<S: Shelf>(
 }
 
 /// Reads the rules that the options of a replay name. Returns `None` if the options name no rules
-/// file. On failure, returns the status that says why.
+/// file. On failure, returns the status that reports the cause.
 pub fn read_rules<S: Shelf>(
     alloc: Global,
     options: &Options,

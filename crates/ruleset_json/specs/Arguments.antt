@@ -1,5 +1,5 @@
--- Defines the arguments of plugins (detectors and actions): the kinds of arguments, the value that
--- a text has for each kind, and the defaults.
+-- Defines the arguments of plugins (detectors and actions): the kinds of arguments, the values that
+-- their texts have, and their defaults.
 use Rattle.std.specs.Prelude.{ℕ, List, [], ◌∷◌, Bool, true, false, codes, decimal, Option, None, Some, option_and_then, Result, Ok, Err}
 use Rattle.psi_base.specs.declared.event.Res.{Res}
 use Rattle.psi_base.specs.ResultSteps.{◌>>=◌}
@@ -17,19 +17,19 @@ use Rattle.ruleset_json.specs.declared.name.Key.{Key}
 use Rattle.ruleset_json.specs.Names.{key_word}
 use Rattle.ruleset_json.specs.Forms.{number_up_to, ratio_of, size_of, truth_of, resource_of}
 
--- ---- faults
+-- ---- rejection of an argument
 
--- Rejection with the cause `what` at place `at`.
+-- `refused_for at what`: a rejection with the cause `what` at the place `at` in the rules file.
 abbrev pub refused_for : {A : Type 0} → Place → RulesCause → Result A RulesFault
 refused_for at what = Err (record { place = at; what = what })
 
--- The value in the option, or rejection with the cause `what` at place `at` if the option is
--- `None`.
+-- `or_fault at what option`: the value of an option. `None` is rejected with the cause `what` at
+-- the place `at` in the rules file.
 abbrev pub or_fault : {A : Type 0} → Place → RulesCause → Option A → Result A RulesFault
 or_fault at what None = refused_for at what
 or_fault at what (Some x) = Ok x
 
--- ---- kinds of arguments
+-- ---- kinds of plugin arguments
 
 -- The kind of an argument: path patterns, a resource, a number up to `most`, a ratio in
 -- thousandths, a size, or a Boolean.
@@ -50,18 +50,21 @@ ArgumentValue ratio = ℕ
 ArgumentValue size = Size
 ArgumentValue truth = Bool
 
--- The cause of rejection for a malformed or too long list of patterns.
+-- The cause for which a list of patterns is rejected: `BadArg` for a malformed pattern, and
+-- `TooMany` for too many patterns.
 abbrev pub pattern_cause : PatternFault → RulesCause
 pattern_cause pattern.BadPattern = cause.BadArg
 pattern_cause pattern.TooMany = cause.TooMany
 
--- The parsed patterns, or rejection at place `at` with the cause that belongs to the pattern fault.
+-- `or_pattern at read`: the result of parsing patterns. A fault of the patterns is converted to a
+-- fault of the rules file at the place `at`.
 abbrev pub or_pattern : {A : Type 0} → Place → Result A PatternFault → Result A RulesFault
 or_pattern at (Ok x) = Ok x
 or_pattern at (Err fault) = refused_for at (pattern_cause fault)
 
--- The value of the text `text` as an argument of kind `k`. Rejected with `BadArg` if the text has
--- no such value; too many patterns are rejected with `TooMany`.
+-- `argument_of at k text`: parses the text of an argument of kind `k`. Too many patterns are
+-- rejected with `TooMany`. Any other text without a value of this kind is rejected with `BadArg`. A
+-- fault reports the place `at`.
 unfoldable pub argument_of : Place → (k : ArgumentKind) → List ℕ → Result (ArgumentValue k) RulesFault
 argument_of at patterns text = or_pattern at (patterns_of text)
 argument_of at resource text = or_fault at cause.BadArg (resource_of text)
@@ -70,7 +73,7 @@ argument_of at ratio text = or_fault at cause.BadArg (ratio_of text)
 argument_of at size text = or_fault at cause.BadArg (size_of text)
 argument_of at truth text = or_fault at cause.BadArg (truth_of text)
 
--- ---- texts of arguments
+-- ---- the texts of arguments in JSON
 
 -- The text of a Boolean in a rules file.
 abbrev pub truth_text : Bool → List ℕ
@@ -82,21 +85,22 @@ abbrev pub number_text : Num → Option (List ℕ)
 number_text (unsigned n) = Some (decimal n)
 number_text _ = None
 
--- The text of an argument in JSON. A string is its own text; a natural number or a Boolean is
--- spelled out. `None` for any other JSON value.
+-- Converts the JSON value of an argument to text. The text of a string is its contents. A natural
+-- number or a Boolean is spelled out. The result is `None` for any other JSON value.
 abbrev pub argument_text : Data → Option (List ℕ)
 argument_text (string text) = Some text
 argument_text (numeric n) = number_text n
 argument_text (boolean b) = Some (truth_text b)
 argument_text _ = None
 
--- The value of the argument with the JSON value `d`, or its fault.
+-- `value_at at k d`: parses the JSON value `d` of an argument of kind `k`. A fault reports the
+-- place `at`.
 unfoldable pub value_at : Place → (k : ArgumentKind) → Data → Result (ArgumentValue k) RulesFault
 value_at at k d = do
   text ← or_fault at cause.WrongKind (argument_text d)
   argument_of at k text
 
--- ---- tables of arguments
+-- ---- the known arguments of a plugin
 
 -- A known argument of a plugin: its key, its kind, and its default. A required argument has no
 -- default.
@@ -105,23 +109,25 @@ pub record Argument : Type 0 where
   pub kind : ArgumentKind
   pub default : Option (ArgumentValue kind)
 
--- A required argument with this key and kind.
+-- `required key k`: a required argument with this key and of the kind `k`.
 abbrev pub required : Key → ArgumentKind → Argument
 required key k = record { key = key; kind = k; default = None }
 
--- An optional argument with this key, kind and default.
+-- `optional key k default`: an optional argument with this key and default, and of the kind `k`.
 abbrev pub optional : Key → (k : ArgumentKind) → ArgumentValue k → Argument
 optional key k default = record { key = key; kind = k; default = Some default }
 
--- The value of an argument that is present, or its default if it is missing. A missing argument
--- without a default is rejected with `MissingKey`.
+-- `found_or at k default value`: parses the JSON value of an argument of kind `k`. If the argument
+-- is missing (`value` is `None`), the result is its default. A missing argument without a default
+-- is rejected with `MissingKey`. A fault reports the place `at`.
 abbrev pub found_or : Place → (k : ArgumentKind) → Option (ArgumentValue k) → Option Data → Result (ArgumentValue k) RulesFault
 found_or at k None None = refused_for at cause.MissingKey
 found_or at k (Some default) None = Ok default
 found_or at k default (Some d) = value_at at k d
 
--- The value of the argument `a` of a plugin. `args` is the JSON object of all arguments of the
--- plugin, or `None` if the plugin has no `args`.
+-- `argument_at at a args`: the value of the argument `a` of a plugin. `args` is the JSON object of
+-- all arguments of the plugin, or `None` if the plugin has no `args`. A fault reports the place
+-- `at`.
 unfoldable pub argument_at : Place → (a : Argument) → Option Data → Result (ArgumentValue a.kind) RulesFault
 argument_at at a args = found_or at a.kind a.default (option_and_then (get (key_word a.key)) args)
 
@@ -131,8 +137,9 @@ abbrev pub ArgumentsMaker : List Argument → Type 0 → Type 0
 ArgumentsMaker [] Made = Made
 ArgumentsMaker (a ∷ known) Made = ArgumentValue a.kind → ArgumentsMaker known Made
 
--- Parses the arguments in `known` in order, applies `make` to their values, and returns the result.
--- Returns the first fault if an argument is rejected.
+-- `made_of_arguments at known make args`: parses the arguments in `known` in order, applies `make`
+-- to their values, and returns the result. Returns the first fault if an argument is rejected.
+-- `args` is the JSON object of all arguments, or `None` if the plugin has no `args`.
 abbrev pub made_of_arguments : {Made : Type 0} → Place → (known : List Argument) → ArgumentsMaker known Made → Option Data
     → Result Made RulesFault
 made_of_arguments at [] made args = Ok made

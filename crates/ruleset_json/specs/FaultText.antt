@@ -17,8 +17,8 @@ rules_cause_name cause.UnknownPlugin = codes "UnknownPlugin"
 rules_cause_name cause.BadArg = codes "BadArg"
 rules_cause_name cause.TooMany = codes "TooMany"
 
--- The printed words for a place, for example `ruleset 0 action 1`. There are no words for the whole
--- file.
+-- The printed words for a place in a rules file, for example `ruleset 0 action 1`. The list is
+-- empty for the whole file.
 abbrev pub place_words : Place → List (List ℕ)
 place_words place.Whole = []
 place_words (place.Rule i) = codes "ruleset" ∷ decimal i ∷ []
@@ -26,8 +26,8 @@ place_words (place.Group i j) = codes "ruleset" ∷ decimal i ∷ codes "group" 
 place_words (place.Detector i j k) = codes "ruleset" ∷ decimal i ∷ codes "group" ∷ decimal j ∷ codes "item" ∷ decimal k ∷ []
 place_words (place.Action i k) = codes "ruleset" ∷ decimal i ∷ codes "action" ∷ decimal k ∷ []
 
--- The text of a fault: the word for the file, the words for the place, a colon, and the name of the
--- cause.
+-- `placed_text file at why`: the text of a fault. It consists of the word `file` (such as `rules`),
+-- the words for the place `at`, a colon, and the name `why` of the cause.
 abbrev pub placed_text : List ℕ → Place → List ℕ → List ℕ
 placed_text file at why = joined (file ∷ place_words at) ++ (codes ": " ++ why)
 

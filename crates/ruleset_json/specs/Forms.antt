@@ -12,25 +12,26 @@ use Rattle.psi_spec.specs.Fields.{named, resource_word}
 use Rattle.ruleset_json.specs.declared.types.Size.{Size}
 use Rattle.ruleset_json.specs.declared.types.Size.TheVariants as size
 
--- The number, or `None` if it is above `most`.
+-- `at_most most n`: the optional number `n`, or `None` if it is above `most`.
 abbrev pub at_most : ℕ → Option ℕ → Option ℕ
 at_most most None = None
 at_most most (Some n) = if nat_le n most then Some n else None
 
--- The number that a text spells in decimal without leading zeros. `None` if the text isn't such a
--- number, or if the number is above `most`.
+-- `number_up_to most text`: parses a decimal number without leading zeros. The result is `None` if
+-- the text isn't such a number, or if the number is above `most`.
 unfoldable pub number_up_to : ℕ → List ℕ → Option ℕ
 number_up_to most text = at_most most (number_of text)
 
 -- ---- numbers with a decimal point
 
--- The number of thousandths that one to three digits after a decimal point spell. Missing digits
--- count as zeros.
+-- `fraction_of digits`: the number of thousandths that one to three digits after a decimal point
+-- spell. Missing digits count as zeros. The result is `None` for any other text.
 unfoldable pub fraction_of : List ℕ → Option ℕ
 fraction_of digits = if nat_lt 0 (length digits) && nat_le (length digits) 3 then digits_of (take 3 (digits ++ codes "00")) else None
 
--- The integer part and the thousandths of a number. The argument is the number's text, split at
--- each decimal point. The integer part is at most `most`, and the fraction is optional.
+-- `pointed most parts`: the integer part and the thousandths of a decimal number. `parts` is the
+-- number's text, split at each point. The integer part is at most `most`, and the fraction is
+-- optional. The result is `None` for any other text.
 abbrev pub pointed : ℕ → List (List ℕ) → Option (ℕ × ℕ)
 pointed most [] = None
 pointed most (whole ∷ []) = do
@@ -42,21 +43,23 @@ pointed most (whole ∷ digits ∷ []) = do
   Some (n, fraction)
 pointed most (whole ∷ digits ∷ other ∷ parts) = None
 
--- The number of thousandths that a text spells. The text has an integer part of at most `most`, and
--- optionally a point and one to three digits.
+-- `thousandths_of most text`: the number of thousandths that a text spells. The text consists of an
+-- integer of at most `most`, and optionally a point and one to three digits. The result is `None`
+-- for any other text.
 unfoldable pub thousandths_of : ℕ → List ℕ → Option ℕ
 thousandths_of most text = do
   parts ← pointed most (parts_at 46 text)
   Some (parts.0 * 1000 + parts.1)
 
--- The ratio (in thousandths) that a text spells. Its integer part is at most 1000.
+-- `ratio_of text`: the ratio (in thousandths) that a text spells. Its integer part is at most 1000.
+-- The result is `None` for any other text.
 abbrev pub ratio_of : List ℕ → Option ℕ
 ratio_of text = thousandths_of 1000 text
 
--- ---- sizes
+-- ---- sizes in bytes or percent
 
--- The number of bytes that a unit letter (K, M, G or T, in either case) stands for. `None` for any
--- other byte.
+-- The number of bytes of a unit with this letter (K, M, G or T, in either case). The result is
+-- `None` for any other byte.
 unfoldable pub unit_of : ℕ → Option ℕ
 unit_of letter =
     if letter == 75 || letter == 107 then Some (1024 ^ 1)  -- K, k
@@ -77,29 +80,30 @@ prefix text = take (length text - 1) text
 abbrev pub largest_size : ℕ
 largest_size = 2 ^ 60
 
--- The size (bytes, rounded down) that a text spells as a number of units of `unit` bytes. The
--- number may have a fraction.
+-- `scaled unit text`: parses a number of units of `unit` bytes, which may have a fraction. The
+-- result is the size in bytes, rounded down. The result is `None` if the text is malformed or the
+-- size is above 2^60 bytes.
 unfoldable pub scaled : ℕ → List ℕ → Option ℕ
 scaled unit text = do
   thousandths ← thousandths_of (2 ^ 64 - 1) text
   at_most largest_size (Some (thousandths * unit / 1000))
 
--- The size (bytes) that a text spells. With a unit, the text ends with the unit's letter; without a
--- unit, the text is a number of bytes.
+-- `bytes_in unit text`: parses a size in bytes. With a unit, the text is a number followed by the
+-- unit's letter. Without a unit (`None`), the text is a number of bytes.
 abbrev pub bytes_in : Option ℕ → List ℕ → Option ℕ
 bytes_in None text = number_up_to largest_size text
 bytes_in (Some unit) text = scaled unit (prefix text)
 
--- The size that a text spells: a percentage (a number from 0 to 100 and `%`), or a number of bytes
--- with an optional unit letter.
+-- Parses a size: a percentage (a number from 0 to 100 and `%`), or a number of bytes with an
+-- optional unit letter.
 unfoldable pub size_of : List ℕ → Option Size
 size_of text =
     if last text == 37 then option_map size.Percent (number_up_to 100 (prefix text))
     else option_map size.Bytes (bytes_in (unit_of (last text)) text)
 
--- ---- words
+-- ---- Booleans and resources
 
--- Whether the text is one of the words.
+-- `is_one_of words text`: whether the text is one of the words.
 abbrev pub is_one_of : List (List ℕ) → List ℕ → Bool
 is_one_of words text = list_any (bytes_eq text) words
 
@@ -110,7 +114,7 @@ truth_of text =
     else if is_one_of (codes "false" ∷ codes "False" ∷ codes "0" ∷ []) text then Some false
     else None
 
--- The resource that a text names, or `None`. Only IO and memory are accepted, because detectors
--- watch only these two.
+-- `resource_of text`: the resource that a text names, or `None` for any other text. Only IO and
+-- memory are accepted, because detectors and actions use only these two.
 unfoldable pub resource_of : List ℕ → Option Res
 resource_of text = named resource_word (res.Io ∷ res.Memory ∷ []) text

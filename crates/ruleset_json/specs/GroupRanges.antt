@@ -1,4 +1,4 @@
--- The ranges of the values in a group of detectors.
+-- Defines the ranges of the values in a group of detectors.
 use Rattle.std.specs.Prelude.{List, IsUtf8}
 use Rattle.ruleset_json.specs.declared.types.DetectorGroup.{DetectorGroup}
 use Rattle.ruleset_json.specs.Ranges.{FitsList, FitsDetectors}

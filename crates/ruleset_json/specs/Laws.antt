@@ -1,5 +1,5 @@
--- Laws about parsing a list. A list is accepted if all its items are accepted. Otherwise its fault
--- is the fault of its first rejected item.
+-- States laws about parsing a list. A list is accepted if all its items are accepted. Otherwise its
+-- fault is the fault of its first rejected item.
 use Rattle.std.specs.Prelude.{◌≡◌, ◌↔◌, ℕ, ◌+◌, ◌<◌, List, length, Some, Result, Ok, Err}
 use Rattle.std.specs.List.{slice_get}
 use Rattle.std.specs.Result.{IsOk}
@@ -7,14 +7,16 @@ use Rattle.serde_json.specs.Data.{Data}
 use Rattle.ruleset_json.specs.declared.fault.RulesFault.{RulesFault}
 use Rattle.ruleset_json.specs.Rules.{each}
 
--- Each item is accepted, and `found` has the parsed items in order. The first item has the index
--- `from`.
+-- `AreRead read from items found`: the function `read` accepts each item, and `found` has the
+-- parsed items in order. `read` takes the index of an item and the item. The first item has the
+-- index `from`.
 pub record AreRead {A : Type 0} (read : ℕ → Data → Result A RulesFault) (from : ℕ) (items : List Data) (found : List A) : Type 0 where
   pub equally_many : length found ≡ length items
   pub each : (k : ℕ) (item : Data) (x : A) → slice_get items k ≡ Some item → slice_get found k ≡ Some x → read (from + k) item ≡ Ok x
 
--- One item is rejected with the fault `fault`, and all items before it are accepted. The first item
--- has the index `from`.
+-- `IsFirstFault read from items fault`: the function `read` rejects one item with the fault
+-- `fault`, and accepts all items before it. `read` takes the index of an item and the item. The
+-- first item has the index `from`.
 pub record IsFirstFault {A : Type 0} (read : ℕ → Data → Result A RulesFault) (from : ℕ) (items : List Data)
     (fault : RulesFault) : Type 0 where
   pub at : ℕ

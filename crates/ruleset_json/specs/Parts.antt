@@ -9,14 +9,16 @@ use Rattle.ruleset_json.specs.declared.types.Part.{Part}
 use Rattle.psi_base.specs.ResultSteps.{◌>>=◌}
 use Rattle.ruleset_json.specs.Rules.{object_at, member_at, text_at, each, delay_at, groups_at, actions_at, rulesets_of}
 
--- The parsed value `read` if the member of the JSON object is present, and `None` if it is missing.
+-- `if_there found read`: the parsed value `read` of a member of a JSON object. The result is `None`
+-- if the member `found` is missing.
 abbrev pub if_there : {A : Type 0} → Option Data → Result A RulesFault → Result (Option A) RulesFault
 if_there None read = Ok None
 if_there (Some found) read = do
   x ← read
   Ok (Some x)
 
--- The ruleset at index `i` of a drop-in file, or its first fault.
+-- `part_at i d`: parses the ruleset at index `i` of a drop-in file from its JSON value `d`. Returns
+-- the first fault if the ruleset is rejected.
 unfoldable pub part_at : ℕ → Data → Result Part RulesFault
 part_at i d = do
   whole ← object_at (place.Rule i) d
@@ -27,7 +29,7 @@ part_at i d = do
   chain ← if_there (get (codes "actions") whole) (actions_at i delay whole)
   Ok (record { name = name; groups = groups; actions = chain })
 
--- The rulesets of the drop-in file with these bytes, or the file's first fault.
+-- Parses the bytes of a drop-in file. The result is the file's rulesets or its first fault.
 unfoldable pub parts_of : List ℕ → Result (List Part) RulesFault
 parts_of bytes = do
   items ← rulesets_of bytes

@@ -20,7 +20,7 @@ pub record Plugin (Made : Type 0) : Type 0 where
   pub arguments : List Argument
   pub make : ArgumentsMaker arguments Made
 
--- The plugin with these components.
+-- `plugin arguments make`: the plugin with these arguments and this function.
 abbrev pub plugin : {Made : Type 0} (arguments : List Argument) → ArgumentsMaker arguments Made → Plugin Made
 plugin arguments make = record { arguments = arguments; make = make }
 
@@ -47,7 +47,7 @@ detector_of SwapFree = plugin (required key.ThresholdPct (number percent) ∷ []
 detector_of Exists = plugin (required key.Cgroup patterns ∷ optional key.Negate truth false ∷ []) detector.Exists
 
 -- The arguments of each kind of action, without the settings that every action has. The plugin
--- makes a function from these settings to an action.
+-- makes a function that takes these settings and returns the action.
 unfoldable pub action_of : ActionName → Plugin (After → Action)
 action_of SizeOrGrowth =
     plugin (required key.Cgroup patterns ∷ optional key.SizeThreshold (number percent) 50
@@ -61,8 +61,8 @@ action_of Pressure =
     (λ cgroup resource after. action.Pressure cgroup resource after)
 action_of PgScan = plugin (required key.Cgroup patterns ∷ []) (λ cgroup after. action.PgScan cgroup after)
 
--- The arguments for the settings that every action has. `delay` is the ruleset's delay (s) after a
--- kill, and the default for the action's delay.
+-- `after_arguments delay`: the arguments for the settings that every action has. `delay` is the
+-- ruleset's delay (s) after a kill, and the default for the action's delay.
 unfoldable pub after_arguments : ℕ → Plugin After
 after_arguments delay =
     plugin (optional key.Recursive truth false ∷ optional key.AlwaysContinue truth false

@@ -1,4 +1,4 @@
--- The ranges of the argument values of detectors and actions.
+-- Defines the ranges of the argument values of detectors and actions.
 use Rattle.std.specs.Prelude.{ℕ, ◌≤◌, ◌^◌, List, All, length}
 use Rattle.psi_base.specs.declared.event.Res.{Res}
 use Rattle.psi_base.specs.declared.event.Res.TheVariants as res
@@ -21,7 +21,7 @@ IsTime n = n ≤ 1000000
 abbrev pub IsRatio : ℕ → Type 0
 IsRatio n = n ≤ 1000999
 
--- The resource is one that detectors and actions can use: IO or memory.
+-- The resource is IO or memory. Detectors and actions use only these two resources.
 abbrev pub IsStallable : Res → Type 0
 IsStallable res.Io = Unit {0}
 IsStallable res.Memory = Unit {0}
@@ -50,7 +50,7 @@ FitsAction (action.SwapUsage cgroup threshold after) = IsSize threshold × IsTim
 FitsAction (action.Pressure cgroup resource after) = IsStallable resource × IsTime after.delay_s
 FitsAction (action.PgScan cgroup after) = IsTime after.delay_s
 
--- The list has at most `most` items, and every item satisfies `Fits`.
+-- `FitsList Fits most xs`: the list `xs` has at most `most` items, and every item satisfies `Fits`.
 pub record FitsList {A : Type 0} (Fits : A → Type 0) (most : ℕ) (xs : List A) : Type 0 where
   pub few : length xs ≤ most
   pub each : All Fits xs

@@ -1,5 +1,5 @@
 -- Defines the rules that a rules file spells, or the file's first fault in depth-first order. The
--- argument `at` of a function is the place that its faults report.
+-- parameter `at` of a definition is the place in the file that its faults report.
 use Rattle.std.specs.Prelude.{ℕ, ◌+◌, List, [], ◌∷◌, drop, length, nat_lt, if◌then◌else◌, codes, Option, None, Some, is_some, Result, Ok}
 use Rattle.std.specs.List.{slice_get}
 use Rattle.std.specs.Str.{is_utf8}
@@ -22,18 +22,20 @@ use Rattle.ruleset_json.specs.Arguments.{refused_for, or_fault, number, optional
 use Rattle.ruleset_json.specs.Names.{detector_named, action_named}
 use Rattle.ruleset_json.specs.Plugins.{Plugin, detector_of, action_of, after_arguments, longest}
 
--- ---- JSON values of a kind
+-- ---- JSON values of the expected kind
 
--- The value itself if it is a JSON object; rejected with `WrongKind` otherwise.
+-- `object_at at d`: the JSON value `d` if it is an object. Any other value is rejected with
+-- `WrongKind`.
 abbrev pub object_at : Place → Data → Result Data RulesFault
 object_at at d = if is_some (as_object d) then Ok d else refused_for at cause.WrongKind
 
--- The member with the key `key` of a JSON object; rejected with `MissingKey` if there is no such
--- member.
+-- `member_at at key d`: the member of the JSON object `d` with the key `key`. A missing member is
+-- rejected with `MissingKey`.
 abbrev pub member_at : Place → List ℕ → Data → Result Data RulesFault
 member_at at key d = or_fault at cause.MissingKey (get key d)
 
--- The contents of a JSON string; any other value is rejected with `WrongKind`.
+-- `text_at at d`: the contents of the JSON string `d`. Any other JSON value is rejected with
+-- `WrongKind`.
 abbrev pub text_at : Place → Data → Result (List ℕ) RulesFault
 text_at at d = or_fault at cause.WrongKind (as_str d)
 
@@ -42,19 +44,20 @@ abbrev pub items_list : Items → List Data
 items_list no_items = []
 items_list (item d ds) = d ∷ items_list ds
 
--- The list itself if it has at most `most` items; rejected with `TooMany` otherwise.
+-- `few at most ds`: the list `ds` if it has at most `most` items. A longer list is rejected with
+-- `TooMany`.
 abbrev pub few : Place → ℕ → List Data → Result (List Data) RulesFault
 few at most ds = if nat_lt most (length ds) then refused_for at cause.TooMany else Ok ds
 
--- The items of a JSON array of at most `most` items. Any other value is rejected with `WrongKind`,
--- and a longer array with `TooMany`.
+-- `list_at at most d`: the items of the JSON array `d`, which has at most `most` items. Any other
+-- JSON value is rejected with `WrongKind`, and a longer array with `TooMany`.
 unfoldable pub list_at : Place → ℕ → Data → Result (List Data) RulesFault
 list_at at most d = do
   items ← or_fault at cause.WrongKind (as_array d)
   few at most (items_list items)
 
--- The results of `f` for all items in order, or the first fault. `f` takes the index of an item and
--- the item; the first item has the index `i`.
+-- `each f i ds`: applies `f` to each item of `ds` with its index, in order, and collects the
+-- results. Stops at the first fault, and returns it. `i` is the index of the first item.
 abbrev pub each : {A : Type 0} → (ℕ → Data → Result A RulesFault) → ℕ → List Data → Result (List A) RulesFault
 each f i [] = Ok []
 each f i (d ∷ ds) = do
@@ -62,31 +65,34 @@ each f i (d ∷ ds) = do
   rest ← each f (i + 1) ds
   Ok (first ∷ rest)
 
--- ---- plugins
+-- ---- parsing plugins (detectors and actions)
 
--- The object with a plugin's arguments, or `None` if the key `args` is missing. Any value but an
--- object is rejected.
+-- `arguments_in at args`: the JSON object with a plugin's arguments, or `None` if the key `args` is
+-- missing. A value that isn't an object is rejected.
 abbrev pub arguments_in : Place → Option Data → Result (Option Data) RulesFault
 arguments_in at None = Ok None
 arguments_in at (Some d) = do
   whole ← object_at at d
   Ok (Some whole)
 
--- The detector or action that the plugin makes from its arguments, or the first fault.
+-- `made_at at known args`: parses the arguments of the plugin `known`, and makes the detector or
+-- action from them. Returns the first fault if an argument is rejected. `args` is the JSON object
+-- of the arguments, or `None`.
 unfoldable pub made_at : {Made : Type 0} → Place → Plugin Made → Option Data → Result Made RulesFault
 made_at at known args = made_of_arguments at known.arguments known.make args
 
--- The action with this name and these arguments, or the first fault. `delay` is the ruleset's delay
--- (s) after a kill.
+-- `action_made_at at delay name args`: makes the action with the name `name` from the JSON object
+-- of its arguments. Returns the first fault if an argument is rejected. `delay` is the ruleset's
+-- delay (s) after a kill.
 unfoldable pub action_made_at : Place → ℕ → ActionName → Option Data → Result Action RulesFault
 action_made_at at delay name args = do
   make ← made_at at (action_of name) args
   after ← made_at at (after_arguments delay) args
   Ok (make after)
 
--- Parses a plugin object: a JSON object with `name` and `args`. `name_of` recognizes the name, and
--- `made` makes the result from the name and the arguments. Returns the first fault if the object is
--- rejected.
+-- `plugin_at name_of made at d`: parses a plugin object, which is a JSON object with `name` and
+-- `args`. `name_of` parses the name, and `made` makes the detector or action from the name and the
+-- arguments. Returns the first fault if the object is rejected.
 unfoldable pub plugin_at : {Name Made : Type 0} → (List ℕ → Option Name) → (Name → Option Data → Result Made RulesFault) → Place
     → Data → Result Made RulesFault
 plugin_at name_of made at d = do
@@ -97,19 +103,20 @@ plugin_at name_of made at d = do
   args ← arguments_in at (get (codes "args") whole)
   made name args
 
--- The detector that a plugin object spells, or the first fault.
+-- `detector_in at d`: parses the plugin object `d` as a detector. Returns the first fault if the
+-- object is rejected.
 abbrev pub detector_in : Place → Data → Result DetectorSpec RulesFault
 detector_in at d = plugin_at detector_named (λ name. made_at at (detector_of name)) at d
 
--- The action that a plugin object spells, or the first fault. `delay` is the ruleset's delay (s)
--- after a kill.
+-- `action_in delay at d`: parses the plugin object `d` as an action. Returns the first fault if the
+-- object is rejected. `delay` is the ruleset's delay (s) after a kill.
 abbrev pub action_in : ℕ → Place → Data → Result Action RulesFault
 action_in delay at d = plugin_at action_named (action_made_at at delay) at d
 
--- ---- groups, rulesets and files
+-- ---- parsing groups of detectors, rulesets and files
 
--- The group at index `j` of the ruleset at index `i`. A group is a JSON array with its name and at
--- most 16 detectors.
+-- `group_at i j d`: parses the group of detectors at index `j` of the ruleset at index `i`. `d` is
+-- its JSON value, an array with the group's name and at most 16 detectors.
 unfoldable pub group_at : ℕ → ℕ → Data → Result DetectorGroup RulesFault
 group_at i j d = do
   items ← list_at (place.Group i j) 17 d
@@ -118,27 +125,30 @@ group_at i j d = do
   found ← each (λ k. detector_in (place.Detector i j k)) 0 (drop 1 items)
   Ok (record { name = name; detectors = found })
 
--- The delay (s) of a ruleset after a kill, 15 s by default. Actions without their own delay use
--- this delay.
+-- `delay_at at whole`: the delay (s) of the ruleset `whole` after a kill, 15 s by default. Actions
+-- without their own delay use this delay.
 abbrev pub delay_at : Place → Data → Result ℕ RulesFault
 delay_at at whole = argument_at at (optional key.PostActionDelay (number longest) 15) (Some whole)
 
--- The groups of the ruleset at index `i`, or the first fault.
+-- `groups_at i whole`: parses the groups of detectors of the ruleset at index `i`. `whole` is the
+-- JSON object of the ruleset. Returns the first fault if a group is rejected.
 abbrev pub groups_at : ℕ → Data → Result (List DetectorGroup) RulesFault
 groups_at i whole = do
   found ← member_at (place.Rule i) (codes "detectors") whole
   items ← list_at (place.Rule i) 16 found
   each (group_at i) 0 items
 
--- The actions of the ruleset at index `i`, or the first fault. `delay` is the ruleset's delay (s)
--- after a kill.
+-- `actions_at i delay whole`: parses the actions of the ruleset at index `i`. `whole` is the JSON
+-- object of the ruleset, and `delay` is its delay (s) after a kill. Returns the first fault if an
+-- action is rejected.
 abbrev pub actions_at : ℕ → ℕ → Data → Result (List Action) RulesFault
 actions_at i delay whole = do
   found ← member_at (place.Rule i) (codes "actions") whole
   items ← list_at (place.Rule i) 16 found
   each (λ k. action_in delay (place.Action i k)) 0 items
 
--- The ruleset at index `i` of a rules file, or its first fault.
+-- `rule_at i d`: parses the ruleset at index `i` of a rules file from its JSON value `d`. Returns
+-- the first fault if the ruleset is rejected.
 unfoldable pub rule_at : ℕ → Data → Result Rule RulesFault
 rule_at i d = do
   whole ← object_at (place.Rule i) d
@@ -149,24 +159,27 @@ rule_at i d = do
   chain ← actions_at i delay whole
   Ok (record { name = name; groups = groups; actions = chain })
 
--- The JSON values of the rulesets of a file, or a fault. `d` is the JSON value of the file.
+-- `rulesets_in d`: the JSON values of the rulesets of a file, at most 64, or a fault. `d` is the
+-- JSON value of the file.
 unfoldable pub rulesets_in : Data → Result (List Data) RulesFault
 rulesets_in d = do
   whole ← object_at place.Whole d
   found ← member_at place.Whole (codes "rulesets") whole
   list_at place.Whole 64 found
 
--- The JSON value that the bytes spell, or `None` if the bytes aren't UTF-8 or aren't valid JSON.
+-- `data_of bytes`: parses the bytes as JSON. The result is `None` if they aren't UTF-8 or aren't
+-- valid JSON.
 abbrev pub data_of : List ℕ → Option Data
 data_of bytes = if is_utf8 bytes then json.read bytes else None
 
--- The JSON values of the rulesets of the file with these bytes, or a fault.
+-- `rulesets_of bytes`: the JSON values of the rulesets of a file with these bytes, or a fault. The
+-- file must have at most 1,048,576 bytes.
 abbrev pub rulesets_of : List ℕ → Result (List Data) RulesFault
 rulesets_of bytes =
     if nat_lt 1048576 (length bytes) then refused_for place.Whole cause.TooLong
     else or_fault place.Whole cause.BadJson (data_of bytes) >>= rulesets_in
 
--- The rules of the file with these bytes, or the file's first fault.
+-- Parses the bytes of a rules file. The result is the file's rules or its first fault.
 unfoldable pub rules_of : List ℕ → Result Rules RulesFault
 rules_of bytes = do
   items ← rulesets_of bytes

@@ -31,8 +31,8 @@ pub const PERCENT: u32 = 100;
 /// The longest time (s) that an argument may have.
 pub const LONGEST_S: u32 = 1_000_000;
 
-// Returns the text of an argument. A string is its own text; a natural number or a Boolean is
-// spelled out. Returns `None` for any other JSON value.
+// Returns the text of an argument: the contents of a string, or a spelled-out natural number or
+// Boolean. Returns `None` for any other JSON value.
 fn text_in(alloc: Global, value: &Value) -> Result<Option<String>, NoMemory>
     ensures { IfOk result (λ text.
         option_map string_bytes text ≡ argument_text (view value.now)) }
@@ -50,8 +50,8 @@ fn text_in(alloc: Global, value: &Value) -> Result<Option<String>, NoMemory>
     }
 }
 
-// Returns the text of an argument, as `text_in` does. Fails with `WrongKind` for a JSON value
-// without a text.
+// Returns the text of an argument, which is a JSON string, natural number or Boolean. Fails with
+// `WrongKind` for any other JSON value.
 fn text_of(alloc: Global, value: &Value, place: Place) -> Result<String, Fault<RulesFault>>
     ensures { GivesBy string_bytes result
         (or_fault place cause.WrongKind (argument_text (view value.now))) }

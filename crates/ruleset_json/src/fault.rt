@@ -1,4 +1,4 @@
-//! Faults of a rules file: the cause of the rejection and the place in the file.
+//! Defines the faults of a rules file: the cause of the rejection and the place in the file.
 //!
 //! The specification `FaultText` defines the printed text of a fault.
 ghost use Rattle.std.specs.Prelude.{◌≡◌};
@@ -29,8 +29,8 @@ pub enum RulesCause {
     TooLong,
     /// The bytes aren't UTF-8, or aren't JSON that `serde_json` accepts.
     BadJson,
-    /// A required key or argument is missing. Also reported for a group that is an empty list,
-    /// because the group's name is missing.
+    /// A required key or argument is missing. This cause is also reported for a group that is an
+    /// empty list, because the group's name is missing.
     MissingKey,
     /// A value has the wrong JSON kind. Numbers must be integers from 0 to 2^64 - 1.
     WrongKind,

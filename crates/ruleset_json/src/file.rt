@@ -33,8 +33,8 @@ const MOST_BYTES: usize = 1_048_576;
 /// The greatest number of rulesets in a file.
 const MOST_RULES: usize = 64;
 
-/// The greatest number of groups in a ruleset, of detectors in a group, and of actions in a
-/// ruleset.
+/// The greatest number of groups in a ruleset, of actions in a ruleset, and of detectors in a
+/// group.
 const MOST_PARTS: usize = 16;
 
 /// The default delay of a ruleset after a kill (s). oomd has the same default.
@@ -63,8 +63,8 @@ fn detectors(
     Ok(SpecList::new(found))
 }
 
-// Parses the items of the list of actions of ruleset `rule`. `delay_s` is the ruleset's delay (s)
-// after a kill.
+// Parses the JSON values of the actions of the ruleset at index `rule`. `delay_s` is the ruleset's
+// delay (s) after a kill.
 fn actions(
     alloc: Global,
     rule: u32,

@@ -93,8 +93,8 @@ pub fn ratio(text: &[u8]) -> Option<u32>
     }
 }
 
-// Returns the number of bytes that a unit letter (K, M, G or T, in either case) stands for. `None`
-// for any other byte.
+// Returns the number of bytes of a unit with this letter (K, M, G or T, in either case). Returns
+// `None` for any other byte.
 #[tactic(auto, unfolding(crate::specs::Forms::unit_of))]
 fn unit(letter: u8) -> Option<u128>
     ensures value { result ≡ form.unit_of letter }
@@ -109,8 +109,8 @@ fn unit(letter: u8) -> Option<u128>
     }
 }
 
-// Parses a number of units with an optional fraction. `unit` is the number of bytes of a unit.
-// Returns the size in bytes, rounded down. `None` if the size is above 2^60 bytes.
+// Parses a number of units of `unit` bytes, with an optional fraction. Returns the size in bytes,
+// rounded down. Returns `None` if the size is above 2^60 bytes.
 #[tactic(auto, unfolding(crate::specs::Forms::scaled))]
 fn scaled(text: &[u8], unit: u128) -> Option<u64>
     requires { unit ≤ 2 ^ 40 }

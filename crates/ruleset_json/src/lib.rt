@@ -1,5 +1,5 @@
-//! Parses rules files of a killer of control groups, in the format of oomd. The rules say which
-//! groups to watch and which groups to kill.
+//! Parses rules files in the format of oomd, a userspace killer of control groups. The rules say
+//! which groups to watch and which groups to kill.
 //!
 //! [`read`] turns any bytes into rules with every default filled in, or into the first fault with
 //! its place and cause. [`read_parts`] parses drop-in files, in which a ruleset may lack its

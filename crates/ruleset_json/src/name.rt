@@ -1,10 +1,10 @@
-//! The names of plugins (detectors and actions), and the keys of their arguments.
+//! Defines the names of plugins (detectors and actions), and the keys of their arguments.
 //!
 //! The modules `action` and `detector` list the keys that each plugin has.
 ghost use Rattle.std.specs.Prelude.{◌≡◌};
 ghost use Rattle.ruleset_json.specs.Names as names;
 
-/// The kind of a detector, which its name in a rules file selects.
+/// The kind of a detector. The detector's name in a rules file determines its kind.
 #[derive(Clone, Copy, Debug, PartialEq, Eq)]
 pub enum DetectorName {
     PressureAbove,
@@ -54,7 +54,7 @@ impl DetectorName {
     }
 }
 
-/// The kind of an action, which its name in a rules file selects.
+/// The kind of an action. The action's name in a rules file determines its kind.
 #[derive(Clone, Copy, Debug, PartialEq, Eq)]
 pub enum ActionName {
     SizeOrGrowth,

@@ -21,7 +21,7 @@ pub struct After {
     pub recursive: bool,
     /// Whether the ruleset runs its next actions even if this action killed a group.
     pub always_continue: bool,
-    /// The delay (s) after a kill, in which the ruleset runs no actions. At most 1,000,000.
+    /// The time (s) after a kill during which the ruleset runs no actions. It is at most 1,000,000.
     pub delay_s: u32,
 }
 
@@ -40,8 +40,9 @@ pub enum DetectorSpec {
     },
     /// `pressure_rising_beyond`: three conditions hold. The greatest `full` pressure over 60 s
     /// among the matching groups has been above the threshold (percent) for at least the duration
-    /// (s). The greatest `full` pressure over 10 s is above the threshold now. It is at least the
-    /// ratio (thousandths) times its value at the previous evaluation.
+    /// (s). The greatest `full` pressure over 10 s is above the threshold now. The greatest `full`
+    /// pressure over 10 s is at least the ratio (thousandths) times its value at the previous
+    /// evaluation.
     PressureRisingBeyond {
         cgroup: Patterns,
         resource: Res,
@@ -56,7 +57,8 @@ pub enum DetectorSpec {
         threshold: Size,
         duration_s: u32,
     },
-    /// `memory_reclaim`: reclaim scanned pages of a matching group within the last duration (s).
+    /// `memory_reclaim`: pages of a matching group were scanned for reclaim within the last
+    /// duration (s).
     MemoryReclaim {
         cgroup: Patterns,
         duration_s: u32,
@@ -73,8 +75,9 @@ pub enum DetectorSpec {
     },
 }
 
-/// An action: a rule that chooses the group to kill. A percentage is at most 100, a ratio at most
-/// 1,000,999 thousandths, and a resource is IO or memory.
+/// An action: a rule that chooses the group to kill. Among the groups that qualify, those with the
+/// best kill preference are chosen first. A percentage is at most 100, a ratio at most 1,000,999
+/// thousandths, and a resource is IO or memory.
 #[derive(Drop)]
 pub enum Action {
     /// `kill_by_memory_size_or_growth`: chooses the largest group if it uses at least
@@ -89,21 +92,22 @@ pub enum Action {
         ratio: u32,
         after: After,
     },
-    /// `kill_by_swap_usage`: chooses the group that uses the most swap, among the groups whose swap
-    /// use is at least the threshold.
+    /// `kill_by_swap_usage`: chooses the group that uses the most swap. Groups that use less swap
+    /// than the threshold are never chosen.
     SwapUsage {
         cgroup: Patterns,
         threshold: Size,
         after: After,
     },
-    /// `kill_by_pressure`: chooses the group with the greatest pressure.
+    /// `kill_by_pressure`: chooses the group with the greatest sum of its `full` averages over 10 s
+    /// and 60 s. A group whose sum is 0 is never chosen.
     Pressure {
         cgroup: Patterns,
         resource: Res,
         after: After,
     },
     /// `kill_by_pg_scan`: chooses the group with the most pages scanned since the previous
-    /// evaluation.
+    /// evaluation. A group without scanned pages is never chosen.
     PgScan {
         cgroup: Patterns,
         after: After,
@@ -280,7 +284,7 @@ impl Rule {
     ghost use Rattle.ruleset_json.specs.Replaced.{replaced};
     ghost use Rattle.ruleset_json.specs.RuleRanges.{FitsRule};
 
-    // Replaces the groups of the ruleset by `groups`. Does nothing if `groups` is `None`.
+    // Replaces the ruleset's groups by `groups`. Does nothing if `groups` is `None`.
     fn put_groups(&mut self, groups: Option<GroupList>)
         ensures value { self.new ≡ replaced groups None self.old }
         ensures fits { FitsRule self.old → FitsRule self.new }
@@ -290,7 +294,7 @@ impl Rule {
         }
     }
 
-    // Replaces the actions of the ruleset by `actions`. Does nothing if `actions` is `None`.
+    // Replaces the ruleset's actions by `actions`. Does nothing if `actions` is `None`.
     fn put_actions(&mut self, actions: Option<ActionList>)
         ensures value { self.new ≡ replaced None actions self.old }
         ensures fits { FitsRule self.old → FitsRule self.new }

@@ -12,28 +12,30 @@ use Rattle.victim_rank.specs.Pasts.{IsPastOf, Kept}
 use Rattle.victim_rank.specs.Growth.{has_grown_more_over, is_growing_over}
 use Rattle.victim_rank.specs.Scopes.{ScopeView, among}
 
--- For every list of earlier readings (newest first) that the stored past represents, `result` is
--- the slot of the group that the action kills at the reading `now`, or `None` if there is no
--- victim.
+-- `result` is the slot of the group that the action kills at the reading `now`, or `None` if there
+-- is no victim. This holds for all lists of earlier readings (newest first) that the stored past
+-- represents.
 abbrev pub IsVictim : List GroupLife → Action → Reading → Kept → Option Slot → Type 0
 IsVictim lives act now kept result = (history : List Reading) → IsPastOf kept history →
     result ≡ option_map (λ (group : GroupReading). group.slot) (victim lives act now history)
 
--- For every list of earlier readings that the stored past represents, `result` is the action's
--- choice among the groups of the scope.
+-- `result` is the action's choice among the groups of the scope. This holds for all lists of
+-- earlier readings that the stored past represents.
 abbrev pub Chooses : ScopeView → Reading → Kept → Option GroupReading → Type 0
 Chooses scope now kept result = (history : List Reading) → IsPastOf kept history →
     result ≡ choice scope.lives scope.act now history (among scope.lives scope.act scope.above now)
 
--- `result` is the group chosen last, after at most `count` further choices that start at the group
--- `chosen`. Each choice is among the children of the group chosen before it.
+-- `result` is the group chosen last, after at most `count` further choices. The first choice is
+-- among the children of the group `chosen`, and each later choice is among the children of the
+-- group chosen before.
 abbrev pub Descends : ScopeView → Reading → Kept → ℕ → GroupReading → GroupReading → Type 0
 Descends scope now kept count chosen result = (history : List Reading) → IsPastOf kept history →
     result ≡ descended scope.lives scope.act now history count chosen
 
--- The choice by size or growth among `groups`, if `sizes` returns the past sizes of a group.
--- Returns the largest group if it is large enough, otherwise the group that has grown most,
--- otherwise the largest group of the best preference.
+-- Chooses by size or growth among `groups`; `sizes` returns the past sizes of a group. Returns the
+-- largest group of the best preference if its share of the memory is large enough. If it isn't,
+-- returns the group that has grown most. If no group is growing, returns the largest group of the
+-- best preference.
 abbrev pub size_choice : (GroupReading → List ℕ) → List GroupLife → ℕ → ℕ → ℕ →
     List GroupReading → Option GroupReading
 size_choice sizes lives size_threshold percentile ratio groups =

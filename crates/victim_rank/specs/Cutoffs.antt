@@ -1,5 +1,5 @@
--- Defines the *cutoff*: a key that exactly the largest groups reach. The key of a group is a number
--- that grows with the group's size.
+-- Defines the *cutoff*: exactly the largest groups have a key of at least the cutoff. The key of a
+-- group is a number that grows with the group's size.
 use Rattle.std.specs.Prelude.{◌≡◌, ℕ, ◌+◌, ◌-◌, ◌*◌, ◌≤◌, List, Bool, Contains, true, ◌&&◌}
 use Rattle.std.specs.Prelude.{filter, length, nat_le, nat_lt}
 use Rattle.psi_spec.specs.World.{most_groups}

@@ -1,5 +1,4 @@
--- Relates the record `Grown`, which stores the growth of a group, to the group. Compares the best
--- growth found with the growth of the next group.
+-- Relates the record `Grown` to the group whose growth it stores, and compares two growths.
 use Rattle.std.specs.Prelude.{◌≡◌, ℕ, ◌*◌, ◌<◌, ◌≤◌, ◌^◌, List, length, sum, nat_lt, ◌==◌, ◌&&◌, ◌||◌}
 use Rattle.std.specs.Prelude.{Bool}
 use Rattle.kill_spec.specs.declared.reading.GroupReading.{GroupReading}

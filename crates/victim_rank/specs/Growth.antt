@@ -17,8 +17,9 @@ is_growing_over sizes ratio group =
     nat_lt 0 (sum (sizes group))
     && nat_le (ratio * sum (sizes group)) (memory_in_use group * length (sizes group) * 1000)
 
--- The growth of `group` (its size divided by the mean of its past sizes), multiplied by the sums of
--- the past sizes of `group` and `other`. Two growths scaled this way are compared without division.
+-- The growth of `group`, scaled so that two growths can be compared without division. The growth is
+-- the group's size divided by the mean of its past sizes. It is multiplied by the sums of the past
+-- sizes of `group` and `other`.
 abbrev pub growth_over : (GroupReading → List ℕ) → GroupReading → GroupReading → ℕ
 growth_over sizes group other = memory_in_use group * length (sizes group) * sum (sizes other)
 

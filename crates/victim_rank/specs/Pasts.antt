@@ -9,8 +9,8 @@ use Rattle.kill_spec.specs.Victims.{sizes_in}
 use Rattle.victim_rank.specs.declared.past.Sizes.{Sizes}
 
 -- The stored past, indexed by slot. `sizes` has the last sizes (bytes) of each group, newest first.
--- `scans` has the scan count of each group (the number of its pages that memory reclaim has
--- scanned) at the last reading, or `None` if the group wasn't live then.
+-- `scans` has the scan count of each group at the last reading, or `None` if the group wasn't live
+-- then. The scan count is the number of the group's pages that memory reclaim has scanned.
 pub record Kept : Type 0 where
   pub sizes : List (List ℕ)
   pub scans : List (Option ℕ)
@@ -45,7 +45,7 @@ pub record AreSizes (sizes : Sizes) : Type 0 where
   pub places : length sizes.bytes ≡ 4
   pub each : All (λ size. size ≤ 2 ^ 60) sizes.bytes
 
--- The stored past with these sizes and scan counts.
+-- `kept_of sizes scans`: the stored past with the sizes `sizes` and the scan counts `scans`.
 abbrev pub kept_of : List Sizes → List (Option ℕ) → Kept
 kept_of sizes scans = record { sizes = map sizes_of sizes; scans = scans }
 

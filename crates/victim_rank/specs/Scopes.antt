@@ -19,21 +19,22 @@ use Rattle.victim_rank.specs.Pasts.{Kept}
 
 -- ---- scopes
 
--- A scope. `lives` has all groups that the trace ever creates, `act` is the action, and `above` is
--- the slot of the group chosen before. The action chooses among the children of that group. If
--- `above` is `None`, the action chooses among its candidates: the populated groups that its
--- patterns match.
+-- A scope. `lives` has all groups that the trace ever creates, and `act` is the action. If `above`
+-- is a slot, the action chooses among the children of that slot's group. If `above` is `None`, it
+-- chooses among its candidates: the populated groups that its patterns match.
 pub record ScopeView : Type 0 where
   pub lives : List GroupLife
   pub act : Action
   pub above : Option Slot
 
--- The groups of the reading `now` that are in the scope with these arguments.
+-- `among lives act above now`: the groups of the reading `now` that are in the scope with the
+-- fields `lives`, `act` and `above`.
 abbrev pub among : List GroupLife → Action → Option Slot → Reading → List GroupReading
 among lives act None now = candidates lives (action_patterns act) now
 among lives act (Some above) now = children lives above.0 now
 
--- Whether `group` is in the scope with these arguments.
+-- `is_in_scope lives act above group`: whether `group` is in the scope with the fields `lives`,
+-- `act` and `above`.
 abbrev pub is_in_scope : List GroupLife → Action → Option Slot → GroupReading → Bool
 is_in_scope lives act None group = group.populated && is_match (action_patterns act) (path_of lives group)
 is_in_scope lives act (Some above) group =
@@ -47,8 +48,8 @@ is_in_view scope group = is_in_scope scope.lives scope.act scope.above group
 abbrev pub is_in_rank : ScopeView → ℕ → GroupReading → Bool
 is_in_rank scope best_rank group = is_in_view scope group && rank_of group == best_rank
 
--- The precondition of a choice: the scope, the reading and the stored past are about the groups of
--- one trace, and the action's numbers are in range.
+-- The precondition of a choice: the scope, the reading and the stored past belong to the same
+-- trace, and the action's numbers are in range.
 pub record IsUse (scope : ScopeView) (reading : ReadingView) (kept : Kept) : Type 0 where
   pub fits : FitsAction scope.act
   pub lives : reading.lives ≡ scope.lives

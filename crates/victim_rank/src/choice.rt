@@ -23,8 +23,8 @@ use psi_spec::GroupLife;
 use ruleset_json::Action;
 
 // Chooses by size or growth, among the groups of the best preference in the scope. Returns the
-// largest of them if its share of the memory of all groups in the scope is large enough. Otherwise
-// returns the group that has grown most, or the largest group if no group is growing.
+// largest group if its share of the memory of all groups in the scope is large enough. If it isn't,
+// returns the group that has grown most. If no group is growing, returns the largest group.
 fn by_size_or_growth(
     scope: &Scope<'_>,
     reading: &Reading,

@@ -1,7 +1,7 @@
 //! Finds the largest groups among the groups of a scope that have the same preference rank.
 //!
-//! The groups aren't sorted. Each group has a numeric key that grows with its size. The *cutoff* is
-//! a key that exactly the largest groups reach; binary search finds it.
+//! The groups aren't sorted. Each group has a numeric key that grows with its size. Binary search
+//! finds the *cutoff*: exactly the largest groups have a key of at least the cutoff.
 ghost use Rattle.std.specs.Prelude.{◌≡◌, ◌<◌, ◌≤◌, ◌^◌, ◌*◌, ◌+◌, ◌-◌, Contains, IfSome, filter, length, nat_le, nat_lt, true};
 ghost use Rattle.detectors.specs.Inner.{AreAmong, group_at, groups_at};
 ghost use Rattle.kill_spec.specs.LegalReadings.{IsGroupReading};
@@ -64,9 +64,10 @@ fn greatest_key(scope: &Scope<'_>, best_rank: u8, reading: &Reading, places: &[u
     greatest
 }
 
-/// Returns a key that exactly the `few` largest groups of the scope with preference rank
-/// `best_rank` reach. If there are at most `few` such groups, all of them reach the key. Each step
-/// of the binary search halves the range of keys and visits each group once.
+/// Returns the cutoff of the groups of the scope with preference rank `best_rank`: exactly the
+/// `few` largest of these groups have a key of at least the cutoff. If there are at most `few` such
+/// groups, all of them have such a key. Each step of the binary search halves the range of keys and
+/// visits each group once.
 fn cutoff(scope: &Scope<'_>, best_rank: u8, reading: &Reading, places: &[u32], few: u128) -> u128
     requires ranking { IsRanking scope.now best_rank reading.now places.now }
     requires few { 0 < few }

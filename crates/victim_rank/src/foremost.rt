@@ -1,7 +1,7 @@
-//! Finds the first group in the order of an action: by preference, then by the action's measure,
-//! then by path.
+//! Finds the group that an action chooses first. Groups are ordered by preference, then by the
+//! action's measure, then by path.
 //!
-//! The module `growth` makes the choice by growth.
+//! The module `growth` chooses the group that has grown most.
 ghost use Rattle.std.specs.Prelude.{◌≡◌, ◌&&◌, ◌<◌, MatchOption, false, filter, length, map, true, if◌then◌else◌};
 ghost use Rattle.ruleset_json.specs.Ranges.{FitsAction};
 ghost use Rattle.kill_spec.specs.Readings.{path_of};
@@ -32,7 +32,7 @@ fn leads(next: &Measured, best: &Measured) -> bool
     next.rank > best.rank || (next.rank == best.rank && next.measure > best.measure)
 }
 
-// Returns the better of two candidates, or `next` if there is no earlier candidate.
+// Returns the better of two candidates. Returns `next` if there is no earlier candidate.
 fn better(best: Option<Measured>, next: Measured) -> Measured
     ensures { MatchOption best (result ≡ next)
         (λ before. result ≡ (if leads_measured next before then next else before)) }
@@ -43,8 +43,8 @@ fn better(best: Option<Measured>, next: Measured) -> Measured
     }
 }
 
-// Returns the measure by which the action orders groups. `None` if the group isn't in the scope, or
-// if the action may not choose it.
+// Returns the measure by which the action orders groups. Returns `None` if the group isn't in the
+// scope, or if the action may not choose it.
 fn measured_in(
     scope: &Scope<'_>,
     host: HostReading,
@@ -69,7 +69,7 @@ fn measured_in(
 }
 
 /// Returns the first group of the scope by preference, then by the action's measure, then by path,
-/// among the groups that the action may choose. `None` if the action may choose no group. Visits
+/// among the groups that the action may choose. Returns `None` if there is no such group. Visits
 /// each group of the scope once.
 pub(crate) fn foremost(scope: &Scope<'_>, reading: &Reading, past: &Past) -> Option<GroupReading>
     requires { IsUse scope.now reading.now past.now }

@@ -16,9 +16,9 @@ use crate::size::is_in_rank;
 use detectors::Reading;
 use kill_spec::GroupReading;
 
-/// The growth of a group. `place` is the index of the group in a reading, `current` is its size
-/// (bytes), `sizes` is its size times the number of its past sizes, and `sum` is the sum of its
-/// past sizes. The growth is `sizes / sum`: the size divided by the mean of the past sizes.
+/// The growth of a group. `place` is the index of the group in a reading, and `current` is its size
+/// (bytes). `sizes` is its size multiplied by the number of its past sizes, and `sum` is the sum of
+/// its past sizes. The growth is `sizes / sum`: the size divided by the mean of the past sizes.
 #[derive(Clone, Copy)]
 pub(crate) struct Grown {
     place: u32,
@@ -76,7 +76,7 @@ fn leads(next: &Grown, best: &Grown) -> bool
     next_growth > best_growth || (next_growth == best_growth && next.current > best.current)
 }
 
-// Returns whether `next` beats the earlier group, or there is no earlier group.
+// Returns whether `next` beats the earlier group `best`. True if there is no earlier group.
 fn leads_any(next: &Grown, best: Option<Grown>) -> bool
     ensures { MatchOption best (result ≡ true) (λ before.
         result ≡ leads_grown next.now before) }
@@ -112,10 +112,12 @@ pub(crate) fn grown_most(
     let mut cutoff: Option<u128> = None;
     'groups: for place in places {
         let group = reading.group(*place);
+        if !is_in_rank(scope, best_rank, group) {
+            continue;
+        }
         let next = growth_of(past, *place, group);
         if is_growing(ratio, &next)
             && leads_any(&next, best)
-            && is_in_rank(scope, best_rank, group)
             && is_among_largest(scope, best_rank, reading, places, few, &mut cutoff, *place)
         {
             best = Some(next);

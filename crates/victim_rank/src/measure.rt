@@ -53,15 +53,15 @@ fn is_at_least(threshold: Size, host: HostReading, swap: u64) -> bool
     }
 }
 
-// Returns the measure, or `None` if the measure is 0.
+// Returns the measure, or `None` if it is 0.
 fn above_zero(measure: u64) -> Option<u64>
     ensures { MatchOption result (measure ≡ 0) (λ same. (0 < measure) × (same ≡ measure)) }
 {
     if measure > 0 { Some(measure) } else { None }
 }
 
-/// Returns the measure by which the action orders groups. `None` if the action may not choose the
-/// group.
+/// Returns the measure by which the action orders groups, or `None` if the action may not choose
+/// the group.
 pub(crate) fn measured(
     action: &Action,
     host: HostReading,

@@ -85,9 +85,9 @@ fn take_scans(scans: &mut [Option<u64>], reading: &Reading)
 }
 
 /// The stored past of each group, indexed by slot. `sizes` has the group's sizes (bytes) at the
-/// last four evaluations at which it was live. `scans` has its scan count (the number of its pages
-/// that memory reclaim has scanned) at the last evaluation, or `None` if the group wasn't live
-/// then.
+/// last four evaluations at which it was live. `scans` has its scan count at the last evaluation,
+/// or `None` if the group wasn't live then. The scan count is the number of the group's pages that
+/// memory reclaim has scanned.
 #[derive(Drop)]
 pub struct Past {
     sizes: Vec<Sizes>,

@@ -69,7 +69,7 @@ pub fn after_of(action: &Action) -> After
 }
 
 impl<'a> Scope<'a> {
-    /// Returns the scope of the action's candidates. `matched` says for each slot whether the
+    /// Returns the scope of the action's candidates. For each slot, `matched` is true if the
     /// action's patterns match its group.
     pub(crate) fn candidates(
         lives: &'a [GroupLife],

@@ -1,4 +1,4 @@
-//! A table that says which groups an action's patterns match.
+//! A table of the groups that an action's patterns match.
 //!
 //! The table is computed once, before the first evaluation, and not at each evaluation.
 ghost use Rattle.std.specs.Prelude.{◌≡◌, IfOk};

@@ -1,5 +1,5 @@
--- Defines the result of a round, and relates the code to the trace that remains after some rounds.
--- Each round removes one kill from the trace.
+-- Defines the result of a round, and the trace that remains after some rounds. Each round removes
+-- the victims of one kill from the trace.
 use Rattle.std.specs.Prelude.{◌≡◌, ℕ, List, ◌≤◌, None, Some, Ok, Err, ⊤, slice_get}
 use Rattle.psi_base.specs.declared.event.Event.{Event}
 use Rattle.psi_base.specs.declared.event.Fault.{Fault}
@@ -17,7 +17,7 @@ use Rattle.whatif_trace.specs.declared.removal.TooLarge.{TooLarge}
 use Rattle.whatif_rounds.specs.declared.rounds.Round.{Round}
 use Rattle.whatif_rounds.specs.declared.rounds.Round.TheVariants as found
 
--- The options that a replay uses are in range.
+-- The options of a replay are in range.
 pub record MayReplay (options : Options) : Type 0 where
   pub some : 1 ≤ options.tick_ms
   pub short : options.tick_ms ≤ 60000
@@ -25,21 +25,21 @@ pub record MayReplay (options : Options) : Type 0 where
   pub often : options.interval_s ≤ 3600
   pub workers : IsWithin 1 64 options.workers
 
--- The trace is accepted with the tick length of the options.
+-- The trace is accepted with the tick length in the options.
 pub record IsTraceAt (options : Options) (trace : Trace) : Type 0 where
   pub counted : IsCpuCount trace.cpus
   pub accepted : IsAccepted (limits_of (of_ms options.tick_ms) trace.cpus) trace.events
 
--- The trace with this version, this number of processors and these events.
+-- Builds a trace from its version, its number of processors and its events.
 abbrev pub trace_from : ℕ → ℕ → List Event → Trace
 trace_from number cpus events = record { version = version_of number; cpus = cpus; events = events }
 
--- `plans` has the plans of `trace`, and the trace may be replayed with the options.
+-- `plans` has the plans of `trace`, and the trace can be replayed with the options.
 abbrev pub ArePlansOf : PlansView → Options → Trace → Type 0
 ArePlansOf plans options trace = IsPlanned plans trace (timing_of options)
 
--- The result of the search in the round `number`: the kill with the index `number`, or `Last` with
--- the plans of the trace if there is no such kill.
+-- The result of searching for a kill in the round `number`: the kill with the index `number`, or
+-- `Last` with the plans of the trace if there is no such kill.
 abbrev pub Finds : Options → List Rule → ℕ → Trace → Round → Type 0
 Finds options rules number trace (found.Kill kill) = slice_get (all_kills trace (timing_of options) rules) number ≡ Some kill
 Finds options rules number trace (found.Last plans) =
@@ -52,7 +52,7 @@ AreLastPlans options rules trace plans =
     × ArePlansOf plans options last
 
 -- A `TooLarge` fault has the number of events that remain after a round, and this number is above
--- the limit. Nothing is required of an out-of-memory fault.
+-- the limit. An out-of-memory fault is always allowed.
 abbrev pub IsOutgrown : Options → List Rule → Trace → Fault TooLarge → Type 0
 IsOutgrown options rules trace (fault.Refused large) = last_trace trace (timing_of options) rules ≡ Err large.events
 IsOutgrown options rules trace (fault.NoMemory _) = ⊤

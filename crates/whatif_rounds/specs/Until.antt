@@ -10,8 +10,8 @@ use Rattle.run_spec.specs.Replay.{Beside, Timing, tick_count, tick_text, ticks_t
 use Rattle.run_spec.specs.Whatif.{after_rounds, all_kills}
 use Rattle.whatif_spec.specs.Without.{trace_without, without}
 
--- The remaining trace has as many ticks as the original trace. Each tick up to and including the
--- time of the kill prints the same lines.
+-- The trace without the killed group's tasks has as many ticks as the original trace. Each tick up
+-- to and including the time of the kill prints the same lines.
 abbrev pub SameUntilKill : Type 0
 SameUntilKill =
     (limits : Limits) (trace : Trace) (timing : Timing) (beside : Beside) (at victim : ℕ) → IsAccepted limits trace.events
@@ -20,9 +20,9 @@ SameUntilKill =
     × ((i : ℕ) → tick_moment timing.length i ≤ at
     → tick_text (trace_without trace at victim) timing beside i ≡ tick_text trace timing beside i)
 
--- A round removes the kill with the index `number` from the result of the previous rounds. The
--- round doesn't change the number of ticks. Each tick up to and including the tick of the kill
--- prints the same lines.
+-- A round removes the victims of the kill with the index `number` from the result of the previous
+-- rounds. The round doesn't change the number of ticks. Each tick up to and including the tick of
+-- the kill prints the same lines as before the round.
 abbrev pub SameUntilRound : Type 0
 SameUntilRound = (limits : Limits) (trace left next : Trace) (timing : Timing) (rules : List Rule) (beside : Beside) (number : ℕ)
     (kill : Kill) → IsAccepted limits left.events → after_rounds trace timing rules number ≡ Ok left

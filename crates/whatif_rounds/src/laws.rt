@@ -1,4 +1,4 @@
-//! Laws about the text that a replay prints before a kill.
+//! Laws about the text that a replay prints up to a kill.
 //!
 //! Each function has an empty body: its contract is the law, and the proof shows that the law
 //! holds.
@@ -10,8 +10,8 @@ pub fn law_until_kill()
     ensures { SameUntilKill }
 {}
 
-/// A round removes one kill from a trace. It doesn't change the printed text up to and including
-/// the tick of that kill.
+/// A round removes the victims of one kill from a trace. It doesn't change the printed text up to
+/// and including the tick of that kill.
 pub fn law_until_round()
     ensures { SameUntilRound }
 {}

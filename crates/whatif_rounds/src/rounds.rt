@@ -1,6 +1,6 @@
-//! Removes kills from a trace, round by round.
+//! Removes the victims of kills from a trace, round by round.
 //!
-//! Each round replays the remaining trace from its start.
+//! Each round replays the remaining trace from its start to find one kill.
 ghost use Rattle.std.specs.Prelude.{◌≡◌, IfOk, MatchResult, Ok};
 ghost use Rattle.psi_base.specs.Gives.{FaultOf};
 ghost use Rattle.psi_spec.specs.Header.{IsVersion};
@@ -22,20 +22,20 @@ use std::alloc::Global;
 use std::thread::Threads;
 use whatif_trace::{TooLarge, without};
 
-/// The greatest number of kills that are removed.
+/// The maximum number of kills whose victims are removed.
 const MOST_ROUNDS: usize = 64;
 
-/// The result of the search for a kill in one round.
+/// The result of searching for a kill in one round.
 #[derive(Drop)]
 pub(crate) enum Round {
     /// The kill whose index is the number of the round.
     Kill(Kill),
-    /// The trace has no kill with that index. The value has the plans of the trace.
+    /// There is no kill with the index of the round. The value has the plans of the trace.
     Last(Plans),
 }
 
-// Returns the latest time (ns) that a trace may have when it is replayed with the tick length of
-// the options.
+// Returns the latest time (ns) that an event of a trace may have, if the trace is replayed with the
+// tick length of the options.
 fn latest_of(options: &Options) -> Ns
     requires { MayReplay options.now }
     ensures { result ≡ (limits_of (of_ms options.now.tick_ms) 1).latest }
@@ -61,8 +61,8 @@ fn plans_of(
     }
 }
 
-// Replays a trace to find the kill with the index `number`, counted from 0. The trace has this
-// version, this number of processors and these events. Precondition: the trace is accepted.
+// Replays a trace to find the kill with the index `number`, counted from 0. The trace is passed as
+// its version, its number of processors and its events. Precondition: the trace is accepted.
 fn find_in<R: Threads + Sync>(
     rt: &R,
     alloc: Global,
@@ -88,7 +88,8 @@ fn find_in<R: Threads + Sync>(
     }
 }
 
-// Returns the events without the tasks of the killed group. Precondition: the trace is accepted.
+// Returns the events of a trace without the tasks of the killed group. Precondition: the trace is
+// accepted.
 fn take_out(
     alloc: Global,
     cpus: u32,

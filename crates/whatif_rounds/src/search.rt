@@ -1,4 +1,4 @@
-//! Finds a kill by a replay without output.
+//! Finds a kill by replaying a trace without output.
 //!
 //! The replay stops at the tick of the kill.
 ghost use Rattle.std.specs.Prelude.{◌≡◌, List, IfOk, slice_get};
@@ -26,7 +26,7 @@ use std::alloc::Global;
 use std::thread::Threads;
 
 // Returns the kill with the index `number`, counted from 0 and ordered by tick, ruleset and action.
-// `None` if there are fewer kills. Precondition: the replay is before its first tick.
+// Returns `None` if there are fewer kills. Precondition: the replay is before its first tick.
 fn kill_of<R: Threads + Sync>(rt: &R, replay: &mut Replay<'_>, number: usize) -> Option<Kill>
     requires { (trace : Trace) × (timing : Timing) × (rules : List Rule)
         × IsReplay replay.old trace timing rules 0 }
@@ -45,8 +45,8 @@ fn kill_of<R: Threads + Sync>(rt: &R, replay: &mut Replay<'_>, number: usize) ->
     None
 }
 
-/// Returns the kill with the index `number`, counted from 0 and ordered by tick, ruleset and
-/// action, in a replay of the trace of `plans` with these rules and options. `None` if there are
+/// Replays the trace of `plans` with these rules and options, and returns the kill with the index
+/// `number`, counted from 0 and ordered by tick, ruleset and action. Returns `None` if there are
 /// fewer kills.
 pub(crate) fn find_kill<R: Threads + Sync>(
     rt: &R,

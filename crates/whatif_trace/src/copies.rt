@@ -1,4 +1,5 @@
-//! Copies events, and appends copies to the list of remaining events.
+//! Copies events of a trace, and appends the copies to `kept`, the list of events that remain when
+//! killed tasks are removed.
 //!
 //! The callers decide which events remain.
 ghost use Rattle.std.specs.Prelude.{◌≡◌, ◌∷◌, [], IfOk, true};
@@ -9,7 +10,8 @@ ghost use Rattle.whatif_trace.specs.Left.{Adds, shows_of_group};
 use psi_base::{Act, Event, NoMemory, Ns};
 use std::alloc::Global;
 
-// Copies an act (the action of an event) that samples a group's memory or sets a trigger.
+// Copies `act`, which is what an event does. Precondition: `act` is a memory sample of a group, or
+// sets a trigger.
 fn copy_known(alloc: Global, act: &Act) -> Result<Act, NoMemory>
     requires { shows_of_group act.now ≡ true }
     ensures { IfOk result (λ copy. copy ≡ act.now) }
@@ -103,7 +105,7 @@ pub fn copy_event(alloc: Global, event: &Event) -> Result<Event, NoMemory>
     })
 }
 
-/// Appends an event with the time `at` (ns) and this act.
+/// Appends to `kept` the event with the time `at` (ns) that does `act`.
 pub(crate) fn keep(kept: &mut Vec<Event>, at: Ns, act: Act) -> Result<(), NoMemory>
     ensures { Adds kept.old.items kept.new.items result (events_at at (act ∷ [])) }
 {
@@ -111,7 +113,7 @@ pub(crate) fn keep(kept: &mut Vec<Event>, at: Ns, act: Act) -> Result<(), NoMemo
     Ok(())
 }
 
-/// Appends an event with the time `at` (ns) and this act, if `test` is true.
+/// Appends to `kept` the event with the time `at` (ns) that does `act`, if `test` is true.
 #[tactic(auto, using(crate::proofs::Kept::none_kept))]
 pub(crate) fn keep_if(kept: &mut Vec<Event>, test: bool, at: Ns, act: Act) -> Result<(), NoMemory>
     ensures { Adds kept.old.items kept.new.items result
@@ -120,7 +122,7 @@ pub(crate) fn keep_if(kept: &mut Vec<Event>, test: bool, at: Ns, act: Act) -> Re
     if test { keep(kept, at, act) } else { Ok(()) }
 }
 
-/// Appends a copy of an event.
+/// Appends a copy of `event` to `kept`.
 pub(crate) fn keep_copy(alloc: Global, kept: &mut Vec<Event>, event: &Event) -> Result<(), NoMemory>
     ensures { Adds kept.old.items kept.new.items result (event.now ∷ []) }
 {
@@ -128,7 +130,7 @@ pub(crate) fn keep_copy(alloc: Global, kept: &mut Vec<Event>, event: &Event) -> 
     Ok(())
 }
 
-/// Appends copies of the events, in order.
+/// Appends copies of `events` to `kept`, in order.
 #[tactic(auto, using(crate::proofs::Kept::none_kept, crate::proofs::Kept::part_kept))]
 pub(crate) fn keep_copies(
     alloc: Global,

@@ -1,7 +1,7 @@
 //! Appends the events by which killed tasks exit.
 //!
-//! An exit takes up to four events: the task wakes up, is switched in, ends its memory stall, and
-//! is switched out.
+//! Up to four events make a task exit: the task wakes up, is switched in, ends its memory stall,
+//! and is switched out.
 ghost use Rattle.std.specs.Prelude.{◌≡◌};
 ghost use Rattle.psi_spec.specs.World.{is_active, events_at};
 ghost use Rattle.whatif_spec.specs.Without.{exit_acts, making_room};
@@ -23,8 +23,8 @@ fn is_active(mode: Mode) -> bool
     }
 }
 
-/// Returns how a processor leaves its running task, or its idle state, so that another task can
-/// run.
+/// Returns how a processor leaves its running task or its idle state when a killed task is switched
+/// in: `Preempt` if a task is running, and `Idle` otherwise.
 fn making_room(running: Option<Pid>) -> How
     ensures { result ≡ making_room running }
 {
@@ -34,8 +34,9 @@ fn making_room(running: Option<Pid>) -> How
     }
 }
 
-/// Appends the events by which `task` exits at time `at` (ns). `running` is the task that runs on
-/// the same processor, or `None` if the processor is idle.
+/// Appends to `kept` the events by which the task `pid` exits at time `at` (ns). `task` is its
+/// state before the exit, and `running` is the task that runs on the same processor, or `None` if
+/// the processor is idle.
 #[tactic(auto, using(crate::proofs::Kept::four_kept))]
 fn keep_exit(
     kept: &mut Vec<Event>,
@@ -66,8 +67,9 @@ fn keep_exit(
     keep(kept, at, leaves)
 }
 
-/// Appends the events by which one task exits at time `at` (ns), if the task is live. Updates the
-/// list of running tasks.
+/// Appends to `kept` the events by which the task `pid` exits at time `at` (ns), and updates
+/// `runners`, the list of running tasks. Does nothing if `task` is `None`, because the task isn't
+/// live.
 #[tactic(auto, using(crate::proofs::Kept::none_kept))]
 fn keep_one(
     kept: &mut Vec<Event>,
@@ -90,7 +92,7 @@ fn keep_one(
     keep_exit(kept, at, pid, task, running)
 }
 
-/// Appends the events by which the tasks with these pids exit at time `at` (ns), in order.
+/// Appends to `kept` the events by which the tasks `pids` exit at time `at` (ns), in order.
 /// `runners` has the running task of each processor before the exits.
 #[tactic(auto, using(crate::proofs::Kept::none_kept, crate::proofs::Kept::part_kept))]
 pub(crate) fn keep_exits(

@@ -1,17 +1,19 @@
-//! Laws about a trace from which the tasks of a group are removed.
+//! Laws about a trace from which the tasks of a killed group are removed.
 //!
 //! Each function has an empty body: its contract is the law, and the proof shows that the law
 //! holds.
 ghost use Rattle.whatif_trace.specs.Laws.{ExitsLeaveNone, WithoutIsAccepted, WorldsWithout};
 
-/// If a trace is accepted, the trace without the tasks of a group is also accepted, unless it has
-/// too many events.
+/// If a trace is accepted, the trace without the tasks of a killed group is also accepted, unless
+/// it has too many events.
 pub fn law_without()
     ensures { WithoutIsAccepted }
 {}
 
-/// After the exit events, none of the group's tasks is live. After each later event, the state of
-/// the new trace is the state of the original trace without these tasks.
+/// After the events by which the killed group's tasks exit, none of these tasks is live. After each
+/// later event of the original trace, the scheduler state of the new trace is the state of the
+/// original trace without these tasks. Only the number of lines and the time of the last event may
+/// also differ.
 pub fn law_worlds_without()
     ensures exits { ExitsLeaveNone }
     ensures worlds { WorldsWithout }

@@ -3,9 +3,9 @@
 //! This crate removes one group at one time. The crate whatif_rounds finds the kills and repeats
 //! the removal for each kill.
 //!
-//! In `specs/`, `Left` defines the remaining events from the list of running tasks, `Rest` relates
-//! the states (worlds) of the two traces, `Bounded` limits the number of events, and `Laws` states
-//! the laws.
+//! In `specs/`, `Left` defines the events that remain, as the code computes them: with a list of
+//! the running tasks. `Rest` relates the scheduler states of the new and the original trace.
+//! `Bounded` limits the number of events, and `Laws` states the laws.
 #![tactic(auto)]
 
 mod copies;

@@ -1,6 +1,7 @@
 //! Finds the live tasks of a killed group and of its descendants.
 //!
-//! Each live task was created by a `fork` event, so only these events are searched.
+//! Each live task was created by a `fork` event, so it suffices to check the tasks that the `fork`
+//! events of the trace create.
 ghost use Rattle.std.specs.Prelude.{◌≡◌, ◌&&◌, ◌||◌, ◌==◌, ℕ, IfOk, OnOk};
 ghost use Rattle.std.specs.List.Sorted.{IsStrictlySortedBy};
 ghost use Rattle.std.specs.Ordering.{nat_cmp};
@@ -37,8 +38,8 @@ fn add_if(members: &mut BTreeSet<u32>, test: bool, pid: Pid) -> Result<(), NoMem
     Ok(())
 }
 
-/// If the act creates a task, adds its pid to the set, provided that the task is live and in the
-/// group `victim` or in one of its descendants.
+/// Adds to `members` the pid of the task that `act` creates, if this task is live and in the group
+/// `victim` or in one of its descendants. Does nothing if `act` isn't a `fork`.
 #[tactic(auto, using(crate::proofs::Adding::same_member))]
 fn add_forked(
     members: &mut BTreeSet<u32>,
@@ -59,7 +60,7 @@ fn add_forked(
 }
 
 /// Returns the pids of the live tasks in the group `victim` and in its descendants. Precondition:
-/// `events` has the creation of each live task.
+/// one of `events` creates each live task.
 pub(crate) fn members(
     alloc: Global,
     table: &Table,

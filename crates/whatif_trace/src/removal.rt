@@ -1,6 +1,6 @@
 //! Removes the tasks of a killed group from a trace.
 //!
-//! This module splits the trace at the time of the kill. The modules `exits` and `rest` write the
+//! This module splits the trace at the time of the kill. The modules `exits` and `rest` append the
 //! events after the split.
 ghost use Rattle.std.specs.Prelude.{◌≡◌, ◌++◌, ◌<◌, ◌≤◌, IfOk, MatchResult, None, OnOk, Ok, drop, length, nat_lt, take};
 ghost use Rattle.psi_base.specs.Gives.{FaultOf};
@@ -21,14 +21,14 @@ use std::alloc::Global;
 use std::collections::BTreeSet;
 use task_table::Table;
 
-/// The error for a resulting trace with more events than a trace may have.
+/// The error if the resulting trace has more events than a trace may have.
 #[derive(Clone, Copy, Debug, PartialEq, Eq)]
 pub struct TooLarge {
-    /// The number of events of the resulting trace. It is above 4,000,000.
+    /// The number of events of the resulting trace, which is greater than 4,000,000.
     pub events: u64,
 }
 
-/// Returns the number of events at or before time `at` (ns) at the start of the trace.
+/// Returns the number of leading events whose times are at or before `at` (ns).
 fn prefix_length(events: &[Event], at: Ns) -> usize
     ensures length { result ≡ prefix_length at events.now }
     ensures inside { result ≤ length events.now }
@@ -54,7 +54,7 @@ fn rest_of(events: &[Event], count: usize) -> &[Event]
     &events[count..]
 }
 
-/// Returns the pids in the set, in ascending order.
+/// Returns the pids in the set as a list in ascending order.
 fn numbers_of(alloc: Global, pids: &BTreeSet<u32>) -> Result<Vec<u32>, NoMemory>
     ensures { IfOk result (λ numbers. numbers.items ≡ pids.now.keys) }
 {

@@ -1,4 +1,4 @@
-//! Copies the events after the exits, without the dead tasks.
+//! Copies the events after the exits of the killed tasks, without the events of these tasks.
 //!
 //! A killed task is called dead until it exits in the original trace.
 ghost use Rattle.std.specs.Prelude.{◌≡◌};
@@ -12,7 +12,7 @@ use psi_base::{Act, Cpu, Event, How, NoMemory, Ns, Pid};
 use std::alloc::Global;
 use std::collections::BTreeSet;
 
-/// Returns whether the task with this pid is dead.
+/// Returns whether the task with this pid is in the set of dead (killed) tasks.
 #[tactic(auto, using(crate::proofs::Killed::among_keys))]
 fn is_dead(dead: &BTreeSet<u32>, pid: Pid) -> bool
     ensures { result ≡ is_pid_among dead.now.keys pid.0 }
@@ -20,7 +20,7 @@ fn is_dead(dead: &BTreeSet<u32>, pid: Pid) -> bool
     dead.contains(&pid.0)
 }
 
-/// Returns whether `pid` is the pid of a task that isn't dead. False for `None`.
+/// Returns whether `pid` is the pid of a task that isn't dead (killed). Returns false for `None`.
 fn is_alive(dead: &BTreeSet<u32>, pid: Option<Pid>) -> bool
     ensures { result ≡ is_alive dead.now.keys pid }
 {
@@ -30,15 +30,15 @@ fn is_alive(dead: &BTreeSet<u32>, pid: Option<Pid>) -> bool
     }
 }
 
-/// Returns `next` unless that task is dead, and `None` otherwise.
+/// Returns the pid `next`, or `None` if that task is dead (killed).
 fn if_alive(dead: &BTreeSet<u32>, next: Option<Pid>) -> Option<Pid>
     ensures { result ≡ if_alive dead.now.keys next }
 {
     if is_alive(dead, next) { next } else { None }
 }
 
-/// Returns the task that performs the act. `None` for a switch, and for an act that no task
-/// performs.
+/// Returns the task that an event concerns: the task that wakes up, enters or leaves a memory
+/// stall, migrates or moves. Returns `None` for a switch and for all other events.
 fn doer(act: &Act) -> Option<Pid>
     ensures { result ≡ doer act.now }
 {
@@ -52,8 +52,9 @@ fn doer(act: &Act) -> Option<Pid>
     }
 }
 
-/// Appends what remains of a switch on processor `cpu` when the dead tasks are removed: one event
-/// or none. `leaving` is the task that is switched out, or `None` if the processor was idle.
+/// Appends what remains of a switch on processor `cpu` when the dead (killed) tasks are removed:
+/// one event or none. `leaving` is the task that is switched out, or `None` if the processor was
+/// idle.
 #[tactic(auto, using(crate::proofs::Kept::none_kept))]
 fn keep_switch(
     kept: &mut Vec<Event>,
@@ -78,8 +79,7 @@ fn keep_switch(
     }
 }
 
-/// Appends a copy of an event, unless a dead task performs it. Switch events are handled by
-/// `keep_switch`.
+/// Appends a copy of an event that isn't a switch, unless the event concerns a dead task.
 #[tactic(auto, using(crate::proofs::Kept::none_kept))]
 fn keep_act(
     alloc: Global,
@@ -96,7 +96,7 @@ fn keep_act(
     }
 }
 
-/// Appends what remains of an event when the dead tasks are removed: one event or none.
+/// Appends what remains of an event when the dead (killed) tasks are removed: one event or none.
 fn keep_left(
     alloc: Global,
     kept: &mut Vec<Event>,
@@ -128,7 +128,8 @@ fn revive(dead: &mut BTreeSet<u32>, leaving: Option<Pid>)
     }
 }
 
-/// Updates `dead` after an act. A task that exits is removed from the set.
+/// Removes the task that exits by an event from `dead`. Does nothing for an event that isn't an
+/// exit.
 fn note_exit(dead: &mut BTreeSet<u32>, runners: &[Option<Pid>], act: &Act)
     ensures { dead.new.keys ≡ dead_left dead.old.keys runners.now act.now }
 {
@@ -142,8 +143,8 @@ fn note_exit(dead: &mut BTreeSet<u32>, runners: &[Option<Pid>], act: &Act)
     }
 }
 
-/// Appends what remains of the events when the dead tasks are removed. `runners` has the running
-/// task of each processor before the events.
+/// Appends what remains of the events when the dead (killed) tasks are removed. `runners` has the
+/// running task of each processor before the events.
 #[tactic(auto, using(crate::proofs::Kept::none_kept, crate::proofs::Kept::part_kept))]
 pub(crate) fn keep_rest(
     alloc: Global,

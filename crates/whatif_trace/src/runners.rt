@@ -1,7 +1,7 @@
 //! The list of the running tasks, indexed by processor.
 //!
-//! The list follows the original trace, in which the dead tasks still run. The task table doesn't
-//! follow the events after the kill.
+//! The list follows the original trace, in which the killed tasks still run. It is needed because
+//! the task table doesn't follow the events after the kill.
 ghost use Rattle.std.specs.Prelude.{◌≡◌, ◌<◌, IfOk, None, replicate, slice_set};
 ghost use Rattle.whatif_trace.specs.Left.{runner_at, turned};
 
@@ -25,7 +25,7 @@ pub(crate) fn runner_at(runners: &[Option<Pid>], cpu: Cpu) -> Option<Pid>
     }
 }
 
-/// Sets the task that runs on processor `cpu`, or `None` for an idle processor.
+/// Sets the task that runs on processor `cpu`. `None` means that the processor is idle.
 pub(crate) fn set_runner(runners: &mut Vec<Option<Pid>>, cpu: Cpu, runner: Option<Pid>)
     ensures { runners.new.items ≡ slice_set runners.old.items cpu.0 runner }
 {
@@ -35,7 +35,7 @@ pub(crate) fn set_runner(runners: &mut Vec<Option<Pid>>, cpu: Cpu, runner: Optio
     }
 }
 
-/// Updates the running tasks after an act. Only a switch changes them.
+/// Updates the running tasks after an event. Only a switch changes them.
 pub(crate) fn turn(runners: &mut Vec<Option<Pid>>, act: &Act)
     ensures { runners.new.items ≡ turned runners.old.items act.now }
 {

@@ -12,9 +12,8 @@ use Rattle.victim_rank.proofs.Growing.{left_first, left_second, left_third, next
 use Rattle.victim_rank.proofs.Growing.{same_choosable, walked_growth}
 use Rattle.victim_rank.proofs.Scoped.{same_in_rank}
 use Rattle.victim_rank.proofs.growth.grown_most.Goals as goal
-use Rattle.victim_rank.proofs.growth.grown_most.Goals.{then-is_growing+then-leads_any+then-is_in_rank+then-is_among_largest, else-is_growing}
-use Rattle.victim_rank.proofs.growth.grown_most.Goals.{else-is_growing-via-then-is_growing+then-leads_any+then-is_in_rank+else-is_among_largest}
-use Rattle.victim_rank.proofs.growth.grown_most.Goals.{else-is_growing-via-then-is_growing+then-leads_any+else-is_in_rank}
+use Rattle.victim_rank.proofs.growth.grown_most.Goals.{then-is_growing+then-leads_any+then-is_among_largest, else-is_growing}
+use Rattle.victim_rank.proofs.growth.grown_most.Goals.{else-is_growing-via-then-is_growing+then-leads_any+else-is_among_largest}
 use Rattle.victim_rank.proofs.growth.grown_most.Goals.{else-is_growing-via-then-is_growing+else-leads_any, else-is_growing-via-else-is_growing}
 
 pub returns-in-Some : goal.returns-in-Some
@@ -66,6 +65,33 @@ is_among_largest-requires-clause-ranking c =
           places.ensures.groups;
     }
 
+-- A group of another preference rank can't be chosen.
+pub groups-preserved-then-not-is_in_rank : goal.groups-preserved-then-not-is_in_rank
+groups-preserved-then-not-is_in_rank c =
+    let scope = c.args.scope.now in
+    let groups = c.args.reading.now.seen.groups in
+    let sizes = sizes_from c.args.past.now in
+    let ranked = is_in_rank scope c.args.best_rank in
+    let items = c.places-places.result.now in
+    let i = c.groups.place-index in
+    let group = group_at groups (get_or items i 0) in
+    let among : Bool = nat_lt (length (filter (λ other. is_larger scope.lives other group) (filter ranked groups))) c.args.few in
+    let growing : Bool = is_growing_over sizes c.args.ratio group in
+    let choosable = is_choosable sizes scope.lives c.args.ratio c.args.few ranked groups in
+    let rest = groups_at groups (drop (i + 1) items) in
+    let now : groups_at groups (drop i items) ≡ group ∷ rest =
+    rw (drop_more items i 0 c.groups-test.true) refl in
+    let before : foremost (leads_over sizes) (best_group groups c.groups.best) (filter choosable (group ∷ rest))
+    ≡ foremost (leads_over sizes) None (filter choosable (groups_at groups items)) =
+    rw now at c.groups.invariant.rest in
+    let left : choosable group ≡ false = left_first (ranked group) among growing
+    (ap ranked (sym c.group-group.ensures.group) ∙ sym c.is_in_rank.ensures ∙ c.if-not-is_in_rank.true) in
+    record {
+      grown = c.groups.invariant.grown;
+      known = c.groups.invariant.known;
+      rest = next_left sizes choosable (best_group groups c.groups.best) group rest left ∙ before;
+    }
+
 pub groups-preserved : goal.groups-preserved
 groups-preserved c =
     let scope = c.args.scope.now in
@@ -98,9 +124,9 @@ groups-preserved c =
     sym (growing_as sizes c.args.ratio next group is) ∙ sym c.is_growing.ensures in
     let was = c.groups.invariant.grown in
     elim c.if-is_growing.branch [
-      | then-is_growing+then-leads_any+then-is_in_rank+then-is_among_largest w ↦
+      | then-is_growing+then-leads_any+then-is_among_largest w ↦
           let passes : choosable group ≡ true = choosable_all (ranked group) among growing
-          (ap ranked (sym here) ∙ sym w.is_in_rank.ensures ∙ w.if-is_in_rank.true)
+          (ap ranked (sym here) ∙ sym c.is_in_rank.ensures ∙ c.if-not-is_in_rank.false)
           (sym w.is_among_largest.ensures.among ∙ w.if-is_among_largest.true)
           (reported ∙ w.if-is_growing.true) in
           rw (w.best-is, w.cutoff-is) record {
@@ -111,20 +137,12 @@ groups-preserved c =
                 w.leads_any.ensures w.if-leads_any.true passes ∙ before;
           }
       | else-is_growing w ↦ elim w.else-is_growing.branch [
-        | else-is_growing-via-then-is_growing+then-leads_any+then-is_in_rank+else-is_among_largest v ↦
+        | else-is_growing-via-then-is_growing+then-leads_any+else-is_among_largest v ↦
             let left : choosable group ≡ false = left_second (ranked group) among growing
             (sym v.is_among_largest.ensures.among ∙ v.if-is_among_largest.false) in
             rw (w.best-is, w.cutoff-is, v.cutoff-is) record {
               grown = was;
               known = v.is_among_largest.ensures.known;
-              rest = next_left sizes choosable (best_group groups best) group rest left ∙ before;
-            }
-        | else-is_growing-via-then-is_growing+then-leads_any+else-is_in_rank v ↦
-            let left : choosable group ≡ false = left_first (ranked group) among growing
-            (ap ranked (sym here) ∙ sym v.is_in_rank.ensures ∙ v.if-is_in_rank.false) in
-            rw (w.best-is, w.cutoff-is, v.cutoff-is) record {
-              grown = was;
-              known = c.groups.invariant.known;
               rest = next_left sizes choosable (best_group groups best) group rest left ∙ before;
             }
         | else-is_growing-via-then-is_growing+else-leads_any v ↦
