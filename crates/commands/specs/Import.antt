@@ -6,7 +6,8 @@ use Rattle.run_spec.specs.declared.status.Which.TheVariants.{ImportFile}
 use Rattle.ftrace_import.specs.declared.text.ImportFault.{ImportFault}
 use Rattle.ftrace_import.specs.declared.text.ImportFault.TheVariants as fault
 
--- The status of a run whose ftrace text can't be imported.
+-- `IsStatusOfImport fault result`: `result` is the status of a run that can't import its ftrace
+-- text because of `fault`.
 abbrev pub IsStatusOfImport : ImportFault → Status → Type 0
 IsStatusOfImport (fault.Refused line why) result = result ≡ status.Import line why
 IsStatusOfImport fault.NoFile result = result ≡ status.NoFile ImportFile

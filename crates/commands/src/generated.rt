@@ -46,7 +46,7 @@ pub fn write_generated<K: Sink>(alloc: Global, shape: Shape, out: &mut K) -> Sta
     }
 }
 
-// Gives an event to the planner, which splits a trace by processor. Requires that the event is
+// Passes an event to the planner, which splits a trace by processor. Requires that the event is
 // legal after the previous events.
 fn take_legal(planner: &mut Planner, event: Event) -> Result<(), NoMemory>
     requires fits { Fits event }
@@ -120,8 +120,8 @@ fn stress_options(workers: u32) -> Options
     }
 }
 
-/// Replays the generated trace with this shape, and writes the report on the root group at the last
-/// tick and the last line. If memory runs out, nothing is written.
+/// Replays the generated trace with this shape. Writes the report on the root group at the last
+/// tick, and the last line. If memory runs out, nothing is written.
 pub fn write_stress<R: Threads + Sync, K: Sink, G: Gate>(
     rt: &R,
     alloc: Global,

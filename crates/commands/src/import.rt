@@ -24,7 +24,7 @@ use trace_gen::{put_event, put_header};
 /// The largest size (bytes) of the line of an event, including the newline.
 const ROOM: usize = 513;
 
-// Returns the status for an ftrace text that can't be imported.
+// Returns the status of a run whose ftrace text was rejected or couldn't be read.
 fn import_status(fault: ImportFault) -> Status
     ensures { IsStatusOfImport fault result }
 {

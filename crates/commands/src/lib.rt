@@ -1,7 +1,7 @@
 //! The output of the commands `replay`, `whatif`, `stall`, `check`, `gen`, `stress` and `import`.
 //!
 //! Other crates read traces and rules, remove victims and parse words; replay_core selects the
-//! command. Each module has one command, or two that share their output.
+//! command. Each module implements one command, or two commands that share their output.
 #![tactic(auto)]
 
 mod check;

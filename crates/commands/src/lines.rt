@@ -1,5 +1,5 @@
-//! Writes the output lines of `stall`: one for each group and processor. Requires that the clocks
-//! have made all changes of the trace.
+//! Writes the output lines of `stall`: one line for each group and processor. Precondition: the
+//! clocks have applied all changes of the trace.
 
 ghost use Rattle.std.specs.Prelude.{◌≡◌, ℕ, ◌<◌, ◌≤◌, length};
 ghost use Rattle.std.specs.List.{All};
@@ -136,8 +136,8 @@ fn put_processor<K: Sink, C: IrqClocks>(
     Ok(())
 }
 
-/// Writes the lines of all processors at the time `last` (ns) of the trace's end: one processor
-/// after the other, for the groups in `order`. Requires that each processor's clocks have made all
+/// Writes the lines of all processors at the time `last` (ns) of the trace's end. Each processor
+/// has one line for each group in `order`. Precondition: each processor's clocks have applied all
 /// changes of its plan.
 pub(crate) fn put_lines<K: Sink>(
     out: &mut K,

@@ -50,8 +50,9 @@ fn put_replay<R: Threads + Sync, K: Sink, G: Gate>(
     }
 }
 
-/// Writes the output of `replay` for the trace of `plans`. `version` is the trace's version, and
-/// `rules` are the rules if the command has a rules file. If memory runs out, nothing is written.
+/// Writes the output of `replay` for the trace of `plans`. `version` is the trace's version.
+/// `rules` are the rules of the rules file, or `None` without a rules file. If memory runs out,
+/// nothing is written.
 pub fn write_planned<R: Threads + Sync, K: Sink, G: Gate>(
     rt: &R,
     alloc: Global,
@@ -91,8 +92,8 @@ pub fn write_planned<R: Threads + Sync, K: Sink, G: Gate>(
 }
 
 /// Writes the output of `replay` for the trace that `planner` has split by processor. `version` is
-/// the trace's version, and `rules` are the rules if the command has a rules file. If memory runs
-/// out, nothing is written.
+/// the trace's version. `rules` are the rules of the rules file, or `None` without a rules file. If
+/// memory runs out, nothing is written.
 pub fn write_replay<R: Threads + Sync, K: Sink, G: Gate>(
     rt: &R,
     alloc: Global,

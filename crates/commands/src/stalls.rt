@@ -1,5 +1,5 @@
 //! The output of `stall`: the stall times of each group at the end of a trace. The trace has been
-//! split by processor; a thread makes the changes of each processor's clocks.
+//! split by processor. A thread for each processor applies the processor's changes to its clocks.
 ghost use Rattle.std.specs.Prelude.{◌≡◌, ℕ, ◌<◌, ◌≤◌, List, length};
 ghost use Rattle.psi_base.specs.declared.event.Event.{Event};
 ghost use Rattle.outside.specs.Outside.{SameInner};
@@ -22,8 +22,8 @@ use std::alloc::Global;
 use std::thread;
 use std::thread::Threads;
 
-// Makes all changes of all processors' clocks, each processor in its own thread if one can be
-// started. The threads don't communicate.
+// Applies all changes of each plan to the clocks of its processor. Each processor has its own
+// thread, if the thread can be started. The threads don't communicate.
 fn make_each<R: Threads + Sync>(rt: &R, plans: &Plans, clocks: &mut [PlainClocks<'_>])
     requires each { length clocks.old ≡ length plans.now.plans }
     requires few { length clocks.old ≤ 64 }

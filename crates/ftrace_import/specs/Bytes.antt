@@ -1,5 +1,5 @@
--- Defines the results of the searches in bytes with which the code finds the parts of a line. The
--- parts are the mark, the head before it and the tail after it.
+-- Defines the searches that find the parts of a line: its mark (the text that shows the kind of the
+-- line), the head before the mark, and the tail after it.
 use Rattle.std.specs.Prelude.{◌≡◌, ℕ, ◌+◌, ◌≤◌, List, Bool, ◌==◌, Option, Some, option_map, length, take, drop}
 use Rattle.std.specs.Borrow.{Bor}
 use Rattle.ftrace_import.specs.declared.marked.ShortMark.{ShortMark}
@@ -11,7 +11,7 @@ use Rattle.import_spec.specs.Tails.{digit_count, is_bracketed}
 abbrev pub is_at : ℕ → ℕ → Bool
 is_at byte other = other == byte
 
--- Converts borrowed bytes to a list, and keeps `None`.
+-- Converts an optional slice of bytes to an optional list of bytes.
 abbrev pub shown : Option (Bor (List ℕ)) → Option (List ℕ)
 shown part = option_map (λ (bytes : Bor (List ℕ)). bytes.now) part
 

@@ -1,5 +1,5 @@
--- Defines the stored acts of an import (*deeds*) and the events that they stand for. An act is an
--- event without its time.
+-- Defines *deeds*, the compact form in which an import stores acts, and the events that deeds
+-- represent. An act is an event without its time.
 use Rattle.std.specs.Prelude.{◌≡◌, ℕ, List, ◌++◌, map, OnOk, Result}
 use Rattle.psi_base.specs.declared.event.Act.{Act}
 use Rattle.psi_base.specs.declared.event.Act.TheVariants as act
@@ -10,22 +10,22 @@ use Rattle.ftrace_import.specs.declared.deeds.Deed.{Deed}
 use Rattle.ftrace_import.specs.declared.deeds.Deed.TheVariants.{Fork, Migrate, Switch, Wake}
 use Rattle.ftrace_import.specs.declared.deeds.Kept.{Kept}
 
--- Returns the act that a deed stands for.
+-- Returns the act that a deed (an act in compact form) represents.
 abbrev pub act_by : Deed → Act
 act_by (Fork pid cpu) = made pid cpu
 act_by (Wake pid cpu) = act.Wake pid cpu
 act_by (Switch cpu next how) = act.Switch cpu next how
 act_by (Migrate pid cpu) = act.Migrate pid cpu
 
--- Returns the event that a stored deed stands for.
+-- Returns the event that is stored in compact form.
 abbrev pub event_by : Kept → Event
 event_by kept = record { at = kept.at; act = act_by kept.deed }
 
--- Returns the events that stored deeds stand for, in order.
+-- Returns the events that are stored in compact form, in order.
 abbrev pub events_by : List Kept → List Event
 events_by kept = map event_by kept
 
--- Returns the acts that stored deeds stand for, in order.
+-- Returns the acts of the events that are stored in compact form, in order.
 abbrev pub acts_in : List Kept → List Act
 acts_in kept = map (λ (one : Kept). act_by one.deed) kept
 

@@ -51,8 +51,9 @@ pub record HasTaken (line_events : Result LineEvents ImportCause) (old new : Gat
   pub cpus : new.cpus ≡ old.cpus
   pub so : IsGathered new
 
--- `TakesLine line_events old new result`: either the events of the line were stored, or the result
--- is the cause why the line is rejected. `line_events` is what import_spec defines for the line.
+-- `TakesLine line_events old new result`: the result of importing one line. `line_events` has the
+-- events that import_spec defines for the line, or the reason for rejecting it. The events were
+-- stored, or `result` is this reason, or memory ran out.
 abbrev pub TakesLine : Result LineEvents ImportCause → Gathering → Gathering → Result (Unit {0}) (Fault ImportCause) → Type 0
 TakesLine line_events old new (Ok done) = HasTaken line_events old new
 TakesLine line_events old new (Err (fault.Refused why)) = line_events ≡ Err why
@@ -65,21 +66,21 @@ TakesLine line_events old new (Err (fault.NoMemory _)) = ⊤
 abbrev pub rest_from : ℕ → Reached → ℕ → List ℕ → Result (List Event) Refused
 rest_from cpus reached number bytes = import_from cpus reached number (parts_at 10 bytes)
 
--- `RefusalOf fault read`: if `fault` is a rejection, then it is the rejection in `read`, the result
--- that import_spec defines. Other faults aren't constrained.
+-- `RefusalOf fault read`: if `fault` reports a rejected line, `read` reports the same line and
+-- cause. `read` is the result that import_spec defines. Any other `fault` is allowed.
 abbrev pub RefusalOf : ImportFault → Result (List Event) Refused → Type 0
 RefusalOf (import.Refused number why) read = read ≡ Err (import_refused number why)
 RefusalOf import.NoFile read = ⊤
 RefusalOf import.ReadFault read = ⊤
 RefusalOf (import.NoMemory _) read = ⊤
 
--- `IsLineFault number fault result`: `result` is the fault of the import for the fault `fault` of
--- line `number`.
+-- `IsLineFault number fault result`: if line `number` fails with `fault`, the import fails with
+-- `result`.
 abbrev pub IsLineFault : ℕ → Fault ImportCause → ImportFault → Type 0
 IsLineFault number (fault.Refused why) result = result ≡ import.Refused number why
 IsLineFault number (fault.NoMemory none) result = result ≡ import.NoMemory none
 
--- Converts the fault of reading a line to a fault of the import.
+-- Converts the error of reading a line to the error of the import.
 abbrev pub import_fault : LineFault → ImportFault
 import_fault (lines.TooLong number) = import.Refused number cause.LineTooLong
 import_fault (lines.Cut number) = import.Refused number cause.Cut
@@ -87,10 +88,10 @@ import_fault lines.NoFile = import.NoFile
 import_fault lines.ReadFault = import.ReadFault
 import_fault (lines.NoMemory none) = import.NoMemory none
 
--- `LineTaken number old new before suffix known`: line `number` was taken. `before` and `suffix`
--- give the remaining bytes before and after the call. If the bytes of the file are known, importing
--- the remaining bytes before the call gives the line's events, followed by the import of the
--- remaining bytes after the call.
+-- `LineTaken number old new before suffix known`: line `number` was imported. `before` and `suffix`
+-- are functions from the content of the file to the bytes that remain before and after the call. If
+-- the content is known, the import of the bytes before the call gives the line's events, followed
+-- by the import of the bytes after the call.
 pub record LineTaken (number : ℕ) (old new : Gathering) (before suffix : List ℕ → List ℕ) (known : Option (List ℕ)) : Type 0 where
   pub so : IsGathered new
   pub cpus : new.cpus ≡ old.cpus
@@ -99,8 +100,9 @@ pub record LineTaken (number : ℕ) (old new : Gathering) (before suffix : List 
   pub read : (bytes : List ℕ) → known ≡ Some bytes → rest_from old.cpus (reached_in old) number (before bytes)
       ≡ events_followed events (rest_from old.cpus (reached_in new) (number + 1) (suffix bytes))
 
--- The result of taking the next line: true if the line was taken, false if there is no further
--- line, or a fault.
+-- `NextGives number old new before suffix known result`: the result of reading and importing line
+-- `number`. It is true if the line was imported, false at the end of the file, or an error.
+-- `before`, `suffix` and `known` have the same meaning as in `LineTaken`.
 abbrev pub NextGives : ℕ → Gathering → Gathering → (List ℕ → List ℕ) → (List ℕ → List ℕ) → Option (List ℕ) → Result Bool ImportFault
     → Type 0
 NextGives number old new before suffix known (Ok true) = LineTaken number old new before suffix known
@@ -110,34 +112,36 @@ NextGives number old new before suffix known (Ok false) =
 NextGives number old new before suffix known (Err fault) =
     (bytes : List ℕ) → known ≡ Some bytes → RefusalOf fault (rest_from old.cpus (reached_in old) number (before bytes))
 
--- `CausesImportFault before now result`: the shelf counted a failed read or a missing file exactly
--- if `result` reports it.
+-- `CausesImportFault before now result`: the counts of failed reads and of missing files increased
+-- exactly if `result` reports such a failure.
 abbrev pub CausesImportFault : {A : Type 0} → ShelfCounts → ShelfCounts → Result A ImportFault → Type 0
 CausesImportFault before now result = HasCauses before now (IsErrOf result import.ReadFault) (IsErrOf result import.NoFile)
 
--- Returns the fault of the shelf that a fault of the import reports, or `None`.
+-- Returns the failure of file access that an import's error reports: a missing file or a failed
+-- read. Returns `None` for any other error.
 abbrev pub shelf_fault : ImportFault → Option ShelfFault
 shelf_fault (import.Refused number why) = None
 shelf_fault import.NoFile = Some shelf.NoFile
 shelf_fault import.ReadFault = Some shelf.Failed
 shelf_fault (import.NoMemory _) = None
 
--- Returns the fault of the shelf that a result reports, or `None`.
+-- Returns the failure of file access that a result reports: a missing file or a failed read.
+-- Returns `None` for any other result.
 abbrev pub shelf_fault_in : {A : Type 0} → Result A ImportFault → Option ShelfFault
 shelf_fault_in (Ok x) = None
 shelf_fault_in (Err found) = shelf_fault found
 
 -- `LineInOrder name at place before now result`: the reads for one line were appended to the log of
--- reads. They continue from offset `at` to offset `place` (bytes), or to the end of the file or a
--- fault.
+-- reads. They continue from offset `at` to offset `place` (bytes), or up to a failed read or the
+-- end of the file.
 abbrev pub LineInOrder : List ℕ → ℕ → ℕ → List ReadCall → List ReadCall → Result Bool ImportFault → Type 0
 LineInOrder name at place before now (Ok true) = ReadsFrom name (Next at) before now (Next place)
 LineInOrder name at place before now (Ok false) = ReadsFile name at before now None
 LineInOrder name at place before now (Err found) = ReadsFile name at before now (shelf_fault found)
 
 -- `ReadsLine known old new counts counts_now bytes_read read_now result`: the effect of reading the
--- next line on the reader and the shelf, for any content of the line. `bytes_read` and `read_now`
--- are the numbers of bytes that the shelf had returned before and after the call.
+-- next line on the reader and on the counts of failures. The effect doesn't depend on the content
+-- of the line. `bytes_read` and `read_now` are the numbers of bytes read before and after the call.
 pub record ReadsLine {A : Type 0} (known : Option (List ℕ)) (old new : Reader) (counts counts_now : ShelfCounts) (bytes_read read_now : ℕ)
     (result : Result A ImportFault) : Type 0 where
   pub name : new.name ≡ old.name
@@ -149,7 +153,7 @@ pub record ReadsLine {A : Type 0} (known : Option (List ℕ)) (old new : Reader)
 
 -- `KeepsLines known old new result`: the number of the next line plus the number of remaining lines
 -- stays the same when a line is read. If a read failed, no line was removed and no complete line is
--- buffered. If a line is rejected, it is the line with the reader's number.
+-- buffered. If a line is rejected, its number is `old.number`.
 pub record KeepsLines {A : Type 0} (known : Option (List ℕ)) (old new : Reader) (result : Result A ImportFault) : Type 0 where
   pub lines : (bytes : List ℕ) → known ≡ Some bytes → new.number + line_count (left new bytes) ≡ old.number + line_count (left old bytes)
   pub failed : IsErrOf result import.ReadFault → (new.number ≡ old.number)
@@ -157,8 +161,9 @@ pub record KeepsLines {A : Type 0} (known : Option (List ℕ)) (old new : Reader
   pub refused : (number : ℕ) (why : ImportCause) → IsErrOf result (import.Refused number why) → number ≡ old.number
 
 -- `StopsAtRefusal read known bytes_read read_now result`: reading stops at the first rejected line.
--- At most one full buffer is read beyond the lines before it. A read can fail only while the bytes
--- read so far don't include the whole rejected line.
+-- The import reads at most `furthest number` bytes: the greatest size of the earlier lines, and one
+-- full buffer. If a read fails, the bytes read so far end within the first rejected line or before
+-- it.
 abbrev pub StopsAtRefusal : {A : Type 0} → (List ℕ → Result (List Event) Refused) → Option (List ℕ) → ℕ → ℕ → Result A ImportFault → Type 0
 StopsAtRefusal read known bytes_read read_now (Ok x) = ⊤
 StopsAtRefusal read known bytes_read read_now (Err (import.Refused number why)) = read_now ≤ bytes_read + furthest number
@@ -168,7 +173,8 @@ StopsAtRefusal read known bytes_read read_now (Err import.ReadFault) =
     → line_count (take (read_now - bytes_read) bytes) ≤ refusal.line
 StopsAtRefusal read known bytes_read read_now (Err (import.NoMemory _)) = ⊤
 
--- The result doesn't depend on the file's bytes: it is `NoFile`, `ReadFault` or `NoMemory`.
+-- The result is an error that doesn't depend on the file's bytes: `NoFile`, `ReadFault` or
+-- `NoMemory`.
 abbrev pub ShowsNothing : {A : Type 0} → Result A ImportFault → Type 0
 ShowsNothing (Ok x) = ⊥
 ShowsNothing (Err (import.Refused number why)) = ⊥
@@ -182,8 +188,8 @@ ShowsNothing (Err (import.NoMemory _)) = ⊤
 abbrev pub whole_events : Gathering → List Event
 whole_events g = events_by g.kept.items ++ end_at (reached_in g) ∷ []
 
--- `LinesGive cpus new before known result`: the result of taking all lines of a file, from the
--- first line.
+-- `LinesGive cpus new before known result`: the result of importing all lines of a file. `before`
+-- maps the content of the file to the bytes that haven't been read yet.
 abbrev pub LinesGive : ℕ → Gathering → (List ℕ → List ℕ) → Option (List ℕ) → Result (Unit {0}) ImportFault → Type 0
 LinesGive cpus new before known (Ok done) =
     IsGathered new × (new.cpus ≡ cpus) × ((bytes : List ℕ) → known ≡ Some bytes
@@ -196,7 +202,7 @@ LinesGive cpus new before known (Err fault) =
 abbrev pub most_of_text : ℕ
 most_of_text = furthest 16000001
 
--- `AllTaken cpus g known`: all lines of a file were taken, and their events with the end form a
+-- `AllTaken cpus g known`: all lines of a file were imported, and their events with the end form a
 -- legal trace. If the file's bytes are known, these are the events that import_spec defines for the
 -- bytes.
 pub record AllTaken (cpus : ℕ) (g : Gathering) (known : Option (List ℕ)) : Type 0 where
@@ -205,7 +211,8 @@ pub record AllTaken (cpus : ℕ) (g : Gathering) (known : Option (List ℕ)) : T
   pub ends : Ends cpus first_world (whole_events g)
   pub read : (bytes : List ℕ) → known ≡ Some bytes → import_of cpus bytes ≡ Ok (whole_events g)
 
--- `Gathers cpus known result`: the result of importing a text.
+-- `Gathers cpus known result`: the result of importing a text. If the file's content `known` isn't
+-- `None`, the result agrees with the definition `import_of` of import_spec.
 abbrev pub Gathers : ℕ → Option (List ℕ) → Result Gathering ImportFault → Type 0
 Gathers cpus known (Ok g) = AllTaken cpus g known
 Gathers cpus known (Err fault) = (bytes : List ℕ) → known ≡ Some bytes → RefusalOf fault (import_of cpus bytes)

@@ -1,5 +1,5 @@
--- States the laws of imports: the output is an accepted trace, and each line of the text has its
--- effect in the trace.
+-- States the laws of imports. The output is an accepted trace. After a switch, the processor runs
+-- the next task. After a wakeup, the task isn't blocked.
 use Rattle.std.specs.Prelude.{◌≡◌, ◌≢◌, ℕ, List, [], ◌∷◌, ◌++◌, true, Option, None, Some, option_map, Result, Ok, Err}
 use Rattle.psi_base.specs.declared.event.Cpu.{Cpu}
 use Rattle.psi_base.specs.declared.event.Event.{Event}
@@ -28,7 +28,8 @@ ImportedIsTrace =
     → IsAmong One versions
     → IsTrace (accepts_with versions default_tick) (text_of (import_trace cpus events)) (import_trace cpus events)
 
--- Applies `next` to the progress of an import after a line. Returns `None` if the line is rejected.
+-- `after_events line_events next`: calls `next` with the progress of an import after an accepted
+-- line. Returns `None` if the line is rejected.
 abbrev pub after_events : Result LineEvents ImportCause → (Reached → Option Reached) → Option Reached
 after_events (Err why) next = None
 after_events (Ok line_events) next = next line_events.reached
@@ -39,9 +40,9 @@ abbrev pub reached_by : ℕ → Reached → List (List ℕ) → Option Reached
 reached_by cpus reached [] = Some reached
 reached_by cpus reached (line ∷ lines) = after_events (events_of_line cpus reached line) (λ suffix. reached_by cpus suffix lines)
 
--- `GivesAfter cpus lines line sighting line_events`: all lines in `lines` are accepted. After them,
--- `line` is marked and reports `sighting` (a time and an event of the kernel), and has the result
--- `line_events`.
+-- `GivesAfter cpus lines line sighting line_events`: all lines in `lines` are accepted. The marked
+-- line `line`, which follows them, contains `sighting` (a time and an event of the kernel) and adds
+-- the events `line_events`.
 pub record GivesAfter (cpus : ℕ) (lines : List (List ℕ)) (line : List ℕ) (sighting : Sighting) (line_events : LineEvents) : Type 0 where
   pub counted : IsCpuCount cpus
   pub reached : Reached
@@ -69,8 +70,8 @@ WakeupWakes = (cpus : ℕ) (lines : List (List ℕ)) (line : List ℕ) (at : ℕ
 
 -- `IsWritten cpus lines line events`: the complete line `line`, which follows `lines`, corresponds
 -- to its own section of the written events. The events before this section lead to the world before
--- the line, and the events up to its end lead to the world after the line. So a law about the world
--- after a line also holds for the world after a prefix of the written events.
+-- the line. The events up to its end lead to the world after the line. So a law about the world
+-- after a line also holds after a prefix of the written events.
 pub record IsWritten (cpus : ℕ) (lines : List (List ℕ)) (line : List ℕ) (events : List Event) : Type 0 where
   pub prefix : List Event
   pub suffix : List Event

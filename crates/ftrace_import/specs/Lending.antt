@@ -1,5 +1,5 @@
--- Defines the iterator that lends the events of an import one by one, as contracts refer to it. The
--- iterator has a current event and a list of remaining events.
+-- Defines the state and the invariant of the iterator that lends the events of an import one by
+-- one. The state is the current event and the list of remaining events.
 use Rattle.std.specs.Prelude.{◌≡◌, ℕ, ◌+◌, ◌≤◌, List, [], ◌∷◌, length, drop, Bool, true, false}
 use Rattle.psi_base.specs.declared.event.Act.{Act}
 use Rattle.psi_base.specs.declared.event.Cpu.{Cpu}
@@ -15,7 +15,7 @@ pub record Lending : Type 0 where
   pub event : Event
   pub left : List Event
 
--- Selects the current event: `making` for true, `other` for false.
+-- The current event of an iterator: `making` if the Boolean is true, and `other` if it is false.
 abbrev pub shown : Bool → Event → Event → Event
 shown true making other = making
 shown false making other = other

@@ -1,5 +1,5 @@
--- Defines the invariant of an import, which holds in each world to which its events lead, and the
--- range of the values in a line.
+-- Defines the invariant that holds after each event of an import, and the ranges of the values in a
+-- line.
 use Rattle.std.specs.Prelude.{◌≡◌, ℕ, ◌+◌, ◌≤◌, List, [], ◌∷◌, true, false, Option, IfSome, is_some}
 use Rattle.psi_base.specs.declared.event.Event.{Event}
 use Rattle.psi_base.specs.declared.event.How.{How}
@@ -37,7 +37,7 @@ pub record Stands (cpus at room : ℕ) (w : World) : Type 0 where
   pub early : at ≤ latest_moment
   pub few : w.lines + room ≤ most_imported
 
--- The world and the time of an import's progress satisfy the invariant.
+-- The world and the time of an import's progress satisfy the invariant `Stands`.
 abbrev pub IsUnderWay : ℕ → Reached → Type 0
 IsUnderWay cpus reached = Stands cpus reached.moment 0 reached.world
 
@@ -56,7 +56,7 @@ pub record Ends (cpus : ℕ) (w : World) (events : List Event) : Type 0 where
 
 -- ---- the content of a line
 
--- `how` is a way in which a running task can leave its processor (not `idle`).
+-- `how` is a way in which a running task can leave its processor: any way except `idle`.
 abbrev pub Leaves : How → Type 0
 Leaves how = (o : Option (ℕ × Task)) → is_some o ≡ true → is_wrong how o ≡ false
 

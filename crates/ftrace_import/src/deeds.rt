@@ -1,8 +1,8 @@
 //! The acts of an ftrace line in a compact form (*deeds*), which are stored until all lines are
 //! read. An act is an event without its time.
 //!
-//! import_spec defines the acts of each line. This module computes and stores them; it doesn't play
-//! them.
+//! import_spec defines the acts of each line. This module computes and stores the acts, but doesn't
+//! apply them to the table of tasks.
 ghost use Rattle.std.specs.Prelude.{◌≡◌, ◌∷◌, [], IfOk};
 ghost use Rattle.import_spec.specs.Events.{acts_of, migration_acts, next_acts, runs_there, switch_acts, turn_acts, wakeup_acts};
 ghost use Rattle.std.specs.Prelude.{None};
@@ -17,7 +17,7 @@ use task_table::Table;
 /// An act of an import in compact form. No path is stored, because all tasks are in the root group.
 #[derive(Clone, Copy)]
 pub(crate) enum Deed {
-    /// A task is created, ready on processor `cpu`.
+    /// A task is created. It is ready on processor `cpu`.
     Fork {
         pid: Pid,
         cpu: Cpu,
@@ -27,7 +27,8 @@ pub(crate) enum Deed {
         pid: Pid,
         cpu: Cpu,
     },
-    /// The running task of processor `cpu` leaves, and the next task runs, or none.
+    /// The running task of processor `cpu` leaves, and the task `next` runs. If `next` is `None`,
+    /// no task runs.
     Switch {
         cpu: Cpu,
         next: Option<Pid>,
@@ -48,7 +49,7 @@ pub(crate) struct Kept {
     pub(crate) deed: Deed,
 }
 
-/// Returns the event that a stored deed stands for.
+/// Returns the event that is stored in compact form.
 pub(crate) fn event_of(alloc: Global, kept: Kept) -> Result<Event, NoMemory>
     ensures { IfOk result (λ event. event ≡ event_by kept) }
 {
@@ -64,7 +65,7 @@ pub(crate) fn event_of(alloc: Global, kept: Kept) -> Result<Event, NoMemory>
     Ok(Event { at: kept.at, act })
 }
 
-/// Appends one deed at the time `at` (ns).
+/// Appends one act, in compact form, at the time `at` (ns).
 #[tactic(auto, using(crate::proofs::Keeping::one_kept))]
 fn keep(kept: &mut Vec<Kept>, at: Ns, deed: Deed) -> Result<(), NoMemory>
     ensures { Adds kept.old.items kept.new.items result at (act_by deed ∷ []) }
@@ -73,7 +74,7 @@ fn keep(kept: &mut Vec<Kept>, at: Ns, deed: Deed) -> Result<(), NoMemory>
     Ok(())
 }
 
-/// Appends nothing, for a line without deeds.
+/// Appends nothing, because the line has no acts.
 #[tactic(auto, using(crate::proofs::Keeping::none_kept))]
 fn keep_none(kept: &mut Vec<Kept>, at: Ns) -> Result<(), NoMemory>
     ensures { Adds kept.old.items kept.new.items result at [] }
@@ -83,8 +84,8 @@ fn keep_none(kept: &mut Vec<Kept>, at: Ns) -> Result<(), NoMemory>
     Ok(())
 }
 
-/// Appends the deeds of a wakeup. `task` is the task before the wakeup, or `None` if it doesn't
-/// exist yet.
+/// Appends the acts of a wakeup, in compact form. `task` is the task before the wakeup, or `None`
+/// if it doesn't exist yet.
 fn keep_wakeup(
     kept: &mut Vec<Kept>,
     at: Ns,
@@ -103,8 +104,8 @@ fn keep_wakeup(
     }
 }
 
-/// Appends the deeds of a migration. `task` is the task before the migration, or `None` if it
-/// doesn't exist yet.
+/// Appends the acts of a migration, in compact form. `task` is the task before the migration, or
+/// `None` if it doesn't exist yet.
 fn keep_migration(
     kept: &mut Vec<Kept>,
     at: Ns,
@@ -122,8 +123,8 @@ fn keep_migration(
     }
 }
 
-/// Appends two deeds: the task that runs on processor `from` is preempted, and then moves to
-/// processor `cpu`.
+/// Appends two acts, in compact form: the task that runs on processor `from` is preempted, and then
+/// moves to processor `cpu`.
 #[tactic(auto, using(crate::proofs::Keeping::two_kept))]
 fn keep_pulled(kept: &mut Vec<Kept>, at: Ns, pid: Pid, cpu: Cpu, from: Cpu) -> Result<(), NoMemory>
     ensures { Adds kept.old.items kept.new.items result at
@@ -141,8 +142,8 @@ fn keep_pulled(kept: &mut Vec<Kept>, at: Ns, pid: Pid, cpu: Cpu, from: Cpu) -> R
     keep(kept, at, Deed::Migrate { pid, cpu })
 }
 
-/// Appends the deeds that make the task `next` ready on the processor `cpu` on which it will run.
-/// Appends nothing for `None`.
+/// Appends the acts that make the task `next` ready on processor `cpu`, where it will run. Appends
+/// nothing for `None`.
 fn keep_next(
     table: &Table,
     kept: &mut Vec<Kept>,
@@ -167,7 +168,7 @@ fn keep_next(
     }
 }
 
-/// Whether `pid` is a task that is running on processor `cpu`.
+/// Returns whether `pid` is a task that is running on processor `cpu`.
 fn runs_there(table: &Table, cpu: Cpu, pid: Option<Pid>) -> bool
     ensures { result ≡ runs_there table.now.world.tasks cpu pid }
 {
@@ -180,8 +181,8 @@ fn runs_there(table: &Table, cpu: Cpu, pid: Option<Pid>) -> bool
     }
 }
 
-/// Appends the deeds that make the running task leave processor `cpu` and the task `next` run
-/// there.
+/// Appends the acts that make the running task leave processor `cpu` and the task `next` run there.
+/// The running task leaves in the way `how` if it is `previous`, and is preempted otherwise.
 #[tactic(auto, using(crate::proofs::Keeping::some_part))]
 fn keep_turn(
     table: &Table,
@@ -223,7 +224,8 @@ fn keep_turn(
     }
 }
 
-/// Appends the deeds of a switch.
+/// Appends the acts of a switch, in compact form. Appends nothing if the task `next` already runs
+/// on processor `cpu`.
 #[tactic(auto, using(crate::proofs::Keeping::both_kept))]
 fn keep_switch(
     table: &Table,
@@ -244,8 +246,8 @@ fn keep_switch(
     keep_turn(table, kept, at, cpu, previous, next, how)
 }
 
-/// Appends the deeds of a line with the content `seen` at the time `at` (ns). `table` is the table
-/// before the line.
+/// Appends the acts of a line with the content `seen` at the time `at` (ns), in compact form.
+/// `table` is the table of tasks before the line.
 pub(crate) fn keep_seen(
     table: &Table,
     kept: &mut Vec<Kept>,

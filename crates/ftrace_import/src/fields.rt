@@ -26,8 +26,8 @@ fn number_in(digits: &[u8], most: usize) -> Option<u64>
     read_digits(digits)
 }
 
-/// Returns the value (ns) of one unit of the last digit, in a fraction of a second with nine minus
-/// `missing` digits.
+/// Returns the place value (ns) of the last digit in a fraction of a second with `9 - missing`
+/// digits.
 fn unit(missing: usize) -> Ns
     requires { missing ≤ 8 }
     ensures unit { result ≡ 10 ^ missing }
@@ -72,7 +72,8 @@ fn suffix(bytes: &[u8], at: usize) -> &[u8]
     }
 }
 
-/// Parses the time (ns) in the head of a line, which is the last word of the head.
+/// Parses the time (ns) in the head of a line: the text after the last space. Returns `None` if the
+/// head has no space, or if this text isn't a time.
 #[tactic(auto, unfolding(import_spec::specs::Tails::time_in))]
 pub(crate) fn time_in(head: &[u8]) -> Option<Ns>
     ensures { result ≡ time_in head.now }
@@ -81,8 +82,8 @@ pub(crate) fn time_in(head: &[u8]) -> Option<Ns>
     time_of(word)
 }
 
-/// If the bytes begin with a number in brackets, returns the number of its digits, otherwise
-/// `None`. Precondition: there is at least one byte.
+/// Returns the number of digits of the bracketed number at the start of the bytes, or `None` if the
+/// bytes don't begin with a bracketed number. Precondition: there is at least one byte.
 #[inline(always)]
 #[tactic(auto, unfolding(import_spec::specs::Tails::is_bracketed))]
 fn digits_in_brackets(bytes: &[u8]) -> Option<usize>
@@ -111,7 +112,7 @@ struct Bracketed {
     count: usize,
 }
 
-/// Returns the position of the last number in brackets, or `None`.
+/// Returns the position of the last number in brackets, or `None` if there is no such number.
 fn last_in_brackets(bytes: &[u8]) -> Option<Bracketed>
     ensures none { IsNone result → last_place is_bracketed bytes.now ≡ None }
     ensures some { IfSome result (λ found. IsLastBracket bytes.now found.start found.count) }
@@ -129,8 +130,8 @@ fn last_in_brackets(bytes: &[u8]) -> Option<Bracketed>
     None
 }
 
-/// Parses the processor in the head of a line: the last number in brackets, which has at most three
-/// digits.
+/// Parses the processor in the head of a line: the last number in brackets. Returns `None` if there
+/// is no such number, or if it has more than three digits.
 #[tactic(auto, unfolding(import_spec::specs::Tails::cpu_in))]
 pub(crate) fn cpu_in(head: &[u8]) -> Option<u32>
     ensures { result ≡ cpu_in head.now }
@@ -140,8 +141,9 @@ pub(crate) fn cpu_in(head: &[u8]) -> Option<u32>
     Some(cpu as u32)
 }
 
-/// Parses the field after the last occurrence of `key` in a tail or in a part of it. The field is a
-/// number below 2^32, and ends at the next space.
+/// Parses the field after the last occurrence of `key` in `part`, a tail or a part of a tail. The
+/// field ends at the next space. Returns `None` if `key` doesn't occur, or if the field isn't a
+/// number below 2^32.
 #[tactic(auto, unfolding(import_spec::specs::Tails::field_in))]
 pub(crate) fn field_in(part: &[u8], key: &[u8]) -> Option<u32>
     requires some { 0 < length key.now }
@@ -156,15 +158,15 @@ pub(crate) fn field_in(part: &[u8], key: &[u8]) -> Option<u32>
     }
 }
 
-/// Returns the task with the pid `number`, or `None` for 0, which stands for the idle task.
+/// Returns the task with the pid `number`, or `None` for 0, the pid of the idle task.
 pub(crate) fn pid_in(number: u32) -> Option<Pid>
     ensures { result ≡ pid_in number }
 {
     if number == 0 { None } else { Some(Pid(number)) }
 }
 
-/// Returns the way in which a task leaves its processor, which follows from the first letter of the
-/// task's state. Returns `None` if the state is empty.
+/// Returns the way in which a task leaves its processor. The first letter of `state`, the task's
+/// state, determines it. Returns `None` if the state is empty.
 #[tactic(auto, unfolding(import_spec::specs::Tails::how_in))]
 pub(crate) fn how_in(state: &[u8]) -> Option<How>
     ensures { result ≡ how_in state.now }

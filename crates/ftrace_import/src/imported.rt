@@ -21,9 +21,9 @@ use psi_base::{Act, Cpu, Event, NoMemory, Ns, Path, Pid};
 use std::alloc::Global;
 use std::marker::Model;
 
-/// The events of an import, including the end of the trace, lent one by one. In contracts these are
-/// the current event and the list of the remaining events. An event is valid until the next call.
-/// Lending an event allocates nothing.
+/// The events of an import, including the end of the trace, lent one by one. Contracts see the
+/// current event and the list of the remaining events. An event is valid until the next call of
+/// [`Imported::advance`]. Lending an event doesn't allocate.
 #[derive(Drop)]
 pub struct Imported {
     gathering: Gathering,
@@ -69,7 +69,8 @@ fn make_anew(making: &mut Event, at: Ns, pid: Pid, cpu: Cpu)
     }
 }
 
-/// Replaces the event `other`. Returns false, which makes `other` the current event.
+/// Sets `other` to an event with the time `at` (ns) and the act `act`. Returns false, the value of
+/// `makes` that selects `other` as the current event.
 fn show_other(other: &mut Event, at: Ns, act: Act) -> bool
     ensures event { other.new ≡ record { at = at; act = act } }
     ensures result { result ≡ false }
@@ -78,8 +79,8 @@ fn show_other(other: &mut Event, at: Ns, act: Act) -> bool
     false
 }
 
-/// Sets one of the two events to the stored event: `making` if the stored event creates a task,
-/// otherwise `other`. Returns whether it was `making`.
+/// Copies the stored event `kept` to `making` if the event creates a task, and to `other` if it
+/// doesn't. Returns true for `making`, which is then the current event, and false for `other`.
 fn notify(kept: Kept, making: &mut Event, other: &mut Event) -> bool
     requires { IsMade making.old.act }
     ensures known { shown result making.new other.new ≡ event_by kept }
@@ -157,7 +158,7 @@ impl Imported {
 }
 
 /// Imports the ftrace text in a file, and returns an iterator that lends its events. Fails with
-/// `Refused` at the first rejected line, with the first cause for rejecting it. Allocates about 24
+/// `Refused` at the first rejected line, with the first reason for rejecting it. Allocates about 24
 /// bytes for each event.
 pub fn read_import<S: Shelf>(
     alloc: Global,

@@ -1,5 +1,6 @@
-//! The laws of imports: the imported trace is accepted, and each line has its effect in the trace.
-//! Each function has an empty body: its contract is the law.
+//! The laws of imports. The imported trace is accepted. After a switch, the processor runs the next
+//! task. After a wakeup, the task isn't blocked. Each function has an empty body, because its
+//! contract is the law.
 ghost use Rattle.ftrace_import.specs.Laws.{ImportedIsTrace, LinesAreWritten, SwitchRunsNext, WakeupWakes};
 
 /// The imported trace of each text is accepted, with the default tick, by every program that
@@ -9,7 +10,8 @@ pub fn law_imported()
 {}
 
 /// Each complete line of an accepted text corresponds to its own section of the written events. The
-/// world after the line is the world after this section and all earlier events.
+/// world (the state of all tasks and groups) after the line is the world after this section and all
+/// earlier events.
 pub fn law_written()
     ensures { LinesAreWritten }
 {}

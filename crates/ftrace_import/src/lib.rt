@@ -1,7 +1,7 @@
 //! The import of ftrace text: parses the marked lines (switches, wakeups and migrations), and
 //! converts them to the events of a trace.
 //!
-//! The crate doesn't write the trace. It has no groups but the root, to which all tasks belong.
+//! The crate doesn't write the trace. All tasks belong to the root group.
 #![tactic(auto)]
 
 mod deeds;

@@ -14,7 +14,7 @@ use import_spec::{ImportCause, LineKind, Seen, Sighting};
 use memchr::memchr;
 use psi_base::Cpu;
 
-/// A mark, without its text.
+/// The kind and the length of a mark. A mark is the text that shows the kind of a line.
 #[derive(Clone, Copy)]
 struct ShortMark {
     /// The kind of line that has this mark.
@@ -29,7 +29,7 @@ fn mark(kind: LineKind, size: usize) -> ShortMark
     ShortMark { kind, size }
 }
 
-/// Returns the mark with which the bytes begin, or `None`.
+/// Returns the mark at the start of the bytes, or `None` if the bytes don't begin with a mark.
 #[tactic(auto, unfolding(import_spec::specs::Marked::mark_of))]
 fn mark_of(bytes: &[u8]) -> Option<ShortMark>
     ensures mark { result ≡ option_map mark_parts (mark_of bytes.now) }

@@ -40,7 +40,7 @@ pub(crate) fn after_last<'a>(bytes: &'a [u8], text: &[u8]) -> Option<&'a [u8]>
 }
 
 /// Returns the number of bytes before the first byte that equals `byte`, or the number of all bytes
-/// if no byte does.
+/// if `byte` doesn't occur.
 #[inline(always)]
 #[tactic(auto, using(crate::proofs::Bytes::runs))]
 pub(crate) fn count_before(bytes: &[u8], byte: u8) -> usize

@@ -17,7 +17,7 @@ use psi_base::{Cpu, Fault, LATEST, MOST_EVENTS, NoMemory, Ns};
 use std::alloc::Global;
 use task_table::Table;
 
-/// The state of an import after a number of lines of the text.
+/// The state of an import after some lines of the text were parsed.
 #[derive(Drop)]
 pub struct Gathering {
     alloc: Global,
@@ -27,7 +27,7 @@ pub struct Gathering {
     table: Table,
     /// The stored events, without the end of the trace.
     pub(crate) kept: Vec<Kept>,
-    /// The time (ns) of the first marked line, or `None` before it.
+    /// The time (ns) of the first marked line, or `None` if no marked line was parsed yet.
     first: Option<Ns>,
     /// The trace time (ns) of the last marked line. The trace time of a line is its time since the
     /// first marked line, but never less than the trace time of an earlier line.
@@ -51,7 +51,7 @@ pub(crate) fn start(alloc: Global, cpus: u32) -> Result<Gathering, NoMemory>
     })
 }
 
-/// Whether a deed creates a task.
+/// Returns whether an act in compact form creates a task.
 fn makes(deed: Deed) -> bool
     ensures { result ≡ is_some (names (act_by deed)).new_task }
 {
@@ -61,7 +61,7 @@ fn makes(deed: Deed) -> bool
     }
 }
 
-/// Whether at least one of the deeds creates a task.
+/// Returns whether at least one of the stored acts creates a task.
 fn make_task(kept: &[Kept]) -> bool
     ensures { result ≡ make_task (acts_in kept.now) }
 {
@@ -75,9 +75,9 @@ fn make_task(kept: &[Kept]) -> bool
     false
 }
 
-/// Returns the first cause why a line with the deeds `kept` at the trace time `moment` (ns) is
-/// rejected, or `None` if the line is accepted. `table` is the table before the line, and `cpu` is
-/// the processor that the line names.
+/// Returns the first reason why a line is rejected, or `None` if the line is accepted. The line has
+/// the acts `kept` and the trace time `moment` (ns), and names processor `cpu`. `table` is the
+/// table of tasks before the line.
 fn acts_cause(table: &Table, cpus: u32, moment: Ns, cpu: Cpu, kept: &[Kept]) -> Option<ImportCause>
     ensures { result ≡ acts_cause cpus table.now.world moment cpu (acts_in kept.now) }
 {
@@ -108,7 +108,8 @@ fn play_one(alloc: Global, table: &mut Table, kept: Kept) -> Result<(), NoMemory
     }
 }
 
-/// Plays the events that the deeds stand for. Precondition: the events are legal in this order.
+/// Applies the stored events to the table of tasks. Precondition: the events are legal in this
+/// order.
 fn play_all(alloc: Global, table: &mut Table, kept: &[Kept]) -> Result<(), NoMemory>
     requires { AreLegal table.old.limits table.old.world (events_by kept.now) }
     ensures limits { OnOk result (table.new.limits ≡ table.old.limits) }
@@ -123,8 +124,8 @@ fn play_all(alloc: Global, table: &mut Table, kept: &[Kept]) -> Result<(), NoMem
     Ok(())
 }
 
-/// Returns the processor that must exist for a line: the processor of a switch, or the target
-/// processor of a wakeup or a migration.
+/// Returns the processor of a line: the processor of a switch, or the target processor of a wakeup
+/// or a migration. A line whose processor doesn't exist is rejected.
 fn needed_cpu(seen: Seen) -> Cpu
     ensures { result ≡ needed_cpu seen }
 {
@@ -159,7 +160,7 @@ fn kept_from(kept: &Vec<Kept>, before: usize) -> &[Kept]
     &kept[before..]
 }
 
-/// Stores and plays the events of a line with the content `sighting`.
+/// Stores the events of a line with the content `sighting`, and applies them to the table of tasks.
 fn take_sighting(g: &mut Gathering, sighting: Sighting) -> Result<(), Fault<ImportCause>>
     requires so { IsGathered g.old }
     requires seen { IsSeen sighting.seen }
@@ -181,8 +182,8 @@ fn take_sighting(g: &mut Gathering, sighting: Sighting) -> Result<(), Fault<Impo
     Ok(())
 }
 
-/// Stores and plays the events of a line; a line that isn't marked has none. The import must not be
-/// continued after a rejected line.
+/// Stores the events of a line, and applies them to the table of tasks. A line that isn't marked
+/// has no events. After an error, the import must not be continued.
 pub(crate) fn take_line(g: &mut Gathering, line: &[u8]) -> Result<(), Fault<ImportCause>>
     requires { IsGathered g.old }
     ensures { TakesLine (events_of_line g.old.cpus (reached_in g.old) line.now) g.old g.new result }

@@ -22,13 +22,13 @@ use std::alloc::Global;
 /// The maximum number of lines. A longer text is rejected.
 const MOST_LINES: u32 = 16_000_000;
 
-/// Why an import fails.
+/// The reason why an import fails.
 #[derive(Clone, Copy, Debug, PartialEq, Eq)]
 pub enum ImportFault {
-    /// A line was rejected. `cause` is the first cause for rejecting it, and lines are numbered
-    /// from 1.
+    /// A line was rejected. `cause` is the first reason for rejecting it. Lines are numbered from
+    /// 1.
     Refused { line: u32, cause: ImportCause },
-    /// The shelf has no file with this name.
+    /// The shelf (the access to files) has no file with this name.
     NoFile,
     /// A read failed.
     ReadFault,
@@ -56,7 +56,7 @@ fn fault_at(line: u32, fault: Fault<ImportCause>) -> ImportFault
     }
 }
 
-/// Converts the fault of reading a line to a fault of the import.
+/// Converts the error of reading a line to the error of the import.
 fn import_fault(fault: LineFault) -> ImportFault
     ensures { result ≡ import_fault fault }
 {
@@ -75,8 +75,8 @@ fn import_fault(fault: LineFault) -> ImportFault
     }
 }
 
-/// Checks, after the maximum number of lines, that the file has no further bytes. Fails with
-/// `TooManyLines` if it has.
+/// Checks, after the maximum number of lines, that the file has no further bytes. Returns false if
+/// there are none, and fails with `TooManyLines` otherwise.
 fn look_after<S: Shelf>(
     g: &Gathering,
     lines: &mut Lines,
@@ -109,7 +109,7 @@ fn look_after<S: Shelf>(
     }
 }
 
-/// Reads the next line and takes its events. Returns false at the end of the file.
+/// Reads the next line and stores its events. Returns false at the end of the file.
 fn take_next<S: Shelf>(
     g: &mut Gathering,
     lines: &mut Lines,
@@ -143,7 +143,7 @@ fn take_next<S: Shelf>(
     }
 }
 
-/// Reads the next line and takes its events. After the maximum number of lines, only checks that
+/// Reads the next line and stores its events. After the maximum number of lines, only checks that
 /// the file has no further bytes. Returns false at the end of the file.
 fn next_step<S: Shelf>(
     g: &mut Gathering,
@@ -175,7 +175,7 @@ fn next_step<S: Shelf>(
     }
 }
 
-/// Reads all lines of a file and takes their events. The loop ends after at most 16,000,001 steps.
+/// Reads all lines of a file and stores their events. The loop ends after at most 16,000,001 steps.
 fn take_lines<S: Shelf>(
     g: &mut Gathering,
     lines: &mut Lines,
@@ -244,7 +244,7 @@ pub fn gather<S: Shelf>(
 }
 
 /// Imports the ftrace text in a file, and returns its events, including the end of the trace. Fails
-/// with `Refused` at the first rejected line, with the first cause for rejecting it.
+/// with `Refused` at the first rejected line, with the first reason for rejecting it.
 ///
 /// No program of this repository calls this function. The programs call
 /// [`read_import`](crate::read_import), which lends the same events one by one and needs a third of

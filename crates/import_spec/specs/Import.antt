@@ -1,4 +1,4 @@
--- The import of a whole ftrace text: its trace events, or the first bad line.
+-- Defines the import of a whole ftrace text: its trace events, or the first bad line.
 use Rattle.std.specs.Prelude.{ℕ, ◌+◌, List, [], ◌∷◌, ◌++◌, length, nat_lt, if◌then◌else◌, Option, None, Some, Result, Ok, Err}
 use Rattle.psi_base.specs.Path.{parts_at}
 use Rattle.psi_base.specs.declared.event.Act.TheVariants as act
@@ -26,8 +26,8 @@ most_text_lines = 16000000
 abbrev pub end_at : Reached → Event
 end_at reached = record { at = reached.moment; act = act.End }
 
--- The result of line number `number` without its newline, or the cause of its rejection. A text has
--- at most 16,000,000 lines, and a line has at most 512 bytes.
+-- The result of line number `number`, which is passed without its newline, or the cause of its
+-- rejection. A text has at most 16,000,000 lines, and a line has at most 512 bytes.
 unfoldable pub yield_of_line : ℕ → Reached → ℕ → List ℕ → Result LineEvents ImportCause
 yield_of_line cpus reached number line =
     if nat_lt most_text_lines number then Err cause.TooManyLines
@@ -43,19 +43,20 @@ tail_cause number (byte ∷ rest) =
     else if nat_lt 512 (length (byte ∷ rest)) then Some cause.LineTooLong
     else Some cause.Cut
 
--- The `end` event, or a rejection of line number `number` if there is a cause.
+-- The `end` event, or the rejection of line number `number` if the bytes after the last newline are
+-- rejected with a cause.
 abbrev pub ends_or : Reached → ℕ → Option ImportCause → Result (List Event) Refused
 ends_or reached number None = Ok (end_at reached ∷ [])
 ends_or reached number (Some why) = Err (import_refused number why)
 
--- Prepends the events `prefix` to the result of the later lines, which is a list of events or a
--- rejection.
+-- Prepends the events `prefix` to the events of the later lines. A rejection of a later line is
+-- returned unchanged.
 abbrev pub events_followed : List Event → Result (List Event) Refused → Result (List Event) Refused
 events_followed prefix (Ok events) = Ok (prefix ++ events)
 events_followed prefix (Err refusal) = Err refusal
 
--- The rejection of line number `number`, or its events followed by the events of the later lines.
--- `suffix` gives the result of the later lines.
+-- The events of line number `number`, followed by the events of the later lines, which `suffix`
+-- computes. If the line is rejected, the result is its rejection.
 abbrev pub or_refused_line : ℕ → Result LineEvents ImportCause → (Reached → Result (List Event) Refused) → Result (List Event) Refused
 or_refused_line number (Err why) suffix = Err (import_refused number why)
 or_refused_line number (Ok line_events) suffix = events_followed line_events.events (suffix line_events.reached)

@@ -1,4 +1,5 @@
--- Laws of the searches in `Places`: they find the first and the last position that passes a test.
+-- Laws of the searches in `Places`: the searches find the first and the last position that passes a
+-- test.
 use Rattle.std.specs.Prelude.{◌≡◌, ◌↔◌, ℕ, ◌+◌, ◌≤◌, ◌<◌, List, length, drop, Bool, true, false, None, Some}
 use Rattle.import_spec.specs.Places.{first_place, last_place}
 

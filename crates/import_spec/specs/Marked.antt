@@ -1,5 +1,5 @@
--- Parsing of a line of an ftrace text. A *marked* line contains the name of a tracepoint that is
--- imported; other lines are ignored.
+-- Defines how a line of an ftrace text is parsed. A *marked* line contains the name of a tracepoint
+-- that is imported; other lines are ignored.
 use Rattle.std.specs.Prelude.{ℕ, ◌+◌, List, [], ◌∷◌, take, drop, length, find, Bool, if◌then◌else◌, codes, Option, None, Some, is_some, Result, Ok, Err}
 use Rattle.import_spec.specs.declared.cause.ImportCause.{ImportCause}
 use Rattle.import_spec.specs.declared.cause.ImportCause.TheVariants as cause
@@ -12,7 +12,7 @@ use Rattle.psi_base.specs.OptionSteps.{◌>>=◌}
 use Rattle.import_spec.specs.Places.{begins_with, after_last, first_place, last_place}
 use Rattle.import_spec.specs.Tails.{cpu_in, field_in, how_in, pid_in, time_in}
 
--- ---- marks
+-- ---- the marks of imported lines
 
 -- A mark: the name of a tracepoint as it occurs in a line, and the kind of the lines that contain
 -- it.

@@ -9,13 +9,13 @@ unfoldable pub first_place : (List ℕ → Bool) → List ℕ → Option ℕ
 first_place test [] = None
 first_place test (byte ∷ bytes) = if test (byte ∷ bytes) then Some 0 else option_map (λ at. at + 1) (first_place test bytes)
 
--- The last position in the whole bytes, given the last position in the bytes after the first, and
--- whether position 0 passes the test.
+-- The last position that passes a test, given the last such position in the bytes after the first
+-- byte, and whether position 0 passes the test.
 abbrev pub or_here : Option ℕ → Bool → Option ℕ
 or_here (Some at) passes = Some (at + 1)
 or_here None passes = if passes then Some 0 else None
 
--- The last position of the bytes that passes the test, or `None`.
+-- The last position whose suffix (the bytes from there on) passes the test, or `None`.
 unfoldable pub last_place : (List ℕ → Bool) → List ℕ → Option ℕ
 last_place test [] = None
 last_place test (byte ∷ bytes) = or_here (last_place test bytes) (test (byte ∷ bytes))

@@ -10,7 +10,7 @@ use Rattle.psi_base.specs.declared.event.How.TheVariants.{Preempt, Sleep, IoWait
 use Rattle.psi_base.specs.OptionSteps.{◌>>=◌}
 use Rattle.import_spec.specs.Places.{begins_with, after_last, last_place}
 
--- ---- numbers
+-- ---- the numbers in a line
 
 -- Whether the byte is a space (32).
 abbrev pub is_space : ℕ → Bool
@@ -25,11 +25,11 @@ is_point byte = byte == 46
 abbrev pub short_number : ℕ → List ℕ → Option ℕ
 short_number most digits = if nat_lt 0 (length digits) && nat_le (length digits) most then digits_of digits else None
 
--- `Some number` if the number is below 2^32; otherwise `None`.
+-- The number if it is below 2^32, and `None` for any other number.
 abbrev pub if_small : ℕ → Option ℕ
 if_small number = if nat_lt number (2 ^ 32) then Some number else None
 
--- ---- the head
+-- ---- the head of a marked line
 
 -- The time (ns) that a word spells: seconds with 1 to 10 digits, a point, and a fraction with 1 to
 -- 9 digits. The result is `None` if the word is malformed.
@@ -61,10 +61,10 @@ cpu_in head = do
   at ← last_place is_bracketed head
   short_number 3 (take (digit_count (drop (at + 1) head)) (drop (at + 1) head))
 
--- ---- the tail
+-- ---- the tail of a marked line
 
--- The number of the field `key`: 1 to 10 digits after the last occurrence of `key`, followed by a
--- space or the end. The number must be below 2^32.
+-- The value of the field `key`: 1 to 10 digits after the last occurrence of `key`, followed by a
+-- space or the end. The value must be below 2^32.
 unfoldable pub field_in : List ℕ → List ℕ → Option ℕ
 field_in key part = do
   rest ← after_last key part
@@ -75,9 +75,9 @@ field_in key part = do
 abbrev pub pid_in : ℕ → Option Pid
 pid_in number = if number == 0 then None else Some (record { 0 = number })
 
--- How a task leaves its processor, given the letters of its state. The first byte decides: `R` (82)
--- means that the task is still ready, `D` (68) that it waits for IO, `X` (88) and `Z` (90) that it
--- exits, and any other byte that it sleeps.
+-- Chooses how a task leaves its processor from the letters of its state. The first byte decides:
+-- `R` (82) means that the task is still ready, `D` (68) that it waits for IO, `X` (88) and `Z` (90)
+-- that it exits, and any other byte that it sleeps.
 unfoldable pub how_in : List ℕ → Option How
 how_in [] = None
 how_in (first ∷ rest) =

@@ -18,7 +18,7 @@ pub enum ImportCause {
     TooLate,
     /// The line would create a task, but 65,536 tasks are live.
     TooManyTasks,
-    /// There would be more than 3,999,999 events before the end.
+    /// The imported trace would have more than 3,999,999 events before its `end`.
     TooManyEvents,
     /// The text has more than 16,000,000 lines.
     TooManyLines,

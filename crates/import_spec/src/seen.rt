@@ -17,8 +17,8 @@ pub enum LineKind {
 /// What an imported line reports.
 #[derive(Clone, Copy, Debug, PartialEq, Eq)]
 pub enum Seen {
-    /// Processor `cpu` switched from task `previous`, which leaves as `how` says, to task `next`.
-    /// `None` means the idle task.
+    /// Processor `cpu` switched from task `previous`, which leaves in the way `how`, to task
+    /// `next`. `None` means the idle task.
     Switch {
         cpu: Cpu,
         previous: Option<Pid>,

@@ -1,5 +1,5 @@
--- The state of one observer, the preconditions for watching a slot, and the effect of watching. An
--- observer is a thread that samples one group's clocks on all processors.
+-- Defines the state of an observer, the preconditions for watching a slot, and the effect of
+-- watching it. An observer is a thread that samples one group's clocks on all processors.
 use Rattle.std.specs.Prelude.{◌≡◌, Bool, false, ℕ, ◌+◌, ◌<◌, ◌≤◌, List, ◌++◌, length, slice_get, slice_index_or, Some}
 use Rattle.atomic_table.specs.Seated.{TableId}
 use Rattle.psi_counts.specs.Clock.{zero_clock}
@@ -20,9 +20,9 @@ no_sample = record { count = 0; clock = zero_clock }
 abbrev pub last_at : List Sample → ℕ → Sample
 last_at lasts cpu = slice_index_or lasts cpu no_sample
 
--- Preconditions for sampling `slot` on each processor: the watcher has a reader for each processor,
--- `lasts` has a last sample for each processor, and the last sample is the slot's clock after all
--- changes that the reader has seen.
+-- Preconditions for sampling `slot` on each processor: the watcher has one reader for each
+-- processor, and `lasts` has one sample for each processor. This sample is the slot's clock after
+-- all changes that the reader has seen.
 pub record CanLook (slot : ℕ) (lasts : List Sample) (watcher : WatcherView) : Type 0 where
   pub few : length watcher.plans.plans ≤ 64
   pub lasts_are : length lasts ≡ length watcher.plans.plans
@@ -32,15 +32,16 @@ pub record CanLook (slot : ℕ) (lasts : List Sample) (watcher : WatcherView) : 
       → IsClock (last_at lasts cpu).clock (plan_at watcher.plans cpu) slot (last_at lasts cpu).count
   pub seen : (cpu : ℕ) → cpu < length watcher.plans.plans → (last_at lasts cpu).count ≡ (reader_at watcher.readers cpu).knows.seen
 
--- `taken` has one entry for each of the first `cpus` processors, in order. No entry has a lower
--- change count than the processor's last sample.
+-- `taken` has one entry for each of the first `cpus` processors, in order: a sample of `slot` by
+-- observer number `observer`. Each entry includes at least as many changes as the processor's last
+-- sample in `lasts`.
 pub record AreTaken (observer : ℕ) (plans : PlansView) (slot : ℕ) (lasts : List Sample) (cpus : ℕ) (taken : List Entry) : Type 0 where
   pub many : length taken ≡ cpus
   pub each : (cpu : ℕ) (entry : Entry) → slice_get taken cpu ≡ Some entry
       → IsTakenBy observer plans cpu slot (last_at lasts cpu).count entry
 
--- A watcher sampled `slot` on each of the first `cpus` processors: the new entries are at the end
--- of its list, and each processor's reader has seen as many changes as the entry counts.
+-- A watcher sampled `slot` once on each of the first `cpus` processors: it appended one entry for
+-- each processor to its list. Each processor's reader has seen as many changes as its entry counts.
 pub record HaveLooked (slot : ℕ) (lasts : List Sample) (cpus : ℕ) (old new : WatcherView) : Type 0 where
   pub observer_is : new.observer ≡ old.observer
   pub plans_are : new.plans ≡ old.plans
@@ -55,10 +56,9 @@ pub record HaveLooked (slot : ℕ) (lasts : List Sample) (cpus : ℕ) (old new :
 
 -- ---- observers
 
--- What contracts see of an observer: its watcher, its access to the board, the number of parts in
--- its share of the journal's ledger, the number of entries that the share has counted, the last
--- sample on each processor, whether the journal has rejected one of its entries, and whether the
--- observer ran out of memory.
+-- An observer as contracts see it: its watcher, its access to the board, its part of the ledger
+-- that counts the journal's entries, and its last sample on each processor. `fell` says whether the
+-- journal rejected an entry, and `failed` whether the observer ran out of memory.
 pub record ObserverView : Type 0 where
   pub watcher : WatcherView
   pub pass : BoardEnd
@@ -68,16 +68,16 @@ pub record ObserverView : Type 0 where
   pub fell : Bool
   pub failed : Bool
 
--- Preconditions for reading `board` and sampling `slot`: the observer's pass belongs to the board,
--- its share of the ledger has a part, and it can sample the slot on each processor.
+-- Preconditions for reading `board` and sampling `slot`: the observer may read the board, may add
+-- entries to the journal, and has a reader and a last sample for each processor.
 pub record CanWatch (board : TableId) (slot : ℕ) (observer : ObserverView) : Type 0 where
   pub board_is : observer.pass.board ≡ board
   pub backed : 0 < observer.parts
   pub can : CanLook slot observer.lasts observer.watcher
 
 -- The effect of watching `slot` once: the observer read the board once and, unless it ran out of
--- memory, sampled the slot on each processor. It added each entry to the journal, unless the
--- journal rejected one.
+-- memory, sampled the slot on each processor. Unless the journal rejected an entry, all entries
+-- were added to the journal.
 pub record HasWatched (slot : ℕ) (old new : ObserverView) : Type 0 where
   pub board_is : new.pass.board ≡ old.pass.board
   pub parts_are : new.parts ≡ old.parts

@@ -1,5 +1,5 @@
--- The output text: a line for each entry of the journal, a line for each observer's last state of
--- the board, and a last line.
+-- Defines the text of the output: a line for each entry of the journal, a line for the board state
+-- that each observer read last, and a last line.
 use Rattle.std.specs.Prelude.{ℕ, ◌+◌, List, [], ◌∷◌, ◌++◌, length, map, codes, decimal}
 use Rattle.std.specs.List.{flat_map}
 use Rattle.run_spec.specs.Lines.{labelled, line_of}
@@ -19,8 +19,9 @@ state_line observer state =
     line_of (codes "board" ∷ labelled (codes "observer=") observer ∷ labelled (codes "tick=") state.tick
     ∷ labelled (codes "events=") state.events ∷ labelled (codes "kills=") state.kills ∷ [])
 
--- One line for each state in the list. The first state was read last by observer number `observer`,
--- the next by the observer with the next number, and so on.
+-- `states_text observer states`: one line for each board state in `states`. The first state is the
+-- state that observer number `observer` read last, the second state belongs to the next observer,
+-- and so on.
 abbrev pub states_text : ℕ → List BoardState → List ℕ
 states_text observer [] = []
 states_text observer (state ∷ states) = state_line observer state ++ states_text (observer + 1) states

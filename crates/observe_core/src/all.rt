@@ -12,8 +12,8 @@ use std::sync::ledger::Ledger;
 use std::thread;
 use std::thread::Threads;
 
-/// Makes each observer watch `slot` once, in its own thread, or in the caller's thread if none can
-/// be started.
+/// Lets each observer read the board once and sample `slot` once on each processor. An observer
+/// runs in its own thread, or in the caller's thread if no thread can be started.
 pub(crate) fn watch_all<L: Ledger + Send + Sync, R: Threads + Wait + Sync, G: Gate>(
     rt: &R,
     observers: &mut Vec<Observer<'_, '_, L>>,

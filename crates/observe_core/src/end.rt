@@ -1,5 +1,5 @@
-//! Ends the observers, and merges their lists of entries in the order of the journal. It is used
-//! after the last tick of a replay.
+//! Ends the observers after the last tick of a replay, and merges their lists of entries in the
+//! order of the journal.
 ghost use Rattle.std.specs.Prelude.{◌≡◌, ◌+◌, ℕ, IfOk, length, map};
 ghost use Rattle.std.specs.List.{All};
 ghost use Rattle.observer_log.specs.Board.{IsLast};
@@ -15,7 +15,8 @@ use std::alloc::Global;
 use std::sync::Wait;
 use std::sync::ledger::{Ledger, Share};
 
-/// What the observers return when they end: one element per observer, in the order of observers.
+/// The result of ending all observers. Each list has one element per observer, in the order of
+/// observers.
 #[derive(Drop)]
 pub(crate) struct Ended<'a> {
     /// The entries of each observer.
@@ -25,8 +26,8 @@ pub(crate) struct Ended<'a> {
 }
 
 /// Ends all observers, in order, and merges their shares of the journal's ledger into `all`.
-/// Afterwards `all` has counted all entries of the lists, unless the journal rejected one. Fails
-/// with `NoMemory` if an observer ran out of memory.
+/// Afterwards `all` counts the entries of all observers, unless the journal rejected an entry.
+/// Fails with `NoMemory` if an observer ran out of memory.
 pub(crate) fn end_all<'a, L: Ledger, R: Wait>(
     rt: &R,
     alloc: Global,
@@ -73,7 +74,8 @@ pub(crate) fn ordered<'a, L: Ledger>(
     ensures own { IfOk result (λ entries. (observer : ℕ) →
         by observer entries.items ≡ list_of own.now observer) }
 {
-    // `audit` shows that the journal has as many entries as the shares have counted.
+    // `audit` proves that the journal has as many entries as all shares of its ledger count
+    // together.
     journal.audit(all);
     journal.order(own)
 }

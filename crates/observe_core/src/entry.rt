@@ -24,12 +24,12 @@ use std::thread::Threads;
 
 /// Runs one command line of `psi_observe`. `words` is the command line without the program's name:
 /// a trace, a number of observers and the path of a group. The trace is replayed while the
-/// observers sample the clocks of the group and read the board of ticks, each in its own thread if
-/// one can be started. Writes the output to `out`, and the message of the status to `note`: one
-/// line, or nothing for `Done`. A failed write to `note` doesn't change the status. `gate` is a
-/// hook for tests: the threads of the replay call it after each change that they make. An observer
-/// calls it before each sample, with the observer's number, and after it added the sample's entry
-/// to the journal.
+/// observers sample the clocks of the group and read the board of ticks. Each observer runs in its
+/// own thread if a thread can be started. Writes the output to `out`, and the message of the status
+/// to `note` (standard error): one line, or nothing for `Done`. A failed write to `note` doesn't
+/// change the status. `gate` is a hook for tests: the threads of the replay call it after each
+/// change that they make. An observer calls it before each sample, with the observer's number, and
+/// after it added the sample's entry to the journal.
 pub fn observe<R: Threads + Wait + Sync, S: Shelf, K: Sink, N: Sink, G: Gate>(
     rt: &R,
     alloc: Global,
@@ -42,12 +42,12 @@ pub fn observe<R: Threads + Wait + Sync, S: Shelf, K: Sink, N: Sink, G: Gate>(
     // The run doesn't change the files.
     ensures unchanged { S.holds shelf.new ≡ S.holds shelf.old }
 
-    // The result is Usage exactly if the words aren't a name, a number from 1 to 8 and a path.
+    // The result is Usage if and only if the words aren't a name, a number from 1 to 8 and a path.
     ensures usage { (result ≡ ObserveStatus.Usage)
         ↔ (request_of (map string_bytes words.now) ≡ None) }
 
-    // The general contract: what each status implies for the trace and the output, and which
-    // failure counts increased.
+    // The general contract. For each status it states what is known about the trace, the output,
+    // and the numbers of failed reads and writes.
     ensures runs { (request : Request) →
         request_of (map string_bytes words.now) ≡ Some request →
         Observes request (S.holds shelf.old)
@@ -55,10 +55,10 @@ pub fn observe<R: Threads + Wait + Sync, S: Shelf, K: Sink, N: Sink, G: Gate>(
         (run_counts (S.faults shelf.new) (S.absent shelf.new) (K.faults out.new))
         (K.has out.old) (K.has out.new) result }
 
-    // If the result is Done, the text that was appended to the output is one that this number of
-    // observers of the path may print for the trace. Each sample includes at least its processor's
-    // changes up to the tick before its interval, and at most those up to the tick that ends the
-    // interval.
+    // If the result is Done, the appended text is a possible output for this trace, path and number
+    // of observers. A sample is taken in the interval between two ticks. It includes at least its
+    // processor's changes up to the first of the two ticks, and at most the changes up to the
+    // second.
     ensures observed { (request : Request) (bytes : List ℕ) →
         request_of (map string_bytes words.now) ≡ Some request →
         content_of (S.holds shelf.old) request.trace ≡ Some bytes →
@@ -68,16 +68,16 @@ pub fn observe<R: Threads + Wait + Sync, S: Shelf, K: Sink, N: Sink, G: Gate>(
         × IsObservedText trace (timing_on request.path) request.path request.observers text
         × Appends (K.has out.old) (K.has out.new) text) }
 
-    // If the trace is accepted and has at most a million samples, the whole output is written,
-    // unless a read or write fails or memory runs out.
+    // If the trace is accepted and at most a million samples are due, the whole output is written.
+    // Exceptions: a read or write fails, or memory runs out.
     ensures complete { (request : Request) →
         request_of (map string_bytes words.now) ≡ Some request →
         ObservesAll request (S.holds shelf.old)
         (run_counts (S.faults shelf.old) (S.absent shelf.old) (K.faults out.old))
         (run_counts (S.faults shelf.new) (S.absent shelf.new) (K.faults out.new)) result }
 
-    // If the trace is accepted and has more than a million samples, the result reports this, unless
-    // a read fails or memory runs out.
+    // If the trace is accepted and more than a million samples are due, the result is
+    // TooManySamples, unless a read fails or memory runs out.
     ensures many { (request : Request) →
         request_of (map string_bytes words.now) ≡ Some request →
         RejectsManySamples request (S.holds shelf.old)
@@ -92,13 +92,14 @@ pub fn observe<R: Threads + Wait + Sync, S: Shelf, K: Sink, N: Sink, G: Gate>(
         (run_counts (S.faults shelf.old) (S.absent shelf.old) (K.faults out.old))
         (run_counts (S.faults shelf.new) (S.absent shelf.new) (K.faults out.new)) result }
 
-    // A failure count increased exactly if the status reports that failure.
+    // Each of the numbers of failed reads, missing files and failed writes increased if and only if
+    // the status reports that failure.
     ensures counts { ObserverFailuresAreCounted
         (run_counts (S.faults shelf.old) (S.absent shelf.old) (K.faults out.old))
         (run_counts (S.faults shelf.new) (S.absent shelf.new) (K.faults out.new)) result }
 
-    // At most `most_of_trace` bytes are read, whatever the size of the trace's file. Nothing is
-    // read if the words don't form a request.
+    // At most `most_of_trace` bytes are read, whatever the size of the trace's file. If the words
+    // don't form a request, nothing is read.
     ensures reads { S.bytes_read shelf.new ≤ S.bytes_read shelf.old + most_of_trace }
     ensures unread { request_of (map string_bytes words.now) ≡ None →
         S.bytes_read shelf.new ≡ S.bytes_read shelf.old }
@@ -112,7 +113,7 @@ pub fn observe<R: Threads + Wait + Sync, S: Shelf, K: Sink, N: Sink, G: Gate>(
         ReadsTraceInOrder request (S.reads shelf.old) (S.reads shelf.new) result }
 
     // Reading stops at the first rejected line of the trace. If the result reports that line, at
-    // most the lines before it and the buffered bytes were read. If a read fails although the file
+    // most the lines before it and one buffer of bytes were read. If a read fails although the file
     // has a rejected line, that line was incomplete in the bytes read before the failure.
     ensures stops { (request : Request) →
         request_of (map string_bytes words.now) ≡ Some request →
@@ -123,8 +124,8 @@ pub fn observe<R: Threads + Wait + Sync, S: Shelf, K: Sink, N: Sink, G: Gate>(
     ensures quiet { result ≢ ObserveStatus.Done → result ≢ ObserveStatus.WriteFault →
         Keeps (K.has out.old) (K.has out.new) }
 
-    // The message of the status was appended to `note`: the whole message if no write to `note`
-    // failed, and a prefix of it in any case.
+    // The message of the status was appended to `note`: all of it if every write to `note`
+    // succeeded, and a prefix of it if a write failed.
     ensures note { (Increased (N.faults note.old) (N.faults note.new) → ⊥) →
         Appends (N.has note.old) (N.has note.new)
         (observe_status_text (request_of (map string_bytes words.now)) result) }

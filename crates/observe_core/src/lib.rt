@@ -1,8 +1,10 @@
-//! Runs a command line of `psi_observe`: the only public call [`observe`] parses the words, replays
-//! a trace tick by tick while observers take samples in their own threads, and writes the samples.
+//! Runs a command line of `psi_observe`: replays a trace while observers sample the clocks of a
+//! group, and writes the samples. The only public call is [`observe`]. Each observer takes its
+//! samples in its own thread.
 //!
-//! `observe_spec` specifies the output. The board of ticks, the journal and the watchers are in
-//! `observer_log`.
+//! The crate `observe_spec` specifies the output. The crate `observer_log` has the types that
+//! observers share or use: the board (the replay's state after each tick), the journal (the list of
+//! all samples) and the watchers (which take samples).
 #![tactic(auto)]
 
 mod all;

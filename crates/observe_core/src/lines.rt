@@ -1,5 +1,5 @@
-//! Writes the output: the lines of samples and of board states, and the last line.
-//! Messages for the error stream are in `note`.
+//! Writes the output: the lines of samples and of board states, and the last line. The module
+//! `note` writes the messages for standard error.
 ghost use Rattle.std.specs.Prelude.{◌≤◌, length};
 ghost use Rattle.std.specs.List.{flat_map};
 ghost use Rattle.outside.specs.Outside.{HasCause, SameInner};
@@ -11,8 +11,8 @@ use outside::{Sink, WriteFailed};
 use pressure_text::{Piece, put_pieces, put_timed};
 use psi_base::Ns;
 
-// Writes the output line of a sample: the numbers of its observer and its processor, the number of
-// changes, the time (ns) of the last change, and the time (ns) in each of the seven states.
+// Writes the output line of a sample: the numbers of the observer, the processor and the changes,
+// the time (ns) of the last change, and the time (ns) in each of the seven states.
 #[tactic(auto, using(pressure_text::proofs::Puts::times))]
 fn put_entry<K: Sink>(out: &mut K, entry: &Entry<'_>) -> Result<(), WriteFailed>
     ensures bytes { PutsAll (K.has out.old) (K.has out.new) result (entry_line entry.now) }

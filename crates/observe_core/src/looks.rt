@@ -11,7 +11,7 @@ use std::sync::ledger::{Ledger, Share};
 use std::sync::{Mutex, Wait};
 
 // Adds an entry to the journal. Returns the reason if the journal rejects the entry, and `None` if
-// the entry was added.
+// the entry was added. Fails with `NoMemory` if memory runs out.
 fn enter<'a, L: Ledger, R: Wait>(
     rt: &R,
     journal: &Mutex<Journal<'a, L>>,
@@ -30,9 +30,10 @@ fn enter<'a, L: Ledger, R: Wait>(
     }
 }
 
-/// Takes a sample of `slot` on each processor, and adds it to the journal. A sample includes at
-/// least the changes of the processor's last sample in `lasts`. Returns the last rejection if the
-/// journal rejected an entry. Calls the gate (a hook for tests) before and after each sample.
+/// Samples `slot` once on each processor, and adds each sample to the journal. A sample includes at
+/// least the changes of the processor's last sample in `lasts`. Returns the journal's last
+/// rejection of an entry, or `None` if the journal accepted all entries. Fails with `NoMemory` if
+/// memory runs out. Calls the gate (a hook for tests) before and after each sample.
 pub(crate) fn look_at_all<'a, L: Ledger, R: Wait, G: Gate>(
     rt: &R,
     journal: &Mutex<Journal<'a, L>>,

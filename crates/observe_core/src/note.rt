@@ -1,4 +1,4 @@
-//! Writes the messages of statuses to the error stream. A run that succeeds has no message.
+//! Writes the messages of statuses to standard error. A run that succeeds has no message.
 ghost use Rattle.std.specs.Prelude.{◌≡◌};
 ghost use Rattle.outside.specs.Outside.{HasCause};
 ghost use Rattle.outside.specs.Calls.{PutsAll};
@@ -10,7 +10,7 @@ use observe_spec::ObserveStatus;
 use outside::{Sink, WriteFailed, put_all, put_each};
 use trace_file::put_refusal;
 
-// Returns the name of the trace file, or nothing if there is no request.
+// Returns the name of the trace file, or an empty name if there is no request.
 fn trace_name<'a>(request: Option<&Request<'a>>) -> &'a [u8]
     ensures { result.now ≡ trace_text (requested_in request.entry) }
 {

@@ -1,5 +1,5 @@
-//! Replays a trace while observers take samples, and returns the samples. The trace is given as
-//! plans, which list the changes on each processor. Nothing is written here.
+//! Replays a trace while observers take samples, and returns the samples. The trace is represented
+//! by plans, which list the changes on each processor. This module writes no output.
 ghost use Rattle.std.specs.Prelude.{◌≡◌, [], Some, IfOk, length};
 ghost use Rattle.psi_spec.specs.Header.{version_of};
 ghost use Rattle.psi_spec.specs.Trace.{Trace};
@@ -53,8 +53,8 @@ fn options(alloc: Global, path: &Path) -> Result<Options, NoMemory>
     })
 }
 
-// Creates a replay of the trace of `plans`, before its first tick, that keeps clocks for observers
-// of the group `path`. `version` is the trace's version.
+// Creates a replay of the trace of `plans`. The replay keeps clocks for observers of the group
+// `path`, and hasn't made a tick. `version` is the trace's version.
 fn prepared<'a>(
     alloc: Global,
     version: u32,

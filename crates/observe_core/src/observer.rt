@@ -13,10 +13,9 @@ use std::marker::Model;
 use std::sync::ledger::{Ledger, Share};
 use std::sync::{Mutex, Wait};
 
-/// An observer, which may be sent to another thread. Contracts see its watcher, its access to the
-/// board, the number of parts in its share of the journal's ledger, the number of entries that the
-/// share has counted, its last samples, whether the journal rejected an entry, and whether the
-/// observer ran out of memory.
+/// An observer, which may be sent to another thread. In contracts an observer is its watcher, its
+/// access to the board, its share of the journal's ledger, its last samples, and its failures. The
+/// ledger counts the journal's entries.
 #[derive(Drop)]
 pub struct Observer<'j, 'a, L: Ledger> {
     pub(crate) journal: &'j Mutex<Journal<'a, L>>,
@@ -25,7 +24,8 @@ pub struct Observer<'j, 'a, L: Ledger> {
     pub(crate) share: Share<L>,
     /// The last sample on each processor. Before an interval it is a copy of the current clock.
     pub(crate) lasts: Vec<Sample>,
-    /// The journal's last rejection of an entry, or `None` if it has rejected none.
+    /// The last rejection of an entry by the journal, or `None` if the journal has accepted all
+    /// entries.
     pub(crate) fell: Option<Fall>,
     /// The out-of-memory failure, or `None` if the observer hasn't run out of memory.
     pub(crate) failed: Option<NoMemory>,
@@ -104,10 +104,10 @@ impl<'j, 'a, L: Ledger> Observer<'j, 'a, L> {
         self.failed
     }
 
-    /// Ends the observer. It is notified of all published states and reads the board once more. All
-    /// states that it has read are checked against the published states. Returns the observer's
-    /// list of entries and the state that it read last, and merges its share into `all`. Fails with
-    /// `NoMemory` if the observer ran out of memory before.
+    /// Ends the observer. First the observer reads the latest published state from the board. Each
+    /// state that it has read is then known to be a published state. Returns the observer's entries
+    /// and the state that it read last, and merges its share of the journal's ledger into `all`.
+    /// Fails with `NoMemory` if the observer ran out of memory before.
     pub fn end<R: Wait>(
         self,
         rt: &R,

@@ -1,5 +1,5 @@
-//! Prepares observers for the interval before a tick: each reader is notified of all changes made
-//! so far, and copies of the current clocks become the last samples.
+//! Prepares observers for the interval before a tick: sends each reader the number of changes made
+//! so far, and stores copies of the current clocks as the last samples.
 ghost use Rattle.std.specs.Prelude.{◌≡◌, ◌<◌, Some, length};
 ghost use Rattle.std.specs.List.{All};
 ghost use Rattle.replay_ticks.specs.Replays.{IsSomeReplay};
@@ -15,8 +15,8 @@ use psi_base::{Cpu, Slot};
 use replay_ticks::Replay;
 use std::sync::ledger::Ledger;
 
-// Synchronises the watcher's reader of processor `cpu` with the processor's clocks: before the call
-// the reader has seen at most all changes made, and after it exactly all of them.
+// Sends the watcher's reader of processor `cpu` the number of changes made on the processor
+// (`ClockWriter::meet`). Afterwards the reader has seen exactly these changes.
 fn meet(replay: &mut Replay<'_>, watcher: &mut Watcher<'_>, cpu: Cpu)
     requires replay { IsSomeReplay replay.old }
     requires cpu { cpu.0 < length replay.old.plans.plans }
@@ -31,8 +31,8 @@ fn meet(replay: &mut Replay<'_>, watcher: &mut Watcher<'_>, cpu: Cpu)
     replay.meet(cpu, reader);
 }
 
-// Prepares a watcher for sampling `slot`: its readers see all changes made so far, and `lasts`
-// become copies of the current clocks of the slot.
+// Prepares a watcher for sampling `slot`: sends its readers the numbers of changes made so far, and
+// copies the current clocks of the slot to `lasts`.
 fn ready(replay: &mut Replay<'_>, watcher: &mut Watcher<'_>, lasts: &mut Vec<Sample>, slot: Slot)
     requires { MayReady replay.old slot.0 watcher.old lasts.old.items }
     ensures same { replay.new ≡ replay.old }

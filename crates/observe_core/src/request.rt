@@ -28,10 +28,10 @@ use std::sync::ledger::Blank;
 use std::thread::Threads;
 use trace_file::{TraceFault, read_plans};
 
-/// The largest number of samples that a run may take.
+/// The maximum number of samples that a run may take.
 const MOST_SAMPLES: u64 = 1_000_000;
 
-// Returns the status for a trace that couldn't be read.
+// Returns the status of a run that failed to read the trace.
 fn fault_status(fault: TraceFault) -> ObserveStatus
     ensures status { IsStatusOf fault result }
 {

@@ -1,6 +1,5 @@
-//! Synchronises with the observers' readers after an interval. The contracts state the result: each
-//! reader has seen at most the changes that the replay has made. This bounds the samples of the
-//! interval.
+//! Shows after an interval that each reader of each observer has seen at most the changes that the
+//! replay has made (`ClockWriter::settle`). So no sample of the interval includes a later change.
 ghost use Rattle.std.specs.Prelude.{◌≡◌, ◌<◌, Some, false, length};
 ghost use Rattle.std.specs.List.{All};
 ghost use Rattle.replay_ticks.specs.Replays.{IsSomeReplay};
@@ -15,8 +14,8 @@ use psi_base::Cpu;
 use replay_ticks::Replay;
 use std::sync::ledger::Ledger;
 
-// Synchronises with the watcher's reader of processor `cpu`, which has seen at most the changes
-// made on the processor. The reader doesn't change.
+// Shows that the watcher's reader of processor `cpu` has seen at most the changes made on the
+// processor. The reader doesn't change.
 fn settle(replay: &mut Replay<'_>, watcher: &mut Watcher<'_>, cpu: Cpu)
     requires replay { IsSomeReplay replay.old }
     requires cpu { cpu.0 < length replay.old.plans.plans }
@@ -30,8 +29,8 @@ fn settle(replay: &mut Replay<'_>, watcher: &mut Watcher<'_>, cpu: Cpu)
     replay.settle(cpu, reader);
 }
 
-// Synchronises with the watcher's readers of the first `cpus` processors, which have seen at most
-// the changes made.
+// Shows that the watcher's readers of the first `cpus` processors have seen at most the changes
+// made on their processors.
 fn settle_readers(replay: &mut Replay<'_>, watcher: &mut Watcher<'_>, cpus: usize)
     requires { MaySettle replay.old watcher.old cpus }
     ensures same { replay.new ≡ replay.old }
@@ -57,8 +56,8 @@ impl<'j, 'a, L: Ledger> Observer<'j, 'a, L> {
     }
 }
 
-/// Synchronises with the readers of all observers, which have seen at most the changes made. Skips
-/// observers that ran out of memory.
+/// Shows that the readers of all observers have seen at most the changes made on their processors.
+/// Skips observers that ran out of memory.
 pub(crate) fn settle_all<L: Ledger>(replay: &mut Replay<'_>, observers: &mut [Observer<'_, '_, L>])
     requires { All (λ (observer : ObserverView). observer.failed ≡ false →
         MaySettle replay.old observer.watcher (length observer.lasts)) observers.old }

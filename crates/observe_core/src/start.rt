@@ -1,5 +1,5 @@
-//! Creates the observers of a replay. Each observer has a reader of every processor's clocks. No
-//! thread is started here.
+//! Creates the observers of a replay. Each observer has a reader for the clocks of each processor.
+//! No thread is started here.
 ghost use Rattle.std.specs.Prelude.{◌≡◌, ◌<◌, ℕ, Some, IfOk, length, slice_index_or};
 ghost use Rattle.replay_ticks.specs.Replays.{IsSomeReplay};
 ghost use Rattle.replay_workers.specs.Crew.{AreInRows, row_at};
@@ -18,8 +18,8 @@ use std::alloc::Global;
 use std::sync::ledger::{Ledger, Share};
 use std::sync::{Mutex, Wait};
 
-// Returns a reader of the row of clocks of each processor, in order. Requires that the replay keeps
-// its clocks in such rows.
+// Returns one reader for the clocks of each processor, in order. Requires that the replay stores
+// the clocks of each processor in a seqlock (clock_row).
 fn readers_of(
     alloc: Global,
     cpus: u32,
@@ -40,8 +40,8 @@ fn readers_of(
     Ok(readers)
 }
 
-// Returns an empty sample for each processor, as its last sample. `ready` replaces these samples
-// before the first interval.
+// Returns one empty sample for each processor. Preparing the observer for an interval replaces
+// these samples by the current clocks.
 fn places(alloc: Global, cpus: u32) -> Result<Vec<Sample>, NoMemory>
     ensures { IfOk result (λ lasts. length lasts.items ≡ cpus) }
 {
@@ -69,7 +69,8 @@ fn watcher_of<'a>(
     Ok(Watcher::make(alloc, number, plans, readers))
 }
 
-// Creates observer `number`, with a watcher and with the board pass `pass`.
+// Creates observer `number` with a new watcher. `pass` gives the observer access to the board, and
+// `share` is its share of the journal's ledger.
 fn observer_of<'j, 'a, L: Ledger>(
     alloc: Global,
     number: u32,
@@ -94,7 +95,7 @@ fn observer_of<'j, 'a, L: Ledger>(
 }
 
 /// Creates `count` observers (1 to 8) before the first tick of a replay. Each observer gets one
-/// part of the journal's ledger.
+/// share of the journal's ledger, which counts the journal's entries.
 pub(crate) fn make_observers<'j, 'a, L: Ledger, R: Wait>(
     rt: &R,
     alloc: Global,

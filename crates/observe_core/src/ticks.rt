@@ -1,5 +1,5 @@
-//! Replays all ticks with observers, and publishes the state after each tick on the board. A single
-//! tick is in `interval`.
+//! Replays all ticks with observers, and publishes the state after each tick on the board. The
+//! module `interval` replays a single tick.
 ghost use Rattle.std.specs.Prelude.{◌≡◌, None, IfOk, ◌∷◌, [], length};
 ghost use Rattle.run_spec.specs.Replay.{tick_count};
 ghost use Rattle.observer_log.specs.Board.{first_state};

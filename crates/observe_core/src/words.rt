@@ -8,11 +8,11 @@ ghost use Rattle.observe_core.specs.Requested.{RefusesWords, request_in};
 use psi_base::{Fault, NoMemory, Path, read_number};
 use std::alloc::Global;
 
-/// The error if the words aren't the name of a trace, a number of observers and a path.
+/// The error for words that aren't the name of a trace, a number of observers and a path.
 #[derive(Clone, Copy, Debug, PartialEq, Eq)]
 pub(crate) struct BadWords;
 
-/// What the words request: a trace to replay, and observers of one group.
+/// The request that the command line forms: a trace to replay, and observers of one group.
 #[derive(Drop)]
 pub(crate) struct Request<'a> {
     /// The name of the trace's file, or `-` for standard input.
@@ -47,8 +47,8 @@ fn observers_in(word: &str) -> Option<u32>
     }
 }
 
-/// Parses a request from the words of the command line, without the program's name. Returns
-/// `BadWords` exactly if the words aren't a request. Only the path needs memory, so `NoMemory`
+/// Parses a request from the words of the command line, without the program's name. Fails with
+/// `BadWords` if and only if the words aren't a request. Only the path needs memory, so `NoMemory`
 /// implies that the words are a request.
 #[tactic(auto, unfolding(observe_spec::specs::Words::request_of))]
 pub(crate) fn read_request(alloc: Global, words: &[String]) -> Result<Request<'_>, Fault<BadWords>>

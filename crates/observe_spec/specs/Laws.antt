@@ -15,9 +15,10 @@ use Rattle.observe_spec.specs.Samples.{AreObserved, Look, all_due, looks_by}
 use Rattle.observe_spec.specs.Run.{ObservingEnds, accepts, options_on}
 use Rattle.observe_spec.specs.declared.status.ObserveStatus.TheVariants as status
 
--- ---- samples
+-- ---- laws of samples
 
--- The change count of each sample is at most the number of changes of its processor.
+-- The number of changes in a sample is at most the number of changes of the sample's processor in
+-- the whole trace.
 abbrev pub CountsAreOfChanges : Type 0
 CountsAreOfChanges = (trace : Trace) (timing : Timing) (path : List ℕ) (observers : ℕ) (looks : List Look) →
     AreObserved trace timing path observers looks → (k : ℕ) (look : Look) → slice_get looks k ≡ Some look →
@@ -29,7 +30,7 @@ EachTakesItsShare = (trace : Trace) (timing : Timing) (path : List ℕ) (observe
     AreObserved trace timing path observers looks → (observer : ℕ) → observer < observers →
     length (looks_by observer looks) ≡ length (all_due trace timing path)
 
--- ---- runs
+-- ---- laws of runs of psi_observe
 
 -- The command `replay TRACE` without options has the options that psi_observe uses, except that no
 -- path is watched.

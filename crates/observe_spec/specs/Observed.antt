@@ -1,5 +1,6 @@
--- The output of psi_observe for a trace: the samples of all observers, the last state of the board
--- that each observer read, and the end line. A replay publishes its progress on the *board*.
+-- Defines the output of psi_observe for a trace: the samples of all observers, the last state of
+-- the board that each observer read, and the end line. A replay publishes its progress on the
+-- *board*.
 use Rattle.std.specs.Prelude.{◌≡◌, ℕ, List, [], ◌∷◌, ◌++◌, length, map, slice_index_or, codes, decimal}
 use Rattle.std.specs.List.{flat_map, range_with_len}
 use Rattle.psi_base.specs.declared.event.Event.{Event}
@@ -18,21 +19,21 @@ moment_at i events = slice_index_or (0 ∷ map (λ (event : Event). event.at) ev
 abbrev pub moment_after : Trace → ℕ → ℕ → ℕ
 moment_after trace cpu count = moment_at (event_of_change cpu trace.events count) trace.events
 
--- The times (ns) in the states that the sample `look` contains: the times of its group after
--- `count` changes of its processor, at the time of the last of these changes.
+-- The times (ns) in the states that the sample `look` contains. They are the times of its group
+-- after `count` changes of its processor, at the time of the last of these changes.
 abbrev pub times_of : Trace → Look → List ℕ
 times_of trace look = times_after look.cpu look.slot trace.events look.count (moment_after trace look.cpu look.count)
 
--- The line of a sample: its observer, its processor, its number of changes, the time (ns) of the
--- last of these changes, and the times (ns) in the states.
+-- The line for a sample. It contains the observer, the processor, the number of changes before the
+-- sample, the time (ns) of the last of these changes, and the times (ns) in the states.
 abbrev pub sample_line : Trace → Look → List ℕ
 sample_line trace look =
     line_of (codes "sample" ∷ labelled (codes "observer=") look.observer ∷ labelled (codes "cpu=") look.cpu
     ∷ labelled (codes "count=") look.count ∷ labelled (codes "at=") (moment_after trace look.cpu look.count)
     ∷ map decimal (times_of trace look))
 
--- The line of the last state of the board that an observer read: the last tick, the number of
--- signals up to this tick, and the number of kills, which is 0.
+-- The line for the last state of the board that an observer read. It contains the last tick, the
+-- number of signals up to this tick, and the number of kills, which is 0.
 abbrev pub board_line : Trace → Timing → ℕ → List ℕ
 board_line trace timing observer =
     line_of (codes "board" ∷ labelled (codes "observer=") observer ∷ labelled (codes "tick=") (tick_count trace timing)
@@ -43,7 +44,7 @@ abbrev pub observed_last_line : Trace → List Look → List ℕ
 observed_last_line trace looks =
     line_of (codes "end" ∷ decimal (end_of trace.events) ∷ labelled (codes "samples=") (length looks) ∷ [])
 
--- The output for the samples `looks` of `observers` observers.
+-- The output of psi_observe for the samples `looks`, which `observers` observers took.
 unfoldable pub observed_text : Trace → Timing → ℕ → List Look → List ℕ
 observed_text trace timing observers looks =
     flat_map (sample_line trace) looks ++ flat_map (board_line trace timing) (range_with_len 0 observers) ++ observed_last_line trace looks

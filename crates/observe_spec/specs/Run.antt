@@ -1,5 +1,5 @@
--- The contract of a run of psi_observe: what each status implies for the trace and the output, and
--- which failure counts increase.
+-- The contract of a run of psi_observe: what each status guarantees about the trace and the output,
+-- and which failure counts increase.
 use Rattle.std.specs.Prelude.{◌≡◌, ◌⊎◌, ℕ, ◌+◌, ◌-◌, ◌*◌, ◌<◌, ◌≤◌, List, Option, None, Some, Ok, Err, ⊤}
 use Rattle.std.specs.Io.KnownBytes.{Appends, Keeps}
 use Rattle.psi_base.specs.Memory.{no_memory}
@@ -22,7 +22,8 @@ use Rattle.observe_spec.specs.Words.{Request}
 
 -- ---- how a trace is replayed
 
--- The default options of `replay`, except that an optional path is watched.
+-- `options_on path`: the default options of `replay`, except that the group with the path `path` is
+-- watched. No group is watched if `path` is `None`.
 abbrev pub options_on : Option (List ℕ) → Options
 options_on path = record {
   rules = None;
@@ -68,25 +69,25 @@ most_samples = 1000000
 abbrev pub samples_requested : Request → Trace → ℕ
 samples_requested request trace = tick_count trace (timing_on request.path) * request.observers * trace.cpus
 
--- ---- statuses
+-- ---- what each status guarantees
 
 -- The trace's file isn't known to be missing.
 abbrev pub IsTraceThere : Request → Option Files → Type 0
 IsTraceThere request files = IsAbsent files request.trace → ⊥
 
--- Some valid output, for an accepted trace with at most a million samples, satisfies the property
--- `IsSo`, and the trace's file isn't known to be missing.
+-- Some valid output satisfies the property `IsSo`, for some accepted trace with at most a million
+-- samples. The trace's file isn't known to be missing.
 abbrev pub HasObservedOutput : Request → Option Files → (List ℕ → Type 0) → Type 0
 HasObservedOutput request files IsSo =
     (trace : Trace) × TakesRequestedTrace request files trace × IsTraceThere request files
     × (samples_requested request trace ≤ most_samples)
     × ((text : List ℕ) × IsObservedText trace (timing_on request.path) request.path request.observers text × IsSo text)
 
--- The implications of a status, given the content of the file (if known) and the bytes of the
--- output before and after the run. Done: a whole valid output was written. WriteFault: a prefix of
--- a valid output was written. Trace: the first rejected line of the trace. TooManySamples: the
--- number of samples, which is too large. NoFile: the trace's file is missing. For every status
--- except Done and WriteFault the output is unchanged.
+-- What a status guarantees, given the content of the file (if known) and the bytes of the output
+-- before and after the run. Done: a complete valid output was written. WriteFault: only a prefix of
+-- a valid output was written. Trace: the status reports the first rejected line of the trace.
+-- TooManySamples: the status reports the number of samples, which is too large. NoFile: the trace's
+-- file is missing. With any status except Done and WriteFault, nothing was written.
 abbrev pub ObservingEnds : Request → Option Files → Option (List ℕ) → Option (List ℕ) → ObserveStatus → Type 0
 ObservingEnds request files old new status.Done = HasObservedOutput request files (λ text. Appends old new text)
 ObservingEnds request files old new status.WriteFault = HasObservedOutput request files (λ text. AppendsPrefix old new text)
@@ -108,7 +109,8 @@ pub record ObserverFailuresAreCounted (before now : RunCounts) (result : Observe
   pub absent : RisesWhere (result ≡ status.NoFile) before.shelf.absent now.shelf.absent
   pub writes : RisesWhere (result ≡ status.WriteFault) before.writes now.writes
 
--- The contract of a run for a request: the implications of its status, and the failure counts.
+-- The contract of a run for a request: what its status guarantees, and which failure counts
+-- increase.
 pub record Observes (request : Request) (files : Option Files) (before now : RunCounts) (old new : Option (List ℕ))
     (result : ObserveStatus) : Type 0 where
   pub ends : ObservingEnds request files old new result
@@ -116,24 +118,24 @@ pub record Observes (request : Request) (files : Option Files) (before now : Run
 
 -- ---- results for accepted and rejected traces
 
--- If the trace is accepted and the number of samples is at most a million, the result is Done with
--- the whole output, unless a read or a write fails or memory runs out.
+-- If the trace is accepted and the number of samples is at most a million, the run ends with the
+-- status Done, unless a read or a write fails or memory runs out.
 abbrev pub ObservesAll : Request → Option Files → RunCounts → RunCounts → ObserveStatus → Type 0
 ObservesAll request files before now result = (bytes : List ℕ) (trace : Trace)
     → content_of files request.trace ≡ Some bytes → trace_of accepts bytes ≡ Ok trace → samples_requested request trace ≤ most_samples
     → (Increased before.shelf.faults now.shelf.faults → ⊥) → (Increased before.writes now.writes → ⊥)
     → (result ≡ status.Done) ⊎ (result ≡ status.NoMemory no_memory)
 
--- If the trace is accepted and the number of samples is more than a million, the result is
--- TooManySamples, unless a read fails or memory runs out.
+-- If the trace is accepted and the number of samples is more than a million, the run ends with the
+-- status TooManySamples, unless a read fails or memory runs out.
 abbrev pub RejectsManySamples : Request → Option Files → RunCounts → RunCounts → ObserveStatus → Type 0
 RejectsManySamples request files before now result = (bytes : List ℕ) (trace : Trace)
     → content_of files request.trace ≡ Some bytes → trace_of accepts bytes ≡ Ok trace → most_samples < samples_requested request trace
     → (Increased before.shelf.faults now.shelf.faults → ⊥)
     → (result ≡ status.TooManySamples (samples_requested request trace)) ⊎ (result ≡ status.NoMemory no_memory)
 
--- If the trace is rejected, the result is a status with its first rejected line, unless a read
--- fails or memory runs out.
+-- If the trace is rejected, the run ends with a status that reports its first rejected line, unless
+-- a read fails or memory runs out.
 abbrev pub RejectsTrace : Request → Option Files → RunCounts → RunCounts → ObserveStatus → Type 0
 RejectsTrace request files before now result = (bytes : List ℕ) (refusal : Refusal)
     → content_of files request.trace ≡ Some bytes → trace_of accepts bytes ≡ Err refusal

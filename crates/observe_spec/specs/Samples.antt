@@ -1,5 +1,5 @@
--- The samples that observers of one group take of the group's clocks: which samples are due, and
--- which samples the observers may have taken.
+-- Defines the samples that observers of one group take of the group's clocks: which samples are
+-- due, and which samples the observers may have taken.
 use Rattle.std.specs.Prelude.{◌≡◌, ℕ, ◌-◌, ◌<◌, ◌≤◌, Bool, ◌&&◌, ◌==◌, List, [], ◌∷◌, length, map, filter, Option, None, Some}
 use Rattle.std.specs.List.{flat_map, range_with_len}
 use Rattle.psi_spec.specs.Changes.{RiseWithin, changes_of}
@@ -30,17 +30,17 @@ counts_by observer cpu looks = map (λ (look : Look). look.count) (filter (is_of
 
 -- ---- samples that are due
 
--- A sample that each observer must take: its processor, its slot, and the bounds of its change
--- count.
+-- A sample that each observer must take: its processor, the slot of its group, and the lower and
+-- upper bounds of its change count.
 pub record Due : Type 0 where
   pub cpu : ℕ
   pub slot : ℕ
   pub least : ℕ
   pub most : ℕ
 
--- The samples that are due in the interval that ends with tick `i`, given the length `tick` (ns) of
--- a tick: one on each processor, after at least the changes up to the previous tick, and at most
--- the changes up to tick `i`. No sample is due if the path isn't live at the tick.
+-- The samples that are due in the interval that ends with tick `i`: one on each processor, after at
+-- least the changes up to the previous tick, and at most the changes up to tick `i`. `tick` is the
+-- length (ns) of a tick. No sample is due if the path isn't live at the tick.
 abbrev pub due_at : Trace → ℕ → ℕ → Option ℕ → List Due
 due_at trace tick i None = []
 due_at trace tick i (Some slot) =

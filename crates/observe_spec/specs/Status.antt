@@ -16,7 +16,7 @@ code_of status.WriteFault = 6
 code_of (status.NoMemory _) = 7
 code_of (status.TooManySamples samples) = 8
 
--- The name of the trace's file of an optional request, or no bytes for `None`.
+-- The name of the trace's file in a request, or no bytes if there is no request (`None`).
 abbrev pub trace_text : Option Request → List ℕ
 trace_text None = []
 trace_text (Some request) = request.trace

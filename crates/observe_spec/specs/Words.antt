@@ -1,4 +1,4 @@
--- Parsing of the command line of psi_observe.
+-- Defines how the command line of psi_observe is parsed.
 use Rattle.std.specs.Prelude.{ℕ, List, [], ◌∷◌, ◌&&◌, not, Bool, if◌then◌else◌, Option, None, Some}
 use Rattle.psi_base.specs.Path.{is_path}
 use Rattle.run_spec.specs.Words.{is_dashed, is_name, number_within}
@@ -15,8 +15,8 @@ pub record Request : Type 0 where
 abbrev pub is_trace_name : List ℕ → Bool
 is_trace_name name = is_name name && not (is_dashed name)
 
--- The request with a trace, a path and an optional number of observers. The result is `None` if one
--- of the three is invalid or missing.
+-- `request_by trace path observers`: the request with these parts. The result is `None` if the name
+-- `trace` or the path `path` is invalid, or if `observers` is `None`.
 abbrev pub request_by : List ℕ → List ℕ → Option ℕ → Option Request
 request_by trace path None = None
 request_by trace path (Some observers) =

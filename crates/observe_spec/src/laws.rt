@@ -1,8 +1,8 @@
 //! Laws about samples and runs. Each function has an empty body: its contract is the law.
 ghost use Rattle.observe_spec.specs.Laws.{MissingTraceShows, ReplayHasThese, TracesAreThoseOfReplay, CountsAreOfChanges, EachTakesItsShare};
 
-/// The change count of a sample is at most the number of changes of its processor. Each observer
-/// takes as many samples as are due.
+/// The number of changes in a sample is at most the number of changes of the sample's processor in
+/// the whole trace. Each observer takes as many samples as are due.
 pub fn law_observed()
     ensures counts { CountsAreOfChanges }
     ensures share { EachTakesItsShare }

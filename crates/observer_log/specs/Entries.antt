@@ -1,5 +1,5 @@
--- Entries of the journal, and the observers' own lists of entries. By its type, an entry is a
--- correct sample of the plan that it names.
+-- Entries of the journal, and the observers' own lists of entries. The type of entries ensures that
+-- each entry is a correct sample of its plan.
 use Rattle.std.specs.Prelude.{◌≡◌, ℕ, Bool, ◌&&◌, nat_eq, List, [], ◌∷◌, map, filter, slice_index_or}
 use Rattle.observer_log.specs.declared.entry.Entry.{Entry}
 
@@ -34,7 +34,7 @@ counts_of observer cpu entries = map (λ (entry : Entry). entry.count) (filter (
 
 -- ---- the observers' own lists
 
--- The list of `observer`, or an empty list if there is none.
+-- The list of `observer`, or an empty list if `observer` is past the end of `lists`.
 abbrev pub list_of : List (List Entry) → ℕ → List Entry
 list_of lists observer = slice_index_or lists observer []
 

@@ -1,4 +1,4 @@
--- The journal of all observers: its invariant, when an entry may be added to it, and when it agrees
+-- The journal of all observers: its invariant, the condition for adding an entry, and its agreement
 -- with the observers' own lists.
 use Rattle.std.specs.Prelude.{◌≡◌, ℕ, ◌<◌, ◌≤◌, List, [], ◌∷◌, ◌++◌, length, map, take, slice_index, Option, None, Some}
 use Rattle.observer_log.specs.declared.entry.Entry.{Entry}
@@ -22,21 +22,20 @@ last_of [] = None
 last_of (number ∷ []) = Some number
 last_of (number ∷ next ∷ numbers) = last_of (next ∷ numbers)
 
--- The last entry of the same observer and processor as `entry` has `last` changes, and `entry` has
--- fewer.
+-- The journal's last entry of the same observer and processor as `entry` has `last` changes, and
+-- `entry` has fewer than `last`.
 abbrev pub IsBefore : List Entry → Entry → ℕ → Type 0
 IsBefore entries entry last = (last_of (counts_of entry.observer entry.cpu.0 entries) ≡ Some last) × (entry.count < last)
 
--- The last entry of the same observer and processor as `entry` has at most as many changes as
--- `entry`, or there is no such entry.
+-- `entry` has at least as many changes as the journal's last entry of the same observer and
+-- processor. True if the journal has no entry of this observer and processor.
 abbrev pub IsNotBefore : List Entry → Entry → Type 0
 IsNotBefore entries entry = (last : ℕ) → last_of (counts_of entry.observer entry.cpu.0 entries) ≡ Some last → last ≤ entry.count
 
 -- ---- the order of the journal
 
--- A journal agrees with the observers' own lists: for each observer, the journal and the list have
--- equal entries (apart from the plans) in the same order. An observer without a list has no entries
--- in the journal.
+-- A journal agrees with the observers' own lists: for each observer, the journal's entries equal
+-- the entries of the observer's list, in the same order. The comparison ignores the plans.
 abbrev pub Agrees : List Entry → List (List Entry) → Type 0
 Agrees entries lists = (observer : ℕ) → map entry_content (by observer entries) ≡ map entry_content (list_of lists observer)
 
@@ -45,20 +44,19 @@ abbrev pub joined : List (List Entry) → List Entry
 joined [] = []
 joined (list ∷ lists) = list ++ joined lists
 
--- `entries` are the entries of the lists in the order of a journal that agrees with them: each
--- entry equals the journal's entry at its index, apart from the plan, and the entries of each
--- observer are the observer's list.
+-- `entries` are the entries of all observers' lists, in the order of the journal. Apart from its
+-- plan, each entry equals the journal's entry at the same index.
 pub record AreInOrder (journal : List Entry) (lists : List (List Entry)) (entries : List Entry) : Type 0 where
   pub agrees : Agrees journal lists
   pub places : map entry_content entries ≡ map entry_content journal
   pub own : (observer : ℕ) → by observer entries ≡ list_of lists observer
 
--- The number of entries that were taken from the list of `observer`.
+-- The number of entries of `observer` that have been merged so far.
 abbrev pub place_of : List ℕ → ℕ → ℕ
 place_of places observer = slice_index places observer
 
--- The entries `taken` come from the lists, and are in the order of the journal. From each list a
--- prefix was taken, and `places` has the lengths of these prefixes.
+-- The entries `taken` were merged from prefixes of the observers' lists, in the order of the
+-- journal. `places` has the length of each prefix.
 pub record IsTaken (journal : List Entry) (lists : List (List Entry)) (places : List ℕ) (taken : List Entry) : Type 0 where
   pub all : length places ≡ length lists
   pub same : map entry_content taken ≡ map entry_content journal

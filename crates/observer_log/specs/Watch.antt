@@ -1,5 +1,4 @@
--- Watchers: the readers with which they take samples, and the entries that they store. A watcher
--- works for one observer.
+-- Watchers, which take samples for one observer: their readers, and the entries that they store.
 use Rattle.std.specs.Prelude.{◌≡◌, ℕ, ◌+◌, ◌<◌, ◌≤◌, List, [], ◌∷◌, ◌++◌, length, slice_index_or, slice_set}
 use Rattle.plan_laws.specs.Plan.{PlanView, no_plan}
 use Rattle.proc_plan.specs.Plans.{PlansView, plan_at}
@@ -10,14 +9,14 @@ use Rattle.observer_log.specs.declared.entry.Entry.{Entry}
 
 -- ---- readers
 
--- A placeholder for a reader that doesn't exist.
+-- A dummy reader, for an index past the end of a list of readers.
 abbrev pub no_reader : ReaderEnd
 no_reader = record {
   row = record { words = 0; slots = 0; views_name = 0; atom = 0; block = 0; offset = 0; slot_names = [] };
   knows = new_reader no_plan 0;
 }
 
--- The reader of processor `cpu`, or a placeholder if the list is too short.
+-- The reader of processor `cpu`, or a dummy reader if the list is too short.
 abbrev pub reader_at : List ReaderEnd → ℕ → ReaderEnd
 reader_at readers cpu = slice_index_or readers cpu no_reader
 
@@ -25,7 +24,7 @@ reader_at readers cpu = slice_index_or readers cpu no_reader
 abbrev pub named_by : List ReaderEnd → ℕ → PlanView
 named_by readers cpu = (reader_at readers cpu).knows.plan
 
--- There is one reader for each processor, and it reads the clocks of the processor's plan.
+-- There is one reader for each processor, and it reads the clocks of that processor's plan.
 pub record AreReaders (plans : PlansView) (readers : List ReaderEnd) : Type 0 where
   pub many : length readers ≡ length plans.plans
   pub name : (cpu : ℕ) → cpu < length plans.plans → named_by readers cpu ≡ plan_at plans cpu
@@ -46,7 +45,7 @@ new_watcher observer plans readers = record { observer = observer; plans = plans
 
 -- ---- taking a sample
 
--- The entry was taken by `observer` from `slot` on processor `cpu`, and includes at least `least`
+-- `observer` took the entry from `slot` on processor `cpu`. The entry includes at least `least`
 -- changes of the processor's plan.
 pub record IsTakenBy (observer : ℕ) (plans : PlansView) (cpu slot least : ℕ) (entry : Entry) : Type 0 where
   pub observer_is : entry.observer ≡ observer
@@ -55,9 +54,9 @@ pub record IsTakenBy (observer : ℕ) (plans : PlansView) (cpu slot least : ℕ)
   pub slot_is : entry.slot.0 ≡ slot
   pub later : least ≤ entry.count
 
--- The reader of processor `cpu` took a sample that includes `count` changes, after a sample that
--- included `last` changes. The new sample repeats that sample if eight tries to read the clocks
--- failed. The other readers are unchanged.
+-- The reader of processor `cpu` took a sample of `count` changes, and the previous sample had
+-- `last` changes. If eight tries to read the clocks fail, the reader repeats the previous sample.
+-- The other readers are unchanged.
 pub record HasSampled (cpu last count : ℕ) (old new : List ReaderEnd) : Type 0 where
   pub reader : ReaderEnd
   pub are : new ≡ slice_set old cpu reader

@@ -40,29 +40,29 @@ impl Words<3> for BoardState {
     }
 }
 
-/// What the driver has published and learned. Contracts read an array of length 0 as a list of any
-/// length.
+/// What the driver has published, and which states an observer reported to it. In contracts, an
+/// array of length 0 is a list of any length.
 pub struct Publishing {
     /// All published states, ordered by tick, including the state before the first tick.
     pub states: [BoardState; 0],
-    /// The states that an observer has read: the observer that the driver notified last.
+    /// The states that one observer has read: the observer that the driver notified last.
     pub heard: [BoardState; 0],
 }
 
-/// What an observer has read and was notified of. Contracts read an array of length 0 as a list of
-/// any length.
+/// What an observer has read, and what it was notified of. In contracts, an array of length 0 is a
+/// list of any length.
 pub struct Watching {
-    /// The observer's next read returns this tick or a later one. It is the latest tick that the
-    /// observer read or was notified of.
+    /// The latest tick that the observer has read or was notified of. The next read returns this
+    /// tick or a later tick.
     pub least: u64,
     /// The states that the observer has read, the latest read first.
     pub read: [BoardState; 0],
 }
 
-/// What the holder of a pass knows about the board. A *note* is a pass that carries the knowledge
-/// of one pass to another.
+/// What the holder of a pass knows about the board. A *note* carries the knowledge of one pass to
+/// another.
 pub enum View {
-    /// The pass was a note, and its knowledge was taken over: nothing remains.
+    /// A note whose knowledge was passed on. It has no content.
     Spent,
     /// A note from the driver: the states that were published before the note was created.
     Shown([BoardState; 0]),
@@ -74,8 +74,8 @@ pub enum View {
     Observer(Watching),
 }
 
-/// The invariant of the board. It relates the state on the board to the views of all passes, and
-/// holds between any two steps.
+/// The invariant of the board. It relates the state on the board to the knowledge of the driver and
+/// of all observers, and holds between two successive steps.
 pub struct BoardRule;
 
 impl Protocol<BoardState, View> for BoardRule {
@@ -104,8 +104,7 @@ impl Outcome<BoardState, View> for Reads {
     ghost then = { HasRead };
 }
 
-// Step 2, a load: the driver compares the states that an observer reported with the published
-// states.
+// Step 2, a load: the driver checks that the states that an observer reported were published.
 struct Compares;
 
 impl Outcome<BoardState, View> for Compares {
@@ -114,7 +113,7 @@ impl Outcome<BoardState, View> for Compares {
     ghost then = { HasCompared };
 }
 
-// Step 3, a split: the driver creates a pass for a new observer.
+// Step 3, a split: the driver creates a pass (the right to read the board) for a new observer.
 struct Admits;
 
 impl Split<View> for Admits {
@@ -125,8 +124,8 @@ impl Split<View> for Admits {
     ghost right = { admitted };
 }
 
-// Steps 3 and 4, a split and a join: one pass creates a note of its knowledge, and another pass
-// takes the note.
+// Steps 3 and 4, a split and a join: the driver or an observer creates a note of its knowledge, and
+// another thread receives the note.
 struct Shows;
 
 impl Split<View> for Shows {
@@ -150,7 +149,7 @@ type Cell = RuledSeqCell<BoardState, View, BoardRule, 3>;
 
 type Seat = Pass<BoardState, View>;
 
-/// The tick board, which all threads share. Contracts see its identity.
+/// The tick board, which all threads share. In contracts, a board is represented by its identity.
 #[derive(Drop)]
 pub struct Board {
     cell: Cell,
@@ -199,8 +198,8 @@ impl Model for BoardPass {
 }
 
 impl Board {
-    /// Creates a board that shows tick 0, and returns it with the driver's pass. Returns `NoMemory`
-    /// if memory runs out.
+    /// Creates a board that shows tick 0. Returns the board and the driver's pass, which is the
+    /// right to publish. Fails with `NoMemory` if memory runs out.
     pub fn make(alloc: Global) -> Result<(Board, DriverPass), NoMemory>
         ensures board { IfOk result (λ made. made.1.board ≡ made.0) }
         ensures first { IfOk result (λ made. made.1.states ≡ first_state ∷ []) }
@@ -224,8 +223,8 @@ impl Board {
         self.cell.swap_as::<Publishes, R>(rt, &mut pass.seat, state);
     }
 
-    /// Creates a pass for a new observer, which has read nothing. The first read with the pass
-    /// returns the latest published tick or a later one.
+    /// Creates a pass (the right to read the board) for a new observer, which has read nothing. The
+    /// first read with the pass returns the latest published tick or a later one.
     pub fn pass<R: Wait>(&self, _rt: &R, driver: &mut DriverPass) -> Result<BoardPass, NoMemory>
         requires board { driver.old.board ≡ self.now }
         ensures ok { IsOk result }

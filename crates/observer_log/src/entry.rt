@@ -1,5 +1,5 @@
-//! An entry of the journal: one sample that an observer took of a group on one processor. Entries
-//! of wrong samples can't be created.
+//! An entry of the journal: one sample that an observer took of a group on one processor. The
+//! type's invariant excludes wrong samples.
 ghost use Rattle.std.specs.Prelude.{◌≡◌, ◌≤◌, length};
 ghost use Rattle.plan_laws.specs.Plan.{IsClock, last_change, planned};
 
@@ -7,9 +7,9 @@ use clock_row::Sample;
 use proc_plan::Plan;
 use psi_base::{Cpu, Ns, Slot};
 
-/// A sample that an observer took: how long (ns) the group in `slot` was in each state on processor
-/// `cpu`, after `count` changes of the processor's plan and up to the time of the last of these
-/// changes. The ghost fields ensure that the numbers are correct.
+/// One sample of a group on processor `cpu`: the time (ns) that the group in `slot` spent in each
+/// state, up to the last of the first `count` changes of the processor's plan. Ghost fields prove
+/// that the numbers are correct.
 #[derive(Clone, Copy)]
 pub struct Entry<'a> {
     /// The number of the observer, from 0.
@@ -52,7 +52,7 @@ impl<'a> Entry<'a> {
         ensures slot { result.slot ≡ slot }
         ensures count { result.count ≡ sample.now.count }
     {
-        // The call gives the proof that the plan is well-formed, which the next lines require.
+        // `len` also proves that the plan is well-formed, which the next lines require.
         plan.len();
         let at = moment_of(plan, sample.count);
         Entry {

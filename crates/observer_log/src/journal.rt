@@ -13,9 +13,9 @@ use std::alloc::Global;
 use std::marker::Model;
 use std::sync::ledger::{Book, Ledger, Share};
 
-/// The reason why an entry wasn't added to a journal: the last entry of the same observer and
-/// processor has a greater number of changes. The field is private, so only a journal that rejected
-/// an entry creates this value.
+/// The reason why the journal rejected an entry: the last entry of the same observer and processor
+/// has a greater number of changes. The field is private, so that only a journal can create this
+/// value.
 #[derive(Clone, Copy, Debug, PartialEq, Eq)]
 pub struct Fall {
     last: u64,
@@ -82,8 +82,8 @@ fn last_count(entries: &[Entry<'_>], observer: u32, cpu: Cpu) -> Option<u64>
     None
 }
 
-// Returns the number of changes in the last entry of the same observer and processor as `entry`, if
-// this number is greater than that of `entry`, and `None` otherwise.
+// If the last entry of the same observer and processor as `entry` has more changes than `entry`,
+// returns its number of changes. If not, returns `None`.
 fn greater_last(entries: &[Entry<'_>], entry: &Entry<'_>) -> Option<u64>
     ensures falls { (last : ℕ) →
         (result ≡ Some last) ↔ IsBefore entries.now entry.now last }
@@ -97,7 +97,7 @@ fn greater_last(entries: &[Entry<'_>], entry: &Entry<'_>) -> Option<u64>
 }
 
 impl<'a, L: Ledger> Journal<'a, L> {
-    /// Creates an empty journal. The ledger `book` counts its entries. Does not allocate.
+    /// Creates an empty journal. The ledger `book` counts the journal's entries. Does not allocate.
     pub fn make(alloc: Global, book: Book<L>) -> Journal<'a, L>
         requires { book.total ≡ 0 }
         ensures { result ≡ [] }
@@ -108,8 +108,8 @@ impl<'a, L: Ledger> Journal<'a, L> {
         }
     }
 
-    /// Appends an entry, and counts it in the caller's share of the ledger. Fails with `Falls`
-    /// exactly if the last entry of the same observer and processor has a greater number of
+    /// Appends an entry, and counts it in the caller's share of the ledger. Fails with `Falls` if
+    /// and only if the last entry of the same observer and processor has a greater number of
     /// changes. A failed call changes nothing.
     pub fn add(&mut self, entry: Entry<'a>, share: &mut Share<L>) -> Result<(), AddFault>
         requires { 0 < share.old.parts }
@@ -142,8 +142,8 @@ impl<'a, L: Ledger> Journal<'a, L> {
         &self.entries
     }
 
-    /// Returns the entries of the observers' own lists. They are in the journal's order if the
-    /// journal agrees with the lists, otherwise one list follows the other. `own` has the list of
+    /// Merges the entries of the observers' own lists into the journal's order. If the journal
+    /// doesn't agree with the lists, the result is one list after another. `own` has the list of
     /// observer `i` at index `i`.
     pub fn order(&self, own: &[Own<'a>]) -> Result<Vec<Entry<'a>>, NoMemory>
         requires { AreOwn own.now }

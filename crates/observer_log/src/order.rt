@@ -1,5 +1,6 @@
-//! Merges the entries of the observers' own lists into the order of the journal. The result has
-//! entries of the lists, because only these name the plans.
+//! Merges the entries of the observers' own lists into the order of the journal. The result has the
+//! entries of the lists and not the journal's, because the comparison with the journal ignores the
+//! plans.
 ghost use Rattle.std.specs.Prelude.{◌≡◌, ◌↔◌, ℕ, true, IfOk, None, Ok, Some};
 ghost use Rattle.observer_log.specs.Entries.{AreOwn, by, list_of, entry_content};
 ghost use Rattle.observer_log.specs.Journal.{Agrees, AreInOrder, joined};
@@ -22,7 +23,7 @@ fn say_same(one: &Entry<'_>, other: &Entry<'_>) -> bool
 }
 
 /// Returns the entries of the lists in the order of the journal, or `None` if the journal doesn't
-/// agree with the lists. The result consists of entries of the lists, not of the journal.
+/// agree with the lists.
 pub(crate) fn in_order<'a>(
     alloc: Global,
     journal: &[Entry<'_>],

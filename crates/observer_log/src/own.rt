@@ -1,5 +1,5 @@
-//! An observer's own list of entries. The observer also adds the same entries to the shared
-//! journal.
+//! An observer's own list of entries. The observer also adds each entry to the journal that all
+//! observers share.
 ghost use Rattle.std.specs.Prelude.{◌≡◌, []};
 
 use crate::entry::Entry;

@@ -1,5 +1,5 @@
-//! A watcher: it takes samples for one observer with a reader for each processor, and stores their
-//! entries in the observer's own list.
+//! A watcher: it takes samples for one observer, and stores them as entries in the observer's own
+//! list. It has a reader for each processor.
 ghost use Rattle.std.specs.Prelude.{◌≡◌, ◌<◌, length, IfErr, IfOk};
 ghost use Rattle.std.specs.Borrow.{sem};
 ghost use Rattle.plan_laws.specs.Plan.{IsClock};
@@ -16,9 +16,9 @@ use psi_base::{Cpu, NoMemory, Slot};
 use std::alloc::Global;
 use std::marker::Model;
 
-/// Takes samples on all processors for one observer, with a reader for each processor, and stores
-/// their entries. A watcher may be sent to another thread. Contracts see the observer, the plans,
-/// what the readers know, and the entries.
+/// Takes samples on all processors for one observer, and stores them as entries. There is one
+/// reader for each processor. A watcher may be sent to another thread. Contracts see the observer,
+/// the plans, the readers and the entries.
 #[derive(Drop)]
 pub struct Watcher<'a> {
     observer: u32,
@@ -127,8 +127,8 @@ impl<'a> Watcher<'a> {
         Ok(())
     }
 
-    /// Lends the reader of processor `cpu`, so that the writer of the processor's clocks can
-    /// exchange knowledge with it. The list of entries doesn't change.
+    /// Lends the reader of processor `cpu`, so that the replay can notify the reader of changes and
+    /// check what it has seen. The list of entries doesn't change.
     pub fn reader(&mut self, cpu: Cpu) -> &mut ClockReader
         requires { cpu.0 < length self.old.plans.plans }
         ensures* writes_back { sem 𝓛 (LendsReader self.entry cpu.0 result) }

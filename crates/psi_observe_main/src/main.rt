@@ -30,8 +30,8 @@ fn exit_code(status: ObserveStatus) -> ExitCode
     ExitCode::from(status.code())
 }
 
-// Writes the out-of-memory message and returns its exit code. It is used if memory runs out before
-// the arguments are collected.
+// Writes the out-of-memory message and returns its exit code. This function is called if memory
+// runs out before the arguments are collected.
 fn end_without_words<N: Sink>(none: NoMemory, note: &mut N) -> ExitCode
     ensures { EndsAs None (ObserveStatus.NoMemory no_memory) (exit_status result)
         (N.faults note.old) (N.faults note.new) (N.has note.old) (N.has note.new) }
@@ -40,9 +40,9 @@ fn end_without_words<N: Sink>(none: NoMemory, note: &mut N) -> ExitCode
     exit_code(ObserveStatus::NoMemory(none))
 }
 
-// Runs the command line, and returns the exit code of its status. What the contract of `observe`
-// says about the status, the trace, the output, the failure counts and the reads is true of this
-// status.
+// Runs the command line `words`, and returns the exit code of the status. The contract of `observe`
+// specifies the status, the output, the failure counts and the reads. If `words` is `Err`, the
+// status is NoMemory, nothing is read, and the output is unchanged.
 fn end_of<R: Threads + Wait + Sync, S: Shelf, K: Sink, N: Sink>(
     rt: &R,
     alloc: Global,

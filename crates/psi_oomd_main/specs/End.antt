@@ -1,5 +1,5 @@
 -- The end of the program `psi_oomd`: its exit code, its message on standard error, and the contract
--- that the run has kept.
+-- that the run satisfies.
 use Rattle.std.specs.Prelude.{◌≡◌, ◌⊎◌, ◌+◌, ◌≤◌, ℕ, List, Option, None, Some}
 use Rattle.std.specs.Io.KnownBytes.{Appends, Keeps}
 use Rattle.psi_base.specs.Memory.{no_memory}
@@ -32,13 +32,13 @@ pub record RunReads : Type 0 where
   pub log : List ReadCall
   pub log_now : List ReadCall
 
--- Makes the record of a run's reads from its four parts.
+-- Builds the record of a run's reads from its four parts.
 abbrev pub run_reads : ℕ → ℕ → List ReadCall → List ReadCall → RunReads
 run_reads bytes bytes_now log log_now =
     record { bytes = bytes; bytes_now = bytes_now; log = log; log_now = log_now }
 
--- A run of `command` that ended with the status `ended` kept the contract of `run` about files,
--- failure counts, reads and output.
+-- A run of `command` that ended with the status `ended` satisfies the contract of `run` about
+-- files, failure counts, reads and output.
 pub record KeepsPromises (command : Command) (ended : Status) (files : Option Files) (before now : RunCounts) (reads : RunReads)
     (old new : Option (List ℕ)) : Type 0 where
   pub runs : Runs command files before now old new ended
@@ -59,9 +59,9 @@ pub record DoesNothing (reads : RunReads) (old new : Option (List ℕ)) : Type 0
   pub log : reads.log_now ≡ reads.log
   pub keeps : Keeps old new
 
--- The run ended with the status `ended`, and kept the contract of `run` for the parsed command. If
--- the arguments aren't a command, the status is Usage or NoMemory, and the run read and wrote
--- nothing.
+-- The run ended with the status `ended`, and satisfies the contract of `run` for the parsed
+-- command. If the arguments aren't a command, the status is Usage or NoMemory, and the run read and
+-- wrote nothing.
 pub record RanAs (command : Option Command) (ended : Status) (files : Option Files) (before now : RunCounts) (reads : RunReads)
     (old new : Option (List ℕ)) : Type 0 where
   pub kept : (spelled : Command) → command ≡ Some spelled → KeepsPromises spelled ended files before now reads old new

@@ -1,7 +1,7 @@
 //! The program `psi_oomd`: opens the real files and streams, calls `run`, and exits with its
 //! status.
 //!
-//! It has no logic of its own; `replay_core` does the work.
+//! All logic is in the crate `replay_core`.
 #![tactic(auto)]
 
 ghost use Rattle.std.specs.Prelude.{◌≡◌, IfOk, None, OnErr, map, string_bytes};
@@ -29,8 +29,8 @@ fn exit_code(status: Status) -> ExitCode
     ExitCode::from(status.code())
 }
 
-// Writes the out-of-memory message and returns its exit code. It is used if memory runs out before
-// the arguments are collected.
+// Writes the out-of-memory message and returns its exit code. It is called if memory runs out
+// before the arguments are collected.
 fn end_without_words<N: Sink>(none: NoMemory, note: &mut N) -> ExitCode
     ensures { EndsAs None (Status.NoMemory no_memory) (exit_status result)
         (N.faults note.old) (N.faults note.new) (N.has note.old) (N.has note.new) }
@@ -39,8 +39,9 @@ fn end_without_words<N: Sink>(none: NoMemory, note: &mut N) -> ExitCode
     exit_code(Status::NoMemory(none))
 }
 
-// Runs the command line, and returns the exit code of its status. What the contract of `run` says
-// about the status, the files, the output, the failure counts and the reads is true of this status.
+// Runs the command line `words`, and returns the exit code of the resulting status. If `words` is
+// an error, runs nothing and reports that memory ran out. The contract repeats the contract of
+// `run` about the status, the files, the output, the failure counts and the reads.
 fn end_of<R: Threads + Sync, S: Shelf, K: Sink, N: Sink>(
     rt: &R,
     alloc: Global,

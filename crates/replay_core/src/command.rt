@@ -24,7 +24,7 @@ use std::thread::Threads;
 use task_table::Table;
 use trace_file::{TraceFault, play_trace};
 
-/// Returns the status for a trace that couldn't be read.
+/// Returns the status of a run whose trace was rejected or couldn't be read.
 pub(crate) fn fault_status(fault: TraceFault) -> Status
     ensures status { IsStatusOf fault result }
 {
@@ -68,7 +68,8 @@ fn run_stall<R: Threads + Sync, S: Shelf, K: Sink>(
     }
 }
 
-// Checks the trace file `name` for a replay with ticks of `tick_ms` ms, without replaying it.
+// Checks whether the trace file `name` can be replayed with ticks of `tick_ms` ms, and writes one
+// line if the trace is accepted. Doesn't replay the trace.
 fn run_check<S: Shelf, K: Sink>(
     alloc: Global,
     name: &str,

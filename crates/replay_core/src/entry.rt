@@ -36,7 +36,8 @@ use run_spec::{Command, Status};
 use std::alloc::Global;
 use std::thread::Threads;
 
-// Runs a command, and collects its output in a buffer so that it is written in large pieces.
+// Runs a command. Collects the output of the command in a buffer, so that few large writes are made
+// instead of many small writes.
 fn run_buffered<R: Threads + Sync, S: Shelf, K: Sink, G: Gate>(
     rt: &R,
     alloc: Global,
@@ -77,8 +78,9 @@ fn run_buffered<R: Threads + Sync, S: Shelf, K: Sink, G: Gate>(
 /// `words` is the command line without the program's name. The files are read from `shelf` (the
 /// file store), the output is written to `out`, and the message of the status to `note` (standard
 /// error): one line, or nothing for `Done`. A failed write to `note` doesn't change the status.
-/// `gate` is a hook for tests, which may pause a thread but changes no result: the threads of a
-/// replay call it after each change of a processor's clocks, and before and after each live sample.
+/// `gate` is a hook for tests, which may pause a thread but changes no result. The threads of
+/// `replay`, `whatif` and `stress` call the gate after each change of a processor's clocks. They
+/// also call it before and after each live sample.
 pub fn run<R: Threads + Sync, S: Shelf, K: Sink, N: Sink, G: Gate>(
     rt: &R,
     alloc: Global,
@@ -97,8 +99,8 @@ pub fn run<R: Threads + Sync, S: Shelf, K: Sink, N: Sink, G: Gate>(
     ensures unknown { command_of (map string_bytes words.now) ≡ None →
         (result ≡ Status.Usage) ⊎ (result ≡ Status.NoMemory no_memory) }
 
-    // The general contract: what each status implies for the command's files and the output, and
-    // which failure counts increased. The following clauses state it for each command.
+    // The general contract: `Runs` relates the status to the command's files, the output and the
+    // failure counts. Most of the following clauses state a consequence for one command.
     ensures runs { (command : Command) →
         command_of (map string_bytes words.now) ≡ Some command →
         Runs command (S.holds shelf.old)
@@ -106,11 +108,11 @@ pub fn run<R: Threads + Sync, S: Shelf, K: Sink, N: Sink, G: Gate>(
         (run_counts (S.faults shelf.new) (S.absent shelf.new) (K.faults out.new))
         (K.has out.old) (K.has out.new) result }
 
-    // The main result: if `replay` returns Done, it appended to the output exactly a text that the
-    // specification defines for the trace and the rules. The rules come from the rules file with
-    // the drop-in file applied. With `--live` there are several such texts, because a live line may
-    // show a processor's clocks after any number of changes between the count at the previous tick
-    // and the count at the line's own tick.
+    // The main result: if `replay` returns Done, it appended exactly a text that the specification
+    // allows for the trace and the rules. The rules come from the rules file with the drop-in file
+    // applied. With `--live` several texts are allowed: a live line may show a processor's clocks
+    // after any number of changes between the count at the previous tick and the count at the
+    // line's own tick.
     ensures headline { (name bytes : List ℕ) (options : Options) (rules : List Rule) →
         command_of (map string_bytes words.now) ≡ Some (Command.Replay name options) →
         HasContent (Command.Replay name options) TraceFile (S.holds shelf.old) bytes →
@@ -157,8 +159,9 @@ pub fn run<R: Threads + Sync, S: Shelf, K: Sink, N: Sink, G: Gate>(
         (run_counts (S.faults shelf.old) (S.absent shelf.old) (K.faults out.old))
         (run_counts (S.faults shelf.new) (S.absent shelf.new) (K.faults out.new)) result }
 
-    // If `whatif` returns Done, it appended to the output exactly the replay of the last trace. The
-    // last trace is what remains after the victims of the kills were removed, one kill per round.
+    // If `whatif` returns Done, it appended to the output exactly the replay of the last trace.
+    // Each round removes the victim of one kill from the trace; the last trace is the trace after
+    // all rounds.
     ensures supposed { (name bytes : List ℕ) (options : Options) (rules : List Rule) →
         command_of (map string_bytes words.now) ≡ Some (Command.Whatif name options) →
         HasContent (Command.Whatif name options) TraceFile (S.holds shelf.old) bytes →
@@ -170,8 +173,8 @@ pub fn run<R: Threads + Sync, S: Shelf, K: Sink, N: Sink, G: Gate>(
         × Appends (K.has out.old) (K.has out.new)
         (replay_text last (timing_of options) (with_rules rules)) }
 
-    // The result is TooLarge only if a round of `whatif`, which removes one kill's victim from the
-    // trace, left `events` events, which is more than a trace may have. Then nothing is written.
+    // If the result is TooLarge, the trace after a round of `whatif` has `events` events, more than
+    // a trace may have. A round removes the victim of one kill. Nothing was written to the output.
     ensures outgrown { (name bytes : List ℕ) (options : Options) (rules : List Rule)
         (events : ℕ) →
         command_of (map string_bytes words.now) ≡ Some (Command.Whatif name options) →
@@ -183,30 +186,32 @@ pub fn run<R: Threads + Sync, S: Shelf, K: Sink, N: Sink, G: Gate>(
         × (last_trace trace (timing_of options) rules ≡ Err events)
         × Keeps (K.has out.old) (K.has out.new) }
 
-    // If the rules and the trace or ftrace text are accepted, the result is Done with the whole
-    // output, or TooLarge if a round of `whatif` leaves too many events, unless a read or a write
-    // fails or memory runs out.
+    // If the rules and the trace (or the ftrace text) are accepted, the result is Done, and the
+    // whole output was written. If a round of `whatif` leaves too many events, the result is
+    // TooLarge instead. Other results are possible only if a read or a write fails or memory runs
+    // out.
     ensures complete { (command : Command) →
         command_of (map string_bytes words.now) ≡ Some command →
         Completes command (S.holds shelf.old)
         (run_counts (S.faults shelf.old) (S.absent shelf.old) (K.faults out.old))
         (run_counts (S.faults shelf.new) (S.absent shelf.new) (K.faults out.new)) result }
 
-    // If the rules file is rejected, the result is the status with its first error and the position
-    // of that error, unless a read of that file fails or memory runs out.
+    // If the rules file is rejected, the result reports the first error in that file and its
+    // position. Another result is possible only if a read of the file fails or memory runs out.
     ensures faulty { (command : Command) →
         command_of (map string_bytes words.now) ≡ Some command →
         RejectsRules command (S.holds shelf.old) (S.reads shelf.old) (S.reads shelf.new) result }
 
-    // If the rules file is accepted and the drop-in file is rejected, the result is the status with
-    // the first error of the drop-in file and its position, unless a read of one of the two files
-    // fails or memory runs out.
+    // If the rules file is accepted and the drop-in file is rejected, the result reports the first
+    // error in the drop-in file and its position. Another result is possible only if a read of one
+    // of the two files fails or memory runs out.
     ensures dropped { (command : Command) →
         command_of (map string_bytes words.now) ≡ Some command →
         RejectsDropIn command (S.holds shelf.old) (S.reads shelf.old) (S.reads shelf.new) result }
 
-    // If the rules are accepted and the trace or ftrace text is rejected, the result is the status
-    // with its first rejected line and the cause, unless a read fails or memory runs out.
+    // If the rules are accepted and the trace (or the ftrace text) is rejected, the result reports
+    // the first rejected line and the cause. Another result is possible only if a read fails or
+    // memory runs out.
     ensures refuses { (command : Command) →
         command_of (map string_bytes words.now) ≡ Some command →
         RejectsSource command (S.holds shelf.old)
@@ -238,16 +243,17 @@ pub fn run<R: Threads + Sync, S: Shelf, K: Sink, N: Sink, G: Gate>(
         S.reads shelf.new ≡ S.reads shelf.old }
 
     // A command reads its files in order: the rules file, then the drop-in file, then the trace or
-    // the ftrace text. Each is read from its first byte without gaps, and nothing is read after a
-    // failed read. If the result is ReadFault, the files before the failed one were accepted.
+    // the ftrace text. Each file is read from its first byte without gaps, and nothing is read
+    // after a failed read. If the result is ReadFault, the files before the failed file were
+    // accepted.
     ensures order { (command : Command) →
         command_of (map string_bytes words.now) ≡ Some command →
         ReadsInOrder command (S.holds shelf.old) (S.reads shelf.old) (S.reads shelf.new) result }
 
-    // Reading stops at the first rejected line of a trace or of an ftrace text. If the result
-    // reports that line, at most the rules file, the drop-in file, the lines before the rejected
-    // line, and the buffered bytes were read. If a read fails although the file has a rejected
-    // line, that line was incomplete in the bytes read before the failure.
+    // Reading stops at the first rejected line of a trace or an ftrace text. If the result reports
+    // that line, at most the rules file, the drop-in file, the lines before the rejected line, and
+    // one buffer of bytes were read. If a read fails although the file has a rejected line, that
+    // line was incomplete in the bytes read before the failure.
     ensures stops { (command : Command) →
         command_of (map string_bytes words.now) ≡ Some command →
         StopsAtRefusal command (S.holds shelf.old) (S.bytes_read shelf.old) (S.bytes_read shelf.new)
@@ -257,8 +263,8 @@ pub fn run<R: Threads + Sync, S: Shelf, K: Sink, N: Sink, G: Gate>(
     ensures quiet { result ≢ Status.Done → result ≢ Status.WriteFault →
         Keeps (K.has out.old) (K.has out.new) }
 
-    // The message of the status was appended to `note`: the whole message if no write to `note`
-    // failed, and a prefix of it in any case.
+    // The message of the status was appended to `note`: all of it if every write to `note`
+    // succeeded, and a prefix of it if a write failed.
     ensures note { (Increased (N.faults note.old) (N.faults note.new) → ⊥) →
         Appends (N.has note.old) (N.has note.new)
         (status_text (command_of (map string_bytes words.now)) result) }

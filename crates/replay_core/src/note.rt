@@ -1,5 +1,5 @@
-//! Writes the messages of statuses to the error stream. A message names files as the command line
-//! does.
+//! Writes the message of a status to standard error. A message names files as they are named on the
+//! command line.
 ghost use Rattle.std.specs.Prelude.{◌≡◌, ◌++◌, codes, option_map};
 ghost use Rattle.dropin_rules.specs.FaultText.{drop_fault_text};
 ghost use Rattle.ruleset_json.specs.FaultText.{fault_text};
@@ -17,7 +17,7 @@ use ruleset_json::RulesFault;
 use run_spec::{Command, Status, Which};
 use trace_file::put_refusal;
 
-// Returns the name of the cause for which a line of an ftrace text is rejected.
+// Returns the name of the reason why a line of an ftrace text is rejected.
 fn import_cause_name(cause: ImportCause) -> &'static [u8]
     ensures { result.now ≡ import_cause_text cause }
 {
@@ -77,8 +77,8 @@ fn put_drop_in_fault<N: Sink>(note: &mut N, fault: DropFault) -> Result<(), Writ
     put_all(note, b"\n")
 }
 
-// Returns the name that the command gives to the file of kind `which`, or nothing if the command
-// names no such file.
+// Returns the name of the file of kind `which` on the command line, or an empty name if the command
+// line has no such file.
 fn file_name(command: Option<&Command>, which: Which) -> &[u8]
     ensures { result.now ≡ name_text (option_map (λ command. command.now) command.entry) which }
 {

@@ -1,5 +1,5 @@
-//! The command `whatif`: removes the victims of all kills from a trace, and replays the remaining
-//! trace. The rounds that remove the victims are in whatif_rounds.
+//! The command `whatif`: removes the victims of at most 64 kills from a trace, and replays the
+//! remaining trace. The crate whatif_rounds removes the victims.
 ghost use Rattle.std.specs.Prelude.{◌≡◌, ◌+◌, ◌≤◌, IfSome, IsSome, IsUtf8};
 ghost use Rattle.outside.specs.Outside.{SameInner};
 ghost use Rattle.psi_spec.specs.Header.{IsVersion};
@@ -24,7 +24,7 @@ use std::thread::Threads;
 use trace_file::{Keeper, play_trace};
 use whatif_rounds::{TooLarge, last_plans};
 
-// Returns the status if the rounds fail: too many events remain, or memory ran out.
+// Returns the status of a `whatif` run that fails: too many events remain, or memory ran out.
 fn rounds_status(fault: Fault<TooLarge>) -> Status
     ensures { IsStatusOfRounds fault result }
 {
@@ -36,9 +36,9 @@ fn rounds_status(fault: Fault<TooLarge>) -> Status
     }
 }
 
-// Removes the victims of all kills from a trace, which is given by its version, its number of
-// processors and its events. Writes the output of `replay` for the remaining trace. All rounds run
-// before anything is written.
+// Removes the victims of at most 64 kills from the trace of `events`, and writes the output of
+// `replay` for the remaining trace. `version` is the version of the trace, and `cpus` is its number
+// of processors. The victims are removed before anything is written.
 fn write_whatif<R: Threads + Sync, K: Sink, G: Gate>(
     rt: &R,
     alloc: Global,
@@ -64,8 +64,8 @@ fn write_whatif<R: Threads + Sync, K: Sink, G: Gate>(
     }
 }
 
-/// Runs `whatif` on the trace file `name`, with the rules of the rules file and, if the options
-/// name one, of the drop-in file. Requires that the options name a rules file.
+/// Runs `whatif` on the trace file `name`. The rules come from the rules file and, if the options
+/// name one, from the drop-in file. Precondition: the options name a rules file.
 pub(crate) fn run_whatif<R: Threads + Sync, S: Shelf, K: Sink, G: Gate>(
     rt: &R,
     alloc: Global,

@@ -1,4 +1,5 @@
--- The status of a run of `psi_oomd`, given the results of reading the files and writing the output.
+-- Defines how the status of a run of `psi_oomd` follows from the results of reading the files and
+-- writing the output.
 use Rattle.std.specs.Prelude.{◌≡◌, ◌≤◌, ℕ, List, Option, Result, Ok, Err}
 use Rattle.std.specs.Io.KnownBytes.{Appends, Keeps}
 use Rattle.outside.specs.Outside.{AppendsPrefix, Increased}
@@ -31,18 +32,19 @@ WritesText text before now had has status.WriteFault = AppendsPrefix had has tex
 WritesText text before now had has (status.NoMemory _) = Keeps had has × (now ≡ before)
 WritesText text before now had has _ = ⊥
 
--- The result of writing some text that has the property `IsSo`.
+-- The result of writing a text that satisfies `IsSo`: the whole text or a prefix of it was appended
+-- to the output.
 abbrev pub WritesSome : (List ℕ → Type 0) → ℕ → ℕ → Option (List ℕ) → Option (List ℕ) → Status → Type 0
 WritesSome IsSo before now had has result = (text : List ℕ) × IsSo text × WritesText text before now had has result
 
--- Some text that has the property `IsSo` was appended to the output, or a prefix of the text if the
--- call failed.
+-- A text that satisfies `IsSo` was appended to the output, or a prefix of the text if the call
+-- failed.
 abbrev pub PutsSome : {T E : Type 0} → (List ℕ → Type 0) → Option (List ℕ) → Option (List ℕ) → Result T E → Type 0
 PutsSome IsSo had has result = (text : List ℕ) × IsSo text × PutsAll had has result text
 
--- The result of `whatif` for a trace: the output of `replay` for the last trace was written, or
--- nothing if a round left too many events or memory ran out. The last trace is what remains after
--- all victims were removed.
+-- The result of `whatif` for a trace. The output of `replay` for the last trace was written. The
+-- last trace is the trace without the victims of all kills. Nothing was written if too many events
+-- remained or memory ran out.
 abbrev pub WritesLast : Trace → Timing → List Rule → ℕ → ℕ → Option (List ℕ) → Option (List ℕ) → Status → Type 0
 WritesLast trace timing rules before now had has (status.TooLarge events) =
     (last_trace trace timing rules ≡ Err events) × Keeps had has × (now ≡ before)
@@ -50,20 +52,22 @@ WritesLast trace timing rules before now had has (status.NoMemory _) = Keeps had
 WritesLast trace timing rules before now had has result =
     (last : Trace) × (last_trace trace timing rules ≡ Ok last) × WritesSome (IsReplayText last timing rules) before now had has result
 
--- The status of a run whose trace couldn't be read.
+-- The status of a run that failed to read the trace.
 abbrev pub IsStatusOf : TraceFault → Status → Type 0
 IsStatusOf (fault.Refused refusal) result = result ≡ status.Trace refusal.line refusal.cause
 IsStatusOf fault.NoFile result = result ≡ status.NoFile TraceFile
 IsStatusOf fault.ReadFault result = result ≡ status.ReadFault
 IsStatusOf (fault.NoMemory none) result = result ≡ status.NoMemory none
 
--- The status of a run whose rounds failed: too many events remained, or memory ran out.
+-- The status of a `whatif` run that failed to remove the victims of kills: too many events
+-- remained, or memory ran out.
 abbrev pub IsStatusOfRounds : Fault TooLarge → Status → Type 0
 IsStatusOfRounds (of_rounds.Refused large) result = result ≡ status.TooLarge large.events
 IsStatusOfRounds (of_rounds.NoMemory none) result = result ≡ status.NoMemory none
 
--- Precondition for replaying a planned trace with these options: the trace was accepted with the
--- options' tick length, and the options are in range.
+-- Precondition for replaying a trace with these options: `planner` has split the trace by
+-- processor, the trace is accepted with the tick length of the options, and the options are in
+-- range.
 pub record IsToReplay (planner : PlannerView) (options : Options) (limits : Limits) (events : List Event) : Type 0 where
   pub taken : HasTaken planner limits events
   pub ended : IsAccepted limits events

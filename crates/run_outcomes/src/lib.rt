@@ -1,5 +1,5 @@
-//! The status of a run, given the results of reading its files and writing its output: definitions
-//! and lemmas that the commands share.
+//! Defines how the status of a run follows from the results of reading its files and writing its
+//! output. The commands share these definitions and lemmas.
 //!
 //! This crate has no executable code; the commands are in `commands` and `replay_core`.
 #![tactic(auto)]

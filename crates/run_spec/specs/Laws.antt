@@ -24,18 +24,18 @@ use Rattle.run_spec.specs.ReadOrder.{FailsAt, ReadsInOrder, names_in_order}
 use Rattle.run_spec.specs.Run.{Ends, IsNoFile}
 use Rattle.run_spec.specs.declared.status.Status.TheVariants as status
 
--- ---- command words
+-- ---- laws of command words
 
--- Every command that `command_of` parses is in range (`IsCommand`).
+-- All numbers of a parsed command are in range, and its file names aren't empty (`IsCommand`).
 abbrev pub SpelledInRange : Type 0
 SpelledInRange = (words : List (List ℕ)) (command : Command)
     → command_of words ≡ Some command → IsCommand command
 
--- The word `--name=value` for a given name and value.
+-- `assigned_word name value`: the word `--name=value` with this name and this value.
 abbrev pub assigned_word : List ℕ → List ℕ → List ℕ
 assigned_word name value = codes "--" ++ name ++ 61 ∷ value
 
--- The text contains no `=` (byte 61).
+-- `HasNoEquals text`: the text contains no `=` (byte 61).
 abbrev pub HasNoEquals : List ℕ → Type 0
 HasNoEquals text = list_any is_equals text ≡ false
 
@@ -54,27 +54,27 @@ ValueMayFollow = (before after : List (List ℕ)) (name value : List ℕ)
     → command_of (before ++ assigned_word name value ∷ after)
     ≡ command_of (before ++ (codes "--" ++ name) ∷ value ∷ after)
 
--- ---- missing files
+-- ---- laws of missing files
 
--- If the rules file of a command is known to be missing, the run reports the missing file, fails to
--- read, or runs out of memory.
+-- If the rules file of a command is known to be missing, the run fails. It reports the missing
+-- file, a failed read, or out of memory.
 abbrev pub MissingRulesShow : Type 0
 MissingRulesShow = (command : Command) (files : Option Files) (old new : Option (List ℕ)) (result : Status) (name : List ℕ)
     → Ends command files old new result → rules_name command ≡ Some name → IsAbsent files name
     → (result ≡ status.NoFile RulesFile) ⊎ (result ≡ status.ReadFault) ⊎ (result ≡ status.NoMemory no_memory)
 
--- If the drop-in file of a command is known to be missing, the run reports that this file or the
--- rules file is missing, reports an error in the rules file (which is read first), fails to read,
--- or runs out of memory.
+-- If the drop-in file of a command is known to be missing, the run fails. It reports that this file
+-- or the rules file is missing, an error in the rules file (which is read first), a failed read, or
+-- out of memory.
 abbrev pub MissingDropInShows : Type 0
 MissingDropInShows = (command : Command) (files : Option Files) (old new : Option (List ℕ)) (result : Status) (name : List ℕ)
     → Ends command files old new result → drop_in_name command ≡ Some name → IsAbsent files name
     → (result ≡ status.NoFile RulesFile) ⊎ (result ≡ status.NoFile DropInFile) ⊎ (result ≡ status.ReadFault)
     ⊎ (result ≡ status.NoMemory no_memory) ⊎ ((fault : RulesFault) × (result ≡ status.Rules fault))
 
--- If the trace or ftrace text of a command is known to be missing, the run reports a missing file,
--- reports an error in the rules file or in the drop-in file (which are read first), fails to read,
--- or runs out of memory.
+-- If the trace or ftrace text of a command is known to be missing, the run fails. It reports a
+-- missing file, an error in the rules file or in the drop-in file (which are read first), a failed
+-- read, or out of memory.
 abbrev pub MissingSourceShows : Type 0
 MissingSourceShows = (command : Command) (files : Option Files) (old new : Option (List ℕ)) (result : Status) (name : List ℕ)
     → Ends command files old new result → source_name command ≡ Some name → IsAbsent files name
@@ -95,48 +95,49 @@ MissingDropInComesFirst = (command : Command) (files : Option Files) (before now
     → ReadsInOrder command files before now status.ReadFault → drop_in_name command ≡ Some name → IsAbsent files name
     → FailsAt command before now RulesFile shelf.Failed ⊎ FailsAt command before now DropInFile shelf.Failed
 
--- ---- the number of read calls
+-- ---- laws of the number of read calls
 
--- The number of bytes that the read calls of a log returned.
+-- `bytes_in calls`: the number of bytes that the read calls of a log returned.
 abbrev pub bytes_in : List ReadCall → ℕ
 bytes_in [] = 0
 bytes_in (call ∷ calls) = count_read call.outcome + bytes_in calls
 
--- The log of read calls grew from `before` to `now`. The number of new calls is at most the number
--- of bytes that they returned plus `more`.
+-- `CallsAreFew more before now`: the log of read calls grew from `before` to `now`. The number of
+-- new calls is at most the number of bytes that the new calls returned, plus `more`.
 pub record CallsAreFew (more : ℕ) (before now : List ReadCall) : Type 0 where
   pub calls : List ReadCall
   pub grown : now ≡ before ++ calls
   pub few : length calls ≤ bytes_in calls + more
 
--- The number of read calls for one file is at most the number of bytes that they returned plus one.
+-- The number of read calls for one file is at most the number of bytes that the calls returned,
+-- plus one.
 abbrev pub FileCallsAreFew : Type 0
 FileCallsAreFew = (name : List ℕ) (before now : List ReadCall) (fault : Option ShelfFault)
     → ReadsFile name 0 before now fault → CallsAreFew 1 before now
 
--- The number of read calls of a command is at most the number of bytes that they returned plus one
--- for each of its files.
+-- The number of read calls of a command is at most the number of bytes that the calls returned,
+-- plus one for each file that the command reads.
 abbrev pub CommandCallsAreFew : Type 0
 CommandCallsAreFew = (command : Command) (files : Option Files) (before now : List ReadCall) (result : Status)
     → ReadsInOrder command files before now result → CallsAreFew (length (names_in_order command)) before now
 
--- ---- rounds of `whatif`
+-- ---- laws of the rounds of `whatif`
 
--- If a round finds no kill with its number, its trace is the last trace.
+-- If a round of `whatif` finds no kill to remove, the trace before that round is the final trace.
 abbrev pub LastWithoutKill : Type 0
 LastWithoutKill = (trace left : Trace) (timing : Timing) (rules : List Rule) (count : ℕ) → count ≤ most_rounds
     → length left.events ≤ most_events
     → after_rounds trace timing rules count ≡ Ok left → slice_get (all_kills left timing rules) count ≡ None
     → last_trace trace timing rules ≡ Ok left
 
--- If the first `count` rounds end with too many events, `last_trace` is `Err` with that number of
--- events.
+-- If too many events remain after one of the first `count` rounds of `whatif`, `last_trace` is
+-- `Err` with the number of these events.
 abbrev pub LastOutgrown : Type 0
 LastOutgrown = (trace : Trace) (timing : Timing) (rules : List Rule) (count events : ℕ) → count ≤ most_rounds
     → after_rounds trace timing rules count ≡ Err events → last_trace trace timing rules ≡ Err events
 
--- If `last_trace` is `Err events`, then some round left `events` events, which is more than a trace
--- may have.
+-- If `last_trace` is `Err events`, the number of events after some round of `whatif` is `events`,
+-- and this number is more than a trace may have.
 abbrev pub OutgrownAtRound : Type 0
 OutgrownAtRound = (trace : Trace) (timing : Timing) (rules : List Rule) (events : ℕ) → last_trace trace timing rules ≡ Err events
     → (number : ℕ) × (left : Trace) × (number < most_rounds) × (after_rounds trace timing rules number ≡ Ok left)

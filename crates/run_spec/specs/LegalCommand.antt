@@ -7,11 +7,12 @@ use Rattle.run_spec.specs.declared.command.Command.TheVariants.{Stall, Check, Re
 use Rattle.run_spec.specs.declared.command.Options.{Options}
 use Rattle.run_spec.specs.declared.command.Shape.{Shape}
 
--- The number is between `least` and `most`, inclusive.
+-- `IsWithin least most number`: the number is at least `least` and at most `most`.
 abbrev pub IsWithin : ℕ → ℕ → ℕ → Type 0
 IsWithin least most number = (least ≤ number) × (number ≤ most)
 
--- An optional file name, if present, isn't empty and isn't `-` (standard input).
+-- `IsOptionName named`: the file name `named` isn't empty and isn't `-` (standard input), or it is
+-- `None`.
 abbrev pub IsOptionName : Option (List ℕ) → Type 0
 IsOptionName named = IfSome named (λ name. (name ≢ []) × (name ≢ codes "-"))
 

@@ -15,38 +15,37 @@ longest_line = 512
 abbrev pub read_ahead : ℕ
 read_ahead = 65536
 
--- The maximum number of bytes that are buffered after the last parsed line: an incomplete line and
--- the bytes read ahead.
+-- The maximum number of bytes that are buffered after the last parsed line. They are an incomplete
+-- line and the bytes read ahead.
 abbrev pub most_buffered : ℕ
 most_buffered = longest_line + read_ahead
 
--- An upper bound on the bytes read from a file whose line number `line` is rejected: the lines
--- before that line, and the buffered bytes.
+-- `most_until line`: an upper bound on the bytes read from a file whose line number `line` (from 1)
+-- is rejected. It covers the lines before that line, and the buffered bytes.
 abbrev pub most_until : ℕ → ℕ
 most_until line = (longest_line + 1) * (line - 1) + most_buffered
 
--- An upper bound on the bytes read from a trace: the maximum number of lines, and the buffered
--- bytes.
+-- An upper bound on the bytes read from a trace. It covers the maximum number of lines, and the
+-- buffered bytes.
 abbrev pub most_of_trace : ℕ
 most_of_trace = most_lines * (longest_line + 1) + most_buffered
 
--- An upper bound on the bytes read from an ftrace text: the maximum of 16,000,000 lines, one more
--- line (which is rejected), and the buffered bytes.
+-- An upper bound on the bytes read from an ftrace text. It covers the maximum of 16,000,000 lines,
+-- one more line (which is rejected), and the buffered bytes.
 abbrev pub most_of_import : ℕ
 most_of_import = 16000001 * (longest_line + 1) + most_buffered
 
--- An upper bound on the bytes read from a rules file or drop-in file: the size limit, and one more
--- byte that shows that a longer file is too long.
+-- An upper bound on the bytes read from a rules file or drop-in file. It is the size limit, plus
+-- one byte, which shows that a longer file is too long.
 abbrev pub most_of_rules : ℕ
 most_of_rules = 1048577
 
--- The upper bound `most` if a file is named; otherwise 0.
+-- `most_if_named most name`: the upper bound `most` if a file is named, and 0 if `name` is `None`.
 abbrev pub most_if_named : ℕ → Option (List ℕ) → ℕ
 most_if_named most None = 0
 most_if_named most (Some name) = most
 
--- An upper bound on the bytes that a command reads from all its files: the rules file, the drop-in
--- file, and the trace or ftrace text.
+-- `most_read command`: an upper bound on the bytes that a command reads from all its files.
 abbrev pub most_read : Command → ℕ
 most_read command =
     most_if_named most_of_rules (rules_name command) + most_if_named most_of_rules (drop_in_name command)

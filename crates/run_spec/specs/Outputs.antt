@@ -1,5 +1,5 @@
--- The files that a command reads, the trace and the rules that it parses from them, its tick
--- length, and its output.
+-- Defines which files a command reads, the trace and the rules that it parses from them, the length
+-- of its ticks, and its output.
 use Rattle.std.specs.Prelude.{◌≡◌, ℕ, ◌*◌, List, [], ◌∷◌, ◌++◌, codes, Option, None, Some, Result, Ok, Err}
 use Rattle.psi_base.specs.declared.event.Event.{Event}
 use Rattle.psi_base.specs.declared.event.Refusal.{Refusal}
@@ -27,7 +27,8 @@ use Rattle.run_spec.specs.Live.{LiveWatch}
 use Rattle.run_spec.specs.Replay.{IsReplayText, Timing, stress_text}
 use Rattle.run_spec.specs.Whatif.{last_trace}
 
--- The name of the trace file that a command reads, or `None`.
+-- `trace_name command`: the name of the trace file that a command reads, or `None` if it reads no
+-- trace file.
 abbrev pub trace_name : Command → Option (List ℕ)
 trace_name (Stall trace) = Some trace
 trace_name (Check trace tick_ms) = Some trace
@@ -38,55 +39,61 @@ trace_name (Import file cpus) = None
 trace_name (Rules file drop_in) = None
 trace_name (Whatif trace options) = Some trace
 
--- The name of the rules file that a command reads, or `None`.
+-- `rules_name command`: the name of the rules file that a command reads, or `None` if it reads no
+-- rules file.
 abbrev pub rules_name : Command → Option (List ℕ)
 rules_name (Replay trace options) = options.rules
 rules_name (Rules file drop_in) = Some file
 rules_name (Whatif trace options) = options.rules
 rules_name _ = None
 
--- The name of the drop-in file that a command reads, or `None`.
+-- `drop_in_name command`: the name of the drop-in file that a command reads, or `None` if it reads
+-- no drop-in file.
 abbrev pub drop_in_name : Command → Option (List ℕ)
 drop_in_name (Replay trace options) = options.drop_in
 drop_in_name (Rules file drop_in) = drop_in
 drop_in_name (Whatif trace options) = options.drop_in
 drop_in_name _ = None
 
--- The name of the ftrace text that a command imports, or `None`.
+-- `import_name command`: the name of the file with the ftrace text that a command imports, or
+-- `None` if it imports none.
 abbrev pub import_name : Command → Option (List ℕ)
 import_name (Import file cpus) = Some file
 import_name _ = None
 
--- The name of a command's file of a given kind, or `None` if the command reads no such file.
+-- `file_of command which`: the name of the command's file of the kind `which`, or `None` if the
+-- command reads no such file.
 abbrev pub file_of : Command → Which → Option (List ℕ)
 file_of command RulesFile = rules_name command
 file_of command TraceFile = trace_name command
 file_of command ImportFile = import_name command
 file_of command DropInFile = drop_in_name command
 
--- The kind of the file from which a command reads its trace: an ftrace text for `import`, otherwise
--- a trace.
+-- `source_of command`: the kind of the file from which a command reads its trace. It is an ftrace
+-- text for `import`, and a trace file for every other command.
 abbrev pub source_of : Command → Which
 source_of (Import file cpus) = ImportFile
 source_of _ = TraceFile
 
--- The name of the file from which a command reads its trace, or `None` if it reads no such file.
+-- `source_name command`: the name of the file from which a command reads its trace, or `None` if it
+-- reads no trace and no ftrace text.
 abbrev pub source_name : Command → Option (List ℕ)
 source_name command = file_of command (source_of command)
 
--- Converts milliseconds to nanoseconds.
+-- Converts `n` milliseconds to nanoseconds.
 abbrev pub of_ms : ℕ → ℕ
 of_ms n = n * 1000000
 
--- The length (ns) of a tick of a command. A trace may last at most a million ticks.
+-- `tick_length command`: the length (ns) of a tick for a command, 2 s unless the command has an
+-- option for it. A trace may last at most a million ticks.
 abbrev pub tick_length : Command → ℕ
 tick_length (Check trace tick_ms) = of_ms tick_ms
 tick_length (Replay trace options) = of_ms options.tick_ms
 tick_length (Whatif trace options) = of_ms options.tick_ms
 tick_length _ = of_seconds 2
 
--- The trace versions that a command accepts: all versions for `stall`, `check`, `replay` and
--- `whatif`, and version 1 for the other commands.
+-- `versions_of command`: the trace versions that a command accepts. These are all versions for
+-- `stall`, `check`, `replay` and `whatif`, and version 1 for the other commands.
 abbrev pub versions_of : Command → List Version
 versions_of (Stall trace) = versions
 versions_of (Check trace tick_ms) = versions
@@ -94,63 +101,68 @@ versions_of (Replay trace options) = versions
 versions_of (Whatif trace options) = versions
 versions_of _ = One ∷ []
 
--- The traces that a command accepts: its versions, all verbs of each version, and times up to a
--- million ticks.
+-- `accepts_of command`: which traces a command accepts. It accepts the versions that `versions_of`
+-- lists, all verbs of each version, and times of at most a million ticks.
 abbrev pub accepts_of : Command → Accepts
 accepts_of command = accepts_with (versions_of command) (tick_length command)
 
--- The trace, or a status that reports the first rejected line of the trace.
+-- `or_refused_trace parsed`: converts the result of the trace parser. A rejection becomes a status,
+-- which reports the first rejected line of the trace and the cause.
 abbrev pub or_refused_trace : Result Trace Refusal → Result Trace Status
 or_refused_trace (Ok trace) = Ok trace
 or_refused_trace (Err refusal) = Err (status.Trace refusal.line refusal.cause)
 
--- The trace of the imported events on `cpus` processors, or a status that reports the first
--- rejected line of the ftrace text.
+-- `or_not_imported cpus imported`: makes a trace on `cpus` processors from imported events. A
+-- rejection becomes a status, which reports the first rejected line of the ftrace text and the
+-- cause.
 abbrev pub or_not_imported : ℕ → Result (List Event) Refused → Result Trace Status
 or_not_imported cpus (Ok events) = Ok (import_trace cpus events)
 or_not_imported cpus (Err refusal) = Err (status.Import refusal.line refusal.cause)
 
--- Parses the content of a command's file: `import` converts an ftrace text, and every other command
--- parses a trace. The result is the trace, or a status that reports the first rejected line.
+-- `parse_of command bytes`: parses the content `bytes` of the command's trace file or ftrace text.
+-- The result is the trace, or a status that reports the first rejected line. `import` converts an
+-- ftrace text to a trace. Every other command parses a trace.
 abbrev pub parse_of : Command → List ℕ → Result Trace Status
 parse_of (Import file cpus) bytes = or_not_imported cpus (import_of cpus bytes)
 parse_of command bytes = or_refused_trace (trace_of (accepts_of command) bytes)
 
--- The parsed rules, or a status that reports the first error in the rules file.
+-- `or_rules_fault parsed`: converts the result of parsing a rules file. An error becomes a status
+-- that reports it.
 abbrev pub or_rules_fault : Result types.Rules RulesFault → Result types.Rules Status
 or_rules_fault (Ok rules) = Ok rules
 or_rules_fault (Err fault) = Err (status.Rules fault)
 
--- The rules with a drop-in file applied, or a status that reports the first error in the drop-in
--- file.
+-- `or_drop_fault changed`: converts the result of applying a drop-in file. An error becomes a
+-- status that reports it.
 abbrev pub or_drop_fault : Result types.Rules DropFault → Result types.Rules Status
 or_drop_fault (Ok rules) = Ok rules
 or_drop_fault (Err fault) = Err (status.DropIn fault)
 
--- Applies the optional content of a drop-in file to parsed rules. `None` means that there is no
--- drop-in file.
+-- `with_drop_in drop_in parsed`: applies the content `drop_in` of a drop-in file to parsed rules.
+-- `drop_in` is `None` if there is no drop-in file. An error in `parsed` is returned unchanged.
 abbrev pub with_drop_in : Option (List ℕ) → Result types.Rules Status → Result types.Rules Status
 with_drop_in drop_in (Err why) = Err why
 with_drop_in None (Ok base) = Ok base
 with_drop_in (Some bytes) (Ok base) = or_drop_fault (dropped_in base bytes)
 
--- Parses a command's rules: the content `bytes` of its rules file, with the optional content of its
--- drop-in file applied. The error is a status that reports the first error and the file that
--- contains the error.
+-- `rules_from bytes drop_in`: the rules of a command. `bytes` is the content of its rules file, and
+-- `drop_in` is the content of its drop-in file (`None` if there is none). If one of the files is
+-- rejected, the result is a status that names the file and its first error.
 abbrev pub rules_from : List ℕ → Option (List ℕ) → Result types.Rules Status
 rules_from bytes drop_in = with_drop_in drop_in (or_rules_fault (rules_of bytes))
 
--- Watches an optional path with `count` samples per interval. `None` watches no group.
+-- `watch_of_path count path`: what `--live` watches if its value is `path`. `count` samples are
+-- taken on each processor between two ticks. The result is `None` if `path` is `None`.
 abbrev pub watch_of_path : ℕ → Option (List ℕ) → Option LiveWatch
 watch_of_path count None = None
 watch_of_path count (Some path) = Some (record { path = path; count = count })
 
--- The group that `--live` watches, if any.
+-- `watch_of options`: the group that `--live` watches, or `None` if the option is absent.
 abbrev pub watch_of : Options → Option LiveWatch
 watch_of options = watch_of_path options.live_count options.live
 
--- The tick length, report period, evaluation interval and watched group of the options, with times
--- in ns.
+-- `timing_of options`: the tick length, report period and evaluation interval (ns) of the options,
+-- and the watched group.
 abbrev pub timing_of : Options → Timing
 timing_of options = record {
   length = of_ms options.tick_ms;
@@ -159,8 +171,9 @@ timing_of options = record {
   watch = watch_of options;
 }
 
--- The options with which `stress` replays: the defaults, except for the number of workers, and for
--- reports, which are printed only at the last tick.
+-- `stress_options workers`: the options with which `stress` replays its trace. They are the default
+-- options, except that there are at most `workers` threads, and that only the last tick has a
+-- report.
 abbrev pub stress_options : ℕ → Options
 stress_options workers = record {
   rules = None;
@@ -173,12 +186,12 @@ stress_options workers = record {
   live_count = 1;
 }
 
--- `text` is a whole output of a command for a valid trace and valid rulesets. If a group is
--- watched, `replay` has several whole outputs, because a live sample may be taken after any number
--- of changes between the counts at the previous tick and at the current tick. `gen` and `stress`
--- read no file: their trace is the generated trace of their shape. `import` prints its trace, whose
--- number of processors is an option. `rules` has no trace, and prints its rulesets. `whatif` prints
--- the replay of the last trace, without the victims of the kills.
+-- `IsOutput command trace rules text`: `text` is a complete output of `command` for the valid trace
+-- `trace` and the valid rulesets `rules`. `gen` and `stress` read no file: their trace is the
+-- generated trace of their shape. `import` prints its trace, whose number of processors is an
+-- option. `rules` has no trace, and prints its rulesets. `whatif` prints the replay of the trace
+-- that remains after all its rounds. `replay` has several possible outputs if a group is watched,
+-- because the numbers of changes before the live samples may vary.
 abbrev pub IsOutput : Command → Trace → List Rule → List ℕ → Type 0
 IsOutput (Stall name) trace rules text = text ≡ stall_text trace
 IsOutput (Check name tick_ms) trace rules text = text ≡ check_text trace
@@ -192,14 +205,15 @@ IsOutput (Rules file drop_in) trace rules text = text ≡ rules_text rules ++ co
 IsOutput (Whatif name options) trace rules text =
     (last : Trace) × (last_trace trace (timing_of options) rules ≡ Ok last) × IsReplayText last (timing_of options) rules text
 
--- The status for a result of `last_trace`: Done, or TooLarge if a round left more events than a
--- trace may have.
+-- `status_of_last left`: the status of `whatif` for the result of `last_trace`, the trace after all
+-- rounds. The status is Done, or TooLarge if a round left more events than a trace may have.
 abbrev pub status_of_last : Result Trace ℕ → Status
 status_of_last (Ok last) = status.Done
 status_of_last (Err events) = status.TooLarge events
 
--- The status of a command for a valid trace and valid rulesets if nothing fails: Done, unless a
--- round of `whatif` leaves more events than a trace may have.
+-- `outcome_of command trace rules`: the status of a command for a valid trace and valid rulesets,
+-- if nothing fails. The status is Done, unless a round of `whatif` leaves more events than a trace
+-- may have.
 abbrev pub outcome_of : Command → Trace → List Rule → Status
 outcome_of (Whatif name options) trace rules = status_of_last (last_trace trace (timing_of options) rules)
 outcome_of command trace rules = status.Done

@@ -1,5 +1,6 @@
--- The results of a run for accepted files and for rejected files, given the failure counts or the
--- log of read calls before and after the run.
+-- Defines the results that a run promises for accepted files and for rejected files. `before` and
+-- `now` are the failure counts, or the logs of read calls, before and after the run. `result` is
+-- the status of the run, and `files` are the known contents of files.
 use Rattle.std.specs.Prelude.{◌≡◌, ◌⊎◌, ℕ, List, Option, Some, Ok, Err}
 use Rattle.psi_base.specs.Memory.{no_memory}
 use Rattle.outside.specs.Outside.{Files, Increased, content_of}
@@ -18,8 +19,8 @@ use Rattle.run_spec.specs.Outputs.{outcome_of, parse_of, rules_from, rules_name,
 use Rattle.run_spec.specs.ReadOrder.{FailedAt}
 use Rattle.run_spec.specs.Run.{HasContent, ReadsFiles, RulesContent, RunCounts}
 
--- If the rules and the command's file are accepted, the run ends with the status `outcome_of`,
--- unless a read or a write fails or memory runs out.
+-- If the rules and the trace (or ftrace text) of a command are accepted, the run ends with the
+-- status `outcome_of`, unless a read or a write fails or memory runs out.
 abbrev pub Completes : Command → Option Files → RunCounts → RunCounts → Status → Type 0
 Completes command files before now result = (rules : List Rule) (bytes : List ℕ) (trace : Trace)
     → RulesContent command files rules → HasContent command (source_of command) files bytes → parse_of command bytes ≡ Ok trace
@@ -39,15 +40,16 @@ abbrev pub MakesOutput : Command → RunCounts → RunCounts → Status → Type
 MakesOutput command before now result = (ReadsFiles command → ⊥) → (Increased before.writes now.writes → ⊥)
     → (result ≡ status.Done) ⊎ (result ≡ status.NoMemory no_memory)
 
--- If the rules file is rejected, the result is a status with its first error, unless a read of that
--- file fails or memory runs out.
+-- If the rules file is rejected, the run ends with a status that reports the first error in this
+-- file, unless a read of the file fails or memory runs out.
 abbrev pub RejectsRules : Command → Option Files → List ReadCall → List ReadCall → Status → Type 0
 RejectsRules command files before now result = (name bytes : List ℕ) (fault : RulesFault)
     → rules_name command ≡ Some name → content_of files name ≡ Some bytes → rules_of bytes ≡ Err fault
     → (result ≡ status.Rules fault) ⊎ (result ≡ status.NoMemory no_memory) ⊎ FailedAt command before now RulesFile result
 
--- If the rules file is accepted and the drop-in file is rejected, the result is a status with the
--- first error of the drop-in file, unless a read of one of the two files fails or memory runs out.
+-- If the rules file is accepted and the drop-in file is rejected, the run ends with a status that
+-- reports the first error in the drop-in file. The exceptions are a failed read of one of the two
+-- files, and out of memory.
 abbrev pub RejectsDropIn : Command → Option Files → List ReadCall → List ReadCall → Status → Type 0
 RejectsDropIn command files before now result = (bytes drop_in : List ℕ) (fault : DropFault)
     → HasContent command RulesFile files bytes → HasContent command DropInFile files drop_in
@@ -55,8 +57,8 @@ RejectsDropIn command files before now result = (bytes drop_in : List ℕ) (faul
     → (result ≡ status.DropIn fault) ⊎ (result ≡ status.NoMemory no_memory) ⊎ FailedAt command before now RulesFile result
     ⊎ FailedAt command before now DropInFile result
 
--- If the rules are accepted and the trace or ftrace text is rejected, the result is a status with
--- its first rejected line, unless a read fails or memory runs out.
+-- If the rules are accepted and the trace or ftrace text is rejected, the run ends with a status
+-- that reports the first rejected line, unless a read fails or memory runs out.
 abbrev pub RejectsSource : Command → Option Files → RunCounts → RunCounts → Status → Type 0
 RejectsSource command files before now result = (rules : List Rule) (bytes : List ℕ) (why : Status)
     → RulesContent command files rules → HasContent command (source_of command) files bytes → parse_of command bytes ≡ Err why

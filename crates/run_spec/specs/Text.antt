@@ -13,40 +13,42 @@ use Rattle.import_spec.specs.declared.cause.ImportCause.{ImportCause}
 use Rattle.import_spec.specs.declared.cause.ImportCause.TheVariants as import_cause
 use Rattle.run_spec.specs.Lines.{check_line, stall_line}
 
--- ---- stall sums
+-- ---- the output of `stall`
 
--- The end time (ns) of a trace: the time of its last event.
+-- `end_of events`: the end time (ns) of a trace, which is the time of its last event.
 abbrev pub end_of : List Event → ℕ
 end_of events = (after events).last
 
--- The stall times (ns) of the group in slot `slot` on processor `cpu` up to the end of the trace,
--- in the order of the states.
+-- `stall_times cpu slot events`: the time (ns) that the group in slot `slot` was in each state on
+-- processor `cpu`, up to the end of the trace. The times are in the order of the states.
 abbrev pub stall_times : ℕ → ℕ → List Event → List ℕ
 stall_times cpu slot events = map (λ state. stall state cpu slot events (end_of events)) states
 
--- The times (ns) that `stall` prints for the group in slot `slot` on processor `cpu`: the stall
--- times, followed by the interrupt time in version 2.
+-- `stall_times_of version cpu slot events`: the times (ns) that `stall` prints for the group in
+-- slot `slot` on processor `cpu`. They are the times in each state, and for version 2 also the
+-- interrupt time.
 abbrev pub stall_times_of : Version → ℕ → ℕ → List Event → List ℕ
 stall_times_of One cpu slot events = stall_times cpu slot events
 stall_times_of Two cpu slot events = stall_times cpu slot events ++ irq_time cpu slot events ∷ []
 
--- The lines of `stall` for processor `cpu`: one for each group that is live at the end of the
--- trace, in the order of paths.
+-- `stall_lines version cpu events`: the lines of `stall` for processor `cpu`. There is one line for
+-- each group that is live at the end of the trace, in the byte order of paths.
 abbrev pub stall_lines : Version → ℕ → List Event → List ℕ
 stall_lines version cpu events =
     flat_map (λ (pair : List ℕ × ℕ). stall_line cpu pair.0 (stall_times_of version cpu pair.1 events)) (live_groups (after events).groups)
 
--- The output of `stall`: the lines of all processors, in the order of processors.
+-- `stall_text trace`: the output of `stall`, with the lines of all processors in the order of
+-- processors.
 unfoldable pub stall_text : Trace → List ℕ
 stall_text trace = flat_map (λ cpu. stall_lines trace.version cpu trace.events) (range_with_len 0 trace.cpus)
 
--- ---- checks
+-- ---- the output of `check`
 
--- The output of `check` for an accepted trace.
+-- `check_text trace`: the output of `check` for an accepted trace.
 abbrev pub check_text : Trace → List ℕ
 check_text trace = check_line (length trace.events) (end_of trace.events)
 
--- ---- causes of rejection
+-- ---- the printed causes of rejection
 
 -- The printed name of a cause of rejection.
 abbrev pub cause_name : Cause → List ℕ
@@ -81,21 +83,23 @@ cause_name cause.IrqTooLong = codes "IrqTooLong"
 cause_name cause.RootPressure = codes "RootPressure"
 cause_name cause.TooManyPressures = codes "TooManyPressures"
 
--- The number (from 1) of the field that a cause reports, if any.
+-- `field_number cause`: the number (from 1) of the malformed field of a line that a cause reports,
+-- or `None` if the cause reports no field.
 abbrev pub field_number : Cause → Option ℕ
 field_number (cause.BadField field) = Some field
 field_number _ = None
 
--- The text of an optional field number: a space and the number, or nothing.
+-- `field_text number`: a space and the number of the field, or no bytes for `None`.
 abbrev pub field_text : Option ℕ → List ℕ
 field_text None = []
 field_text (Some field) = codes " " ++ decimal field
 
--- The printed text of a cause: its name, and the number of the bad field, if any.
+-- `cause_text why`: the printed text of the cause `why`. It is the cause's name, followed by the
+-- number of the malformed field, if any.
 abbrev pub cause_text : Cause → List ℕ
 cause_text why = cause_name why ++ field_text (field_number why)
 
--- The printed name of the cause of a rejected ftrace line.
+-- The printed name of a cause for which a line of an ftrace text is rejected.
 abbrev pub import_cause_text : ImportCause → List ℕ
 import_cause_text import_cause.LineTooLong = codes "LineTooLong"
 import_cause_text import_cause.Cut = codes "Cut"

@@ -1,5 +1,5 @@
--- Parsing of the command line. The options and the positional argument are parsed from left to
--- right; then one function per command builds the command from them.
+-- Defines how the command line is parsed: its words become options and a positional argument, and
+-- one function for each command builds the command from these.
 use Rattle.std.specs.Prelude.{ℕ, ◌-◌, ◌^◌, List, [], ◌∷◌, length, drop}
 use Rattle.std.specs.Prelude.{find, nat_eq, nat_lt, nat_le, ◌==◌, ◌&&◌, not, Bool}
 use Rattle.std.specs.Prelude.{false, if◌then◌else◌, codes, Option, None, Some}
@@ -14,7 +14,7 @@ use Rattle.run_spec.specs.declared.command.Command.TheVariants.{Stall, Check, Re
 use Rattle.run_spec.specs.declared.command.Options.{Options}
 use Rattle.run_spec.specs.declared.command.Shape.{Shape}
 
--- ---- one word
+-- ---- the kinds of command-line words
 
 -- The kinds of words of the command line.
 pub data Word : Type 0 where
@@ -29,22 +29,22 @@ pub data Word : Type 0 where
   -- Any other word that begins with `-`.
   unknown : Word
 
--- Whether a word begins with `-` (byte 45), and isn't `-` alone.
+-- `is_dashed word`: whether a word has at least two bytes and begins with `-` (byte 45).
 abbrev pub is_dashed : List ℕ → Bool
 is_dashed [] = false
 is_dashed (first ∷ []) = false
 is_dashed (first ∷ second ∷ rest) = first == 45
 
--- Whether the list of texts contains `text`.
+-- `is_among text texts`: whether the list `texts` contains `text`.
 abbrev pub is_among : List ℕ → List (List ℕ) → Bool
 is_among text texts = list_any (λ other. bytes_eq other text) texts
 
--- Whether the byte is `=` (61).
+-- Whether `byte` is `=` (61).
 abbrev pub is_equals : ℕ → Bool
 is_equals byte = byte == 61
 
--- The kind of the word `--text`, given the names of the known options. The name of the option ends
--- at the first `=`, if any.
+-- `option_of names text`: the kind of the word `--text`, if `names` are the names of the known
+-- options. The name of the option in the word ends before the first `=`, if there is any.
 abbrev pub option_of : List (List ℕ) → List ℕ → Word
 option_of names text =
     if not (is_among (before_first is_equals text) names) then unknown
@@ -52,7 +52,7 @@ option_of names text =
     then assigned (before_first is_equals text) (after_first is_equals text)
     else opened (before_first is_equals text)
 
--- The kind of a word, given the names of the known options.
+-- `word_of names word`: the kind of `word`, if `names` are the names of the known options.
 abbrev pub word_of : List (List ℕ) → List ℕ → Word
 word_of names word =
     if not (is_dashed word) then plain
@@ -60,43 +60,46 @@ word_of names word =
     else if starts_with nat_eq word (codes "--") then option_of names (drop 2 word)
     else unknown
 
--- ---- all words
+-- ---- parsing the words of a command line
 
--- The parsed words: the options with their names and values, and the positional argument, if any.
+-- The result of parsing words: the name and the value of each option, and the positional argument,
+-- or `None` if there is no positional argument.
 pub record ParsedWords : Type 0 where
   pub options : List (List ℕ × List ℕ)
   pub positional : Option (List ℕ)
 
--- The result of parsing no words.
+-- The result of parsing an empty list of words: no options and no positional argument.
 abbrev pub nothing : ParsedWords
 nothing = record { options = []; positional = None }
 
--- The value of the option with name `name`, or `None` if the option is absent.
+-- `option_value name parsed`: the value of the option with the name `name`, or `None` if the option
+-- is absent.
 abbrev pub option_value : List ℕ → ParsedWords → Option (List ℕ)
 option_value name parsed =
     option_map (λ option. option.1) (find (λ option. bytes_eq option.0 name) parsed.options)
 
--- Adds an option to the parsed words; `None` if they contain an option with this name already.
+-- `with_option name value parsed`: the parsed words with one more option. The result is `None` if
+-- they already contain an option with this name.
 abbrev pub with_option : List ℕ → List ℕ → ParsedWords → Option ParsedWords
 with_option name value parsed =
     if is_some (option_value name parsed) then None
     else Some (record parsed { options = (name, value) ∷ parsed.options })
 
--- Adds the positional argument to the parsed words; `None` if they contain a positional argument
--- already.
+-- `with_positional word parsed`: the parsed words with `word` as the positional argument. The
+-- result is `None` if they already contain a positional argument.
 abbrev pub with_positional : List ℕ → ParsedWords → Option ParsedWords
 with_positional word parsed =
     if is_some parsed.positional then None else Some (record parsed { positional = Some word })
 
--- The state of the parser of words: before a word, before the value of an option with this name, or
--- after `--`.
+-- What the parser expects next: any word (`at_word`), the value of the option with this name
+-- (`at_value`), or, after `--`, a positional argument (`suffix`).
 pub data WordState : Type 0 where
   at_word : WordState
   at_value : List ℕ → WordState
   suffix : WordState
 
--- Parses a word of this kind and all later words, given `rest`, which parses the later words from a
--- parser state.
+-- `by_word kind word rest`: parses `word`, which is of the kind `kind`, and all later words. The
+-- function `rest` parses the later words, given what the parser expects next.
 abbrev pub by_word : Word → List ℕ → (WordState → Option ParsedWords) → Option ParsedWords
 by_word (assigned name value) word rest = rest at_word >>= with_option name value
 by_word (opened name) word rest = rest (at_value name)
@@ -104,8 +107,8 @@ by_word end word rest = rest suffix
 by_word plain word rest = rest at_word >>= with_positional word
 by_word unknown word rest = None
 
--- Parses words from a parser state, given the names of the known options; `None` if the words are
--- malformed.
+-- `parsed_from names word_state words`: parses `words`, if the parser expects `word_state` and
+-- `names` are the names of the known options. The result is `None` if the words are malformed.
 abbrev pub parsed_from : List (List ℕ) → WordState → List (List ℕ) → Option ParsedWords
 parsed_from names at_word [] = Some nothing
 parsed_from names (at_value name) [] = None
@@ -116,63 +119,69 @@ parsed_from names (at_value name) (word ∷ words) =
     if is_dashed word then None else parsed_from names at_word words >>= with_option name word
 parsed_from names suffix (word ∷ words) = parsed_from names suffix words >>= with_positional word
 
--- ---- option values
+-- ---- parsing the values of options
 
--- Parses a decimal number without leading zeros. The result is `None` unless the number is between
--- `least` and `most`.
+-- `number_within least most text`: parses a decimal number without leading zeros. The result is
+-- `None` unless the number is from `least` to `most`.
 abbrev pub number_within : ℕ → ℕ → List ℕ → Option ℕ
 number_within least most text = do
   number ← number_of text
   if nat_le least number && nat_le number most then Some number else None
 
--- Parses the number of an optional option. The number is `default` if the option is absent.
+-- `number_or default least most value`: parses the value of an option as a number from `least` to
+-- `most`. The result is `default` if the option is absent (`value` is `None`). The result is `None`
+-- if the value isn't such a number.
 abbrev pub number_or : ℕ → ℕ → ℕ → Option (List ℕ) → Option ℕ
 number_or default least most None = Some default
 number_or default least most (Some text) = number_within least most text
 
--- Parses the number of a required option. The result is `None` if the option is absent.
+-- `needed least most value`: parses the value of a required option as a number from `least` to
+-- `most`. The result is `None` if the option is absent or its value isn't such a number.
 abbrev pub needed : ℕ → ℕ → Option (List ℕ) → Option ℕ
 needed least most None = None
 needed least most (Some text) = number_within least most text
 
--- Whether a file name isn't empty.
+-- Whether the file name `name` isn't empty.
 abbrev pub is_name : List ℕ → Bool
 is_name name = nat_lt 0 (length name)
 
--- Parses the positional argument as a file name. The name `-` means standard input. The result is
--- `None` if the argument is absent or empty.
+-- `trace_option parsed`: the positional argument as a file name. The name `-` means standard input.
+-- The result is `None` if the argument is absent or empty.
 abbrev pub trace_option : ParsedWords → Option (List ℕ)
 trace_option parsed = do
   name ← parsed.positional
   if is_name name then Some name else None
 
--- Parses the name of a rules file or drop-in file: `Some None` if the option is absent, and `None`
--- if the name is empty or `-` (standard input).
+-- `rules_option value`: the name of a rules file or drop-in file, from the value of its option. The
+-- result is `Some None` if the option is absent. The result is `None` if the name is empty or `-`
+-- (standard input).
 abbrev pub rules_option : Option (List ℕ) → Option (Option (List ℕ))
 rules_option None = Some None
 rules_option (Some name) =
     if is_name name && not (bytes_eq name (codes "-")) then Some (Some name) else None
 
--- Parses the name of the drop-in file: `Some None` if the option is absent, and `None` if the name
--- is invalid or no rules file is named.
+-- `drop_in_option rules value`: the name of the drop-in file, from the value of its option. `rules`
+-- is the name of the rules file, if any. The result is `Some None` if the option is absent. The
+-- result is `None` if the name is invalid, or if there is no rules file.
 abbrev pub drop_in_option : Option (List ℕ) → Option (List ℕ) → Option (Option (List ℕ))
 drop_in_option rules None = Some None
 drop_in_option None (Some name) = None
 drop_in_option (Some rules) (Some name) = rules_option (Some name)
 
--- Parses the path of the watched group: `Some None` if the option is absent, and `None` if the path
--- is malformed.
+-- `live_option value`: the path of the watched group, from the value of `--live`. The result is
+-- `Some None` if the option is absent, and `None` if the path is malformed.
 abbrev pub live_option : Option (List ℕ) → Option (Option (List ℕ))
 live_option None = Some None
 live_option (Some path) = if is_path path then Some (Some path) else None
 
--- ---- one function per command
+-- ---- building the command from the parsed words
 
--- Parses the length of a tick in ms: 1 to 60,000, by default 2,000.
+-- The length of a tick in ms, from the value of `--tick-ms`. It is 1 to 60,000, and 2,000 by
+-- default.
 abbrev pub tick_option : ParsedWords → Option ℕ
 tick_option parsed = number_or 2000 1 60000 (option_value (codes "tick-ms") parsed)
 
--- Parses the maximum number of threads: 1 to 64, by default 64.
+-- The maximum number of threads, from the value of `--workers`. It is 1 to 64, and 64 by default.
 abbrev pub workers_option : ParsedWords → Option ℕ
 workers_option parsed = number_or 64 1 64 (option_value (codes "workers") parsed)
 
@@ -218,8 +227,9 @@ replay_of parsed = do
   options ← options_of parsed
   Some (Replay trace options)
 
--- Parses the shape of a generated trace. The result is `None` unless there is no positional
--- argument and all four options are given, each in range.
+-- Parses the shape of a generated trace. All four options are required, and each must be in range.
+-- The result is `None` if an option is missing or out of range, or if there is a positional
+-- argument.
 unfoldable pub shape_of : ParsedWords → Option Shape
 shape_of parsed = do
   options ← if is_some parsed.positional then None else Some parsed
@@ -288,7 +298,7 @@ replay_names =
 abbrev pub replay_form : CommandForm
 replay_form = record { word = codes "replay"; options = replay_names; command = replay_of }
 
--- The names of the options for the shape of a generated trace.
+-- The names of the four options that give the shape of a generated trace.
 abbrev pub shape_names : List (List ℕ)
 shape_names = codes "seed" ∷ codes "cpus" ∷ codes "groups" ∷ codes "events" ∷ []
 
@@ -321,19 +331,20 @@ whatif_names =
 abbrev pub whatif_form : CommandForm
 whatif_form = record { word = codes "whatif"; options = whatif_names; command = whatif_of }
 
--- The syntax of each command.
+-- The list of all commands, each with its syntax.
 abbrev pub forms : List CommandForm
 forms =
     stall_form ∷ check_form ∷ replay_form ∷ gen_form ∷ stress_form ∷ import_form ∷ rules_form ∷ whatif_form ∷ []
 
--- The command of the syntax `form` that the words after the command's name spell, or `None`.
+-- `spelled form words`: parses the words after a command's name by the syntax `form`. The result is
+-- `None` if the words don't fit the syntax.
 abbrev pub spelled : CommandForm → List (List ℕ) → Option Command
 spelled form words = do
   parsed ← parsed_from form.options at_word words
   form.command parsed
 
--- Parses a command line without the program's name. The first word names the command. The result is
--- `None` if the words form no command.
+-- `command_of words`: parses the words of a command line, without the program's name. The first
+-- word names the command. The result is `None` if the words don't form a command.
 unfoldable pub command_of : List (List ℕ) → Option Command
 command_of [] = None
 command_of (first ∷ words) = do

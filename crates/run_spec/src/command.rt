@@ -1,5 +1,5 @@
-//! Commands: the types for what a command line requests, and laws about their spelling. The crate
-//! commands parses command lines.
+//! Types for parsed command lines, and laws about their syntax. The crate commands parses command
+//! lines.
 ghost use Rattle.run_spec.specs.Laws.{OrderIsFree, SpelledInRange, ValueMayFollow};
 
 use psi_base::{Path, Text};
@@ -7,41 +7,41 @@ use psi_base::{Path, Text};
 /// A parsed command. Options that are absent from the command line have their default values.
 #[derive(Drop)]
 pub enum Command {
-    /// Prints how long each state lasted.
+    /// Prints the time (ns) that each group spent in each state on each processor.
     Stall {
         /// The name of the trace's file, or `-` for standard input.
         trace: Text,
     },
-    /// Prints whether the trace is accepted.
+    /// Checks a trace, and prints its numbers of lines and events if it is accepted.
     Check {
         /// The name of the trace's file, or `-` for standard input.
         trace: Text,
-        /// The length of a tick in ms: 1 to 60,000, by default 2,000. It limits the times of a
-        /// trace to a million ticks.
+        /// The length of a tick in ms: 1 to 60,000, by default 2,000. A trace may last at most a
+        /// million ticks.
         tick_ms: u32,
     },
     /// Replays the trace tick by tick.
     Replay {
         /// The name of the trace's file, or `-` for standard input.
         trace: Text,
-        /// The options.
+        /// The options of the replay.
         options: Options,
     },
     /// Prints a generated trace.
     Gen {
-        /// The shape of the trace.
+        /// The shape of the generated trace.
         shape: Shape,
     },
     /// Replays a generated trace, which is never stored as a file.
     Stress {
-        /// The shape of the trace.
+        /// The shape of the generated trace.
         shape: Shape,
-        /// The largest number of threads: 1 to 64, by default 64.
+        /// The maximum number of threads: 1 to 64, by default 64.
         workers: u32,
     },
     /// Converts the text of the kernel's ftrace to a trace, and prints it.
     Import {
-        /// The name of the text's file, or `-` for standard input.
+        /// The name of the file with the ftrace text, or `-` for standard input.
         file: Text,
         /// The number of processors of the machine: 1 to 64.
         cpus: u32,
@@ -72,14 +72,14 @@ pub struct Options {
     pub drop_in: Option<Text>,
     /// The length of a tick in ms: 1 to 60,000, by default 2,000.
     pub tick_ms: u32,
-    /// The interval (s) of evaluations: an evaluation is due at the first tick at or after each
-    /// multiple of the interval. 1 to 3,600, by default 5.
+    /// The interval (s) of evaluations, from 1 to 3,600 and by default 5. An evaluation is due at
+    /// the first tick at or after each multiple of the interval.
     pub interval_s: u32,
-    /// The period (s) of reports: a report is due at the first tick at or after each multiple of
-    /// the period. 0 to 3,600, by default 10. The last tick always has a report; with 0 no other
-    /// tick has a report.
+    /// The period (s) of reports, from 0 to 3,600 and by default 10. A report is due at the first
+    /// tick at or after each multiple of the period, and at the last tick. With a period of 0, only
+    /// the last tick has a report.
     pub report_s: u32,
-    /// The largest number of threads: 1 to 64, by default 64.
+    /// The maximum number of threads: 1 to 64, by default 64.
     pub workers: u32,
     /// The group whose clocks are sampled while the replay runs (`--live`). By default there is no
     /// such group.
@@ -101,13 +101,12 @@ pub struct Shape {
     pub events: u32,
 }
 
-/// Every command that `command_of` parses is in range: each number is within its bounds, and no
-/// file name is empty.
+/// All numbers of a parsed command are in range, and its file names aren't empty.
 pub fn law_ranges()
     ensures { SpelledInRange }
 {}
 
-/// Options may come in any order: two adjacent options with different names may be swapped.
+/// Options may be in any order: two adjacent options with different names may be swapped.
 pub fn law_option_order()
     ensures { OrderIsFree }
 {}

@@ -1,6 +1,6 @@
 //! The specification of a run of `psi_oomd`: which words form a command, what each command prints,
-//! and what each status means. This crate contains only definitions and laws; the crates above
-//! contain the code that is proved to meet them.
+//! and what each status means. This crate contains only definitions and laws; other crates contain
+//! the code that is proved to meet them.
 //!
 //! Read the files of `specs/` in this order: `Words` (which words form a command), `Lines`, `Text`,
 //! `Generated`, `Live` and `Replay` (what is printed), `Whatif` (the trace that remains without the

@@ -2,8 +2,8 @@
 //! function has an empty body: its contract is the law.
 ghost use Rattle.run_spec.specs.Laws.{LastOutgrown, LastWithoutKill, OutgrownAtRound};
 
-/// Laws about the last trace of `whatif`. A round that finds no kill with its number leaves the
-/// last trace. There is no last trace if and only if some round leaves too many events.
+/// A round of `whatif` that finds no kill to remove ends with the final trace. The result is an
+/// error if and only if too many events remain after some round.
 pub fn law_last_trace()
     ensures left { LastWithoutKill }
     ensures outgrown { LastOutgrown }

@@ -32,7 +32,7 @@ pub enum Status {
     Trace { line: u32, cause: Cause },
     /// The rules file is rejected with this error.
     Rules { fault: RulesFault },
-    /// The command's file of this kind doesn't exist.
+    /// The file of this kind doesn't exist.
     NoFile { which: Which },
     /// A read failed.
     ReadFault,
@@ -81,9 +81,9 @@ pub fn law_missing_files()
     ensures drop_in_first { MissingDropInComesFirst }
 {}
 
-/// The number of read calls for a file is at most the number of bytes that they returned, plus one.
-/// The number of read calls of a command is at most the number of bytes returned, plus one for each
-/// file.
+/// The number of read calls for a file is at most the number of bytes that the calls returned, plus
+/// one. The number of read calls of a command is at most the number of bytes that the calls
+/// returned, plus one for each file.
 pub fn law_reads()
     ensures file { FileCallsAreFew }
     ensures command { CommandCallsAreFew }
