@@ -1,10 +1,10 @@
-"""Compares the totals of a trace with those of its machine. Each group is sampled at the times at
-which the kernel sampled it.
+"""Compares the totals of a trace with the totals that the machine itself counted. Each group is
+sampled at the same times as on the machine.
 
-If a recording doesn't show these times, one number per group is fitted: the phase of the grid on
-which the kernel samples on its own. The chosen phase brings the totals nearest to all readings. One
-number can't hide an error of a trace, because the totals are compared at about thirty readings of
-six files.
+If a recording doesn't contain these sampling times, they are fitted with one number per group: the
+phase of the kernel's two-second period. The chosen phase minimizes the differences at all readings.
+A single number can't hide an error of a trace, because a group has six totals, and each is compared
+at about thirty readings.
 """
 from __future__ import annotations
 
@@ -20,29 +20,30 @@ from .moments import Moments, period_of
 from .sums import Sums
 from .sums import Totals as Grown
 
-# The number of phases in a period of two seconds: one each 16 ms. First each COARSE-th phase is
-# tried, then the phases between the best one and its neighbours, at half the distance each time.
+# The number of phases that are tried in a period of two seconds: one about every 16 ms. The search
+# first tries each COARSE-th phase. Then it repeatedly halves the step, and tries the two neighbours
+# of the best phase.
 PHASES, COARSE = 128, 4
 LEVELS = 2
 MICROSECOND = 1000
 
 
 class Growth(NamedTuple):
-    """The growth (us) of a file's totals of some and full. `machine` is the growth on the machine,
-    `told` the growth in the trace as the machine's kernel computes it in 32 bits, and `true` the
-    growth in the trace in 64 bits.
+    """The growth (us) of a file's totals some and full. `machine` is the growth on the machine.
+    `kernel` is the growth in the trace as the machine's kernel computes it in 32 bits, and `true`
+    the growth in the trace in 64 bits.
     """
 
     file: File
     machine: tuple[int, int]
-    told: tuple[int, int]
+    kernel: tuple[int, int]
     true: tuple[int, int]
 
 
 class Asked(NamedTuple):
-    """A group to compare: its path, and its number in the trace. For each resource, `spans` has the
-    start and the end (ns of the trace), and `machine` has the growth (us) of the machine's totals
-    from start to end.
+    """A group to compare: its path, and its number in the trace. For each resource, `spans`
+    contains the start and the end of the comparison (ns of the trace). For the same time, `machine`
+    contains the growth (us) of the machine's totals some and full.
     """
 
     path: str
@@ -58,18 +59,18 @@ class Asked(NamedTuple):
 
 
 class Sampling(NamedTuple):
-    """The times (ns of the trace) at which a group was sampled. If they are unknown, `phase` is the
-    fitted phase of the grid, in ns after the first time, otherwise None.
+    """The times (ns of the trace) at which a group is sampled. If the times were fitted, `phase` is
+    the chosen phase (ns after the first time). It is None if the recording contains the times.
     """
 
-    moments: list[int]
+    times: list[int]
     phase: int | None
 
 
 def asked_of(readings: Sequence[dict[File, Totals]], clocks: Clocks, start: int) -> list[Asked]:
-    """Returns the groups that have files at the last of these readings and exist in the trace. The
+    """Returns the groups that exist in the trace and have files in the last of `readings`. The
     trace begins at `start` (ns of the recording's clock). Growth is counted from the first reading
-    that has the group's files, or from 0 for a group that was created later.
+    with the group's files, or from 0 if the group was created later.
     """
     began = max(it.time_ns for it in readings[0].values()) - start
     found = []
@@ -78,11 +79,11 @@ def asked_of(readings: Sequence[dict[File, Totals]], clocks: Clocks, start: int)
         number = clocks.number_at(path, max(it.time_ns for it in ends.values()) - start)
         if number is None:
             continue
-        made = clocks.all[number].made
+        creation = clocks.all[number].made
         spans, machine = {}, {}
         for resource, after in ends.items():
-            before = Totals(made + start, 0, 0)
-            if made <= began:
+            before = Totals(creation + start, 0, 0)
+            if creation <= began:
                 before = next(
                     files[File(path, resource)]
                     for files in readings
@@ -95,21 +96,19 @@ def asked_of(readings: Sequence[dict[File, Totals]], clocks: Clocks, start: int)
 
 
 def growths_of(asked: Asked, clocks: Clocks, sampling: Sampling, hertz: int) -> list[Growth]:
-    """Returns the growth of a group's totals according to the clocks, with the group sampled at
-    these times.
-    """
-    totals = Sums(clocks, asked.number, sampling.moments, hertz).at(sampling.moments)
+    """Returns the growth of a group's totals if the group is sampled at the times of `sampling`."""
+    totals = Sums(clocks, asked.number, sampling.times, hertz).at(sampling.times)
     found = []
     for resource, (begin, end) in asked.spans.items():
-        told = grown(totals[begin].told, totals[end].told, resource, asked.path)
+        kernel = grown(totals[begin].kernel, totals[end].kernel, resource, asked.path)
         true = grown(totals[begin].true, totals[end].true, resource, asked.path)
-        found.append(Growth(File(asked.path, resource), asked.machine[resource], told, true))
+        found.append(Growth(File(asked.path, resource), asked.machine[resource], kernel, true))
     return found
 
 
 def grown(before: Sequence[int], after: Sequence[int], resource: str, path: str) -> tuple[int, int]:
-    """Returns the growth (us) of some and full of a resource. For the root, full of cpu is always
-    0.
+    """Returns the growth (us) of a resource's totals of some and full. The root's full total of cpu
+    is always 0.
     """
     place = LEVELS * RESOURCES.index(resource)
     some, full = (
@@ -119,25 +118,31 @@ def grown(before: Sequence[int], after: Sequence[int], resource: str, path: str)
 
 
 def has_no_full(path: str, resource: str) -> bool:
-    """Returns whether the kernel shows zeros in the full line of this file."""
+    """Returns whether the kernel always prints zeros in the full line of this pressure file."""
     return path == "/" and resource == "cpu"
 
 
-# ---------------------------------------------------------------- the sampling times
+# ---------------------------------------------------------------- sampling times
 
 
 def sampling_of(
-    asked: Asked, clocks: Clocks, told: Moments, inside: Sequence[int], start: int, hertz: int
+    asked: Asked,
+    clocks: Clocks,
+    samplings: Moments,
+    inside: Sequence[int],
+    start: int,
+    hertz: int,
 ) -> Sampling:
-    """Returns the times at which the group was sampled: those of the recording, or fitted ones.
-    `inside` has the numbers of the compared readings.
+    """Returns the sampling times of a group: the recorded times if the recording contains them, and
+    fitted times if not. `inside` contains the numbers of the compared readings. The trace begins at
+    `start` (ns of the recording's clock).
     """
     begin, end = asked.ends()
-    own = {moment for span in asked.spans.values() for moment in span}
-    if told.knows(asked.path, inside[-1]):
-        moments = told.between(asked.path, inside[-1], begin + start, end + start)
-        return Sampling(sorted(own | {it - start for it in moments}), None)
-    files = [shifted(told.readings[number], asked.path, start) for number in inside]
+    own = {time_ns for span in asked.spans.values() for time_ns in span}
+    if samplings.knows(asked.path, inside[-1]):
+        times = samplings.between(asked.path, inside[-1], begin + start, end + start)
+        return Sampling(sorted(own | {it - start for it in times}), None)
+    files = [shifted(samplings.readings[number], asked.path, start) for number in inside]
     files = [
         it
         for it in files
@@ -150,7 +155,9 @@ def sampling_of(
 
 
 def shifted(files: dict[File, Totals], path: str, start: int) -> dict[str, Totals]:
-    """Returns a group's totals in a reading, by resource, with their times in ns of the trace."""
+    """Returns a group's totals in a reading, by resource. Their times are converted to ns of the
+    trace.
+    """
     return {
         file.resource: it._replace(time_ns=it.time_ns - start)
         for file, it in files.items()
@@ -161,19 +168,18 @@ def shifted(files: dict[File, Totals], path: str, start: int) -> dict[str, Total
 def fitted_phase(
     asked: Asked, clocks: Clocks, files: Sequence[dict[str, Totals]], own: Sequence[int], hertz: int
 ) -> int:
-    """Returns the phase (ns) that brings a group's totals nearest to those of its files, so that
-    the sum of the squared differences of growth between consecutive readings is smallest. The group
-    is also sampled at `own`, the times of the readings.
+    """Returns the phase (ns) with which a group's totals are nearest to its files. With this phase,
+    the sum of squared differences in growth between consecutive readings is the smallest that the
+    search finds. The group is also sampled at the times `own`, at which its files were read.
     """
     (begin, end), period = asked.ends(), period_of(hertz)
     grids = [range(begin + period * place // PHASES, end, period) for place in range(PHASES)]
-    sums = Sums(
-        clocks, asked.number, sorted({*own, *(moment for grid in grids for moment in grid)}), hertz
-    )
+    tried = sorted({*own, *(time_ns for grid in grids for time_ns in grid)})
+    sums = Sums(clocks, asked.number, tried, hertz)
 
     @lru_cache(maxsize=None)
     def distance(place: int) -> int:
-        """Returns the distance between the totals and the files if the phase is number `place`."""
+        """Returns the sum of squared differences for the phase with the index `place`."""
         return distance_of(asked.path, files, sums.at(sorted({*own, *grids[place]})))
 
     best, step = min(range(0, PHASES, COARSE), key=distance), COARSE
@@ -191,7 +197,8 @@ def distance_of(path: str, files: Sequence[dict[str, Totals]], totals: dict[int,
     for before, after in zip(files, files[1:]):
         for resource in RESOURCES:
             one, two = before[resource], after[resource]
-            some, full = grown(totals[one.time_ns].told, totals[two.time_ns].told, resource, path)
+            kernel = totals[one.time_ns].kernel, totals[two.time_ns].kernel
+            some, full = grown(*kernel, resource, path)
             machine = two.full - one.full
             whole += (some - two.some + one.some) ** 2 + (
                 full - (0 if has_no_full(path, resource) else machine)

@@ -55,8 +55,9 @@ TOO_FEW = "less than two readings of the machine's pressure files lie in the tra
 
 
 class Options(NamedTuple):
-    """The parsed command line. Times are in ns and us, limits in percent. `tick_ms` is None if the
-    kernel's sampling times are used, and `hertz` is None if the recording has the rate.
+    """The parsed command line. `start`, `lag` and `lead_in` are in ns, `shown` is in us, and limits
+    are in percent. `tick_ms` is None to use the kernel's sampling times. `hertz` is None to use the
+    rate that the recording shows.
     """
 
     folder: str
@@ -120,19 +121,19 @@ def options_of() -> Options:
 
 
 def start_of(options: Options, source: Source) -> int:
-    """Returns the start of the trace (ns of the recording's clock)."""
+    """Returns the time at which the trace starts (ns of the recording's clock)."""
     must_be_in("--from", options.start, source.stop - source.start, "recording")
     return source.start + options.start - options.lead_in
 
 
 def span_line(first: int, last: int, length: int) -> str:
-    """Returns the line with the numbers of the first and last compared reading, and the time
+    """Returns the line that states the first and last compared reading, by number, and the time
     between them (ns).
     """
     return f"from reading {first} to {last} of the machine's files, {length / SECOND:.3f} s, in us"
 
 
-# ---------------------------------------------------------------- by a replay
+# ---------------------------------------------------------------- comparison with a replay
 
 
 def end_of(trace: str) -> int:
@@ -191,12 +192,12 @@ def by_replay(options: Options, tick_ms: int) -> tuple[list[Row], Shown]:
     )
 
 
-# -------------------------------------------------------------- at the kernel's own sampling times
+# ------------------------------------------------- comparison at the kernel's own sampling times
 
 
 def clocks_of(trace: str, edited: Callable[[Iterable[str]], Iterable[str]] = iter) -> Clocks:
-    """Returns the clocks of a trace whose lines `edited` may change. psi_oomd checks that the trace
-    is valid. Lines that can't be followed are errors here, too.
+    """Returns the clocks of a trace, whose lines are passed through `edited`. Raises Unreadable at
+    a line that can't be replayed. All other checks of the trace are left to psi_oomd.
     """
     number = 1
 
@@ -224,8 +225,9 @@ def clocks_of(trace: str, edited: Callable[[Iterable[str]], Iterable[str]] = ite
 
 
 def extremes_of(options: Options, source: Source) -> list[Clocks]:
-    """Returns the clocks of the trace with each wakeup at the latest time at which the kernel may
-    have counted it, and with each at the earliest. Returns nothing if these times are unknown.
+    """Returns two histories of the trace. In one, each wakeup is at the latest time at which the
+    kernel may have counted it, and in the other at the earliest. Returns an empty list if these
+    times are unknown.
     """
     if not source.has_ready_probe and options.lag is None:
         return []
@@ -244,47 +246,48 @@ def extremes_of(options: Options, source: Source) -> list[Clocks]:
 
 
 def row_of(growth: Growth, phase: int | None, extremes: Sequence[Growth] = ()) -> Row:
-    """Returns the row of a file. `phase` (ns) is None if the sampling times are known, and
-    `extremes` are the bounds of the trace's growth.
+    """Returns the table row for a file. `phase` (ns) is None if the sampling times are known, and
+    `extremes` are bounds of the trace's growth.
     """
-    right = growth.true if growth.true != growth.told else None
+    right = growth.true if growth.true != growth.kernel else None
     note = "" if phase is None else f"{phase // 10**6} ms"
-    some, full = ([it.told[level] for it in (growth, *extremes)] for level in range(len(LEVELS)))
+    some, full = ([it.kernel[level] for it in (growth, *extremes)] for level in range(len(LEVELS)))
     bars = (Span(min(some), max(some)), Span(min(full), max(full))) if extremes else None
-    return Row(growth.file, growth.machine, growth.told, bars, right, note)
+    return Row(growth.file, growth.machine, growth.kernel, bars, right, note)
 
 
 def is_shown(machine: dict[str, tuple[int, int]], options: Options) -> bool:
-    """Returns whether a group's files grew enough to fit its sampling times."""
+    """Returns whether a group's files grew enough for its sampling times to be fitted."""
     return max(max(it) for it in machine.values()) >= min(options.shown, options.limits.least)
 
 
 def by_moments(options: Options) -> tuple[list[Row], Shown]:
-    """Compares the machine's files with the trace, each group sampled at the times of the kernel.
+    """Compares the machine's files with the trace. Each group is sampled at the kernel's sampling
+    times.
     """
     source = read_recording(options.folder, True)
     start, clocks = start_of(options, source), clocks_of(options.trace)
     must_be_of(source, options.trace, start, clocks.now, options.lead_in)
     must_have_switches_of(source, options.trace, start, options.lead_in)
-    told = Moments(source, machine_readings(options.folder, source))
-    inside = readings_within(told.readings, start, start + clocks.now)
+    samplings = Moments(source, machine_readings(options.folder, source))
+    inside = readings_within(samplings.readings, start, start + clocks.now)
     if len(inside) < 2:
         raise Unreadable(TOO_FEW)
-    hertz = options.hertz or told.hertz or COMMON_RATE
+    hertz = options.hertz or samplings.hertz or COMMON_RATE
     extremes, rows = extremes_of(options, source), []
-    for asked in asked_of([told.readings[number] for number in inside], clocks, start):
-        if told.knows(asked.path, inside[-1]) or is_shown(asked.machine, options):
-            sampling = sampling_of(asked, clocks, told, inside, start, hertz)
+    for asked in asked_of([samplings.readings[number] for number in inside], clocks, start):
+        if samplings.knows(asked.path, inside[-1]) or is_shown(asked.machine, options):
+            sampling = sampling_of(asked, clocks, samplings, inside, start, hertz)
             ways = [growths_of(asked, it, sampling, hertz) for it in (clocks, *extremes)]
             rows += [row_of(growth, sampling.phase, others) for growth, *others in zip(*ways)]
     first, last = (
-        min(it.time_ns for it in told.readings[number].values())
+        min(it.time_ns for it in samplings.readings[number].values())
         for number in (inside[0], inside[-1])
     )
     fitted = any(row.note for row in rows)
     head = [
         span_line(inside[0], inside[-1], last - first),
-        *sampling_lines(told, fitted, hertz, options),
+        *sampling_lines(samplings, fitted, hertz, options),
         *bar_lines(options, source),
     ]
     return sorted(rows), Shown(head, "trace", "phase" if fitted else "", options.shown)
@@ -305,9 +308,9 @@ def bar_lines(options: Options, source: Source) -> list[str]:
     return []
 
 
-def sampling_lines(told: Moments, fitted: bool, hertz: int, options: Options) -> list[str]:
+def sampling_lines(samplings: Moments, fitted: bool, hertz: int, options: Options) -> list[str]:
     """Returns the lines that explain how the sampling times were found."""
-    if told.is_known:
+    if samplings.is_known:
         line = "each group is sampled when the kernel did, as the recording says"
         return [
             line + "; of those with a phase it doesn't, and that is fitted by all readings" * fitted
@@ -352,11 +355,11 @@ def cause_lines(rows: Sequence[Row], limits: Limits) -> list[str]:
     return lines
 
 
-# ---------------------------------------------------------------- the command
+# ---------------------------------------------------------------- running the command
 
 
 def compare() -> int:
-    """Compares, prints the table, and returns the exit status."""
+    """Compares a trace with its recording, prints the table, and returns the exit status."""
     options = options_of()
     must_be_in_order(options.folder, options.trace)
     show_containers([options.trace], options.values)

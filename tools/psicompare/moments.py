@@ -1,7 +1,9 @@
-"""Finds the times at which the kernel sampled the groups of a recording: at each reading of one of
-a group's files, and on its own about two seconds after the last sampling. Two probes of the
-recorder show these times. A probe identifies a group by the address of its accounts. The address of
-each group follows from the recorder's own readings, which read the files in a known order.
+"""Finds the times at which the kernel sampled the groups of a recording. The kernel samples a group
+at each read of one of its pressure files, and about two seconds after the last sampling.
+
+Two probes of the recorder report these times. A probe identifies a group by the address of its
+`struct psi_group`. The address of each group follows from the recorder's own readings, which read
+the files in a known order.
 """
 from __future__ import annotations
 
@@ -16,27 +18,29 @@ from psiread.pressure import Readings, recorder_of, spans_of
 from psiread.source import Source
 from psirec.layout import RESOURCES
 
-# A group's accounts have at most this number of bytes. The work item that samples the group is
-# within them.
+# The upper bound (bytes) for the size of a `struct psi_group`, which contains the work item that
+# samples the group.
 MOST_ACCOUNTS = 4096
-# The rates (Hz) of kernels' timers. The most common rate is the default. The periods at 300 Hz
-# can't be distinguished from those at 250 Hz, since each is up to 20 ms late; this makes no
-# difference.
+# The rates (Hz) of kernels' timers, and the most common rate, which is the default. 300 Hz isn't
+# listed: its sampling period differs by less than 1 ms from the period at 250 Hz. Samplings may be
+# up to 20 ms late, so the two rates can't be distinguished, and the difference has no effect.
 RATES = (100, 250, 1000)
 COMMON_RATE = 250
-# Two samplings by the kernel itself are consecutive if the time (ns) between them is in this range.
+# Two samplings by the kernel's timer are consecutive if the time (ns) between them is in this
+# range.
 LEAST_PERIOD, MOST_PERIOD = 1_950_000_000, 2_050_000_000
 
 
 def period_of(hertz: int) -> int:
-    """Returns the time (ns) after which the kernel samples a group on its own (`PSI_FREQ`), for
-    this rate of the kernel's timer.
+    """Returns the period (ns) at which the kernel samples a group on its own (`PSI_FREQ`), for a
+    timer of this rate (Hz).
     """
     return (2 * hertz + 1) * SECOND // hertz
 
 
 class Moments:
-    """The sampling times in a recording. In `readings` each file has the time (ns) that the probe
+    """The times at which the kernel sampled the groups of a recording. `readings` contains the
+    machine's totals. If the times are known, each of its files has the time (ns) that the probe
     reported.
     """
 
@@ -50,8 +54,8 @@ class Moments:
             self.learn(source)
 
     def learn(self, source: Source) -> None:
-        """Reads the events of the probes, and stores the addresses of the groups, the sampling
-        times and the rate of the timer.
+        """Reads the events of the probes. Stores the addresses of the groups, the sampling times
+        and the timer's rate.
         """
         shows = [it for it in source.events if isinstance(it, ShowProbe)]
         works: dict[int, list[int]] = defaultdict(list)
@@ -63,14 +67,14 @@ class Moments:
         for show in shows:
             self.sampled[show.group].append(show.time_ns)
         offset = offset_of(self.sampled, works)
-        for work, moments in works.items():
-            self.sampled[work - offset] += moments
-        for moments in self.sampled.values():
-            moments.sort()
+        for work, times in works.items():
+            self.sampled[work - offset] += times
+        for times in self.sampled.values():
+            times.sort()
 
     def match(self, source: Source, shows: list[ShowProbe]) -> None:
-        """Finds the addresses of the groups from the recorder's own readings, file by file. If a
-        reading has a different number of files, because some were removed or couldn't be read, the
+        """Finds the addresses of the groups at each reading, from the events of the recorder's own
+        reads. If the number of files differs because some were removed or couldn't be read, the
         addresses of the previous reading are used.
         """
         known: dict[str, int] = {}
@@ -99,24 +103,24 @@ class Moments:
             }
 
     def knows(self, path: str, number: int) -> bool:
-        """Returns whether the sampling times are known for the group that has this path at reading
+        """Returns whether the sampling times are known for the group with this path at reading
         number `number`.
         """
         return self.addresses.get(number, {}).get(path, 0) in self.sampled
 
     def between(self, path: str, number: int, begin: int, end: int) -> list[int]:
-        """Returns the times (ns of the recording's clock) from `begin` to `end` at which the group
-        was sampled, including both ends. The group has this path at reading number `number`.
+        """Returns the times (ns of the recording's clock) from `begin` to `end`, both inclusive, at
+        which the group was sampled. `path` is the group's path at reading number `number`.
         """
-        moments = self.sampled.get(self.addresses.get(number, {}).get(path, 0), [])
+        times = self.sampled.get(self.addresses.get(number, {}).get(path, 0), [])
         return sorted(
-            {begin, end, *moments[bisect_left(moments, begin) : bisect_right(moments, end)]}
+            {begin, end, *times[bisect_left(times, begin) : bisect_right(times, end)]}
         )
 
 
 def offset_of(groups: dict[int, list[int]], works: dict[int, list[int]]) -> int:
-    """Returns the offset (bytes) of the work item in a group's accounts: the most common difference
-    among all pairs of addresses.
+    """Returns the offset (bytes) of the work item in a `struct psi_group`: the most common
+    difference among all pairs of addresses.
     """
     found = Counter(
         work - group for work in works for group in groups if 0 <= work - group < MOST_ACCOUNTS
@@ -125,8 +129,8 @@ def offset_of(groups: dict[int, list[int]], works: dict[int, list[int]]) -> int:
 
 
 def rate_of(works: dict[int, list[int]]) -> int | None:
-    """Returns the rate (Hz) of the kernel's timer, from the mean length of the periods in each
-    group's longest run of consecutive periods. Returns None if no group has such a run.
+    """Returns the rate (Hz) of the kernel's timer, computed from the mean period in each group's
+    longest run of consecutive periods. Returns None if there are no consecutive periods.
     """
     runs = [run for run in map(longest_run, works.values()) if run[0]]
     if not runs:
@@ -136,12 +140,13 @@ def rate_of(works: dict[int, list[int]]) -> int | None:
     return min(RATES, key=lambda it: abs(period_of(it) - length))
 
 
-def longest_run(moments: Sequence[int]) -> tuple[int, float]:
-    """Returns the largest number of consecutive periods, and their mean length (ns)."""
+def longest_run(times: Sequence[int]) -> tuple[int, float]:
+    """Returns the length of the longest run of consecutive periods, and the mean period in it (ns).
+    """
     best, length, run = 0, 0.0, 0
-    for place, moment in enumerate(moments):
-        is_next = place > 0 and LEAST_PERIOD <= moment - moments[place - 1] <= MOST_PERIOD
+    for place, time_ns in enumerate(times):
+        is_next = place > 0 and LEAST_PERIOD <= time_ns - times[place - 1] <= MOST_PERIOD
         run = run + 1 if is_next else 0
         if run > best:
-            best, length = run, (moment - moments[place - run]) / run
+            best, length = run, (time_ns - times[place - run]) / run
     return best, length

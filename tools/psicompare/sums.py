@@ -18,16 +18,16 @@ from .clocks import STATES, Clocks
 
 WIDTH = 2**32
 NONIDLE = STATES - 1
-# The growth (ns) of each state on one processor in one interval.
+# The time (ns) in each state on one processor during an interval.
 Times = Sequence[int]
 
 
 class Step(NamedTuple):
-    """The growth (ns) of the totals of the states at one sampling: `told` as the kernel computes it
-    in 32 bits, `true` in 64 bits.
+    """The growth (ns) of each state's total at one sampling: as the kernel computes it in 32 bits
+    (`kernel`), and in 64 bits (`true`).
     """
 
-    told: list[int]
+    kernel: list[int]
     true: list[int]
 
 
@@ -52,31 +52,31 @@ def step_of(processors: Sequence[Times], hertz: int) -> Step:
 
 
 class Totals(NamedTuple):
-    """The growth (ns) of the totals of the states since the first sampling, in 32 and 64 bits as in
-    `Step`.
+    """The growth (ns) of each state's total since the first sampling: as the kernel computes it in
+    32 bits (`kernel`), and in 64 bits (`true`).
     """
 
-    told: list[int]
+    kernel: list[int]
     true: list[int]
 
 
 class Sums:
-    """A group's totals, for any selection of the given times (ns of the trace, ascending) as
-    sampling times.
+    """Computes a group's totals for any selection of sampling times from `times_ns` (ns of the
+    trace, ascending).
     """
 
-    def __init__(self, clocks: Clocks, group: int, moments: Sequence[int], hertz: int) -> None:
+    def __init__(self, clocks: Clocks, group: int, times_ns: Sequence[int], hertz: int) -> None:
         self.hertz = hertz
-        self.places = {moment: place for place, moment in enumerate(moments)}
+        self.places = {time_ns: place for place, time_ns in enumerate(times_ns)}
         self.times = [
             list(accumulate(times, added, initial=(0,) * STATES))
-            for times in clocks.times(group, moments)
+            for times in clocks.times(group, times_ns)
         ]
         self.steps: dict[tuple[int, int], Step] = {}
 
     def step(self, first: int, last: int) -> Step:
-        """Returns the growth between the times with these indexes. Each growth is computed only
-        once.
+        """Returns the growth between the times with the indices `first` and `last`. Caches the
+        result.
         """
         if (first, last) not in self.steps:
             grown = [
@@ -87,18 +87,20 @@ class Sums:
         return self.steps[first, last]
 
     def at(self, chosen: Sequence[int]) -> dict[int, Totals]:
-        """Returns the totals at each chosen time, in order. The totals at the first time are 0."""
-        told = true = [0] * NONIDLE
-        found = {chosen[0]: Totals(told, true)}
+        """Returns the totals at each of the chosen times, which are ascending. The totals at the
+        first time are 0.
+        """
+        kernel = true = [0] * NONIDLE
+        found = {chosen[0]: Totals(kernel, true)}
         for before, after in zip(chosen, chosen[1:]):
             step = self.step(self.places[before], self.places[after])
-            is_same = told is true and step.told is step.true
-            told = list(map(add, told, step.told))
-            true = told if is_same else list(map(add, true, step.true))
-            found[after] = Totals(told, true)
+            is_same = kernel is true and step.kernel is step.true
+            kernel = list(map(add, kernel, step.kernel))
+            true = kernel if is_same else list(map(add, true, step.true))
+            found[after] = Totals(kernel, true)
         return found
 
 
 def added(times: Times, more: Times) -> tuple[int, ...]:
-    """Returns the sums of two tuples of times (ns), state by state."""
+    """Returns the element-wise sums of two tuples of times (ns)."""
     return tuple(map(add, times, more))

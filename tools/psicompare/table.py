@@ -1,5 +1,5 @@
-"""Formats the table of tools/compare: the totals of each file on the machine and in the trace, with
-marks at totals that exceed their limits.
+"""Formats the table of tools/compare: the totals of each file on the machine and in the trace.
+Totals that exceed their limits are marked.
 """
 from __future__ import annotations
 
@@ -13,8 +13,8 @@ MICROSECONDS = 10**6
 
 
 class Limits(NamedTuple):
-    """The allowed errors (percent) of a total at the root and in other groups, and the growth (us)
-    from which on they apply.
+    """The allowed errors (percent) of totals at the root and in other groups. They apply to totals
+    that grew by at least `least` us.
     """
 
     root: float
@@ -27,16 +27,18 @@ class Limits(NamedTuple):
 
 
 class Span(NamedTuple):
-    """The range (us) of a total's growth, if the recording doesn't determine the growth exactly."""
+    """The range (us) of a total's growth, for a recording that doesn't determine the growth
+    exactly.
+    """
 
     low: int
     high: int
 
 
 class Row(NamedTuple):
-    """The comparison for a file: the growth (us) of its totals of some and full. `bars` has the
-    ranges of the trace's growth. `right` is the correct growth if the kernel's 32-bit sums lost a
-    part. `note` is shown in the last column.
+    """A file's row: the growth (us) of its totals some and full. `bars` contains the ranges of the
+    trace's growth, or is None if the growth is exact. `right` is the correct growth if the kernel's
+    32-bit sums overflowed, and None if not. `note` is shown in the last column.
     """
 
     file: File
@@ -48,8 +50,9 @@ class Row(NamedTuple):
 
 
 class Cell(NamedTuple):
-    """One number of a row: the smallest and the largest error of the trace (percent), whether the
-    limit applies, and whether it is exceeded.
+    """The error of one total. `off` contains the smallest and the largest error of the trace
+    (percent), or is None if the machine's total didn't grow. `is_asked` says whether the total grew
+    enough for the limit to apply, and `is_beyond` whether the error exceeds the limit.
     """
 
     off: tuple[float, float] | None
@@ -58,12 +61,12 @@ class Cell(NamedTuple):
 
 
 def bar_of(row: Row, level: int) -> Span:
-    """Returns the range of the trace's growth of some (`level` is 0) or full (1)."""
+    """Returns the range of the growth in the trace, of some (`level` is 0) or full (1)."""
     return row.bars[level] if row.bars else Span(row.trace[level], row.trace[level])
 
 
 def cell_of(row: Row, level: int, limits: Limits) -> Cell:
-    """Returns the error of a row's some (`level` is 0) or full (1), and how it compares with the
+    """Returns the error of some (`level` is 0) or full (1) in a row, and whether it exceeds the
     limit.
     """
     machine, bar, most = row.machine[level], bar_of(row, level), limits.most(row.file)
@@ -114,8 +117,7 @@ def table_of(rows: Sequence[Sequence[str]]) -> str:
 
 
 def wrap_lines(rows: Sequence[Row]) -> list[str]:
-    """Returns lines with the correct values of machine totals of which the kernel's 32-bit sums
-    lost a part.
+    """Returns lines with the correct values of the machine's totals whose 32-bit sums overflowed.
     """
     lines = [
         f"  {row.file.path} {row.file.resource}: some {row.right[0]}, full {row.right[1]}"
@@ -130,7 +132,9 @@ def wrap_lines(rows: Sequence[Row]) -> list[str]:
 
 
 def verdict_of(cells: Sequence[Cell], limits: Limits, has_bars: bool) -> str:
-    """Returns the line with the number of totals that are within their limits."""
+    """Returns the line that says how many totals exceed their limits, or that all totals are within
+    them.
+    """
     asked, beyond = sum(it.is_asked for it in cells), sum(it.is_beyond for it in cells)
     least, said = (
         f"{limits.least / MICROSECONDS:g} s",
@@ -147,8 +151,9 @@ def verdict_of(cells: Sequence[Cell], limits: Limits, has_bars: bool) -> str:
 
 
 class Shown(NamedTuple):
-    """The parameters of a table: the lines above it, the name of the trace's numbers, the head of
-    the column of notes (empty without notes), and the growth (us) from which on a file is shown.
+    """The parameters of a table. `head` are the lines above the table, `second` is the header of
+    the trace's columns, and `notes` the header of the last column, or empty if there is no such
+    column. `least` is the smallest growth (us) of a file that is shown.
     """
 
     head: list[str]

@@ -1,6 +1,6 @@
-"""Finds the groups whose pressure the machine didn't account, and the changes of accounting. The
-snapshot lists the groups that weren't accounted, and markers of the recorder report each change
-since the previous sample.
+"""Finds the groups whose pressure the machine didn't account, and each change of that setting. The
+snapshot lists the groups that weren't accounted. Markers of the recorder report each change since
+the previous sample.
 """
 from __future__ import annotations
 
@@ -13,15 +13,15 @@ from psirec.layout import MARK, SNAPSHOT_ENDS, escaped_path
 
 
 class Account(NamedTuple):
-    """A group's path as in a trace, and whether the group's pressure was accounted."""
+    """A group's path as in a trace, and whether the machine accounted the group's pressure."""
 
     path: str
     is_on: bool
 
 
 class Accounts(NamedTuple):
-    """The groups that weren't accounted when the recording began, and the accounting of groups that
-    an event reports, by the event's index.
+    """`off` contains the groups that weren't accounted when the recording began. `found` contains
+    the changes that events report, keyed by the event's index.
     """
 
     off: set[str]
@@ -29,7 +29,7 @@ class Accounts(NamedTuple):
 
 
 def account_in(event: Event) -> Account | None:
-    """Returns the accounting that a marker reports, or None if the event is no such marker."""
+    """Returns the change that a marker reports. Returns None if the event isn't such a marker."""
     text = event.text if isinstance(event, Marker) else b""
     words = (
         text.decode("utf-8", "surrogateescape")[len(MARK) :].split()
@@ -42,18 +42,19 @@ def account_in(event: Event) -> Account | None:
 
 
 def is_end_of(snapshot: Snapshot, event: Event) -> bool:
-    """Whether this event is the marker that a recorder writes at the end of a snapshot, and is not
-    from before `snapshot` was taken.
+    """Returns whether this event is the marker that the recorder wrote at the end of `snapshot` or
+    of a later snapshot.
     """
     is_end = isinstance(event, Marker) and event.text.startswith((MARK + SNAPSHOT_ENDS).encode())
     return is_end and event.time_ns >= snapshot.time_ns
 
 
 def accounts_of(events: Sequence[Event], snapshot: Snapshot) -> Accounts:
-    """Returns the accounting in a recording. The snapshot may be taken up to a minute after the
-    start of the recording. So if a marker reports a change before any other event names the group,
-    the opposite was true at the start. A group that was created during the recording was accounted
-    at first.
+    """Returns the groups that weren't accounted, and all changes in a recording.
+
+    The snapshot may be up to a minute younger than the start of the recording. If the first event
+    that names a group reports a change, the group had the opposite setting at the start. A group
+    that was created during the recording was accounted at first.
     """
     unaccounted, off = set(snapshot.unaccounted), set(snapshot.unaccounted)
     found: dict[int, list[Account]] = {}

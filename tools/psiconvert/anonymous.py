@@ -1,5 +1,5 @@
-"""Replaces the paths of groups and the numbers of tasks in a trace by counted numbers, so that the
-trace can be passed on without them.
+"""Replaces the paths of groups and the numbers of tasks in a trace by consecutive numbers, so that
+the trace can be published without them.
 """
 from __future__ import annotations
 
@@ -11,18 +11,18 @@ from psinames.companion import Companion
 from psinames.lives import Life
 from psiworld.groups import ROOT, parent_of
 
-# The index of a task's number among the words of a line, by verb.
+# The index of the word that is a task's number, by a line's verb.
 OF_TASKS = b"fork", b"wake", b"stall", b"unstall", b"migrate", b"move"
 TASK_AT = {**dict.fromkeys(OF_TASKS, 2), b"switch": 3}
 WITHOUT = (b"irq", b"host", b"end")
-# Patterns for a group's path and for a task's number in a line of the summary.
+# The patterns that find a group's path and a task's number in a line of the summary.
 PATH = re.compile(r"(?<![^ ,:])/[A-Za-z0-9_.@:\\/-]+(?<![,:.])")
 NUMBER = re.compile(r"(?<=chose task )[0-9]+")
 
 
 class Anonymous:
-    """The numbers that replace groups and tasks. Groups and tasks are counted in the order in which
-    the summary and the trace name them, so each conversion of a recording gives equal numbers.
+    """The replacements of groups and tasks. They are numbered in the order in which the summary and
+    the trace mention them, so repeated conversions of a recording give equal numbers.
     """
 
     def __init__(self) -> None:
@@ -41,7 +41,7 @@ class Anonymous:
         return self.numbers.setdefault(number, len(self.numbers))
 
     def line(self, line: bytes) -> bytes:
-        """Returns an anonymous line of a trace."""
+        """Replaces the paths and the task numbers in a line of a trace."""
         fields = line.split(b" ")
         verb = fields[1] if len(fields) > 1 else b""
         if verb in WITHOUT or not verb or not fields[0].isdigit():
@@ -54,7 +54,9 @@ class Anonymous:
         return b" ".join(fields)
 
     def parts(self, parts: Iterable[bytes]) -> Iterator[bytes]:
-        """Yields an anonymous trace in parts. A part of the original may end within a line."""
+        """Yields an anonymous trace in parts. A part of the original may end in the middle of a
+        line.
+        """
         rest = b""
         for part in parts:
             *lines, rest = (rest + part).split(b"\n")
@@ -64,26 +66,26 @@ class Anonymous:
             yield self.line(rest)
 
     def text(self, text: str) -> str:
-        """Returns an anonymous line of the summary."""
+        """Replaces the paths and the task numbers in a line of the summary."""
         shown = PATH.sub(lambda found: self.path(found[0]), text)
         return NUMBER.sub(lambda found: str(self.number(int(found[0]))), shown)
 
     def companion(self, known: Companion) -> None:
         """Makes a companion anonymous in place: removes all names, and replaces paths and numbers.
-        Must be called after the trace was made anonymous, so that both have equal numbers.
+        Must be called after the trace was made anonymous, since the trace determines the numbers.
         """
         known.containers.clear()
         known.tasks = [self.life(it) for it in known.tasks]
         known.busy = [self.busy(it) for it in known.busy]
 
     def life(self, life: Life) -> Life:
-        """Returns an anonymous copy of a task's life, without names."""
+        """Returns a copy of a task's lifetime, without names and with anonymous numbers."""
         label, task, process = (self.number(it) for it in (life.label, life.task, life.process))
         found = Life(label, life.first, task, process)
         found.last = life.last
         return found
 
     def busy(self, busy: Busy) -> Busy:
-        """Returns an anonymous copy of an entry with the busiest processes of a group."""
+        """Returns an anonymous copy of an entry that lists the busiest processes of a group."""
         processes = tuple(Process(self.number(it.number), "", it.ran) for it in busy.processes)
         return busy._replace(path=self.path(busy.path), processes=processes)

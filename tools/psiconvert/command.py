@@ -1,4 +1,4 @@
-"""Converts a recording by the options of tools/psitrace, and writes the trace and the report."""
+"""Converts a recording as the command line requests, and writes the trace and the report."""
 from __future__ import annotations
 
 import os
@@ -40,8 +40,8 @@ from .summary import limit_lines, summary_of
 from .unwritten import UNWRITTEN, silent_tasks, with_unwritten
 from .wakeups import Counting, Wakeups
 
-# A recording of at least this size (bytes) is surveyed by several processes, and folded by a
-# separate process.
+# A recording of at least this size (bytes) is large: several processes survey it, and a separate
+# process folds its trace.
 LARGE = 16 << 20
 DEFAULT_PREFERENCES = {"prefer": "prefer", "avoid": "avoid", "omit": "avoid"}
 
@@ -52,9 +52,9 @@ def tell(line: str) -> None:
 
 
 class Reading(NamedTuple):
-    """The input. `source` has all events or, if a recording is to be folded, only the rare events;
-    then `slices` returns all events in slices. `silent` are the tasks that never leave a processor
-    according to the events.
+    """The input. Without folding, `source` contains all events. With folding it contains only the
+    rare events, and `slices` returns all events in slices. `silent` contains the tasks for which no
+    event shows that they leave a processor.
     """
 
     source: Source
@@ -63,7 +63,7 @@ class Reading(NamedTuple):
 
 
 def reading_of(options: Options) -> Reading:
-    """Reads the input."""
+    """Reads the recording or the ftrace text that the options name."""
     if not os.path.isdir(options.source):
         source = read_text(options.source, options.processors)
         return Reading(source, lambda: [source.events], silent_tasks(source.events))
@@ -77,7 +77,7 @@ def reading_of(options: Options) -> Reading:
 
 
 def set_clock(options: Options, source: Source) -> None:
-    """Sets the start of the recording and its time zone if the options give them."""
+    """Sets the recording's start and its time zone, if the options give them."""
     if options.wall:
         source.realtime, source.ahead = options.wall.epoch - source.start, options.wall.ahead
     if source.realtime is not None:
@@ -95,7 +95,9 @@ def part_of(options: Options, source: Source, whole: Window) -> Window:
 
 
 def method_of(options: Options, source: Source) -> Method:
-    """Returns the requested method, which the recording must support, or the best one that it has.
+    """Returns the method by which waits for IO are recognised: the requested one, or by default the
+    most exact method that the recording supports. Raises a Fault if the recording doesn't support
+    the requested method.
     """
     best = best_method(source.events, source.has_switch_probe)
     kinds = {type(event) for event in source.events} if options.method else set()
@@ -110,8 +112,8 @@ def method_of(options: Options, source: Source) -> Method:
 
 
 def wakeups_of(options: Options, source: Source) -> Wakeups:
-    """Returns the object that moves wakeups to the requested time. Raises a Fault if the recording
-    lacks the probe for that time.
+    """Returns the object that moves wakeups to the requested time. Raises a Fault if that requires
+    a probe that the recording lacks.
     """
     counting = options.counting or (Counting.PROBE if source.has_ready_probe else Counting.EVENT)
     if counting is not Counting.EVENT and not source.has_ready_probe:
@@ -122,7 +124,9 @@ def wakeups_of(options: Options, source: Source) -> Wakeups:
 
 
 def check_interrupts(options: Options, source: Source) -> None:
-    """Raises a Fault if --interrupts is given but the recording has no events of interrupts."""
+    """Raises a Fault if the option --interrupts is set, but the recording has no events of
+    interrupts.
+    """
     if options.has_interrupts and not any(isinstance(event, Interrupts) for event in source.events):
         raise Fault(
             "--interrupts: the recording has no such events: its kernel doesn't account "
@@ -131,8 +135,8 @@ def check_interrupts(options: Options, source: Source) -> None:
 
 
 def upon_of(options: Options, source: Source) -> dict[str, list[str]]:
-    """Returns the words of the lines to write when a group is created, by the group's path: its
-    preference and its triggers.
+    """Returns the lines to write when a group is created, keyed by the group's path: its preference
+    and its triggers. The lines have no time yet.
     """
     upon: dict[str, list[str]] = {}
     for path, preference in sorted(source.snapshot.groups.items()):
@@ -144,8 +148,8 @@ def upon_of(options: Options, source: Source) -> dict[str, list[str]]:
 
 
 def past_of(options: Options, source: Source, window: Window) -> Past | None:
-    """Returns the requested lead-in, with the averages in the reading nearest to the start, or
-    None.
+    """Returns the requested warm-up, or None if there is none. Its averages are those in the
+    reading of the pressure files that is nearest to the start.
     """
     if options.lead_in is None:
         return None
@@ -164,8 +168,8 @@ def put_in_unwritten(source: Source, window: Window) -> None:
 
 
 def losses_of(source: Source, window: Window, whole: Window) -> list[str]:
-    """Returns the lines about losses in the window. For a whole recording they include the losses
-    before its first event.
+    """Returns the lines about events that were lost in the window. If the window is the whole
+    recording, the lines include losses before the first event.
     """
     gaps = source.gaps if window == whole else overlapping(source.gaps, window)
     return [f"lost: {it}" for it in [*source.losses, *([loss_text(gaps, whole)] if gaps else [])]]
@@ -185,14 +189,14 @@ def write(options: Options, parts: Iterable[bytes]) -> Written:
 
 
 def passed_on(parts: Iterable[bytes], file: IO[bytes]) -> Iterator[bytes]:
-    """Writes each part to `file`, and yields it."""
+    """Writes each part to `file`, and then yields it."""
     for part in parts:
         file.write(part)
         yield part
 
 
 def write_companion(options: Options, known: Companion) -> None:
-    """Writes the companion next to the trace, if the trace is a regular file."""
+    """Writes the companion file next to the trace, if the trace is a regular file."""
     if options.output is None or not os.path.isfile(options.output):
         return
     name = companion_of(options.output)
@@ -203,8 +207,8 @@ def write_companion(options: Options, known: Companion) -> None:
 
 
 def is_large(options: Options) -> bool:
-    """Whether the input is large enough for several processes, by the size of the file or of the
-    folder's files.
+    """Returns whether the input is so large that several processes read it. The size is that of the
+    file, or of all files in the folder.
     """
     path = options.source
     names = [path]
@@ -214,8 +218,8 @@ def is_large(options: Options) -> bool:
 
 
 class Made(NamedTuple):
-    """A converted trace: the figures for the report, the bytes of the trace in parts, further lines
-    for the report, and whether folding made the trace longer.
+    """A converted trace. `parts` is the bytes of the trace, `converted` the figures for the report,
+    and `notes` further lines of the report. `is_longer` says that folding made the trace longer.
     """
 
     converted: Converted
@@ -244,7 +248,8 @@ def converted_of(options: Options, reading: Reading, wanted: Wanted) -> Made:
 
 
 def wanted_of(options: Options, source: Source, window: Window) -> Wanted:
-    """Returns the options of the conversion. Raises a Fault if the recording lacks what they need.
+    """Returns the options of the conversion. Raises a Fault if they require something that the
+    recording lacks.
     """
     upon = upon_of(options, source)
     method = method_of(options, source)
@@ -254,8 +259,8 @@ def wanted_of(options: Options, source: Source, window: Window) -> Wanted:
 
 
 def must_have_groups(upon: dict[str, list[str]]) -> None:
-    """Raises a Fault if a group with a trigger wasn't created. `upon` has the lines of the groups
-    that weren't created.
+    """Raises a Fault if a trigger's group was never created. `upon` contains the lines of all
+    groups that weren't created, keyed by path.
     """
     for path, words in upon.items():
         if any(it.startswith("trigger") for it in words):
@@ -265,7 +270,7 @@ def must_have_groups(upon: dict[str, list[str]]) -> None:
 def write_output(
     options: Options, source: Source, made: Made, window: Window, anonymous: Anonymous | None
 ) -> None:
-    """Writes the trace and its companion, by the numbers of `anonymous` if it isn't None."""
+    """Writes the trace and its companion, both anonymous if `anonymous` isn't None."""
     written = write(options, anonymous.parts(made.parts) if anonymous else made.parts)
     tell(f"trace: {written.size} bytes, sha256 {written.digest}")
     known = companion(source, made.converted, window, written, not options.no_names)
@@ -307,7 +312,7 @@ def convert_recording(options: Options) -> int:
 
 
 def psitrace(arguments: Sequence[str] | None) -> int:
-    """Converts the recording that the arguments name, and returns the exit status."""
+    """Parses the arguments, converts the recording that they name, and returns the exit status."""
     try:
         return convert_recording(options_of(arguments))
     except (Different, NotATrace) as fault:
@@ -316,5 +321,6 @@ def psitrace(arguments: Sequence[str] | None) -> int:
 
 
 def main(arguments: Sequence[str] | None = None) -> int:
-    """Runs the command with these arguments, or with the process's own if None."""
+    """Runs the command with these arguments, or with the process's own arguments if they are None.
+    """
     return run(lambda: psitrace(arguments))

@@ -1,5 +1,5 @@
-"""Makes the companion file of a converted trace, which has the names of its tasks and containers,
-and its time of day.
+"""Creates the companion file of a converted trace. It contains the names of tasks and containers,
+and the time of day at the start.
 """
 from __future__ import annotations
 
@@ -24,7 +24,7 @@ class Written(NamedTuple):
 def companion(
     source: Source, converted: Converted, window: Window, written: Written, has_names: bool
 ) -> Companion:
-    """Makes the companion of a trace, with or without names."""
+    """Returns the companion of a trace, with or without names."""
     length = converted.world.now
     known = Companion(written.size, written.digest, length, begins=converted.begins)
     if source.realtime is not None:
@@ -40,8 +40,8 @@ def companion(
 
 
 def busiest_lives(known: Companion) -> list[Life]:
-    """Returns the lives of the processes that ran most in some window, with the label 0: a folded
-    trace doesn't contain the recorded tasks.
+    """Returns an entry for each process that is among the busiest of some window. Its task label is
+    0, since a folded trace doesn't contain the recorded tasks.
     """
     lives: dict[int, Life] = {}
     for busy in known.busy:

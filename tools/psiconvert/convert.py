@@ -26,13 +26,13 @@ from .first import Beginning, First, beginning_of, reports_births
 from .lead_in import TICK, Averages, LeadIn
 from .player import Player, Samples
 
-# The length (ns) of the windows for which a companion lists the busiest processes.
+# The length (ns) of a window for which a companion lists the busiest processes.
 WINDOW = 10**9
 
 
 class Known(NamedTuple):
-    """What is known of a task before the trace begins: its group, its process, its state, whether
-    it is in a memory stall, and its escaped name.
+    """The state of a task before the trace begins: its group, its process, its state and processor,
+    whether it is in a memory stall, and its escaped name.
     """
 
     path: str
@@ -44,9 +44,9 @@ class Known(NamedTuple):
 
 @dataclass
 class Prior:
-    """The state before the trace begins: the groups, the groups that aren't accounted, the tasks,
-    and the memory samples. If no event names a task up to `settled` (ns), the task's state here is
-    right. `is_sound` says whether no event was lost before the trace begins.
+    """The state before the trace begins: all groups, the groups that aren't accounted (`off`), the
+    tasks, and the memory samples. A task's state is correct if no event names the task up to
+    `settled` (ns). `is_sound` says that no event was lost before the trace begins.
     """
 
     groups: list[str]
@@ -59,11 +59,11 @@ class Prior:
 
 
 class Converted(NamedTuple):
-    """A converted trace and the figures for the report: counts of events by name, the number of
-    waits for IO and of sleeps in state D, victims of the kernel's OOM killer (time in ns and task),
-    and the limit of traces at which it ends. `begins` is the time (ns of the trace) at which the
-    recording begins, and `without_past` the number of groups without a lead-in. A folded trace has
-    its lines in `folded` instead of `lines`.
+    """A converted trace, with figures for the report: counts of events by name, the numbers of
+    waits for IO and of sleeps in state D, and the victims of the kernel's OOM killer (time in ns,
+    task). `limit` is the limit of traces at which the trace ends, or None. `begins` is the trace's
+    time (ns) at which the recording begins, and `without_past` the number of groups without a
+    warm-up. The lines of a folded trace are in `folded` instead of `lines`.
     """
 
     lines: list[str]
@@ -79,8 +79,8 @@ class Converted(NamedTuple):
 
 
 class Facts(NamedTuple):
-    """Facts that follow only from all events together: the indices of the switches that begin a
-    wait for IO, and the changes of accounting.
+    """Facts that require all events together: the indices of the switches that begin a wait for IO,
+    and the changes of accounting.
     """
 
     waits: set[int]
@@ -94,7 +94,7 @@ def snapshot_prior(
     snapshot: Snapshot, events: Sequence[Event], beginning: Beginning, off: set[str]
 ) -> Prior:
     """Returns the state at the recording's start, according to a snapshot. The snapshot was taken
-    later, so groups and tasks that were created in between are left out.
+    later than the start. Groups and tasks that were created in between are omitted.
     """
     first_events: dict[str, type] = {}
     for event in events:
@@ -128,7 +128,7 @@ def snapshot_prior(
 
 
 def world_prior(world: World, samples: Samples, is_sound: bool) -> Prior:
-    """Returns the present state of `world` as the state before a trace."""
+    """Converts the current state of `world` to the initial state of a trace."""
     tasks = {
         number: Known(
             task.group, task.process, First(task.state, task.processor), task.is_stalled,
@@ -140,13 +140,11 @@ def world_prior(world: World, samples: Samples, is_sound: bool) -> Prior:
     return Prior(groups, world.off, tasks, samples, 0 if is_sound else NEVER, is_sound)
 
 
-# ---------------------------------------------------------------- the start
+# ---------------------------------------------------------------- the start of the trace
 
 
 def first_of(number: int, prior: Prior, beginning: Beginning) -> First:
-    """Returns the state of a task at the start. Events of the trace have priority over the state
-    that was known before.
-    """
+    """Returns the state of a task at the start. What the events show overrides the known state."""
     known, said = prior.tasks.get(number), beginning.tasks.get(number)
     if said is None:
         state, processor, _ = known.first if known else First(State.ASLEEP, 0)
@@ -165,9 +163,9 @@ def first_of(number: int, prior: Prior, beginning: Beginning) -> First:
 
 
 def late_state(known: Known | None) -> State:
-    """Returns the state at the start of a task that later runs without a wakeup. If the task wasn't
-    known to run or to be ready, it was probably woken or created by a task for which the kernel
-    writes no events. Then it isn't taken for ready, since it would wait from the start.
+    """Returns the initial state of a task that later runs without a wakeup. If the task wasn't
+    known to run or to be ready, the kernel probably wrote no event when it was woken or created.
+    Such a task is assumed to be asleep: if it were ready, it would wait from the start.
     """
     if known is None:
         return State.ASLEEP
@@ -175,8 +173,8 @@ def late_state(known: Known | None) -> State:
 
 
 def begin_task(world: World, number: int, known: Known, first: First, is_stalled: bool) -> None:
-    """Writes the lines of a task that exists at the start. A task that sleeps, waits for IO or is
-    in a stall runs for zero time before that.
+    """Writes the lines of a task that exists at the start. A task must run before it sleeps, waits
+    for IO or stalls, so such a task first runs for zero time.
     """
     processor = first.processor if 0 <= first.processor < world.processors else 0
     task = world.fork(number, known.path, processor, known.process)
@@ -203,7 +201,8 @@ def begin_groups(world: World, prior: Prior) -> None:
 
 
 def begin(world: World, prior: Prior, beginning: Beginning) -> None:
-    """Writes the initial state: the memory samples, and then the tasks, the running tasks last."""
+    """Writes the initial state: first the memory samples, then the tasks. Running tasks are last.
+    """
     if prior.samples.host:
         world.put(f"host {prior.samples.host}")
     for path, sample in sorted(prior.samples.groups.items()):
@@ -225,8 +224,8 @@ def begin(world: World, prior: Prior, beginning: Beginning) -> None:
 
 
 def chosen(firsts: dict[int, First], prior: Prior, beginning: Beginning) -> list[int]:
-    """Returns the tasks of the initial state. If there are too many for a trace, returns only the
-    tasks that an event names, and one of the other tasks of each group, so that no group is empty.
+    """Returns the tasks of the initial state. If there are more than a trace may have, returns only
+    the tasks that an event names, and one other task of each group, so that no group is empty.
     """
     if len(firsts) <= MOST_TASKS // 2:
         return list(firsts)
@@ -237,7 +236,7 @@ def chosen(firsts: dict[int, First], prior: Prior, beginning: Beginning) -> list
     return [*named, *of_groups.values()]
 
 
-# ---------------------------------------------------------------- the whole trace
+# ---------------------------------------------------------------- converting the events
 
 
 def place_of(events: Sequence[Event], time_ns: int) -> int:
@@ -246,14 +245,14 @@ def place_of(events: Sequence[Event], time_ns: int) -> int:
 
 
 def player_of(world: World, source: Source, facts: Facts) -> Player:
-    """Returns a player that plays the recording's events in `world`."""
+    """Returns an object that applies the recording's events to `world`."""
     return Player(world, source.events, facts.waits, facts.accounts.found, source.snapshot.types)
 
 
 def prior_of(
     source: Source, until: int, facts: Facts, deepest: int | None, is_sound: bool
 ) -> Prior:
-    """Returns the state before the event with the index `until`."""
+    """Returns the state right before the event with the index `until`."""
     beginning = beginning_of(source.events, reports_births(source.events))
     prior = snapshot_prior(source.snapshot, source.events, beginning, facts.accounts.off)
     if not until:
@@ -271,7 +270,7 @@ def prior_of(
 
 
 def limit_of(world: World) -> str | None:
-    """Returns the limit of traces that the lines of `world` exceed, or None."""
+    """Returns the limit of traces that `world` has reached, as text, or None."""
     if len(world.lines) >= MOST_EVENTS:
         return f"{MOST_EVENTS} events"
     if len(world.tasks) > MOST_TASKS:
@@ -282,8 +281,9 @@ def limit_of(world: World) -> str | None:
 
 
 def play(player: Player, source: Source, places: range, window: Window) -> str | None:
-    """Plays the events at the indices `places`. Stops at the first event that exceeds a limit of
-    traces, and returns the limit; otherwise ends the trace at the window's end and returns None.
+    """Applies the events with the indices `places`, and ends the trace at the window's end. Stops
+    early, and returns the limit as text, at the first event that exceeds a limit of traces. Returns
+    None if no limit was exceeded.
     """
     world = player.world
     for place in places:
@@ -301,22 +301,22 @@ def play(player: Player, source: Source, places: range, window: Window) -> str |
 
 
 class Past(NamedTuple):
-    """The lead-in before a recording: its length in ticks, and the machine's averages by group at
-    its end.
+    """The warm-up before a recording: its length in ticks, and the averages of each group at its
+    end, as on the machine.
     """
 
     ticks: int
     averages: dict[str, Averages]
 
     def length(self) -> int:
-        """Returns the length of the lead-in (ns)."""
+        """Returns the length of the warm-up (ns)."""
         return self.ticks * TICK
 
 
 class Wanted(NamedTuple):
-    """The options of a conversion: the window, the method by which waits for IO are recognised, the
-    greatest depth of groups, the lines to write when a group is created (by path), whether
-    interrupts are included, and the lead-in.
+    """The options of a conversion: the window, the method by which waits for IO are recognised, and
+    the largest depth of groups. `upon` contains the lines to write when a group is created, keyed
+    by path. The other options are whether interrupts are included, and the warm-up.
     """
 
     window: Window
@@ -328,7 +328,7 @@ class Wanted(NamedTuple):
 
 
 def convert(source: Source, wanted: Wanted) -> Converted:
-    """Converts a whole recording at once, without folding."""
+    """Converts a whole recording in one step, without folding."""
     window, deepest = wanted.window, wanted.deepest
     facts = Facts(
         waits_for_io(source.events, wanted.method), accounts_of(source.events, source.snapshot)
@@ -369,5 +369,5 @@ def convert(source: Source, wanted: Wanted) -> Converted:
 
 
 def count_in(found: set[int], places: range) -> int:
-    """Returns how many of the indices `found` are in `places`."""
+    """Counts the indices in `found` that are also in `places`."""
     return sum(it in places for it in found)

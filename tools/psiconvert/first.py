@@ -1,6 +1,6 @@
-"""Derives the state of each task at the beginning of a trace. No event reports that state, but the
-first event that names a task shows it: the previous task of a switch ran, the next task was ready,
-and a task that is woken was asleep.
+"""Derives the state of each task at the start of a trace. No event reports that state, but the
+first event that names a task shows it. The previous task of a switch was running, the next task was
+ready, and a task that is woken was asleep.
 """
 from __future__ import annotations
 
@@ -21,13 +21,13 @@ from psiread.events import (
 )
 from psiworld.world import State
 
-# Hardly any task is ready for longer than this (ns) without running.
+# The time (ns) for which a task may be ready before it runs. Few tasks are ready for longer.
 LONGEST_READY = 10**9
 
 
 class First(NamedTuple):
     """The state of a task at the start, its processor, and the time (ns) of the event that shows
-    the state, or 0 if no event does.
+    the state. The time is 0 if no event shows it.
     """
 
     state: State
@@ -36,38 +36,40 @@ class First(NamedTuple):
 
 
 class Beginning:
-    """The initial state, according to the events. If no event reports new tasks, a task that first
-    runs after `latest_ready` (ns) is taken for new, since hardly any task is ready for that long.
+    """The initial state, derived from the events. If no event reports new tasks, a task that first
+    runs after `latest_ready` (ns) counts as new, since few tasks are ready for that long.
     """
 
     def __init__(self, latest_ready: int) -> None:
         self.latest_ready = latest_ready
         self.tasks: dict[int, First] = {}
-        # The task that ran on each processor at the start, 0 for none.
+        # The task that ran on each processor at the start. 0 is the idle task.
         self.runs: dict[int, int] = {}
         # Tasks that were created after the start.
         self.born: set[int] = set()
-        # Tasks that waited for IO at the start, according to the statistics.
+        # Tasks that waited for IO at the start, according to `sched_stat_iowait`.
         self.waited: set[int] = set()
-        # Whether each task was in a memory stall at the start, if that is known.
+        # Whether a task was in a memory stall at the start. Tasks whose state isn't known are
+        # absent.
         self.stalled: dict[int, bool] = {}
         self.depths: dict[int, int] = {}
         self.origins: dict[int, int] = {}
 
     def is_new(self, task: int) -> bool:
-        """Whether this event is the first that names `task`."""
+        """Returns whether no earlier event named `task`. Always False for 0, the idle task."""
         return task != 0 and task not in self.tasks and task not in self.born
 
     def name(self, task: int, state: State, processor: int, time_ns: int) -> None:
-        """Stores the state of a task at the start, if this is the first event that names the task.
-        If a migration of the task was seen before, its processor at the start is the origin of that
-        migration.
+        """Stores the initial state of a task, if no earlier event named the task. If a migration of
+        the task came before, the task's initial processor is the origin of the migration.
         """
         if self.is_new(task):
             self.tasks[task] = First(state, self.origins.get(task, processor), time_ns)
 
     def take(self, event: Event) -> None:
-        """Processes the next event. Each event also shows which task runs on its processor."""
+        """Derives initial states from the next event. Each event also shows which task runs on its
+        processor.
+        """
         self.runs.setdefault(event.processor, event.current)
         self.name(event.current, State.RUNNING, event.processor, event.time_ns)
         if isinstance(event, Switch):
@@ -91,9 +93,10 @@ class Beginning:
             self.take_stall(event)
 
     def take_stall(self, event: StallBegins | StallEnds) -> None:
-        """Processes the begin or end of a memory stall. A task that leaves a stall without having
-        entered it was in the stall at the start. A task that entered a nested stall was in a stall
-        too; the flags at the end of the nested stall show that.
+        """Derives from the start or end of a memory stall whether the task was in a stall at the
+        start. A task that leaves a stall without having entered it was in that stall at the start.
+        So was a task that remains in an outer stall, according to the flags, when a nested stall
+        ends.
         """
         task = event.current
         if task in self.stalled or task in self.born:
@@ -108,12 +111,12 @@ class Beginning:
 
 
 def reports_births(events: Iterable[Event]) -> bool:
-    """Whether these events report the creation of tasks."""
+    """Returns whether these events report the creation of tasks."""
     return any(isinstance(event, (NewTask, FirstWakeup)) for event in events)
 
 
 def beginning_of(events: Sequence[Event], has_births: bool) -> Beginning:
-    """Returns the state before the first of these events. `has_births` says whether the
+    """Returns the initial state that follows from all these events. `has_births` says whether the
     recording reports the creation of tasks.
     """
     is_open = has_births or not events

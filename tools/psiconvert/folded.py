@@ -1,12 +1,12 @@
 """Converts a recording of any length to a folded trace, one slice of events and one window of lines
 at a time.
 
-The result is that of folding the result of `convert`, which takes all events at once, except in
-three cases that don't occur in a short recording. The initial state of each task follows only from
-the events of the first minute, which are read twice for that. A switch that the kernel didn't write
-is inserted at the time of its task's last event, but at earliest in the previous slice. A wait for
-IO that only its end shows is found only if the end is in the same slice or the next. A slice is at
-least 2 s long.
+The result equals the folded result of `convert`, which reads all events at once. There are three
+exceptions, none of which occurs in a short recording. The initial state of each task is derived
+from the events of the first minute only, which are read twice for that. A switch that the kernel
+didn't write is inserted at the time of its task's last event, but not earlier than in the previous
+slice. A wait for IO that only its end shows is found only if it ends in the same slice or the next.
+A slice is at least 2 s long.
 """
 from __future__ import annotations
 
@@ -39,12 +39,13 @@ from .unwritten import UNWRITTEN
 
 # The number of lines that are folded at once.
 LINES = 5_000
-# A function that returns all events in slices. Each call begins again with the first slice.
+# A function that returns all events in slices. Each call starts again with the first slice.
 Slices = Callable[[], Iterable[list[Event]]]
 
 
 class Spool:
-    """The lines of a folded trace, in a temporary file until the conversion has succeeded."""
+    """The lines of a folded trace. They are in a temporary file until the conversion has succeeded.
+    """
 
     def __init__(self) -> None:
         # The file is unbuffered, since another process may write it.
@@ -55,14 +56,16 @@ class Spool:
         return 1 + self.events
 
     def put(self, lines: list[str]) -> None:
-        """Adds lines. Raises TooMany if a trace couldn't have them and an end line."""
+        """Appends lines. Raises TooMany if the trace reaches the limit MOST_EVENTS without an end
+        line.
+        """
         if self.events + len(lines) >= MOST_EVENTS and not lines[-1].endswith(" end"):
             raise TooMany(f"{MOST_EVENTS} events")
         self.events += len(lines)
         self.write("".join(f"{line}\n" for line in lines))
 
     def write(self, text: str) -> None:
-        """Appends the text."""
+        """Appends `text` to the file. Raises Unreadable if that fails."""
         rest = memoryview(text.encode("ascii"))
         try:
             while rest:
@@ -72,13 +75,13 @@ class Spool:
             raise Unreadable(f"{name}: {fault.strerror}") from None
 
     def close(self, events: int, time_ns: int) -> None:
-        """Ends a trace of `events` lines by an end line at `time_ns`."""
+        """Completes a trace of `events` lines with an end line at `time_ns`."""
         self.file.seek(0, os.SEEK_END)
         self.write(f"{time_ns} end\n")
         self.events = events + 1
 
     def parts(self) -> Iterator[bytes]:
-        """Yields the whole file: the header line, then the rest in pieces of up to 1 MiB."""
+        """Yields the whole trace: the header line, and then the rest in pieces of up to 1 MiB."""
         yield f"{self.header}\n".encode("ascii")
         self.file.seek(0)
         while part := self.file.read(1 << 20):
@@ -86,9 +89,8 @@ class Spool:
 
 
 class Conversion:
-    """Plays the events of a recording slice by slice, and passes the resulting lines to `put`.
-    `window` is the length (ns) of a folded window. `accounts` has the changes of accounting by the
-    event that reports them.
+    """Converts the events of a recording slice by slice, and passes the resulting lines to `put`.
+    `window` is the length (ns) of a folded window. `accounts` contains the changes of accounting.
     """
 
     def __init__(
@@ -109,13 +111,13 @@ class Conversion:
         self.is_begun = False
         self.counts: Counter[str] = Counter()
         self.waits = self.uninterruptible = 0
-        # `probes` has the probes whose switches are in the next slice. `early` has for each task
-        # the number of renumberings in the next slice that the player already handled.
+        # `probes` contains the probes whose switches are in the next slice. `early` counts, for
+        # each task, the exec events of the next slice that the player has already applied.
         self.probes: dict[int, SwitchProbe] = {}
         self.early: Counter[int] = Counter()
 
     def waits_in(self, part: Slice) -> set[int]:
-        """Returns the indices of a slice's switches that begin a wait for IO."""
+        """Returns the indices of the switches in a slice that begin a wait for IO."""
         if self.wanted.method is Method.STATE:
             return by_state(part.events)
         if self.wanted.method is Method.PROBE:
@@ -128,7 +130,9 @@ class Conversion:
         return {place for place in by_statistics(part.both()) if place < len(part.events)}
 
     def prepare(self, player: Player, part: Slice, waits: set[int]) -> None:
-        """Sets what the player needs of a slice: waits, accounting, and renumberings by exec."""
+        """Passes the facts about a slice to the player: its waits for IO, its changes of
+        accounting, and its exec events that change a task's number.
+        """
         player.waits = waits
         player.accounts.clear()
         player.changes.clear()
@@ -141,7 +145,8 @@ class Conversion:
             del player.changes[task][:count]
 
     def note_early(self, player: Player, part: Slice) -> None:
-        """Counts the renumberings in the next slice that the player handled in this slice already.
+        """Counts the exec events of the next slice that the player has already applied in this
+        slice.
         """
         following = part.following if part.has(Exec) else ()
         counts = Counter(
@@ -156,7 +161,7 @@ class Conversion:
         )
 
     def play(self, part: Slice) -> bool:
-        """Plays a slice, and returns whether the window continues after it."""
+        """Converts a slice. Returns whether the window extends beyond it."""
         events, window = part.events, self.wanted.window
         start = bisect_left(events, window.start, key=BY_TIME)
         end = bisect_left(events, window.end + 1, key=BY_TIME)
@@ -185,16 +190,14 @@ class Conversion:
         return end == len(events)
 
     def new_player(self, world: World, beginning: Beginning) -> Player:
-        """Writes the state before the trace into `world`, and returns a player for it."""
+        """Writes the initial state into `world`, and returns a player that continues from there."""
         assert self.prior
         begin_groups(world, self.prior)
         begin(world, self.prior, beginning)
         return Player(world, [], set(), {}, self.source.snapshot.types)
 
     def begin(self) -> None:
-        """Begins the trace. Its initial state is the state after the events that were played so
-        far.
-        """
+        """Starts the trace. Its initial state is the state after all events so far."""
         wanted, source = self.wanted, self.source
         if self.player:
             is_sound = not any(gap.start < wanted.window.start for gap in source.gaps)
@@ -209,7 +212,8 @@ class Conversion:
         self.player, self.is_begun = self.new_player(world, self.ahead.window), True
 
     def play_window(self, player: Player, events: list[Event], places: range) -> None:
-        """Plays the events at these indices, and passes their lines on. Common kinds are inlined.
+        """Applies the events with these indices, and passes the resulting lines on. Frequent kinds
+        of events are handled inline, for speed.
         """
         world, start, put, play = player.world, self.wanted.window.start, self.put, player.play
         switch, wake, migrate, lines = player.switch, player.wake, player.migrate, world.lines
@@ -236,7 +240,7 @@ class Conversion:
         world.lives.clear()  # a folded trace doesn't have these tasks
 
     def world(self) -> World:
-        """Returns the world of the trace."""
+        """Returns the world of the trace, which is started first if necessary."""
         if not self.is_begun:
             self.begin()
         assert self.player
@@ -262,7 +266,9 @@ class Conversion:
 
 
 class Folded(NamedTuple):
-    """A folded trace: figures for the report, the file with its lines, and the outcome."""
+    """A folded trace: the figures for the report, the file that contains its lines, and the result
+    of folding.
+    """
 
     converted: Converted
     spool: Spool
@@ -270,7 +276,7 @@ class Folded(NamedTuple):
 
 
 def play_slices(conversion: Conversion, slices: Iterable[Slice], progress: Progress) -> World:
-    """Plays the slices up to the end of the window, ends the trace, and returns its world."""
+    """Converts the slices up to the end of the window, ends the trace, and returns its world."""
     start = conversion.wanted.window.start
     for part in slices:
         progress.show(part.events[0].time_ns - start if part.events else 0)
@@ -288,9 +294,10 @@ def convert_folded(
     folding: Folding,
     is_large: bool,
 ) -> Folded:
-    """Converts a recording and folds the trace. If the recording is large, another process folds.
+    """Converts a recording, and folds the trace. A large recording is folded in a separate process.
     """
-    # Events form no reference cycles, and the search for cycles would take a tenth of the time.
+    # The garbage collector is off: events form no reference cycles, and the search for cycles would
+    # take a tenth of the time.
     gc.disable()
     spool = Spool()
     fold = Fold(source.processors, folding.length, spool.put, folding.victims)

@@ -1,11 +1,12 @@
-"""Writes a lead-in: artificial events before the first event of a recording, after which the
-averages of its groups have the values of the machine's pressure files.
+"""Writes a warm-up (option --lead-in): artificial events before the first event of a recording. At
+the end of the warm-up, the averages of each group equal those in the machine's pressure files.
+Without a warm-up, a trace's averages begin at 0.
 
-Without a lead-in, a trace's averages begin at 0. The lead-in consists of three stretches of
-constant pressure, since there are three averages: the last 20 s, the 100 s before these, and the
-time before. Each group gets artificial processors for the lead-in, in addition to the machine's. A
-few artificial tasks wait, stall and run there for such times that the group has the wanted shares
-of pressure. The pressure of its descendants counts too. At the end all artificial tasks exit.
+The warm-up consists of three stretches of constant pressure, since there are three averages: the
+last 20 s, the 100 s before these, and the time before. Each group gets artificial processors for
+the warm-up, in addition to the machine's. A few artificial tasks wait, stall and run there, so that
+the group has the wanted shares of pressure. The pressure of its descendants counts too. At the end
+all artificial tasks exit.
 """
 from __future__ import annotations
 
@@ -19,15 +20,16 @@ from psiworld.groups import ROOT, prefixes_of
 from psiworld.world import How, State, World
 
 TICK = 2 * SECOND
-# The factor by which an average decays in a tick, by its period (s), from kernel/sched/psi.c.
+# The factor by which an average decays in a tick, keyed by the average's period (s), from
+# kernel/sched/psi.c.
 FACTORS = {10: 1677 / 2048, 60: 1981 / 2048, 300: 2034 / 2048}
-# The lengths of the last two stretches, in ticks.
+# The lengths, in ticks, of the last stretch and of the one before it.
 LAST, MIDDLE = 10, 50
-# The first number of artificial tasks, larger than any pid of a kernel.
+# The first number for artificial tasks. It is larger than any pid of a kernel.
 FIRST_NUMBER = 4_000_000_000
-# A group gets the fewest artificial processors for which its shares differ by at most NEAR percent
-# from the wanted shares, but at most MOST_OWN. A group whose averages are all below LEAST percent
-# has no lead-in.
+# A group gets the smallest number of artificial processors, at most MOST_OWN, with which its shares
+# differ from the wanted shares by at most NEAR percent. A group whose averages are all below LEAST
+# percent has no warm-up.
 NEAR, MOST_OWN, LEAST = 0.5, 48, 0.5
 STRETCHES = 3
 WHOLE = 100.0
@@ -38,13 +40,13 @@ SAMPLE = re.compile(
 )
 LINE = re.compile(r"(some|full) avg10=([\d.]+) avg60=([\d.]+) avg300=([\d.]+)")
 
-# The averages of a group's pressure files by resource and level: percent over 10, 60 and 300 s.
+# A group's averages by resource and level: percent over 10, 60 and 300 s.
 Averages = dict[tuple[str, str], tuple[float, float, float]]
 
 
 class Shares(NamedTuple):
-    """The shares of pressure of a group on one processor, in percent of a tick: for each resource
-    the time for which some task is delayed, and for which all are.
+    """A group's pressure on one processor, in percent of a tick. For each resource, `some` is the
+    time in which at least one task is delayed, and `full` the time in which all are.
     """
 
     io_some: float
@@ -56,7 +58,9 @@ class Shares(NamedTuple):
 
 
 def averages_in(text: str, number: int) -> dict[str, Averages]:
-    """Returns the averages of each group in reading `number` of the pressure files, by path."""
+    """Returns the averages of each group, keyed by path, in the reading `number` of the pressure
+    files.
+    """
     found: dict[str, Averages] = {}
     for sample in SAMPLE.finditer(text):
         if int(sample[1]) == number:
@@ -68,8 +72,8 @@ def averages_in(text: str, number: int) -> dict[str, Averages]:
 
 
 def stretches_of(averages: Sequence[float], ticks: int) -> list[float]:
-    """Returns the pressures (0 to 100 percent) of the three stretches, the earliest first, after
-    which averages that begin at 0 are as near as possible to `averages`.
+    """Returns the pressures (0 to 100 percent) of the three stretches, the earliest first. After
+    them, averages that begin at 0 are as near as possible to `averages`.
     """
     lengths = (ticks - MIDDLE - LAST, MIDDLE, LAST)
     rows = []
@@ -90,8 +94,8 @@ def stretches_of(averages: Sequence[float], ticks: int) -> list[float]:
 
 
 def possible(shares: Iterable[float]) -> Shares:
-    """Returns the possible shares of one processor that are nearest to `shares`: full is at most
-    some, and no task is ready while all tasks wait for IO.
+    """Returns the shares nearest to `shares` that a processor can have: `full` is at most `some`,
+    and no task is ready while all tasks wait for IO.
     """
     io_some, io_full, memory_some, memory_full, cpu_some, cpu_full = (
         min(WHOLE, max(0.0, it)) for it in shares
@@ -103,9 +107,10 @@ def possible(shares: Iterable[float]) -> Shares:
 
 
 class Status(NamedTuple):
-    """The state of a group's processor in a part of a tick: whether a task waits for IO, whether a
-    task is in a memory stall, and whether all are; whether a task is ready or runs, whether another
-    task waits for the processor, and whether a task from outside the group runs.
+    """The state of a group's processor in a part of a tick. `waits` says that a task waits for IO,
+    `stalls` that a task is in a memory stall, and `all_stall` that all tasks are. `is_ready` says
+    that a task is ready or runs, `is_queued` that another task waits for the processor, and
+    `is_outside` that a task from outside the group runs.
     """
 
     waits: bool
@@ -117,10 +122,10 @@ class Status(NamedTuple):
 
 
 def timeline(shares: Shares) -> list[tuple[float, Status]]:
-    """Returns the statuses of a tick in order, each with the percentage of the tick at which it
-    begins. First no task is ready, so all tasks wait for IO. Then one task of the group runs. Then
-    another task of the group waits for the processor. At last both wait, because a task from
-    outside runs.
+    """Returns the states of a processor during a tick, in order, each with the percentage of the
+    tick at which it begins. First all tasks wait for IO, and none is ready. Then one task of the
+    group runs. Then a second task of the group waits for the processor. At last both wait, because
+    a task from outside the group runs.
     """
     begins = shares.io_full
     some = max(begins, shares.memory_full)
@@ -136,9 +141,9 @@ def timeline(shares: Shares) -> list[tuple[float, Status]]:
 
 
 class Stage:
-    """An artificial processor of a group, with five artificial tasks: one waits for IO, one sleeps
-    in a memory stall, one runs, one waits for the processor, and one task of the root group takes
-    the processor from the last two.
+    """An artificial processor of a group, with five artificial tasks. The first waits for IO, the
+    second sleeps in a memory stall, the third runs, and the fourth waits for the processor. The
+    fifth is a task of the root group, which takes the processor from the third and the fourth.
     """
 
     def __init__(self, world: World, path: str, processor: int, number: int) -> None:
@@ -151,7 +156,8 @@ class Stage:
             world.detour(task, How.SLEEP)
 
     def put(self, task: int, state: State, is_stalled: bool) -> None:
-        """Puts a task into this state. To change its state, the task runs for zero time or longer.
+        """Changes the state of a task. A task that changes its state runs in between, possibly for
+        zero time.
         """
         world, it = self.world, self.world.tasks[task]
         if it.state is state and it.is_stalled == is_stalled:
@@ -168,7 +174,7 @@ class Stage:
             world.leave(self.processor, how)
 
     def show(self, status: Status) -> None:
-        """Puts the tasks into the states that give this status."""
+        """Puts all tasks into the states that `status` describes."""
         ready, asleep = State.READY, State.ASLEEP
         stalls_ready = status.all_stall and status.is_ready
         self.put(self.waiter, State.WAITING if status.waits else asleep, False)
@@ -188,7 +194,7 @@ class Stage:
             self.put(self.outsider, State.RUNNING, False)
 
     def end(self) -> None:
-        """Ends all tasks of the stage."""
+        """Ends all artificial tasks of this processor."""
         for task in (self.waiter, self.staller, self.other, self.outsider, self.runner):
             self.put(task, State.ASLEEP, False)
         for task in (self.waiter, self.staller, self.other, self.outsider, self.runner):
@@ -197,16 +203,16 @@ class Stage:
 
 
 class Diffusion:
-    """Converts constant shares to whole percentages that vary from tick to tick and have the same
-    mean: the kernel computes averages from whole percentages.
+    """Rounds constant shares to whole percentages that vary from tick to tick and have the same
+    mean. The kernel computes its averages from whole percentages.
     """
 
     def __init__(self) -> None:
         self.rest: dict[tuple[str, tuple[str, str]], float] = {}
 
     def percent(self, path: str, pressure: tuple[str, str], share: float) -> float:
-        """Returns the share (percent) in the next tick. It is 0, or half a percent above the whole
-        percentage to which the kernel rounds it down.
+        """Returns the share (percent) in the next tick: 0, or a whole percentage plus one half,
+        which the kernel rounds down to the whole percentage.
         """
         owed = self.rest.get((path, pressure), 0.0) + share
         whole = int(owed)
@@ -215,9 +221,9 @@ class Diffusion:
 
 
 class LeadIn:
-    """Writes the lead-in into `world`, whose groups must exist. `averages` has the wanted averages
-    by group, and `most` is the greatest number of processors. `left_out` counts the groups for
-    which no processor is left.
+    """Writes the warm-up into `world`, whose groups must exist. `averages` contains the wanted
+    averages by group, and `most` is the largest number of processors. `left_out` counts the groups
+    for which no processor remains.
     """
 
     def __init__(self, world: World, averages: dict[str, Averages], ticks: int, most: int) -> None:
@@ -226,7 +232,7 @@ class LeadIn:
         wanted = {
             path: it for path, it in live.items() if max(max(each) for each in it.values()) >= LEAST
         }
-        # A group comes after its descendants.
+        # Each group follows its descendants.
         self.paths = sorted(
             wanted, key=lambda path: (-path.count("/") if path != ROOT else 1, path)
         )
@@ -239,8 +245,8 @@ class LeadIn:
         self.make_stages(world.processors, most)
 
     def make_stages(self, first: int, most: int) -> None:
-        """Assigns to each group the fewest processors that give nearly its wanted shares. Their
-        numbers are at least `first` and below `most`.
+        """Assigns to each group the smallest number of processors that gives nearly its wanted
+        shares. The processors' numbers are `first <= number < most`.
         """
         own: list[dict[str, Shares]] = [{} for _ in range(STRETCHES)]
         for path in list(self.paths):
@@ -272,8 +278,8 @@ class LeadIn:
         ]
 
     def off(self, path: str, count: int, own: list[dict[str, Shares]]) -> float:
-        """Returns the largest error of a group's shares (percent) if the group gets `count`
-        processors. `own` has the shares of the descendants' processors, by stretch.
+        """Returns the largest error (percent) of a group's shares if the group has `count`
+        processors. `own` contains, for each stretch, the shares of its descendants' processors.
         """
         worst = 0.0
         for stretch, shares in enumerate(own):
@@ -288,7 +294,7 @@ class LeadIn:
         return worst
 
     def play(self) -> None:
-        """Writes the lead-in, tick by tick."""
+        """Writes the warm-up, tick by tick."""
         diffusion = Diffusion()
         for tick in range(self.ticks):
             stretch = (
@@ -318,8 +324,8 @@ class LeadIn:
     def rest_of(
         self, path: str, count: int, wanted: Sequence[float], own: dict[str, Shares]
     ) -> list[float]:
-        """Returns the shares that each of a group's `count` processors needs so that the group has
-        the wanted shares together with its descendants, whose shares are in `own`.
+        """Returns the shares that each of a group's `count` processors needs. With them, the group
+        and its descendants together have the wanted shares. `own` contains the descendants' shares.
         """
         below = [
             (len(self.stages[it]), shares_in(own[it], path)) for it in own if is_below(it, path)
@@ -333,13 +339,13 @@ class LeadIn:
 
 
 def is_below(path: str, above: str) -> bool:
-    """Whether `path` is a descendant of `above`."""
+    """Returns whether `path` is a descendant of `above`."""
     return path != above and (above == ROOT or above in prefixes_of(path))
 
 
 def shares_in(shares: Shares, path: str) -> Shares:
-    """Returns the shares that the ancestor `path` has on a descendant's processor. The task from
-    outside is a task of the root, so for the root this task isn't outside, and isn't stalled.
+    """Returns the shares of the ancestor `path` on a descendant's processor. The task from outside
+    belongs to the root. So for the root this task isn't from outside, and it isn't stalled.
     """
     if path != ROOT:
         return shares

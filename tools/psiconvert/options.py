@@ -1,4 +1,4 @@
-"""The options of tools/psitrace."""
+"""Parses the command line of tools/psitrace."""
 from __future__ import annotations
 
 import re
@@ -45,12 +45,14 @@ trace; and 12 for a time outside the recording.
 """
 LEVELS = ("some", "full")
 MOST_TRIGGERS = 256
-# The shortest and the longest lead-in (ns).
+# The shortest and the longest warm-up (ns), by the option --lead-in.
 LEAST_PAST, MOST_PAST = 300 * SECOND, 3600 * SECOND
 
 
 class Options(NamedTuple):
-    """The parsed command line. `wall` is the time of day at the start, if an option gives it."""
+    """The parsed command line. `wall` is the time of day at the start, or None if no option gives
+    it.
+    """
 
     source: str
     output: str | None
@@ -74,7 +76,7 @@ class Options(NamedTuple):
 
 
 def trigger_of(text: str) -> str:
-    """Parses a trigger, and returns it as the words of a trace."""
+    """Parses a trigger, and returns it in the form of a trace's line."""
     words = text.split()
     is_whole = len(words) == 5 and words[0].startswith("/")
     is_whole = is_whole and words[1] in RESOURCES and words[2] in LEVELS
@@ -109,7 +111,7 @@ def parser() -> Parser:
 
 
 def add_reading(words: Parser) -> None:
-    """Adds the options about what the events of the input mean."""
+    """Adds the options that say how to interpret the input."""
     add = words.add_argument
     add("--cpus", dest="processors", metavar="N", type=whole_number(1, MOST_PROCESSORS),
         help="the number of processors of a text's machine (without it: as many as the text shows)")
@@ -123,7 +125,7 @@ def add_reading(words: Parser) -> None:
 
 
 def add_contents(words: Parser) -> None:
-    """Adds the options about what the trace contains."""
+    """Adds the options that say what the trace contains."""
     add = words.add_argument
     add("--groups", dest="deepest", metavar="DEPTH", type=whole_number(0, 32),
         help="groups down to DEPTH levels below the root; deeper ones count in their ancestor; "

@@ -1,6 +1,6 @@
-"""Plays a recording's events, which writes the lines of the trace. An event that contradicts the
-known state is accepted, and counted in `mended`. Such events are rare in a sound recording; after
-losses the counts measure the damage.
+"""Applies a recording's events one by one, and writes the lines of the trace. An event that
+contradicts the known state is accepted, and counted in `mended`. Such events are rare in a sound
+recording; after losses the counts measure the damage.
 """
 from __future__ import annotations
 
@@ -26,7 +26,7 @@ STAYS = "R"
 
 
 class Samples:
-    """The last memory samples of the machine and of each group, in the form of a trace's lines."""
+    """The last memory samples of the machine and of each group, as the words of a trace's lines."""
 
     def __init__(self) -> None:
         self.host = ""
@@ -34,9 +34,9 @@ class Samples:
 
 
 class Player:
-    """Plays events one by one. `waits` has the indices of the switches that begin a wait for IO,
-    `accounts` the changes of accounting by the event's index, and `types` the known types of groups
-    by path.
+    """Applies events one by one. `waits` contains the indices of the switches that begin a wait for
+    IO, `accounts` the changes of accounting, keyed by the event's index, and `types` the known
+    types of groups, keyed by path.
     """
 
     def __init__(
@@ -50,21 +50,22 @@ class Player:
         self.world, self.waits, self.accounts, self.types = world, waits, accounts, dict(types)
         self.samples = Samples()
         self.victims: list[tuple[int, int]] = []
-        # The attach probe of each move between groups that is in progress, by the number of the
-        # task that writes to `cgroup.procs` or `cgroup.threads`.
+        # The attach probe of each move between groups that is in progress. The key is the number of
+        # the task that writes to `cgroup.procs` or `cgroup.threads`.
         self.moves: dict[int, AttachProbe] = {}
-        # The group that each process created last, by the process's number.
+        # The group that each process created last. The key is the process's number.
         self.groups_made: dict[int, str] = {}
         self.mended: Counter[str] = world.mended
-        # The next renumberings by exec, by the new number: the index of each exec event, and the
-        # old number. A thread takes over the number some time before that event.
+        # The coming changes of a task's number by exec, keyed by the new number: the index of each
+        # exec event, and the old number. A thread uses its new number already some time before the
+        # exec event.
         self.changes: dict[int, list[tuple[int, int]]] = defaultdict(list)
         for place, event in enumerate(events):
             if isinstance(event, Exec) and event.task != event.old and event.task:
                 self.changes[event.task].append((place, event.old))
 
     def play(self, place: int, event: Event) -> None:
-        """Plays the event at the index `place`."""
+        """Applies the event with the index `place`."""
         if isinstance(event, Switch):
             self.switch(place, event)
         elif isinstance(event, Wakeup):
@@ -96,11 +97,11 @@ class Player:
         for account in self.accounts.get(place, ()):
             self.world.switch_accounting(*account)
 
-    # ------------------------------------------------------------ numbers of tasks
+    # ------------------------------------------------------------ the numbers of tasks
 
     def is_task(self, number: int) -> bool:
-        """Whether `number` isn't 0, the idle task. In a sound recording no event wakes, creates or
-        renames the idle task, so such an event is counted and left out.
+        """Returns whether `number` isn't 0, the idle task. In a sound recording no event wakes,
+        creates or renames the idle task. Such an event is counted and ignored.
         """
         if not number:
             self.mended["event of the idle task that it can't have, left out"] += 1
@@ -112,9 +113,9 @@ class Player:
         return task.group if task else ROOT
 
     def task_of(self, number: int, place: int, fits: Callable[[Task], bool]) -> Task | None:
-        """Returns the task with this number, or None. If an exec event will give the number to
-        another thread, the thread gets it at the first event that fits only that thread, according
-        to `fits`.
+        """Returns the task `number`, or None. `fits` says whether a task can cause the event with
+        the index `place`. If a later exec event gives the number to another thread, that thread
+        gets it now if no task has it, or if only that thread fits.
         """
         changes, tasks = self.changes.get(number), self.world.tasks
         while changes and changes[0][0] < place:
@@ -126,22 +127,25 @@ class Player:
         return tasks.get(number)
 
     def change_number(self, number: int, old: int) -> None:
-        """Gives the thread `old` the number of its process's first thread. If that thread still
-        exists, it gets the number `old`, under which it leaves.
+        """Gives the thread `old` the number of its process's first thread. If the first thread
+        still exists, the two exchange their numbers, and the first thread exits under the number
+        `old`.
         """
         self.world.swap_numbers(number, old)
         self.mended["number changed by exec"] += 1
 
     def is_swapped(self, number: int, processor: int) -> bool:
-        """Whether an exec event will give the number of the running task to the thread `number`."""
+        """Returns whether a later exec event gives the number of the running task to the thread
+        `number`.
+        """
         changes = self.changes.get(self.world.running(processor))
         return bool(changes and changes[0][1] == number)
 
     # ------------------------------------------------------------ switches
 
     def switch(self, place: int, event: Switch) -> None:
-        """Switches to the next task. If the previous task isn't known to run, or the next task
-        isn't known to be ready, that is repaired first.
+        """Switches to the next task. If the previous task wasn't known to run, or the next task
+        wasn't known to be ready, repairs that first.
         """
         world, (_, processor, _, previous, state, number) = self.world, event
         runs, comes = world.runs.get(processor, 0), world.tasks.get(number)
@@ -158,7 +162,7 @@ class Player:
 
     def how(self, place: int, state: str) -> How:
         """Returns how the previous task leaves the processor. A task that remains ready doesn't
-        wait for IO, even if psi's mark says so.
+        wait for IO, even if `waits` contains the switch.
         """
         if state == STAYS:
             return How.PREEMPT
@@ -167,8 +171,8 @@ class Player:
         return How.WAIT if place in self.waits else How.SLEEP
 
     def leaver(self, place: int, event: Switch) -> None:
-        """Makes the previous task of a switch run if it isn't known to run. The task that was known
-        to run there is taken to have gone to sleep.
+        """Makes the previous task of a switch run if it isn't known to run. Another task that was
+        known to run on the processor is assumed to have gone to sleep.
         """
         world, number, processor = self.world, event.previous, event.processor
         running = world.running(processor)
@@ -201,10 +205,10 @@ class Player:
             self.mended["task ran that wasn't known to be ready there"] += 1
             world.ready(number, processor)
 
-    # ------------------------------------------------------------ new tasks, wakeups, migrations
+    # ------------------------------------------------------------ new tasks, wakeups and migrations
 
     def wake(self, place: int, event: Wakeup) -> None:
-        """Makes a sleeping task ready. A wakeup of a task that isn't asleep changes nothing."""
+        """Makes a sleeping task ready. Has no effect on a task that isn't asleep."""
         _, _, _, number, target = event
         task = self.task_of(number, place, Task.is_blocked)
         if task is None and self.is_task(number):
@@ -215,7 +219,7 @@ class Player:
 
     def migrate(self, event: Migration) -> None:
         """Moves a ready task to another processor. If the task waits for IO, the kernel ends the
-        wait at the migration and not at the wakeup that follows. In the trace the task then only
+        wait at the migration, and not at the wakeup that follows. In the trace the task then only
         sleeps.
         """
         task = self.world.tasks.get(event.task)
@@ -226,8 +230,8 @@ class Player:
             self.mended["wait for IO ended at a migration"] += 1
 
     def new_task(self, event: NewTask) -> None:
-        """Creates a task in the group of its parent, which is the running task. The new task sleeps
-        until its first wakeup.
+        """Creates a task in the group of its parent, the running task. The new task sleeps until
+        its first wakeup.
         """
         if not self.is_task(event.task):
             return
@@ -242,7 +246,7 @@ class Player:
         self.world.detour(event.task, How.SLEEP)
 
     def name(self, event: Named) -> None:
-        """Stores a task's name, which is valid from now on."""
+        """Stores a task's name, which applies from the current time on."""
         task, name = self.world.tasks.get(event.task), escaped(event.name)
         if task:
             task.life.rename(self.world.now, name)
@@ -256,8 +260,8 @@ class Player:
 
     def named_group(self, parent: int) -> str | None:
         """Returns the likely group of a new task whose parent chose the group in clone(2). No event
-        reports that group. It is likely the group that the parent's process created last, if that
-        group is empty; otherwise returns None.
+        reports that group. The likely group is the last one that the parent's process created.
+        Returns None if that group isn't empty, or if there is none.
         """
         path = self.groups_made.get(self.process_of(parent))
         is_likely = path in self.world.groups.live and not self.world.groups.tasks[path or ROOT]
@@ -266,8 +270,8 @@ class Player:
         return path if is_likely else None
 
     def first_wakeup(self, event: FirstWakeup) -> None:
-        """Makes a new task ready. If its creation wasn't recorded, the running task creates it
-        now.
+        """Makes a new task ready for the first time. If no event reported its creation, the running
+        task creates it now.
         """
         if event.task in self.world.tasks:
             self.world.ready(event.task, event.target)
@@ -275,7 +279,9 @@ class Player:
             self.world.fork(event.task, self.group_of(event.current), event.target, event.task)
 
     def exec(self, event: Exec) -> None:
-        """Gives a thread its new number, unless an earlier event already showed it."""
+        """Gives a thread its new number after exec, unless an earlier event already showed the
+        change.
+        """
         if (
             event.task == event.old
             or event.old not in self.world.tasks
@@ -303,8 +309,8 @@ class Player:
 
     def attach(self, event: Attach) -> None:
         """Moves a single thread, or a process with all its threads, to another group. If the event
-        is about a process's first thread, only the probe says which of the two; without a probe all
-        threads are moved.
+        names a process's first thread, only the probe shows which of the two happened. Without a
+        probe all threads are moved.
         """
         probe = self.moves.pop(event.current, None)
         if event.hierarchy:
@@ -344,7 +350,7 @@ class Player:
             self.world.make_group(path)
 
     def mark(self, event: Marker) -> None:
-        """Writes a line for a marker of the recorder that has a memory sample."""
+        """Writes the line for a recorder's marker that contains a memory sample."""
         if not event.text.startswith(MARK.encode()):
             return
         words = event.text.decode("utf-8", "surrogateescape")[len(MARK) :].split()
@@ -363,8 +369,8 @@ class Player:
 
 
 def sample_of(words: Sequence[str]) -> str | None:
-    """Returns the three numbers of a memory sample in the form of a trace's line, or None if the
-    words aren't three valid numbers.
+    """Returns the three numbers of a memory sample as the words of a trace's line. Returns None
+    unless the words are three valid numbers.
     """
     if len(words) != 3 or not all(
         word.isascii() and word.isdecimal() and int(word) <= MOST_MEMORY for word in words

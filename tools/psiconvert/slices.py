@@ -1,5 +1,5 @@
-"""The slices of a recording's events, with the switches that the kernel didn't write, and the
-initial states of tasks that follow from the first slices.
+"""Splits a recording's events into slices, inserts the switches that the kernel didn't write, and
+derives the initial states of tasks from the first slices.
 """
 from __future__ import annotations
 
@@ -15,14 +15,14 @@ from psiread.window import Window
 from .first import LONGEST_READY, Beginning, reports_births
 from .unwritten import Chains
 
-# The initial state is found from the events of this time (ns) after the start.
+# The time (ns) after the start whose events determine the initial state.
 LOOK_AHEAD = 60 * 10**9
 BY_TIME = itemgetter(0)
 
 
 @dataclass
 class Slice:
-    """Consecutive events with the unwritten switches inserted, and the events of the next slice."""
+    """A slice: consecutive events, with the inserted switches, and the events of the next slice."""
 
     events: list[Event]
     following: list[Event]
@@ -31,16 +31,18 @@ class Slice:
         self.kinds = {*map(type, self.events), *map(type, self.following)}
 
     def both(self) -> list[Event]:
-        """Returns the events of this slice and the next."""
+        """Returns the events of this slice and of the next one."""
         return [*self.events, *self.following]
 
     def has(self, *kinds: type) -> bool:
-        """Whether this slice or the next has an event of one of these kinds."""
+        """Returns whether this slice or the next one has an event of one of these kinds."""
         return not self.kinds.isdisjoint(kinds)
 
 
 class Mender:
-    """Inserts the switches that the kernel didn't write. `times_ns` has their times (ns)."""
+    """Inserts the switches that the kernel didn't write. `times_ns` are the times (ns) of all
+    inserted switches.
+    """
 
     def __init__(self, source: Source, silent: set[int]) -> None:
         self.chains = Chains(source.events, source.gaps)
@@ -48,7 +50,7 @@ class Mender:
         self.times_ns: list[int] = []
 
     def pairs(self, slices: Iterable[list[Event]]) -> Iterator[Slice]:
-        """Yields each slice together with the next one."""
+        """Yields each slice together with the next slice."""
         before: list[Event] | None = None
         for events in slices:
             whole, late = self.mended(events, before)
@@ -63,9 +65,8 @@ class Mender:
     def mended(
         self, events: list[Event], before: list[Event] | None
     ) -> tuple[list[Event], list[Event]]:
-        """Returns a slice's events with the unwritten switches that belong into the slice, and
-        separately the unwritten switches from before its first event. `before` is the previous
-        slice.
+        """Inserts the unwritten switches into a slice. Returns the slice's events, and separately
+        the inserted switches that belong before the slice. `before` is the previous slice.
         """
         whole, times_ns = self.chains.mended(events)
         if not times_ns:
@@ -77,8 +78,8 @@ class Mender:
 
 
 class Ahead:
-    """The initial states of tasks, for the recording and for the window, by LOOK_AHEAD ns of
-    events.
+    """Derives the initial states of tasks from the first LOOK_AHEAD ns of events, both for the
+    recording and for the window.
     """
 
     def __init__(self, source: Source, window: Window) -> None:
@@ -90,11 +91,12 @@ class Ahead:
         self.is_begun = False
 
     def new(self, time_ns: int) -> Beginning:
-        """Returns an empty initial state, for events from `time_ns` on."""
+        """Returns an initial state without tasks, for events at or after `time_ns`."""
         return Beginning(NEVER if self.latest_ready is None else time_ns + self.latest_ready)
 
     def take(self, events: list[Event]) -> bool:
-        """Processes the next events. Returns whether further events are needed."""
+        """Derives initial states from the next events. Returns whether further events are needed.
+        """
         for event in events:
             time_ns = event[0]
             if time_ns <= self.until:
@@ -106,7 +108,8 @@ class Ahead:
         return not events or events[-1][0] <= max(self.until, self.end)
 
     def take_late(self) -> None:
-        """Processes the first event of each processor that had no event so far."""
+        """Derives initial states from the first event of each processor that had no event so far.
+        """
         begins_there = self.start <= self.source.start
         for event in self.source.events:
             if event[1] not in self.recording.runs:
@@ -118,7 +121,7 @@ class Ahead:
 def looked_ahead(
     source: Source, slices: Iterable[list[Event]], silent: set[int], window: Window
 ) -> Ahead:
-    """Reads the events that are needed for the initial state, and returns this."""
+    """Reads the events that determine the initial states, and returns these states."""
     ahead = Ahead(source, window)
     for part in Mender(source, silent).pairs(slices):
         if not ahead.take(part.events):

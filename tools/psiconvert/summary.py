@@ -1,4 +1,4 @@
-"""Writes the report of a conversion: the size of the trace, how waits for IO were recognised, and
+"""Formats the report of a conversion: the size of the trace, how waits for IO were recognised, and
 what was repaired or lost.
 """
 from __future__ import annotations
@@ -14,7 +14,7 @@ from psiworld.world import World
 
 from .convert import Converted
 
-# The time (s) after which an average that began at 0 is meaningful: three of its periods.
+# The time (s) after which an average that began at 0 is meaningful: three times its period.
 SETTLED_10, SETTLED_60 = 30, 180
 
 
@@ -28,7 +28,8 @@ def utc_text(realtime: int) -> str:
 
 
 def waits_text(method: Method, converted: Converted) -> str:
-    """Returns the line that says how waits for IO are recognised, and how reliable that is."""
+    """Returns the line that says how waits for IO were recognised, and how reliable that method is.
+    """
     if method is Method.STATE:
         return (
             f"waits for IO by state D alone: all {converted.uninterruptible} such sleeps count, on"
@@ -41,12 +42,12 @@ def waits_text(method: Method, converted: Converted) -> str:
 
 
 def exact_seconds(time_ns: int) -> str:
-    """Formats a time (ns) in seconds with all nine decimals."""
+    """Formats a time (ns) in seconds, with nine decimals."""
     return f"{time_ns // SECOND}.{time_ns % SECOND:09}"
 
 
 def counted(found: dict[str, int]) -> str:
-    """Returns a text with each kind and its count, the largest count first."""
+    """Formats counts by kind, the largest count first."""
     return ", ".join(
         f"{kind} {count}"
         for kind, count in sorted(found.items(), key=lambda it: (-it[1], it[0]))
@@ -92,7 +93,7 @@ def accounting_lines(source: Source, world: World) -> list[str]:
 
 
 def note_lines(source: Source, converted: Converted) -> list[str]:
-    """Returns the lines about what a trace can't express, or expresses differently."""
+    """Returns the lines about facts that a trace can't express, or expresses differently."""
     lines = list(source.notes)
     omitted = [
         path for path, preference in sorted(source.snapshot.groups.items()) if preference == "omit"
@@ -114,8 +115,8 @@ def note_lines(source: Source, converted: Converted) -> list[str]:
 def summary_of(
     source: Source, converted: Converted, method: Method, window: Window, whole: Window
 ) -> list[str]:
-    """Returns all lines of the report except those about losses and limits. A report without lines
-    about repairs means that nothing was repaired.
+    """Returns the whole report except the lines about losses and limits. If no line mentions
+    repairs, nothing was repaired.
     """
     mended = {**source.mended, **converted.world.mended}
     return [
@@ -129,7 +130,7 @@ def summary_of(
 
 
 def other_way(converted: Converted) -> str:
-    """Returns a further advice if the trace has too many events; otherwise an empty text."""
+    """Returns additional advice if the trace has too many events. Empty if it hasn't."""
     if not converted.limit or not converted.limit.endswith(" events"):
         return ""
     if converted.folded is not None:

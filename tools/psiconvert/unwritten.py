@@ -1,12 +1,14 @@
-"""Finds switches for which the kernel wrote no event. Some kernels write no switches of certain
-tasks. In a virtual machine with Linux 6.18 these were the threads of process 1, and all idle tasks
-except the first processor's. No event shows that such a task leaves the processor, so the next task
-would seem to wait until an event shows that it runs.
+"""Finds switches for which the kernel wrote no event.
+
+Some kernels write no switch events for certain tasks. In a virtual machine with Linux 6.18 these
+were the threads of process 1, and all idle tasks except the first processor's. If no event shows
+that such a task leaves the processor, the next task seems to wait until an event shows that it
+runs.
 
 The next event of the processor shows which task runs there. If that task was ready, a switch to it
 is inserted at the time of the last event of the task that left. That task may have run a little
-longer, but far less long than the next task, which often runs for many ms before it causes an
-event.
+longer. The error is small compared to the next task's run time, which is often many ms before its
+first event.
 """
 from __future__ import annotations
 
@@ -23,8 +25,8 @@ STAYS, SLEEPS = "R", "S"
 
 
 def renamed(events: Sequence[Event]) -> set[tuple[int, int]]:
-    """Returns the pairs of numbers that an exec exchanges, in both orders: the running task changes
-    from one number to the other without a switch.
+    """Returns the pairs of numbers that are exchanged by exec, in both orders. The running task
+    changes from one number to the other without a switch.
     """
     changes = [
         (event.old, event.task)
@@ -35,17 +37,17 @@ def renamed(events: Sequence[Event]) -> set[tuple[int, int]]:
 
 
 def silent_tasks(events: Sequence[Event]) -> set[int]:
-    """Returns the tasks that came to a processor by a switch but, according to the events, never
-    left one.
+    """Returns the tasks that got a processor by a switch, but never left one according to the
+    events.
     """
     switches = [event for event in events if isinstance(event, Switch)]
     return {event.next for event in switches} - {event.previous for event in switches}
 
 
 class Chains:
-    """The running task and the ready tasks of each processor. They follow from the switches, and
-    from the task in which each event was written. `silent` has the tasks without events of their
-    switches.
+    """The running task and the ready tasks of each processor. They are derived from the switches,
+    and from the current task of each event. `silent` contains the tasks that leave processors
+    without an event.
     """
 
     def __init__(self, events: Sequence[Event], gaps: Sequence[Gap]) -> None:
@@ -53,12 +55,14 @@ class Chains:
         self.running: dict[int, int] = {}
         # The time (ns) of each processor's last event.
         self.times_ns: dict[int, int] = {}
-        # The processor on which each ready task waits, and the time (ns) since which that is known.
+        # For each ready task, the processor on which it waits, and the time (ns) since which that
+        # is known.
         self.ready: dict[int, tuple[int, int]] = {}
 
     def mended(self, events: Iterable[Event]) -> tuple[list[Event], list[int]]:
-        """Returns the next events with the unwritten switches inserted, each before the event that
-        shows that it is missing, and the times (ns) of these switches.
+        """Inserts the unwritten switches into the next events, each before the first event that
+        shows that a switch is missing. Returns all events, and the times (ns) of the inserted
+        switches.
         """
         whole: list[Event] = []
         times_ns: list[int] = []
@@ -75,8 +79,8 @@ class Chains:
         return whole, times_ns
 
     def missing(self, event: Event, known: int, runs: int) -> list[Switch]:
-        """Returns the unwritten switches on the event's processor before the event. They lead from
-        the task `known`, which was known to run, to the task `runs`, which runs at the event.
+        """Returns the unwritten switches before an event, on its processor. They lead from the task
+        `known`, which was known to run, to the task `runs`, which runs at the event.
         """
         if (known, runs) in self.renamed or self.is_gap(event):
             return []
@@ -88,8 +92,8 @@ class Chains:
         )
 
     def waiting(self, processor: int, others: set[int]) -> list[int]:
-        """Returns the ready tasks on the processor for which no switches are written, the earliest
-        first. They ran before the task that runs now. `others` are left out.
+        """Returns the ready tasks on the processor whose switches the kernel doesn't write, except
+        `others`. These tasks may have run in between. The one that became ready first comes first.
         """
         waiting = [
             it for it in self.silent - others if it in self.ready and self.ready[it][0] == processor
@@ -97,12 +101,13 @@ class Chains:
         return sorted(waiting, key=lambda it: self.ready[it][1])
 
     def is_gap(self, event: Event) -> bool:
-        """Whether events of the processor were lost right before this one."""
+        """Returns whether events of the processor were lost right before this event."""
         since = Window(self.times_ns[event.processor], event.time_ns)
         return any(gap.processor == event.processor for gap in overlapping(self.gaps, since))
 
     def switches(self, processor: int, route: Sequence[int]) -> Iterator[Switch]:
-        """Yields a switch from each task of `route` to the next one, at the earliest possible time.
+        """Yields a switch from each task in `route` to the next one, each at the earliest possible
+        time.
         """
         time_ns = self.times_ns[processor]
         for previous, following in zip(route, route[1:]):
@@ -113,7 +118,7 @@ class Chains:
             )
 
     def take(self, event: Event) -> None:
-        """Updates the running and ready tasks by a written event."""
+        """Updates the running and the ready tasks after a written event."""
         time_ns, processor = event[:2]
         self.times_ns[processor] = time_ns
         if isinstance(event, Switch):
@@ -130,9 +135,9 @@ class Chains:
 
 
 def with_unwritten(events: Sequence[Event], gaps: Sequence[Gap]) -> tuple[list[Event], list[int]]:
-    """Returns the events with the unwritten switches inserted, and the times (ns) of these
-    switches. No switch is inserted right after a gap, since it isn't known which tasks ran during
-    the gap.
+    """Inserts the unwritten switches into a recording's events. Returns all events, and the times
+    (ns) of the inserted switches. No switch is inserted right after a gap, since it isn't known
+    which tasks ran during the gap.
     """
     whole, times_ns = Chains(events, gaps).mended(events)
     whole.sort(key=itemgetter(0))

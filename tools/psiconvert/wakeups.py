@@ -1,7 +1,7 @@
-"""Moves wakeups to the time at which psi counts the task as ready. The kernel does that in
+"""Moves wakeups to the time at which psi counts the task as ready. The kernel counts it in
 `psi_task_change`, some time before it writes the event of the wakeup. If a recording has the probe
 on this function, a wakeup can be written at either time or in the middle. The task really became
-ready between the two times, so these are bounds of its wait for a processor.
+ready between the two times. So the two times are bounds for the task's wait for a processor.
 """
 from __future__ import annotations
 
@@ -14,13 +14,13 @@ from operator import itemgetter
 from psiread.events import Event, FirstWakeup, ReadyProbe, Switch, Wakeup
 from psiworld.world import LABEL_STEP
 
-# A probe that precedes a wakeup by this time (ns) or more doesn't belong to the wakeup.
+# If a probe is earlier than a wakeup by this time (ns) or more, it doesn't belong to that wakeup.
 LONGEST_LAG = 50_000_000
 BY_TIME = itemgetter(0)
 
 
 class Counting(Enum):
-    """The time at which a wakeup is written to the trace."""
+    """The times at which a wakeup can be written to the trace."""
 
     PROBE = "probe"  # when psi counted it
     MIDDLE = "middle"  # halfway from there to its event
@@ -28,10 +28,12 @@ class Counting(Enum):
 
 
 def counted_at(events: Sequence[Event], probes: dict[int, int] | None = None) -> dict[int, int]:
-    """Returns the time (ns) at which psi counted each wakeup, by the index of the event. A probe
-    that no wakeup follows is ignored, since psi also counts a task that moves to another processor
-    or group. If events are read in parts, pass the same `probes` for each part: it has the time
-    (ns) of each task's last probe.
+    """Returns the time (ns) at which psi counted each wakeup, keyed by the event's index. A probe
+    without a following wakeup is ignored, since psi also counts a task that moves to another
+    processor or group.
+
+    If events are read in parts, pass the same `probes` for each part. It contains the time (ns) of
+    each task's last probe.
     """
     probes = {} if probes is None else probes
     found: dict[int, int] = {}
@@ -48,7 +50,7 @@ def counted_at(events: Sequence[Event], probes: dict[int, int] | None = None) ->
 
 
 def put_at(events: Sequence[Event], counted: dict[int, int], counting: Counting) -> list[Event]:
-    """Returns the events with each wakeup at the requested time, in order of time."""
+    """Moves each wakeup to the requested time, and returns all events in order of time."""
     if counting is Counting.EVENT or not counted:
         return list(events)
     moved: list[Event] = list(events)
@@ -62,9 +64,8 @@ def put_at(events: Sequence[Event], counted: dict[int, int], counting: Counting)
 
 
 class Wakeups:
-    """Moves the wakeups of a recording to the requested time. `lags` has the number of wakeups by
-    the ns from their probe to their event, and `without_probe` is the number of wakeups without a
-    probe.
+    """Moves the wakeups of a recording to the requested time. `lags` counts wakeups by the time
+    (ns) from the probe to the event. `without_probe` is the number of wakeups without a probe.
     """
 
     def __init__(self, counting: Counting) -> None:
@@ -74,7 +75,7 @@ class Wakeups:
         self.without_probe = 0
 
     def put(self, events: Sequence[Event]) -> list[Event]:
-        """Returns the next events with their wakeups at the requested time."""
+        """Moves the wakeups of the next events to the requested time, and returns these events."""
         counted = counted_at(events, self.probes)
         self.lags.update(events[place].time_ns - time_ns for place, time_ns in counted.items())
         wakeups = sum(isinstance(event, (Wakeup, FirstWakeup)) for event in events)
@@ -82,8 +83,8 @@ class Wakeups:
         return put_at(events, counted, self.counting)
 
     def slices(self, slices: Iterable[list[Event]]) -> Iterator[list[Event]]:
-        """Yields slices of events with their wakeups moved. A wakeup that moves to before the first
-        event of its slice goes into the previous slice.
+        """Moves the wakeups in slices of events, and yields the slices. If a wakeup moves to before
+        the first event of its slice, it becomes part of the previous slice.
         """
         before: list[Event] | None = None
         for events in slices:
@@ -97,8 +98,8 @@ class Wakeups:
             yield before
 
     def lag_at(self, place: int) -> float:
-        """Returns the time (us) from the probe to the event of the wakeup with the index `place`,
-        in ascending order of these times.
+        """Returns a quantile of the time (us) from a wakeup's probe to its event: the element with
+        the index `place` in ascending order.
         """
         for lag, count in sorted(self.lags.items()):
             if place < count:
@@ -107,8 +108,8 @@ class Wakeups:
         raise IndexError(place)
 
     def text(self) -> str:
-        """Returns the line that says at which time wakeups are written, and how far the time of the
-        probe and the time of the event are apart.
+        """Returns the line of the report that says at which time wakeups are written, and how long
+        the time from the probe to the event is.
         """
         count = sum(self.lags.values())
         if not count:
@@ -130,16 +131,16 @@ class Wakeups:
         )
 
 
-# ---------------------------------------------------------------- the wakeups of a trace
+# ---------------------------------------------------------------- bounds for the wakeups of a trace
 
 # A function that returns the earliest and the latest time at which psi may have counted a wakeup.
-# Its arguments are the task's label and the time of the wakeup's line. All times are in ns of the
-# trace.
+# Its arguments are the task's label and the time of the wakeup's line. All times are in ns from the
+# trace's start.
 Bounds = Callable[[str, int], tuple[int, int]]
 
 
 def bounds_of(events: Sequence[Event], start: int) -> Bounds:
-    """Returns bounds by the probes of a recording. The trace begins at `start` (ns of the
+    """Returns bounds that are based on a recording's probes. The trace begins at `start` (ns of the
     recording's clock).
     """
     pairs: dict[int, list[tuple[int, int]]] = defaultdict(list)
@@ -158,13 +159,16 @@ def bounds_of(events: Sequence[Event], start: int) -> Bounds:
 
 
 def lag_bounds(lag: int) -> Bounds:
-    """Returns bounds without probes: psi counted a wakeup at most `lag` ns before its line."""
+    """Returns bounds for a recording without probes. They assume that psi counted each wakeup at
+    most `lag` ns before the wakeup's line.
+    """
     return lambda _, time_ns: (time_ns - lag, time_ns)
 
 
 def with_wakeups(lines: Iterable[str], bounds: Bounds, is_first: bool) -> list[str]:
-    """Returns a trace's lines with each wakeup at its earliest possible time if `is_first`,
-    otherwise at its latest, but not before the task's previous line.
+    """Moves each wakeup in a trace's lines to its earliest possible time if `is_first`, or else to
+    its latest. A wakeup stays after the previous line of its task. Returns all lines in order of
+    time.
     """
     runs: dict[str, str] = {}
     lasts: dict[str, int] = {}

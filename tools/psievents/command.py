@@ -12,8 +12,8 @@ The program psi_convert decodes the pages. --table prints the table that it need
 recording's `formats`, and runs nothing.
 
 The status is 0 if all events were printed, and 2 for a usage error, if RECORDING can't be read, and
-if a page is malformed: then the events before it were printed, and the message names its file, page
-and byte.
+if a page is malformed: then the events before it were printed, and the message names its file, its
+page, and the byte of the file at which the fault is.
 """
 from __future__ import annotations
 
@@ -36,8 +36,8 @@ from psireplay.program import TOP, built_program
 
 LAUNCHER = os.path.join(TOP, "psi_convert")
 VARIABLE = "PSI_CONVERT"
-# The program's message on a malformed page, and its status after a failed write.
-PAGE_MESSAGE = re.compile(r"(.*) page (\d+): (\w+)\n")
+# The program's message for a malformed page, and the program's exit status after a failed write.
+PAGE_MESSAGE = re.compile(r"(.*) page (\d+) byte (\d+): (\w+)\n")
 WRITE_FAULT = 6
 CAUSES = {
     "TooLong": "its header reports more bytes than the page has",
@@ -48,16 +48,17 @@ PIECE = 8 << 20
 
 
 def program_path() -> str:
-    """Returns the path of the program that the variable PSI_CONVERT names, or else of the built
-    program.
+    """Returns the path of psi_convert: the value of the variable PSI_CONVERT, or the built program
+    if it isn't set.
     """
     named = os.environ.get(VARIABLE)
     return os.path.abspath(named) if named else built_program(LAUNCHER)
 
 
 def unpacked(folder: str, processor: int, most: int | None, place: str) -> str:
-    """Returns the path of a file with all pages of a processor. If the recording has them in parts,
-    they are joined in a new file in the folder `place`.
+    """Returns the path of a file with all pages of a processor. If the recording has the pages in
+    parts, they are joined in a new file in the folder `place`. Raises Unreadable if compressed
+    parts have more than `most` bytes.
     """
     path = os.path.join(folder, raw_name(processor))
     if not parts_of(folder, processor):
@@ -76,25 +77,26 @@ def page_size(table: str) -> int:
 
 
 def fault_text(message: str, size: int) -> str:
-    """Returns the program's message on a malformed page, with the page's offset (bytes) and the
-    cause in words.
+    """Returns an error message for a malformed page, with the offset (bytes) of the fault in the
+    file and the cause in words. `size` is the size of a page (bytes).
     """
     found = PAGE_MESSAGE.fullmatch(message)
     if not found:
         return f"psi_convert: {message.strip()}"
-    name, page, cause = os.path.basename(found[1]), int(found[2]), found[3]
-    return f"{name}: page {page}, at byte {page * size}: {CAUSES[cause]} ({cause})"
+    name, page, byte = os.path.basename(found[1]), int(found[2]), int(found[3])
+    cause = found[4]
+    return f"{name}: page {page}, at byte {page * size + byte}: {CAUSES[cause]} ({cause})"
 
 
 def has_no_reader() -> bool:
-    """Returns whether standard output is a pipe that nobody reads."""
+    """Whether standard output is a pipe whose reader has closed it."""
     output = select.poll()
     output.register(1, 0)
     return any(event & select.POLLERR for _, event in output.poll(0))
 
 
 def print_events(folder: str, meta: Meta, table: str) -> int:
-    """Runs the program for all processors of a recording; returns the exit status."""
+    """Runs psi_convert for all processors of a recording, and returns the exit status."""
     with tempfile.TemporaryDirectory() as place:
         name = os.path.join(place, "table")
         with open(name, "w", encoding="utf-8", errors="surrogateescape") as file:
@@ -114,7 +116,7 @@ def print_events(folder: str, meta: Meta, table: str) -> int:
 
 
 def events() -> int:
-    """Prints the events, or the table; returns the exit status."""
+    """Prints the events or the table, and returns the exit status."""
     words = Parser(__doc__)
     words.add_argument("recording", metavar="RECORDING", help="the folder of a recording")
     words.add_argument("--table", action="store_true", help="print the table, and no events")

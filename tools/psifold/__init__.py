@@ -1,3 +1,3 @@
-"""Folds traces for `tools/fold` and `tools/psitrace --fold`: in each time window of a trace, fewer
-lines replace the original ones and give the same pressure.
+"""Folds traces for `tools/fold` and `tools/psitrace --fold`: replaces the lines of each time window
+by fewer lines that cause the same pressure.
 """

@@ -1,11 +1,12 @@
-"""Replaces many joint states with their times by few joint states with the same sums of time. By
-Caratheodory's theorem for cones, at most as many joint states are needed as there are independent
-sums.
+"""Reduces a set of weighted joint states to a small subset with other weights but the same weighted
+sums. A joint state (see joint.py) says in which states each group has tasks on a processor. The
+weight of a joint state is the time for which it lasts. By Caratheodory's theorem for cones, the
+subset needs at most as many joint states as there are independent sums.
 
 The joint states that remain are the *basis*. The column of a joint state has a 1 for each sum to
 which the joint state contributes, and the columns of the basis are linearly independent. A further
-joint state is added to the basis if its column is independent of the others. Otherwise its column
-is a combination of the columns in the basis, and its time is distributed among their joint states
+joint state is added to the basis if its column is independent of the others. If not, its column is
+a combination of the columns in the basis, and its time is distributed among their joint states
 until the time of one of them is 0. That joint state leaves the basis, and the new one enters it
 with the rest of its time (a step of the simplex method, called a *pivot*). Usually the basis can
 absorb all of the time, even of many joint states at once. So the sums of many joint states are
@@ -27,20 +28,22 @@ from typing import NamedTuple
 from .world import bits_of
 
 FIELD_BITS = 64
-# The number of joint states whose sums are tried together.
+# The largest number of joint states that one attempt adds to the basis.
 TOGETHER = 64
 
 
 class Share(NamedTuple):
-    """A joint state of the basis: its number, and its time (ns) multiplied by the divisor."""
+    """A joint state of the basis: its number, and its time (ns) multiplied by the basis's divisor.
+    """
 
     number: int
     time: int
 
 
 class Fields:
-    """The layout of columns of `rows` numbers, each column packed into one integer. `signs` has the
-    highest bit of each field set, so adding `signs` to a column makes each number positive.
+    """The layout of a packed column: `rows` signed numbers in one integer, each in a field of
+    `bits` bits. `signs` has the highest bit of each field set. Adding `signs` to a column makes all
+    its numbers positive.
     """
 
     def __init__(self, rows: int, bits: int) -> None:
@@ -48,7 +51,7 @@ class Fields:
         self.signs = sum(self.half << row * bits for row in range(rows))
 
     def numbers(self, packed: int) -> list[int]:
-        """Returns the numbers of a packed column."""
+        """Returns the numbers that are packed into a column."""
         size, half = self.bits // 8, self.half
         data = (packed + self.signs).to_bytes(size * self.rows, "little")
         if size == 8:
@@ -59,7 +62,7 @@ class Fields:
         ]
 
     def packed(self, numbers: Sequence[int]) -> int:
-        """Packs numbers into a column."""
+        """Packs numbers into one column."""
         size, half = self.bits // 8, self.half
         return (
             int.from_bytes(
@@ -69,13 +72,13 @@ class Fields:
         )
 
     def number(self, packed: int, row: int) -> int:
-        """Returns one number of a packed column."""
+        """Returns the number in one row of a packed column."""
         return (packed + self.signs >> row * self.bits & self.mask) - self.half
 
 
 class Units:
-    """Packs columns that have a bit for each sum, byte by byte. `used` has the bits that occur in
-    some column; each of them is a row, in this order.
+    """Packs columns of zeros and ones that are stored as bits, byte by byte. `used` has the bits
+    that are set in some column. Each used bit becomes a row, in ascending order.
     """
 
     def __init__(self, used: int, fields: Fields) -> None:
@@ -85,15 +88,17 @@ class Units:
         ]
 
     def packed(self, column: int) -> int:
-        """Packs a column: its number is 1 in each row whose bit is set."""
+        """Returns the packed column that has a 1 in each row whose bit is set, and a 0 in all other
+        rows.
+        """
         return int.from_bytes(
             b"".join(map(getitem, self.bytes, column.to_bytes(self.size, "little"))), "little"
         )
 
 
 class ByteFields(dict[int, bytes]):
-    """A table of the packed fields of one byte of a column, by the byte's value. Each used bit of
-    the byte has a field of `size` bytes, which is 1 if the bit is set.
+    """Caches the packed fields for each value of one byte of a column. `used` has the byte's used
+    bits. The field of a used bit has `size` bytes, and is 1 if the bit is set.
     """
 
     def __init__(self, used: int, size: int) -> None:
@@ -107,23 +112,23 @@ class ByteFields(dict[int, bytes]):
 
 
 class Basis:
-    """The joint states that remain, with columns of `rows` numbers. The sum of their times is at
-    most `longest` (ns).
+    """A basis of joint states whose columns have `rows` numbers. The sum of their times is at most
+    `longest` (ns).
     """
 
     def __init__(self, rows: int, longest: int) -> None:
         self.longest, self.fields = longest, Fields(rows, FIELD_BITS)
-        # The number of the joint state of each row of the inverse, or None for a free row.
+        # The number of the joint state in each row of the inverse, or None if the row is free.
         self.numbers: list[int | None] = [None] * rows
         self.columns = [1 << row * FIELD_BITS for row in range(rows)]
         self.divisor, self.times = 1, 0
         self.free = (1 << rows * FIELD_BITS) - 1
-        # An upper bound on the numbers of the inverse.
+        # An upper bound on the absolute values of the numbers in the basis's inverse matrix.
         self.most = 1
 
     def take_all(self, columns: Sequence[int], times: Sequence[int]) -> int:
-        """Adds joint states, which are numbered by their index, to the basis. Each has a column,
-        packed into fields of FIELD_BITS, and a time (ns). Returns the packed sums of all of them.
+        """Adds joint states to the basis, numbered by their index. Each has a column, packed into
+        fields of FIELD_BITS, and a time (ns). Returns the packed sums of time of all joint states.
         """
         total = 0
         for start in range(0, len(columns), TOGETHER):
@@ -139,10 +144,10 @@ class Basis:
     def take_some(
         self, start: int, columns: Sequence[int], times: Sequence[int], sums: Sequence[int]
     ) -> None:
-        """Adds the joint states from index `start` on, whose cumulative sums are `sums`. Tries all
-        of them at once, and then half as many, until the basis can absorb their sums. If it can't
-        absorb all, it can't absorb all that remain after some were added either, until a pivot
-        changes the basis.
+        """Adds the joint states from index `start` on; `sums` has their cumulative sums. Tries to
+        add all of them at once, then half as many, until the basis can absorb their sums. After an
+        attempt with all of them failed, a part of them may be added. The rest isn't tried in one
+        attempt again until a pivot changes the basis, since it would fail too.
         """
         end = wanted = len(sums) - 1
         taken, is_full = 0, False
@@ -160,8 +165,8 @@ class Basis:
                 taken, wanted = taken + 1, min(taken + 3, end)
 
     def made_of(self, packed: int) -> int:
-        """Returns the coefficients with which the columns of the basis add up to a column of sums,
-        packed and multiplied by the divisor.
+        """Returns the coefficients of the basis's columns in the linear combination that equals a
+        column of sums. They are packed and multiplied by the divisor.
         """
         size = FIELD_BITS // 8
         data = packed.to_bytes(size * self.fields.rows, "little")
@@ -169,8 +174,8 @@ class Basis:
         return sum(number * column for number, column in zip(numbers, self.columns) if number)
 
     def give(self, sums: int) -> bool:
-        """Distributes sums among the times of the basis, if no time becomes negative and no free
-        row is needed. Returns whether that was possible.
+        """Distributes sums among the times of the basis, and returns True. Returns False, and
+        changes nothing, if a time would become negative or a free row would be needed.
         """
         parts = self.made_of(sums)
         times = self.times + parts
@@ -181,8 +186,8 @@ class Basis:
         return True
 
     def take(self, number: int, column: int, time: int) -> bool:
-        """Adds a joint state with its number, its column and its time (ns). Returns whether that
-        needed a pivot.
+        """Adds the joint state `number` with its column and its time (ns). Returns whether a pivot
+        was needed.
         """
         parts = self.made_of(column)
         times, signs = self.times + time * parts, self.fields.signs
@@ -203,8 +208,9 @@ class Basis:
         return True
 
     def pivot(self, row: int, number: int, parts: int, time: int) -> None:
-        """Replaces the joint state of `row` by the joint state `number`, whose column is the
-        combination `parts` of the basis, and whose time is `time` (ns).
+        """Replaces the joint state of `row` by the joint state `number`. Its column is the
+        combination of the basis's columns with the coefficients `parts`, and its time is `time`
+        (ns).
         """
         fields, divisor = self.fields, self.divisor
         found, times = fields.numbers(parts), fields.numbers(self.times)
@@ -222,7 +228,8 @@ class Basis:
             self.columns = [
                 sign * (factor * column - own * change) // divisor for column, own in pairs
             ]
-        # Times are computed one by one, since intermediate results are far larger than fields.
+        # The times are computed one by one, since intermediate results are much larger than a
+        # field.
         row_time = times[row] + time * factor
         times = [
             (
@@ -241,17 +248,17 @@ class Basis:
             self.make_room()
 
     def fits(self) -> bool:
-        """Whether all numbers that the next step computes in fields are below half of a field. If M
-        is the greatest number of the inverse, the coefficients of a column are at most P = rows *
-        M, and those of sums at most P times the longest time. A pivot needs at most P * M, and the
-        divisor times M.
+        """Whether all numbers of the next step are below half of a field's range. If M is the
+        largest number in the inverse, the coefficients of a column are at most P = rows * M, and
+        those of sums at most P times the longest time. A pivot computes numbers up to P * M, and up
+        to the divisor times M.
         """
         parts = max(self.fields.rows * self.most, self.divisor)
         return 3 * parts * max(self.longest, self.most) < self.fields.half
 
     def make_room(self) -> None:
-        """Computes the greatest number of the inverse, and widens the fields if it is too large
-        for them.
+        """Computes the largest number in the inverse, and widens the fields if they are too narrow
+        for it.
         """
         self.most = max(
             abs(number) for column in self.columns for number in self.fields.numbers(column)
@@ -270,12 +277,13 @@ class Basis:
 
 
 def first_at_zero(times: list[int], parts: list[int]) -> int:
-    """Returns the row whose time reaches 0 first if time is distributed among the rows in the
-    proportions `parts`.
+    """Returns the row whose time is the first to reach 0 if multiples of `parts` are added to the
+    times.
     """
     row, time, least = -1, 1, 0
     for place, part in enumerate(parts):
-        # Compares times[place] / -part with time / -least, the least ratio so far.
+        # Compares the ratios times[place] / -part and time / -least without a division. The latter
+        # is the smallest ratio so far.
         if part < 0 and (row < 0 or times[place] * -least < time * -part):
             row, time, least = place, times[place], part
     return row

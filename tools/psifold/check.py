@@ -1,5 +1,6 @@
-"""Checks the lines of a folded window before they are written: replays them with the kernel's
-accounting, which counts tasks, and compares the resulting sums with those of the original window.
+"""Checks the folded lines of a window before they are written. Replays the lines with an
+implementation of the kernel's accounting, and compares the resulting sums of time with those of the
+original window.
 
 The check shares no code with the code that writes the lines. It has its own tasks and counts, and
 derives the states of docs/TRACES.md from the counts.
@@ -14,26 +15,27 @@ from collections.abc import Callable
 from dataclasses import dataclass, field
 from typing import NamedTuple
 
-# The indices of a group's counts on a processor: the numbers of tasks that wait for IO, that are in
-# a memory stall, that are ready or run, and that are ready or run while in a stall.
+# The indices of the four counts of a group on a processor: tasks that wait for IO, tasks in a
+# memory stall, tasks that are ready or run, and tasks that are ready or run while in a memory
+# stall.
 WAITING, STALLED, ACTIVE, ACTIVE_STALLED = range(4)
 STATES = 7
-# The most ns by which a sum may be wrong at any time, because of the rounding in all windows so
-# far.
+# The largest allowed error (ns) of a sum of time, added up over all windows so far. Errors up to
+# this size can come from rounding times to whole ns.
 MOST_OFF = 9
-# The longest time (ns) that one line of interrupts may have.
+# The longest time (ns) that one interrupt line may report.
 MOST_INTERRUPTS = 10**9
 READY, RUNNING, ASLEEP, WAITS = "ready", "running", "asleep", "waiting"
 AFTER = {"preempt": READY, "sleep": ASLEEP, "iowait": WAITS}
 
 
 class Different(Exception):
-    """The error that a folded window differs from the original one. The message says how."""
+    """Raised if a folded window differs from the original window. The message says how."""
 
 
 class Key(NamedTuple):
-    """Identifies a sum of time: the time for which a group was in a state (0 to 6) on a processor,
-    without the tasks of the groups `without`.
+    """The key of a sum of time: the time for which a group was in a state (0 to 6) on a processor,
+    if the tasks of the groups `without` are ignored.
     """
 
     processor: int
@@ -45,9 +47,9 @@ class Key(NamedTuple):
 @dataclass
 class Window:
     """An original window from `start` to `end` (ns). `sums` has the sums (ns) of the groups
-    `accounted`, and `interrupts` the time of interrupts (ns) by processor and group of the running
-    task. `populated` has the groups that had tasks at its end, or is None if that doesn't matter.
-    `lines` are the lines that are copied unchanged, with their times (ns).
+    `accounted`, and `interrupts` the interrupt time (ns) by processor and by group of the running
+    task. `populated` has the groups with tasks at the window's end, or is None if they needn't be
+    preserved. `lines` are copied unchanged, and have their times (ns).
     """
 
     start: int
@@ -61,7 +63,7 @@ class Window:
 
 @dataclass
 class Task:
-    """A task: its group's path, its processor, its state, and whether it is in a stall."""
+    """A task: its group's path, its processor, its state, and whether it is in a memory stall."""
 
     path: str
     processor: int
@@ -71,14 +73,14 @@ class Task:
 
 @functools.lru_cache(maxsize=4096)
 def chain_of(path: str) -> tuple[str, ...]:
-    """Returns a group's path and those of all its ancestors."""
+    """Returns the paths of a group and of all its ancestors."""
     parts = path.split("/")[1:] if path != "/" else []
     return ("/", *("/" + "/".join(parts[: count + 1]) for count in range(len(parts))))
 
 
 class Clock:
-    """The counts of a group on a processor, and the time (ns) for which the group was in each
-    state in this window.
+    """A group's counts of tasks on a processor, and the time (ns) for which the group was in each
+    state in the current window.
     """
 
     def __init__(self, start: int) -> None:
@@ -97,8 +99,9 @@ class Clock:
             self.since = time_ns
 
     def states(self) -> tuple[bool, ...]:
-        """Returns for each state whether the group is in it. That depends on the counts, on whether
-        the running task is of the group, and on whether that task is in a stall.
+        """Returns, for each state, whether the group is in it. The result depends on the counts, on
+        whether the running task belongs to the group, and on whether the running task is in a
+        stall.
         """
         waiting, stalled, active, active_stalled = self.counts
         return (
@@ -112,7 +115,7 @@ class Clock:
         )
 
     def add(self, task: Task, sign: int) -> None:
-        """Adds the task to the counts (sign 1), or removes it (sign -1)."""
+        """Adds the task to the counts (`sign` is 1), or removes it (-1)."""
         is_active = task.does in (READY, RUNNING)
         self.counts[WAITING] += sign * (task.does == WAITS)
         self.counts[STALLED] += sign * task.is_stalled
@@ -123,8 +126,8 @@ class Clock:
 
 
 class Clocks:
-    """The clocks of all groups on all processors. Tasks of the groups `without`, and of their
-    descendants, don't count.
+    """The clocks of all groups on all processors. Tasks in the groups `without` and their
+    descendants don't count.
     """
 
     def __init__(self, without: tuple[str, ...]) -> None:
@@ -133,7 +136,7 @@ class Clocks:
         self.clocks: dict[tuple[int, str], Clock] = {}
 
     def change(self, time_ns: int, task: Task, sign: int) -> None:
-        """Adds a task in its present state (sign 1), or removes it (sign -1), at `time_ns`."""
+        """Adds a task in its current state (`sign` is 1) at `time_ns`, or removes it (-1)."""
         chain = chain_of(task.path)
         if any(path in self.without for path in chain):
             return
@@ -170,7 +173,8 @@ class Clocks:
 
 
 class Check:
-    """Replays folded lines, and rejects a window that differs from the original."""
+    """Replays the folded lines of a trace. Raises Different if a window differs from the original.
+    """
 
     def __init__(self, processors: int) -> None:
         self.processors = processors
@@ -181,10 +185,11 @@ class Check:
         self.interrupts: Counter[tuple[int, str]] = Counter()
         self.interrupted: dict[int, int] = {}
         self.copies: list[str] = []
-        # The number of ns by which each sum is too small, over all windows so far.
+        # The shortfall (ns) of each sum: by how much the sum of all folded windows so far is too
+        # small.
         self.shortfalls: Counter[Key] = Counter()
-        # The end (ns) of the last window that ended at a tick, and the groups that must have tasks
-        # after all lines of that time.
+        # The end (ns) of the last window that may end at a tick, and the groups that must have
+        # tasks after all lines of that time.
         self.edge: tuple[int, set[str]] | None = None
         self.most_tasks = 0
         self.verbs: dict[str, Callable[..., None]] = {
@@ -192,10 +197,10 @@ class Check:
             "unstall": self.stall, "irq": self.irq,
         }  # fmt: skip
 
-    # ------------------------------------------------------------ lines
+    # ------------------------------------------------------------ replaying lines
 
     def play(self, line: str) -> None:
-        """Replays a line of a window."""
+        """Replays a line within a time window."""
         time_ns, verb, *fields = line.split(" ")
         self.must(int(time_ns) >= self.now, line)
         self.pass_edge(int(time_ns))
@@ -207,12 +212,12 @@ class Check:
             play(line, *fields)
 
     def must(self, is_right: object, line: str) -> None:
-        """Raises Different for the line unless `is_right`: the line isn't allowed there."""
+        """Raises Different for the current line, unless `is_right`."""
         if not is_right:
             raise Different(f"the line '{line}' can't stand there")
 
     def change(self, task: Task, **values: object) -> None:
-        """Changes attributes of a task, and the counts with them."""
+        """Changes attributes of a task, and updates the counts."""
         for clocks in self.clocks:
             clocks.change(self.now, task, -1)
         for name, value in values.items():
@@ -221,7 +226,7 @@ class Check:
             clocks.change(self.now, task, 1)
 
     def fork(self, line: str, number: str, path: str, processor: str) -> None:
-        """Creates a task, ready on a processor."""
+        """Creates a task, which is ready on a processor."""
         self.must(number not in self.tasks and int(processor) < self.processors, line)
         task = self.tasks[number] = Task(path, int(processor))
         self.most_tasks = max(self.most_tasks, len(self.tasks))
@@ -236,7 +241,7 @@ class Check:
         self.change(task, does=READY, processor=int(processor))
 
     def switch(self, line: str, place: str, following: str, how: str) -> None:
-        """Switches from the running task to another one, or to none."""
+        """Switches a processor from its running task to another task, or to idle."""
         processor, leaving = int(place), self.runs.pop(int(place), "0")
         coming = self.tasks.get(following)
         self.must((how == "idle") == (leaving == "0"), line)
@@ -263,7 +268,7 @@ class Check:
         self.change(task, is_stalled=is_stalled)
 
     def irq(self, line: str, place: str, length: str) -> None:
-        """Counts the time of interrupts, which the running task lost."""
+        """Counts the time that interrupts took from the running task."""
         processor, time = int(place), int(length)
         self.must(
             time <= min(MOST_INTERRUPTS, self.now - self.interrupted.get(processor, 0))
@@ -273,10 +278,10 @@ class Check:
         self.interrupted[processor] = self.now
         self.interrupts[processor, self.tasks[self.runs[processor]].path] += time
 
-    # ------------------------------------------------------------ windows
+    # ------------------------------------------------------------ comparing windows
 
     def between(self, line: str) -> None:
-        """Replays a line between two windows."""
+        """Replays a line that is between two time windows."""
         time_ns, verb, *fields = line.split(" ")
         self.pass_edge(int(time_ns) + (verb == "end"))
         if verb == "rmgroup":
@@ -289,12 +294,16 @@ class Check:
                 del self.shortfalls[key]
 
     def keep_without(self, removals: list[tuple[str, ...]]) -> None:
-        """Also compares sums without each of these sets of groups, from the next window on."""
+        """From the next window on, also compares the sums of time without the tasks of each set of
+        groups in `removals`.
+        """
         known = {clocks.without: clocks for clocks in self.clocks}
         self.clocks = [known.get(it) or self.new_clocks(it) for it in [(), *removals]]
 
     def new_clocks(self, without: tuple[str, ...]) -> Clocks:
-        """Returns clocks that exclude some groups, with all other tasks in their present states."""
+        """Returns clocks that ignore the tasks of some groups. All other tasks are counted in their
+        current states.
+        """
         clocks = Clocks(without)
         clocks.start = self.now
         for task in self.tasks.values():
@@ -317,26 +326,27 @@ class Check:
         self.copies, self.interrupts = [], Counter()
 
     def pass_edge(self, time_ns: int) -> None:
-        """Compares the groups that have tasks at the last edge, before the first line after the
-        edge is replayed: a tick there sees the effect of all lines of its time.
+        """Compares the groups that have tasks at the end of the last window. Called before the
+        first later line is replayed: a tick at the window's end sees the effect of all lines of
+        that time.
         """
         if self.edge and time_ns > self.edge[0]:
             self.compare_tasks(f"at a tick at {self.edge[0]}", self.edge[1])
             self.edge = None
 
     def compare_tasks(self, where: str, wanted: set[str]) -> None:
-        """Rejects the window if the groups that have tasks differ from `wanted`."""
+        """Raises Different if the groups that have tasks aren't the groups `wanted`."""
         self.compare(
             "which groups have tasks", where, {task.path for task in self.tasks.values()}, wanted
         )
 
     def compare(self, what: str, where: str, found: object, wanted: object) -> None:
-        """Rejects the window if `found` and `wanted` differ."""
+        """Raises Different if `found` isn't `wanted`."""
         if found != wanted:
             raise Different(f"{what} {where} differs: {found}, not {wanted}")
 
     def compare_sums(self, window: Window, where: str) -> None:
-        """Rejects the window if a sum differs by more than rounding explains."""
+        """Raises Different if an error of a sum is larger than rounding can cause."""
         found: dict[Key, int] = {}
         for clocks in self.clocks:
             found.update(clocks.sums(window.end, window.accounted))

@@ -47,8 +47,8 @@ from .world import NotATrace, shortened
 
 HEADER = re.compile("psitrace ([12]) cpus=([1-9][0-9]?)")
 MAKE_FEWER = ", and so does a longer window"
-# The number of lines that are read at once, and the number of lines at the beginning of a trace
-# that show whether the trace was made from samples.
+# LINES is the number of lines that are read at once. MARK_LINES is the number of lines at the start
+# of a trace that can contain the mark of a trace made from samples (psireplay/sampled.py).
 LINES = 10_000
 MARK_LINES = 3
 
@@ -92,7 +92,7 @@ def opened(name: str) -> IO[str]:
 
 
 def processors_of(header: str) -> int:
-    """Returns the number of processors in the header of a trace."""
+    """Returns the number of processors, parsed from the header of a trace."""
     found = HEADER.fullmatch(header)
     if not found or int(found[2]) > MOST_PROCESSORS:
         kind = kind_of(f"{header}\n".encode("ascii", "surrogateescape")[:HEAD] if header else b"")
@@ -111,26 +111,28 @@ def lines_of(file: Iterable[str]) -> Iterator[str]:
 
 
 class Output:
-    """The standard output. More events than a trace may have raise TooMany."""
+    """Writes lines to standard output. Raises TooMany if there are more events than a trace may
+    have.
+    """
 
     def __init__(self) -> None:
         self.events = 0
 
     def put(self, lines: list[str]) -> None:
-        """Writes and counts lines of events."""
+        """Writes lines of events, and counts them."""
         self.events += len(lines)
         if self.events > MOST_EVENTS:
             raise TooMany(f"{MOST_EVENTS} events")
         self.write(lines)
 
     def write(self, lines: list[str]) -> None:
-        """Writes lines without counting them."""
+        """Writes lines that aren't events, and doesn't count them."""
         sys.stdout.write("".join(f"{line}\n" for line in lines))
 
 
 def refuse_victims(options: Options, beginning: list[str]) -> None:
-    """Rejects victims for a trace that was made from samples. Such a trace doesn't show what the
-    pressure of other groups would have been without a victim.
+    """Rejects --victims for a trace that was made from samples. Such a trace doesn't show the
+    pressure that other groups would have had without a victim.
     """
     found = sampled_in("".join(beginning).encode("ascii", "replace"))
     if found and options.folding.victims:
@@ -144,7 +146,7 @@ def refuse_victims(options: Options, beginning: list[str]) -> None:
 
 
 def fold_trace(options: Options) -> int:
-    """Folds the trace, and returns the exit status."""
+    """Folds a trace, and returns the exit status."""
     with opened(options.trace) as file:
         beginning = list(islice(file, MARK_LINES))
         refuse_victims(options, beginning)
@@ -168,7 +170,7 @@ def fold_trace(options: Options) -> int:
 
 
 def fold() -> int:
-    """Folds the trace that the arguments name, and returns the exit status."""
+    """Opens the trace that the arguments name, folds it, and returns the exit status."""
     options = options_of()
     try:
         return fold_trace(options)

@@ -1,12 +1,13 @@
-"""Folds a trace: replaces the events of each window by few lines that give the same times.
+"""Folds a trace: replaces the events in each time window by a few lines that cause the same
+pressure.
 
-A replay uses only one thing of the interval between two ticks: the time for which each group was in
-each state on each processor. So within a window, whose length divides the length of a tick, other
-events may replace the original ones if they give the same times. About as many events are enough as
-there are groups on the processors. All other lines are copied with their times: memory samples,
-preferences, triggers, and the lines that create or remove groups or switch accounting. Each line of
-the last two kinds ends a window. At the end of a window the same groups have tasks as in the
-original.
+Pressure depends only on the time for which each group was in each state on each processor between
+two ticks. So within a window, whose length divides the length of a tick, other events may replace
+the original ones if these times are the same. They need about as many events as there are groups on
+the processors. All other lines are copied with their times: memory samples, preferences, triggers,
+and the lines that create or remove groups or switch accounting. Each line of the last two kinds
+ends a window. At each multiple of the window's length, at which a tick may be, the same groups have
+tasks as in the original.
 """
 from __future__ import annotations
 
@@ -26,21 +27,23 @@ from .victims import Victim, Victims
 from .workers import Work, Workers
 from .world import Catalog, Changes, FoldWorld, NotATrace, path_of_copy, shortened
 
-# The verbs of the lines that are copied without ending a window: they don't concern tasks,
+# The verbs of lines that are copied without ending a window, because they don't affect tasks,
 # accounting or the set of groups.
 COPIED_VERBS = ("mem", "host", "prefer", "trigger")
-# The most windows that may be submitted before the result of the first is awaited.
+# The largest number of windows that are submitted to the workers before the first result is
+# awaited.
 MOST_WAITING = 3
 
 
 class TooMany(Exception):
-    """The error that the folded trace would exceed a limit of traces. The message says which."""
+    """Raised if the folded trace would exceed a limit of traces. The message names the limit."""
 
 
 @dataclass
 class Counts:
-    """The numbers of lines of a trace (events and end line) before and after folding (`lines`,
-    `written`), of joint states in all windows and processors before and after, and of windows.
+    """Statistics of a folded trace: the number of lines (events and end line) before and after
+    folding (`lines`, `written`), the number of joint states (see joint.py) in all windows and
+    processors before and after, and the number of windows.
     """
 
     lines: int = 0
@@ -52,10 +55,9 @@ class Counts:
 
 @dataclass
 class Outcome:
-    """The result of folding. `written` is the time (ns) up to which the trace is written. `whole`
-    is the number of kills up to which the trace is exact, or None for any number. `changes` counts
-    the tasks that came to or left the victims' groups, and `unmatched` has the patterns of victims
-    that match no group.
+    """The result of folding. The trace is written up to the time `written` (ns). It is exact for up
+    to `whole` kills, or for any number if `whole` is None. `changes` counts the tasks that entered
+    or left the victims' groups. `unmatched` has the patterns of victims that match no group.
     """
 
     counts: Counts
@@ -66,8 +68,8 @@ class Outcome:
 
 
 class Fold:
-    """Folds the lines of a trace of `processors` processors into windows of `length` ns, and passes
-    the resulting lines to `put`. The times are also preserved for the trace without the tasks of
+    """Folds a trace of a machine with `processors` processors in windows of `length` ns, and passes
+    the resulting lines to `put`. Sums of time are also preserved for the trace without the tasks of
     `victims`.
     """
 
@@ -84,11 +86,11 @@ class Fold:
         self.victims = Victims(victims)
         self.plan: Plan | None = plan_of(self.world, ())
         self.size = Catalog().size()
-        # The time (ns) up to which windows are submitted, the next edge (the next multiple of the
-        # window's length), and the earliest time of the next line.
+        # The time (ns) up to which windows are submitted, the next multiple of the window's length
+        # (an edge), and the earliest time at which the next line may be written.
         self.start, self.edge, self.first = 0, length, 0
-        # The joint state of each processor at `start`, and the groups that have tasks then, or None
-        # if `start` isn't an edge.
+        # The joint state of each processor at `start`. `present` has the groups with tasks at that
+        # time, or is None if `start` isn't an edge.
         self.states = list(self.world.states)
         self.present: set[str] | None = None
         self.interrupted = [0] * processors
@@ -97,24 +99,24 @@ class Fold:
         self.counts = Counts()
         self.is_ended = False
         self.check = Check(processors)
-        # The output that remains to be written, in order: windows, whose lines the workers compute,
-        # and lines between windows, each with the sets of groups without which sums are preserved
-        # from there on.
+        # The output that isn't written yet, in order: windows, whose lines the workers compute, and
+        # single lines between windows. Each single line is paired with sets of groups. After the
+        # line, the sums of time without the tasks of each set are preserved too.
         self.due: deque[Window | tuple[str, list[tuple[str, ...]]]] = deque()
-        # The time (ns) up to which everything is written.
+        # The time (ns) up to which the output is written.
         self.written = 0
 
     def outcome(self) -> Outcome:
-        """Returns the outcome for the lines that were folded so far."""
+        """Returns the result of folding the lines so far."""
         return Outcome(
             self.counts, self.written, self.victims.whole, self.world.changes,
             self.victims.unmatched(),
         )  # fmt: skip
 
-    # ------------------------------------------------------------ lines
+    # ------------------------------------------------------------ reading lines of the trace
 
     def take(self, lines: Iterable[str]) -> None:
-        """Folds the next lines, which have no newlines."""
+        """Folds further lines of the trace. The lines have no newlines."""
         verbs, line, number = self.world.verbs, "", self.counts.lines
         try:
             for number, line in enumerate(lines, number + 1):
@@ -135,7 +137,9 @@ class Fold:
         self.counts.lines = number
 
     def take_other(self, time_ns: int, words: list[str], line: str) -> None:
-        """Handles a line whose verb doesn't concern tasks."""
+        """Copies a line whose verb doesn't change a task. Ends the window first if the line changes
+        groups or accounting.
+        """
         verb, world = words[1], self.world
         if self.is_ended:
             raise NotATrace("it stands after the end")
@@ -160,8 +164,8 @@ class Fold:
     def between(
         self, time_ns: int, line: str, change: Callable[[], object], removed: Iterable[str] = ()
     ) -> None:
-        """Ends the window before a line that changes the groups or their accounting. `change` makes
-        that change, and `removed` has the groups that the line removes.
+        """Ends the window, then changes the groups or their accounting by calling `change`, and
+        then copies `line`. `removed` has the groups that the line removes.
         """
         self.flush(time_ns, False, removed)
         change()
@@ -169,11 +173,11 @@ class Fold:
         self.plan = plan_of(self.world, removals)
         self.due.append((line, [tuple(paths[slot] for slot in it) for it in removals]))
 
-    # ------------------------------------------------------------ windows
+    # ------------------------------------------------------------ ending time windows
 
     def go_to(self, time_ns: int) -> None:
-        """Ends the windows that end before `time_ns`. Consecutive windows without events become one
-        window.
+        """Ends all windows that end before `time_ns`. Consecutive windows without events are merged
+        into one.
         """
         if time_ns > MOST_TIME:
             raise NotATrace(f"its time is beyond {MOST_TIME} ns")
@@ -184,9 +188,10 @@ class Fold:
         self.edge = last + self.length
 
     def flush(self, end: int, is_edge: bool, removed: Iterable[str] = ()) -> None:
-        """Submits the window that ends at `end` (ns), either at an edge, which may be a tick, or
-        because the groups or their accounting change. After its lines no task is in the groups
-        `removed`, and at an edge no task is in a group that is empty there in the original.
+        """Submits the window that ends at `end` (ns). With `is_edge` a tick may be at that time;
+        without it the groups or their accounting change there. After the window's lines no task is
+        in the groups `removed`. At an edge no task is in a group that is empty there in the
+        original.
         """
         world, paths = self.world, self.world.paths
         populated = {paths[slot]: slot for slot, count in world.members.items() if count}
@@ -216,9 +221,9 @@ class Fold:
         self.write(MOST_WAITING)
 
     def tasks_needed(self, slot: int, processor: int) -> int:
-        """Returns the number of representatives that a group with tasks needs on this processor. A
-        group needs one, on one of the processors. A group that might be killed needs as many as
-        may ever be used, since a task that is created after the kill would survive it.
+        """Returns the number of artificial tasks that a group with tasks needs on this processor.
+        Most groups need one, on one of the processors. A group that might be killed needs as many
+        as may ever be used, since a task that is created after the kill would survive it.
         """
         return (
             MOST_AT_ONCE
@@ -226,11 +231,11 @@ class Fold:
             else int(slot % self.world.processors == processor)
         )
 
-    # ------------------------------------------------------------ output
+    # ------------------------------------------------------------ writing the folded trace
 
     def write(self, waiting: int) -> None:
-        """Writes the output that is due, except the last `waiting` windows, whose lines may still
-        be computed, and the lines after them.
+        """Writes the output before the last `waiting` windows. The workers may not have folded
+        these windows yet, so neither they nor the lines after them are written.
         """
         while self.due and (
             len(self.workers.waiting) > waiting or not isinstance(self.due[0], Window)
@@ -251,8 +256,8 @@ class Fold:
                 self.written = due.end
 
     def lines_of(self, window: Window, pieces: dict[int, Piece]) -> list[str]:
-        """Returns the lines of a window in order of time. Stores the window's sums in `window`, for
-        the check.
+        """Returns the lines of a window in order of time. Stores the original sums of time in
+        `window`, for the check.
         """
         paths, each = self.world.paths, [window.lines]
         for processor, piece in sorted(pieces.items()):

@@ -1,5 +1,5 @@
-"""Defines joint states. The joint state of a processor is the part of its tasks' states on which
-pressure depends.
+"""Defines joint states. The joint state of a processor is the part of its tasks' states that
+determines the pressure.
 
 Pressure doesn't depend on the number of ready tasks in a group, but only on whether the group has a
 ready task. So the joint state is a set of pairs of a group and a kind: the group has at least one
@@ -28,21 +28,21 @@ class Kind(IntEnum):
     RUNNING_STALLED = 7
 
 
-# The bits of a kind: STALLED says whether the task is in a memory stall, and WAY has its state.
+# Masks for a kind: STALLED says whether the task is in a memory stall, and WAY selects its state.
 STALLED, WAY = 4, 3
 KINDS = len(Kind)
-# The state of a task after it left its processor, by the word of its switch line.
+# The state of a task after a switch, by the word in the line of the switch.
 LEFT_BY = {
     How.PREEMPT.word: int(Kind.READY),
     How.SLEEP.word: int(Kind.ASLEEP),
     How.WAIT.word: int(Kind.WAITING),
 }
-# The word of the switch line, by the state of the task after the switch.
+# The word in the line of a switch, by the state of the task after the switch.
 LEAVES_TO = {kind: word for word, kind in LEFT_BY.items()}
 
 
 class Element(NamedTuple):
-    """A pair of a group's path and a kind: the group has a task of its own of this kind on the
+    """A group's path and a kind. The group itself has at least one task of this kind on the
     processor.
     """
 
@@ -50,6 +50,7 @@ class Element(NamedTuple):
     kind: Kind
 
 
-# A joint state. No element has the kind ASLEEP, and at most one has a kind that runs.
+# The joint state of a processor. No element has the kind ASLEEP, and at most one element is
+# running.
 JointState = frozenset[Element]
 IDLE: JointState = frozenset()

@@ -1,4 +1,5 @@
-"""Writes trace lines that put a processor into given joint states for given times.
+"""Writes the lines of a trace that put a processor into certain joint states (see joint.py) for
+certain times.
 
 Each element of a joint state is represented by a task that is created for this purpose, a
 *representative*. A representative belongs to the element's group, stays on its processor, and
@@ -15,15 +16,18 @@ from psiworld.world import How
 
 from .joint import IDLE, LEAVES_TO, STALLED, WAY, Element, JointState, Kind
 
-# A line of a trace: its time (ns), and its words after the time.
+# A line of a trace: its time (ns), and the text after the time.
 Line = tuple[int, str]
 BLOCKED = (Kind.ASLEEP, Kind.WAITING)
-# The most representatives that a group may need at once: one of each kind, but only one that runs.
+# The largest number of representatives that a group may need at once on a processor. There are
+# seven kinds other than ASLEEP, but only one of the two kinds that run can occur at a time.
 MOST_AT_ONCE = 6
 
 
 class Interrupt(NamedTuple):
-    """An interrupt line: its time (ns), the group of the interrupted task, and its length (ns)."""
+    """An interrupt: the time (ns) of its line, the group of the interrupted task, and its length
+    (ns).
+    """
 
     time_ns: int
     path: str
@@ -41,13 +45,13 @@ class Move(NamedTuple):
     after: Kind | None
 
     def wakes(self) -> bool:
-        """Whether the representative sleeps or waits for IO before, so that it must be woken first.
+        """Whether the representative was asleep or waiting for IO, so that it must be woken first.
         """
         return self.before is not None and self.before & WAY in BLOCKED
 
     def turns(self) -> bool:
-        """Whether the representative must run for zero time, in order to sleep, wait for IO, exit,
-        or begin or end a stall.
+        """Whether the representative must run for zero time. Only a running task can begin to sleep
+        or wait for IO, exit, or begin or end a memory stall.
         """
         is_runner = runs(self.before) or runs(self.after)
         return not is_runner and (
@@ -55,20 +59,24 @@ class Move(NamedTuple):
         )
 
     def changes_stall(self) -> bool:
-        """Whether the representative enters or leaves a stall."""
+        """Whether the representative begins or ends a memory stall."""
         return ((self.before or 0) ^ (self.after or 0)) & STALLED != 0
 
     def stall(self) -> str:
-        """Returns the words of the representative's stall line."""
+        """Returns the text of the line that begins or ends the representative's memory stall."""
         return f"{'stall' if (self.after or 0) & STALLED else 'unstall'} {self.task}"
 
     def how(self) -> str:
-        """Returns the word of the switch line by which the representative leaves the processor."""
+        """Returns the word in the line of the switch by which the representative leaves the
+        processor.
+        """
         return How.EXIT.word if self.after is None else LEAVES_TO[Kind(self.after & WAY)]
 
 
 def is_within(state: JointState, present: set[str] | None) -> bool:
-    """Whether all tasks of a joint state are in the groups `present`. None allows every group."""
+    """Whether all tasks of a joint state belong to the groups `present`. If `present` is None, all
+    groups are allowed.
+    """
     return present is None or all(element.path in present for element in state)
 
 
@@ -87,19 +95,19 @@ COSTS = {(before, after): cost(before, after) for before in Kind for after in Ki
 
 
 class Writer:
-    """Writes the lines of one processor. The numbers of its tasks differ from those of other
-    processors.
+    """Writes the lines of one processor. The numbers of its tasks differ from the numbers of the
+    tasks of all other processors.
     """
 
     def __init__(self, processor: int, processors: int) -> None:
         self.processor, self.processors = processor, processors
         self.made = 0
         self.state: JointState = IDLE
-        # The representatives of each group: the number of the task of each kind but ASLEEP, and the
-        # numbers of all tasks that sleep.
+        # The representatives of each group: `busy` has the task number for each kind except ASLEEP,
+        # and `asleep` the numbers of all sleeping tasks.
         self.busy: dict[str, dict[Kind, int]] = {}
         self.asleep: dict[str, list[int]] = {}
-        # The running task, 0 for none.
+        # The number of the running task, or 0 if none runs.
         self.runner = 0
 
     def write(
@@ -109,13 +117,14 @@ class Writer:
         interrupts: Sequence[Interrupt] = (),
         present: set[str] | None = None,
     ) -> list[Line]:
-        """Returns the lines that put the processor into each joint state for its duration (ns),
-        from `start` (ns) on, with the lines of interrupts among them. If `present` isn't None, the
-        first joint state has tasks only in these groups, if possible.
+        """Returns lines that put the processor into each joint state for its duration (ns),
+        starting at `start` (ns), merged with the lines of `interrupts`. If `present` isn't None,
+        the first joint state has tasks only in these groups, if possible.
         """
         lines: list[Line] = []
         time_ns, due = start, list(interrupts)
-        # Sets have no fixed order, so the states are sorted: then each run gives the same lines.
+        # The order of a set may vary between runs. Sorting the states makes the output the same in
+        # each run.
         left = {state: durations[state] for state in sorted(durations, key=sorted)}
         while left:
             fitting = (
@@ -129,12 +138,12 @@ class Writer:
         return lines + [line for it in due for line in self.interrupt(it)]
 
     def distance(self, state: JointState) -> int:
-        """Returns the number of elements by which a joint state differs from the present one."""
+        """Returns the number of elements in which a joint state differs from the current one."""
         return len(self.state ^ state)
 
     def interrupt(self, wanted: Interrupt) -> list[Line]:
-        """Returns the lines of an interrupt. If no task of its group runs, a representative of the
-        group runs for zero time.
+        """Returns the lines for an interrupt. If no task of its group is running, a representative
+        of the group runs for zero time.
         """
         runs_there = any(it.path == wanted.path and runs(it.kind) for it in self.state)
         line = f"irq {self.processor} {wanted.length}"
@@ -155,10 +164,10 @@ class Writer:
         """Returns the groups that have representatives."""
         return {*self.busy, *self.asleep}
 
-    # ------------------------------------------------------------ from one joint state to the next
+    # ------------------------------------------------------------ changing the joint state
 
     def change(self, time_ns: int, state: JointState) -> list[Line]:
-        """Returns the lines that change the present joint state to `state`."""
+        """Returns the lines that change the current joint state to `state`."""
         coming: dict[str, list[Kind]] = {}
         for path, kind in sorted(state - self.state):
             coming.setdefault(path, []).append(kind)
@@ -173,9 +182,9 @@ class Writer:
         return [(time_ns, words) for words in self.perform(moves)]
 
     def moves(self, path: str, leaving: list[Kind], coming: list[Kind]) -> Iterator[Move]:
-        """Yields the moves of a group's representatives from the kinds `leaving` to the kinds
-        `coming`. Pairs of kinds whose change takes few lines come first. For the remaining kinds it
-        wakes sleeping representatives, and creates new ones only if none sleeps.
+        """Yields the changes of a group's representatives from the kinds `leaving` to the kinds
+        `coming`. Pairs that need few lines are chosen first. The remaining kinds of `coming` use
+        sleeping representatives, or new ones if none sleeps.
         """
         busy = self.busy.get(path, {})
         pairs = sorted(
@@ -202,7 +211,7 @@ class Writer:
         return (self.made - 1) * self.processors + self.processor + 1
 
     def empty(self, time_ns: int, paths: Iterable[str]) -> list[Line]:
-        """Returns the lines that end all representatives in these groups."""
+        """Returns the lines that make all representatives of these groups exit."""
         moves = []
         for path in sorted(set(paths) & self.groups()):
             moves += [
@@ -212,8 +221,8 @@ class Writer:
         return [(time_ns, words) for words in self.perform(moves)]
 
     def keep(self, time_ns: int, counts: dict[str, int]) -> list[Line]:
-        """Returns the lines that create representatives until each group has at least this number
-        of them. New representatives sleep.
+        """Returns the lines that create sleeping representatives until each group has at least
+        `counts[path]` of them.
         """
         moves = []
         for path, count in sorted(counts.items()):
@@ -222,9 +231,9 @@ class Writer:
         return [(time_ns, words) for words in self.perform(moves)]
 
     def perform(self, moves: list[Move]) -> list[str]:
-        """Returns the lines for these moves, without times. All turns of zero length form one chain
-        of switches: the running task leaves, each task of the chain switches to the next, and the
-        last one switches to the task that runs from then on.
+        """Returns the lines for these moves, without times. All representatives that run for zero
+        time form one chain of switches: the running task leaves, each task switches to the next,
+        and the last one switches to the task that keeps running.
         """
         words = [f"fork {it.task} {it.path} {self.processor}" for it in moves if it.before is None]
         words += [f"wake {it.task} {self.processor}" for it in moves if it.wakes()]
@@ -248,8 +257,8 @@ class Writer:
         return words
 
     def chain(self, turns: list[Move], following: int, how: str) -> Iterator[str]:
-        """Yields the switches of a chain. In the first switch the running task leaves by the word
-        `how`; the last switch is to the task `following`.
+        """Yields the lines of a chain of switches. `how` is the word by which the running task
+        leaves; the last switch is to the task `following`.
         """
         for turn in turns:
             yield f"switch {self.processor} {turn.task} {how}"
@@ -259,7 +268,8 @@ class Writer:
         yield f"switch {self.processor} {following} {how}"
 
     def take(self, moves: list[Move], runner: int) -> None:
-        """Stores the representatives' kinds after these moves, and the running task `runner`."""
+        """Updates the kinds of the representatives after these moves. `runner` is the running task.
+        """
         for path, task, before, _ in moves:
             if before is Kind.ASLEEP:
                 self.asleep[path].remove(task)

@@ -1,5 +1,5 @@
-"""Folds in another process while this process plays a recording's events. Lines are sent to that
-process in parts, and it returns the outcome at the end.
+"""Folds a trace in a second process, while the first process replays the events of a recording. The
+first process sends lines in batches, and receives the result at the end.
 """
 from __future__ import annotations
 
@@ -16,28 +16,28 @@ END = b""
 
 
 class Here:
-    """Folds in this process."""
+    """Folds a trace in this process. Has the same methods as `Elsewhere`."""
 
     def __init__(self, fold: Fold) -> None:
         self.fold = fold
 
     def take(self, lines: list[str]) -> None:
-        """Folds these lines."""
+        """Folds further lines of the trace."""
         self.fold.take(lines)
 
     def end(self) -> None:
-        """Ends the folding after the last line. Nothing needs to be done in this process."""
+        """Called after the last line of the trace. Does nothing in this class."""
 
     def stop(self) -> None:
-        """Stops without an outcome. Nothing needs to be done in this process."""
+        """Called if folding is abandoned. Does nothing in this class."""
 
     def outcome(self) -> Outcome:
-        """Returns the outcome for the lines that were folded so far."""
+        """Returns the result of folding the lines so far."""
         return self.fold.outcome()
 
 
 class Elsewhere:
-    """Folds in another process."""
+    """Folds a trace in another process."""
 
     def __init__(self, fold: Fold) -> None:
         context = multiprocessing.get_context("fork")
@@ -52,8 +52,8 @@ class Elsewhere:
         results_end.close()
 
     def take(self, lines: list[str]) -> None:
-        """Sends these lines. If the other process has ended because a line can't be folded, raises
-        the error of that process.
+        """Sends lines to the other process. If that process has ended because a line is invalid,
+        raises its error.
         """
         try:
             if not lines:
@@ -63,7 +63,7 @@ class Elsewhere:
             self.end()
 
     def end(self) -> None:
-        """Waits until the other process ends, and raises its error if it had one."""
+        """Waits until the other process has ended, and raises its error if there was one."""
         with contextlib.suppress(BrokenPipeError):
             self.lines.send_bytes(END)
         self.lines.close()
@@ -76,12 +76,12 @@ class Elsewhere:
             raise fault
 
     def stop(self) -> None:
-        """Ends the other process without waiting for an outcome."""
+        """Makes the other process exit without a result."""
         self.lines.close()
         self.results.close()
 
     def outcome(self) -> Outcome:
-        """Returns the outcome of all lines."""
+        """Returns the result of folding all lines."""
         assert self.found
         return self.found
 
@@ -89,8 +89,8 @@ class Elsewhere:
 def serve(
     fold: Fold, lines: Connection, results: Connection, others: tuple[Connection, Connection]
 ) -> None:
-    """Folds the lines that arrive on `lines`, as the main function of a process, and sends the
-    outcome to `results`. `others` are the connections that the process inherits and must close.
+    """The main function of the other process: folds the lines that arrive on `lines`, and sends the
+    result to `results`. `others` are inherited connections, which must be closed.
     """
     signal.signal(signal.SIGINT, signal.SIG_IGN)
     for line in others:

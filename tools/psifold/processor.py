@@ -1,5 +1,5 @@
-"""Folds the windows of one processor: replaces its joint states by few joint states with the same
-sums of time, and writes lines for these.
+"""Folds the windows of one processor: replaces its joint states (see joint.py) by fewer joint
+states with the same sums of time, and writes lines for them.
 """
 from __future__ import annotations
 
@@ -18,8 +18,8 @@ from .world import Catalog, Interrupts, bits_of
 
 
 class Few(NamedTuple):
-    """The joint states that replace the joint states of a window, with their times (ns); the
-    window's sums (ns); and the number of the window's original joint states.
+    """The joint states that replace the original ones of a window, with their times (ns); the
+    window's original sums of time (ns); and its original number of joint states.
     """
 
     times: dict[int, int]
@@ -28,9 +28,10 @@ class Few(NamedTuple):
 
 
 def few_of(spent: dict[int, int], sums: Sums, left: Left) -> Few:
-    """Returns few joint states with the same sums as the joint states of `spent`, whose times (ns)
-    it has. The joint states with the longest times are added to the basis first, since the basis
-    then absorbs most of the others. `left` has the rounding errors so far.
+    """Returns fewer joint states than `spent`, with times that add up to the same sums except for
+    rounding. `spent` has the time (ns) of each original joint state. Joint states with the longest
+    times are added to the basis first, since the basis can then absorb most of the others. Updates
+    `left`, the rounding errors so far.
     """
     columns: dict[int, int] = {}
     states: dict[int, int] = {}
@@ -63,8 +64,9 @@ def interrupt_lines(
     interrupts: Interrupts, paths: Sequence[str], last: int, first: int
 ) -> list[Interrupt]:
     """Returns the interrupt lines of a window with their times (ns). Each line is as early as
-    possible, so the last line isn't later than in the original: its time is at least `first`, and
-    its whole length fits between the previous line (`last` for the first line) and its own time.
+    possible, so the last line isn't later than in the original. The time of a line is at least
+    `first`, and at least the time of the previous line plus its own length (ns). `last` is the time
+    (ns) of the processor's last interrupt line before the window.
     """
     placed: list[Interrupt] = []
     time_ns = last
@@ -79,12 +81,13 @@ def interrupt_lines(
 
 
 class Turn(NamedTuple):
-    """The data for folding a processor's window: its start and end (ns), the time (ns) of each
-    joint state, and the interrupt lines. At its end no task may be in the groups `removed`, nor, if
-    `populated` isn't None, in a group that isn't in `populated`; and each group in `needs` must
-    have at least this number of tasks. `first` is the joint state at the window's start. If the
-    window starts at an edge, which may be a tick, `present` has the groups with tasks at that time:
-    no other group may have a task in the first ns.
+    """The input for folding one processor's window: `start` and `end` (ns), the time (ns) `spent`
+    in each joint state, and the interrupt lines. `first` is the joint state at the start.
+
+    At the end no task may be in the groups `removed` nor, if `populated` isn't None, in a group
+    outside `populated`. Each group in `needs` must then have at least `needs[path]` tasks. If the
+    window starts at a possible tick, `present` has the groups with tasks at that time: no other
+    group may have a task in the first ns.
     """
 
     start: int
@@ -99,8 +102,8 @@ class Turn(NamedTuple):
 
 
 class Piece(NamedTuple):
-    """The result for a processor's window: its lines with their times (ns), its original sums (ns),
-    and the number of joint states before and after folding.
+    """The result of folding one processor's window: its lines with their times (ns), its original
+    sums of time (ns), and the number of joint states before and after.
     """
 
     lines: list[Line]
@@ -115,7 +118,9 @@ def states_of(few: Few, catalog: Catalog) -> dict[JointState, int]:
 
 
 def with_first(turn: Turn, sums: Sums, left: Left) -> Few:
-    """Returns few joint states for a window, with the original joint state in the first ns."""
+    """Returns fewer joint states for a window, with the original first one for at least 1 ns. So
+    the window can begin with tasks only in groups that have tasks at its start.
+    """
     spent = dict(turn.spent)
     spent[turn.first] -= 1
     few = few_of({state: time for state, time in spent.items() if time}, sums, left)
@@ -129,14 +134,16 @@ def with_first(turn: Turn, sums: Sums, left: Left) -> Few:
 
 
 class FoldedProcessor:
-    """A processor, with its writer and the rounding errors of its sums."""
+    """Folds the windows of one processor. Keeps the rounding errors between windows."""
 
     def __init__(self, processor: int, processors: int) -> None:
         self.writer = Writer(processor, processors)
         self.left: Left = Counter()
 
     def fold(self, turn: Turn, sums: Sums, catalog: Catalog) -> Piece:
-        """Folds a window."""
+        """Folds a time window of this processor. Returns its folded lines, its original sums of
+        time (ns), and its numbers of joint states.
+        """
         before = Counter(self.left)
         few = few_of(turn.spent, sums, self.left)
         durations = states_of(few, catalog)

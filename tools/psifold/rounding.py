@@ -1,6 +1,5 @@
-"""Rounds fractional times to whole ns. The rounding error of each sum is carried into the next
-window, whose times are rounded so that the error shrinks. So no sum drifts, over any number of
-windows.
+"""Rounds fractional times to whole ns. The rounding error of each sum is carried over to the next
+window, and reduced there. So the error of a sum stays bounded over any number of windows.
 """
 from __future__ import annotations
 
@@ -11,18 +10,19 @@ from .basis import Share
 from .sums import Sum
 from .world import bits_of
 
-# The number of ns by which each sum is too small.
+# The shortfall of each sum in ns: by how much it is too small.
 Left = Counter[Sum]
-# If the error of a sum is more than MOST_LEFT ns, 1 ns at a time is moved from one joint state to
-# another, also if their times are whole, at most MOST_STEPS times.
+# If the error of a sum exceeds MOST_LEFT ns, single ns are moved between joint states: first
+# between those with fractional times, and then between all if that isn't enough. Each of these two
+# passes moves at most MOST_STEPS ns.
 MOST_LEFT = 2
 MOST_STEPS = 20
 
 
 class Rounding:
-    """Rounds the times of joint states. The times in `shares` are in units of 1/`divisor` ns, and
-    `columns` has the sums to which each joint state contributes, as bits. `shortfalls` has the ns
-    by which each sum is too small so far, by the sum's bit.
+    """Rounds the times of joint states. Times in `shares` are in units of 1/`divisor` ns, and
+    `columns` has for each joint state the bits of the sums that it contributes to. `shortfalls` has
+    the current shortfall (ns) of each sum, by its bit.
     """
 
     def __init__(
@@ -36,15 +36,16 @@ class Rounding:
         for number, remainder in self.remainders.items():
             for bit in bits_of(columns[number]):
                 self.shortfalls[bit] += remainder
-        # The total shortfall of each joint state's sums, by its number, in units of 1/`divisor` ns.
+        # The sum of the shortfalls of each joint state's sums, by the joint state's number, in
+        # units of 1/`divisor` ns.
         self.lags = {
             number: sum(self.shortfalls[bit] for bit in bits_of(columns[number]))
             for number in self.times
         }
 
     def round(self) -> None:
-        """Rounds all times. The remainders add up to a whole number of ns, and these ns are given
-        to joint states whose times aren't whole, so that the sum of squared errors is small.
+        """Rounds all times. The remainders add up to a whole number of ns. These ns are added to
+        joint states with fractional times, so that the sum of squared errors stays small.
         """
         short = set(self.remainders)
         for _ in range(sum(self.remainders.values()) // self.divisor):
@@ -61,8 +62,8 @@ class Rounding:
         return any(abs(left) > MOST_LEFT * self.divisor for left in self.shortfalls.values())
 
     def growth(self, number: int) -> int:
-        """Returns by how much the sum of squared errors grows, in units of 1/`divisor`, if the time
-        of this joint state grows by 1 ns.
+        """Returns the growth of the sum of squared errors, in units of 1/`divisor`, if the time of
+        this joint state grows by 1 ns.
         """
         return self.divisor * self.columns[number].bit_count() - 2 * self.lags[number]
 
@@ -76,9 +77,10 @@ class Rounding:
             self.lags[other] -= gain * (sums & self.columns[other]).bit_count()
 
     def improve(self, givers: Iterable[int], takers: Iterable[int]) -> None:
-        """Moves single ns from the joint states `givers` to `takers` as long as the sum of squared
-        errors falls. A move changes that sum by the number of sums to which only one of the two
-        joint states contributes, and by the difference of their shortfalls.
+        """Moves single ns from joint states in `givers` to joint states in `takers` while this
+        reduces the total of the squared errors. A move changes this total by the number of sums to
+        which only one of the two joint states contributes, plus twice the difference of their
+        `lags`.
         """
         lags, sums, takers = self.lags, self.columns, sorted(takers)
         pairs = [
@@ -100,8 +102,8 @@ class Rounding:
 def whole_times(
     shares: list[Share], divisor: int, columns: list[int], sum_of: Callable[[int], Sum], left: Left
 ) -> dict[int, int]:
-    """Returns the times of the joint states in whole ns, by number. Updates `left`, the rounding
-    errors that are carried from window to window.
+    """Returns the rounded time (ns) of each joint state, by its number. Updates the rounding errors
+    in `left`.
     """
     if divisor == 1 and not any(left.values()):
         return {number: time for number, time in shares}

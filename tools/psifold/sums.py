@@ -1,9 +1,9 @@
-"""Computes the sums of time to which a joint state contributes. There is a sum for each group and
-each of its seven states, and further sums that exclude groups that might be killed.
+"""Computes the sums of time to which a joint state (see joint.py) contributes. Each group has a sum
+for each of its seven states. Further sums exclude groups that might be killed.
 
-The states are those of docs/TRACES.md. A set of groups is an integer with a bit for each group, and
-a set of sums is an integer with a bit for each sum. So the sums of a joint state, of which there
-are thousands, take only a few operations.
+The states are described in docs/TRACES.md. A set of groups is an integer with a bit for each group,
+and a set of sums is an integer with a bit for each sum. So a few operations find all sums of a
+joint state, even if there are thousands.
 """
 from __future__ import annotations
 
@@ -14,8 +14,9 @@ from .joint import KINDS, STALLED, WAY, Kind
 from .world import Catalog, FoldWorld, bits_of
 
 STATES = 7
-# The sets of groups of a joint state: the groups with a task that waits for IO; is in a stall; is
-# ready; is ready or runs, and isn't in a stall; runs; and runs while in a stall.
+# The indices of the sets of groups of a joint state. A group is in a set if it or a descendant has
+# a task that, in this order: waits for IO; is in a memory stall; is ready; is ready or runs, but
+# not in a memory stall; runs; runs in a memory stall.
 WAITS, STALLS, IS_READY, UNSTALLED, RUNS, RUNS_STALLED = range(6)
 BY_WAY = {
     int(Kind.WAITING): (WAITS,),
@@ -26,7 +27,9 @@ BY_WAY = {
 
 
 def sets_of(kind: int) -> tuple[int, ...]:
-    """Returns the sets to which a task of this kind adds its own group and all ancestors."""
+    """Returns the indices of the sets to which a task of this kind adds its group and all
+    ancestors.
+    """
     way = kind & WAY
     if kind & STALLED:
         return (*BY_WAY[way], STALLS, *((RUNS_STALLED,) if way == Kind.RUNNING else ()))
@@ -34,7 +37,9 @@ def sets_of(kind: int) -> tuple[int, ...]:
 
 
 class Sum(NamedTuple):
-    """A sum of time: its group's number, its state (0 to 6), and the groups that it excludes."""
+    """The key of a sum of time: the group's number, its state (0 to 6), and the groups that are
+    excluded.
+    """
 
     slot: int
     state: int
@@ -42,26 +47,27 @@ class Sum(NamedTuple):
 
 
 class View:
-    """The sums of `groups` that exclude the groups `without` and their descendants. The sum of
-    state S and of the group with the index I has the bit S * len(groups) + I.
+    """The sums of time of `groups`, without the tasks of the groups `without` and their
+    descendants. The sum of state S of the group with index I has the bit number S * len(groups) +
+    I.
     """
 
     def __init__(self, catalog: Catalog, groups: Sequence[int], without: tuple[int, ...]) -> None:
         self.catalog, self.groups, self.without = catalog, groups, without
         self.size = STATES * len(groups)
         self.place = {slot: place for place, slot in enumerate(groups)}
-        # A table for each byte of a joint state: the sets of groups to which the byte's elements
+        # For each byte of a joint state, a cache: the sets of groups to which the byte's elements
         # contribute, by the byte's value.
         self.bytes: list[dict[int, int]] = []
 
     def sum_of(self, bit: int) -> Sum:
-        """Returns the sum of this bit."""
+        """Returns the key of the sum with this bit number."""
         state, place = divmod(bit, len(self.groups))
         return Sum(self.groups[place], state, self.without)
 
     def chain(self, slot: int) -> int:
-        """Returns the set of the group and its ancestors, without those whose sums aren't computed.
-        The set is empty for an excluded group.
+        """Returns the set of the group and its ancestors as a bit mask. Groups whose sums aren't
+        computed are left out. The set is empty if the group is excluded.
         """
         chain = 0
         at: int | None = slot
@@ -88,7 +94,7 @@ class View:
         return sets
 
     def sums(self, state: int) -> int:
-        """Returns the set of sums to which a joint state contributes."""
+        """Returns the set of sums to which a joint state contributes, as a bit mask."""
         sets, tables = 0, self.bytes
         data = state.to_bytes((state.bit_length() + 7) // 8, "little")
         while len(tables) < len(data):
@@ -121,13 +127,15 @@ class View:
         return found
 
 
-# The groups of a view, and the groups that it excludes.
+# A plan is a list of pairs: the groups whose sums of time are computed, and the groups whose tasks
+# these sums exclude.
 Plan = list[tuple[list[int], tuple[int, ...]]]
 
 
 def plan_of(world: FoldWorld, removals: Sequence[tuple[int, ...]]) -> Plan:
-    """Returns the sums to preserve: the sums of all accounted groups, and for each removal (a set
-    of groups to exclude together) the sums of their common ancestors without these groups.
+    """Returns the plan of the sums to preserve. These are the sums of all accounted groups and, for
+    each set of groups in `removals`, the sums of their common ancestors without the tasks of the
+    set.
     """
     accounted = [slot for slot in sorted(world.live.values()) if slot not in world.off]
     plan: Plan = [(accounted, ())]
@@ -138,7 +146,7 @@ def plan_of(world: FoldWorld, removals: Sequence[tuple[int, ...]]) -> Plan:
 
 
 class Sums:
-    """All sums that are preserved, each with a bit. `total` is the bit of an extra sum, to which
+    """All sums that are preserved, each with a bit. `total` is the mask of an extra sum to which
     each joint state contributes.
     """
 
@@ -148,7 +156,7 @@ class Sums:
         self.total = 1 << self.size
 
     def of(self, state: int) -> int:
-        """Returns the set of sums to which a joint state contributes."""
+        """Returns the set of sums to which a joint state contributes, as a bit mask."""
         found, at = 0, 0
         for view in self.views:
             found |= view.sums(state) << at
@@ -156,7 +164,7 @@ class Sums:
         return found
 
     def sum_of(self, bit: int) -> Sum:
-        """Returns the sum of this bit."""
+        """Returns the key of the sum with this bit number."""
         for view in self.views:
             if bit < view.size:
                 return view.sum_of(bit)
@@ -164,8 +172,8 @@ class Sums:
         raise IndexError(bit)
 
     def least(self, state: int, column: int) -> int:
-        """Removes from a joint state the elements that don't affect its sums, and returns the rest.
-        `column` has the sums of the joint state.
+        """Returns the joint state without the elements that don't affect its sums. `column` has the
+        sums of the joint state.
         """
         for bit in bits_of(state):
             fewer = state ^ 1 << bit

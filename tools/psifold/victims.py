@@ -1,5 +1,5 @@
-"""Selects the groups that might be killed, by patterns like those of rules. A folded trace is
-exact without these groups too.
+"""Selects the groups that might be killed, by patterns like those in rules files. A folded trace
+also preserves the pressure that remains without these groups.
 """
 from __future__ import annotations
 
@@ -14,7 +14,8 @@ from psirules.patterns import is_pattern, matches
 
 from .world import FoldWorld
 
-# The most sets of groups that are excluded. Each takes about as much time as all sums without any.
+# The largest number of sets of groups that are excluded. For each set, the sums take about as long
+# to compute as the sums without exclusions.
 MOST_REMOVALS = 64
 TRUE = ("true", "True", "1", "TRUE")
 
@@ -28,7 +29,7 @@ class Victim(NamedTuple):
     is_recursive: bool = False
 
     def matches(self, path: str) -> bool:
-        """Whether the group at `path` may be killed."""
+        """Whether the group at `path` might be killed."""
         if not self.is_recursive:
             return matches(self.pattern, path)
         parts = path.split("/")
@@ -39,7 +40,7 @@ class Victim(NamedTuple):
 
 
 def victims_of(text: str) -> list[Victim]:
-    """Parses comma-separated patterns."""
+    """Parses comma-separated patterns of groups' paths."""
     patterns = text.split(",")
     wrong = next((it for it in patterns if not is_pattern(it)), None)
     if wrong is not None:
@@ -48,7 +49,7 @@ def victims_of(text: str) -> list[Victim]:
 
 
 def victims_of_rules(name: str) -> list[Victim]:
-    """Returns the groups that the actions of a rules file may kill."""
+    """Returns patterns for the groups that the actions of a rules file may kill."""
     try:
         with open(name, "rb") as file:
             return list(victims_in(json.loads(file.read())))
@@ -59,7 +60,7 @@ def victims_of_rules(name: str) -> list[Victim]:
 
 
 def victims_in(rules: dict[str, Any]) -> Iterator[Victim]:
-    """Yields the victims of each action."""
+    """Yields the patterns of each action's victims."""
     for ruleset in rules["rulesets"]:
         for action in ruleset["actions"]:
             is_recursive = str(action["args"].get("recursive", "false")) in TRUE
@@ -70,9 +71,8 @@ def victims_in(rules: dict[str, Any]) -> Iterator[Victim]:
 
 
 class Victims:
-    """The groups that might be killed. They match one of the patterns `wanted`. `whole` is the
-    number of kills up to which the times of the remaining groups are exact, or None if there is no
-    limit.
+    """The groups that might be killed: those that match a pattern in `wanted`. The sums of the
+    remaining groups are exact for up to `whole` kills, or for any number if `whole` is None.
     """
 
     def __init__(self, wanted: Sequence[Victim]) -> None:
@@ -80,7 +80,7 @@ class Victims:
         self.whole: int | None = None
 
     def matches(self, path: str) -> bool:
-        """Whether the group at `path` may be killed."""
+        """Whether the group at `path` might be killed."""
         if path not in self.known:
             self.known[path] = any(victim.matches(path) for victim in self.wanted)
         return self.known[path]
@@ -91,9 +91,9 @@ class Victims:
         return [it.pattern for it in self.wanted if not any(map(it.matches, paths))]
 
     def removals(self, world: FoldWorld) -> list[tuple[int, ...]]:
-        """Returns the sets of groups to exclude: each group alone, then all sets of two groups, of
-        three and so on, up to the size whose sets would exceed MOST_REMOVALS. No set contains
-        both a group and its ancestor, since excluding the ancestor excludes the group.
+        """Returns the sets of groups to exclude: all single groups, then all pairs, and so on, as
+        long as there are at most MOST_REMOVALS sets. No set contains a group and its ancestor,
+        since excluding the ancestor excludes both.
         """
         slots = (
             sorted(slot for path, slot in world.live.items() if self.matches(path))
@@ -101,7 +101,7 @@ class Victims:
             else []
         )
         world.watch(slots)
-        # If the root is killed, nothing remains.
+        # If the root is killed, no task remains, so the root isn't excluded.
         slots = [slot for slot in slots if slot]
         found: list[tuple[int, ...]] = []
         above = {slot: world.catalog.above(slot) for slot in slots}

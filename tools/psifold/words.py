@@ -1,4 +1,4 @@
-"""Defines the options of the tools that fold, and writes the report about the folded trace."""
+"""Defines the command-line options for folding, and formats the report on a folded trace."""
 from __future__ import annotations
 
 import argparse
@@ -17,12 +17,14 @@ ROUNDING = (
     "but times are rounded to whole ns: totals may differ by 1 us, and so may a signal exactly at"
     " its threshold, and an average of a tick whose share is exactly a whole percent"
 )
-# The unit of ticks (ns), and the longest tick (ns).
+# The smallest unit of a tick's length (ns), and the longest tick (ns).
 MILLISECOND, LONGEST_TICK = 10**6, 60 * SECOND
 
 
 def window_of(text: str) -> int:
-    """Parses the length of a window, a whole number of ms up to the longest tick. Returns ns."""
+    """Parses the length of a window: a whole number of ms, at most as long as the longest tick.
+    Returns ns.
+    """
     length = nanoseconds(text)
     if not 0 < length <= LONGEST_TICK or length % MILLISECOND:
         raise Malformed(f"{text} is no window: it has 0.001 to 60 s, of whole ms, as ticks have")
@@ -30,7 +32,8 @@ def window_of(text: str) -> int:
 
 
 def add_window(words: argparse.ArgumentParser, name: str, is_required: bool, text: str) -> None:
-    """Adds the options of folding: the window, named `name`, and the groups that might be killed.
+    """Adds the options for folding: the length of a window, under the option name `name`, and the
+    groups that might be killed.
     """
     words.add_argument(name, dest="fold", metavar="S", type=window_of, required=is_required,
     help=text)  # fmt: skip
@@ -44,15 +47,17 @@ def add_window(words: argparse.ArgumentParser, name: str, is_required: bool, tex
 
 
 class Folding(NamedTuple):
-    """The options of folding: the length of a window (ns), and the groups that might be killed."""
+    """The values of the options for folding: the length of a window (ns), and the groups that might
+    be killed.
+    """
 
     length: int
     victims: list[Victim]
 
 
 def folding_of(found: dict[str, Any]) -> Folding | None:
-    """Removes the options of folding from the parsed options, and returns them. None if the trace
-    isn't to be folded.
+    """Removes the options for folding from the parsed options, and returns their values. Returns
+    None if the trace isn't to be folded.
     """
     length, patterns, rules = found.pop("fold"), found.pop("victims"), found.pop("rules")
     if length is None and (patterns or rules):
@@ -66,7 +71,7 @@ def folding_of(found: dict[str, Any]) -> Folding | None:
 
 
 def folding_lines(folding: Folding, outcome: Outcome) -> list[str]:
-    """Returns the lines of the report: sizes before and after folding, and how exact the folded
+    """Returns the lines of the report: the sizes before and after folding, and how exact the folded
     trace is.
     """
     counts, length = outcome.counts, folding.length
@@ -93,7 +98,9 @@ def is_longer(counts: Counts) -> bool:
 
 
 def longer_lines(counts: Counts) -> list[str]:
-    """Returns advice if the folded trace is longer than the original."""
+    """Returns a line of advice if the folded trace is longer than the original, and an empty list
+    if not.
+    """
     if not is_longer(counts):
         return []
     return [
@@ -103,7 +110,7 @@ def longer_lines(counts: Counts) -> list[str]:
 
 
 def whatif_line(folding: Folding, outcome: Outcome) -> str:
-    """Returns the line that says up to which kills, and until when, `whatif` is exact."""
+    """Returns the line of the report that says for which kills `whatif` is exact."""
     if len(outcome.unmatched) == len(folding.victims):
         return (
             "after the first kill `whatif` is near, and not exact: --victims or --rules say who"
@@ -127,15 +134,15 @@ def whatif_line(folding: Folding, outcome: Outcome) -> str:
 
 
 class Progress:
-    """Shows the progress on standard error, if that is a terminal: the seconds of the trace that
-    are done, and the seconds of the whole trace if `total` (ns) isn't None.
+    """Shows the progress on standard error if that is a terminal: the seconds of the trace that are
+    converted. Also shows the length of the whole trace if `total` (ns) isn't None.
     """
 
     def __init__(self, name: str, total: int | None = None) -> None:
         self.name, self.total, self.is_shown, self.due = name, total, sys.stderr.isatty(), 0.0
 
     def show(self, time_ns: int) -> None:
-        """Shows that the trace is done up to `time_ns`. Updates the terminal at most twice a
+        """Shows that the trace is converted up to `time_ns`. Updates the terminal at most twice a
         second.
         """
         if self.is_shown and time.monotonic() >= self.due:

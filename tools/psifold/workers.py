@@ -1,6 +1,9 @@
-"""Folds the windows of all processors. Small windows are folded in this process. From the first
-large window on, several processes fold, each for a share of the processors. Windows are submitted,
-and their results are returned later in the same order.
+"""Folds the windows of all processors. At first this process folds them. At the first large window,
+it starts several worker processes, and each folds a share of the processors from then on. Results
+are returned in the order in which windows were submitted.
+
+The size of a window is its number of joint states. A joint state (see joint.py) says in which
+states each group has tasks on a processor. Folding takes longer for a window with more of them.
 """
 from __future__ import annotations
 
@@ -22,14 +25,17 @@ from .processor import FoldedProcessor, Piece, Turn
 from .sums import Plan, Sums
 from .world import Catalog
 
-# The least number of joint states in a window for which several processes are started, and the
-# greatest number of processes.
+# MUCH is the number of joint states, added up over all processors, from which a window is large:
+# the first such window starts the worker processes. A trace that has only smaller windows is folded
+# without them. MOST_WORKERS is the largest number of worker processes, even on a machine with more
+# processors.
 MUCH, MOST_WORKERS = 4_000, 8
 
 
 class Work(NamedTuple):
-    """A window to fold: the additions to the catalog, the sums to preserve if they have changed,
-    and the data of each processor.
+    """A window to fold: what was added to the catalog since the last window (`news`), the sums of
+    time to preserve (`plan`, or None if they didn't change), and the input of each processor
+    (`turns`).
     """
 
     news: tuple[list[str], list[int | None], list[int]]
@@ -38,7 +44,8 @@ class Work(NamedTuple):
 
 
 class Share:
-    """Some of the processors, with their own copy of the catalog. One process folds them."""
+    """A share of the processors, which are folded in one process, with its own copy of the catalog.
+    """
 
     def __init__(self, processors: Sequence[int], count: int) -> None:
         self.catalog = Catalog()
@@ -46,11 +53,11 @@ class Share:
         self.sums = Sums(self.catalog, [])
 
     def of(self, work: Work) -> Work:
-        """Returns the data of a window that this share needs: those of its own processors."""
+        """Returns the window's data for the processors of this share."""
         return work._replace(turns={processor: work.turns[processor] for processor in self.folded})
 
     def fold(self, work: Work) -> dict[int, Piece]:
-        """Folds a window, and returns the results by processor."""
+        """Folds a time window, and returns the results by processor."""
         self.catalog.add(*work.news)
         if work.plan is not None:
             self.sums = Sums(self.catalog, work.plan)
@@ -60,10 +67,9 @@ class Share:
         }
 
     def serve(self, own: Connection, others: Sequence[Connection]) -> None:
-        """Folds the windows that arrive on a connection, as the main function of a process, until
-        the other end is closed. A thread receives windows as soon as they arrive, so the sender
-        never waits while this process folds. `others` are the connections that the process inherits
-        and must close.
+        """The main function of a worker process: folds the windows that arrive on a connection,
+        until its other end is closed. A thread receives windows as soon as they arrive, so the
+        sender never waits. `others` are inherited connections, which must be closed.
         """
         signal.signal(signal.SIGINT, signal.SIG_IGN)
         for line in others:
@@ -76,7 +82,7 @@ class Share:
 
 
 def take_all(line: Connection, due: Queue[Work | None]) -> None:
-    """Queues all windows that arrive on a connection, and None at the end."""
+    """Puts all windows that arrive on a connection into a queue, and then None."""
     with contextlib.suppress(EOFError, OSError):
         while True:
             due.put(line.recv())
@@ -85,7 +91,7 @@ def take_all(line: Connection, due: Queue[Work | None]) -> None:
 
 @contextlib.contextmanager
 def reporting_ended() -> Iterator[None]:
-    """Raises Unreadable if a process has ended without a result."""
+    """A context manager that raises Unreadable if a worker process has ended without a result."""
     try:
         yield
     except (EOFError, BrokenPipeError, ConnectionResetError):
@@ -93,8 +99,8 @@ def reporting_ended() -> Iterator[None]:
 
 
 class Workers:
-    """All processors, divided into shares, and the processes that fold these. `most` limits the
-    number of shares; None stands for one less than this machine's processors.
+    """Distributes the processors among worker processes. `most` limits the number of processes;
+    None means one fewer than this machine's processors.
     """
 
     def __init__(self, processors: int, most: int | None = None) -> None:
@@ -106,7 +112,7 @@ class Workers:
         self.waiting: deque[dict[int, Piece] | None] = deque()
 
     def hand_in(self, work: Work) -> None:
-        """Submits the next window."""
+        """Submits the next time window to the worker processes, or folds it in this process."""
         if (
             not self.lines
             and len(self.shares) > 1
@@ -128,8 +134,8 @@ class Workers:
             )
 
     def take_out(self) -> dict[int, Piece]:
-        """Returns the results, by processor, of the first submitted window whose results weren't
-        returned yet.
+        """Returns the results, by processor, of the oldest window whose results are still
+        outstanding.
         """
         pieces = self.waiting.popleft()
         if pieces is not None:
@@ -138,7 +144,7 @@ class Workers:
             return {number: piece for line in self.lines for number, piece in line.recv().items()}
 
     def start(self) -> None:
-        """Starts a process for each share."""
+        """Starts a worker process for each share."""
         context = multiprocessing.get_context("fork")
         pairs = [context.Pipe() for _ in self.shares]
         every = [end for pair in pairs for end in pair]
@@ -152,7 +158,7 @@ class Workers:
             there.close()
 
     def close(self) -> None:
-        """Ends the processes. All results must have been returned before."""
+        """Ends the worker processes. All results must have been returned before."""
         for line in self.lines:
             line.close()
         for process in self.processes:

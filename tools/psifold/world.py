@@ -1,5 +1,6 @@
-"""Replays a trace's lines, and adds up the time for which each processor was in each joint state.
-Unlike psireplay/world.py it rejects invalid lines, since no other program has checked the trace.
+"""Replays a trace, and adds up the time for which each processor was in each joint state (see
+joint.py). Unlike psireplay/world.py, it rejects invalid lines, since no other program has checked
+the trace.
 
 In this module a joint state is an integer with a bit for each element that occurs in some window.
 So a task changes a joint state by an exclusive or, and the integer is the key of the joint state's
@@ -16,15 +17,15 @@ from psiworld.limits import LEAST_WINDOW, MOST_INTERRUPTS, MOST_LABEL, MOST_MEMO
 
 from .joint import KINDS, LEFT_BY, STALLED, WAY, Element, JointState, Kind
 
-# The kinds that are needed at each line, as integers: these are faster than members of an enum.
+# Frequently used kinds as plain integers, which are faster than members of an enum.
 READY, RUNNING = int(Kind.READY), int(Kind.RUNNING)
 
-# The most characters of a line that a message shows.
+# The largest number of characters of a line that a message shows.
 SHOWN = 100
 NUMBER = r"(?:0|[1-9][0-9]{0,18})"
 PATH = r"(?:/|(?:/(?!\.{1,2}(?:/|$))[A-Za-z0-9_.@:\\-]+){1,32}(?= |$))"
-# Patterns for a group's path, and for the words after the time in the lines that are copied
-# unchanged. `path_of_copy` checks the numbers in these.
+# Patterns for a group's path, and for the lines that are copied unchanged, without their times.
+# `path_of_copy` also checks the numbers in these lines.
 GROUP = re.compile(PATH)
 SAMPLE = re.compile(rf"mem ({PATH}) {NUMBER} {NUMBER} {NUMBER}|host {NUMBER} {NUMBER} {NUMBER}")
 PREFERENCE = re.compile(rf"prefer ({PATH}) (?:prefer|avoid|none)")
@@ -34,17 +35,18 @@ TRIGGER = re.compile(
 
 
 class NotATrace(Exception):
-    """The error that a line is malformed, or isn't allowed at this place of a trace."""
+    """Raised if a line of a trace is malformed, or isn't allowed at its place."""
 
 
 def shortened(line: str) -> str:
-    """Returns the line, or its first characters if it is long."""
+    """Returns the line, or the first SHOWN characters of a longer line."""
     return line if len(line) <= SHOWN else f"{line[:SHOWN]} .."
 
 
 def path_of_copy(line: str) -> str:
-    """Returns the group that a line names, or `/` if it names none. The line is one of those that
-    are copied unchanged, without its time. Raises NotATrace if the line is malformed.
+    """Returns the path of the group that a line names, or `/` if the line names no group. The line
+    has one of the verbs whose lines are copied unchanged, and has no time. Raises NotATrace if it
+    is malformed.
     """
     found = SAMPLE.fullmatch(line) or PREFERENCE.fullmatch(line)
     if found and all(int(word) <= MOST_MEMORY for word in line.split(" ") if word.isdigit()):
@@ -56,8 +58,8 @@ def path_of_copy(line: str) -> str:
 
 
 class Task:
-    """A task. `place` is KINDS times the number of its group, so that `place + kind` is the key of
-    the task's element.
+    """A task. `place` is KINDS times its group's number, so that `place + kind` is the key of its
+    element of the joint state.
     """
 
     __slots__ = ("place", "processor", "kind")
@@ -67,9 +69,9 @@ class Task:
 
 
 class Interrupts:
-    """The time (ns) that interrupts took from the groups of running tasks, on one processor in one
-    window. `first` is the window's first interrupt line, with its group's number: it may include
-    time from before the window. `others` has the sum of the other lines by group.
+    """The time (ns) that interrupts took from running tasks on one processor in one window, by the
+    task's group. `first` is the group and the time of the window's first interrupt line, which may
+    include time before the window. `others` has the sum of the other lines by group.
     """
 
     def __init__(self) -> None:
@@ -77,7 +79,7 @@ class Interrupts:
         self.others: Counter[int] = Counter()
 
     def add(self, slot: int, length: int) -> None:
-        """Adds an interrupt line of a task of the group `slot`, with its length (ns)."""
+        """Adds an interrupt of `length` ns, which interrupted a task of the group `slot`."""
         if self.first is None:
             self.first = (slot, length)
         else:
@@ -85,25 +87,25 @@ class Interrupts:
 
 
 class Changes:
-    """The number of tasks that came into groups that might be killed, the number of tasks that
-    moved out of such groups or between them, and the time (ns) of the last such event.
+    """Counts the tasks that entered groups that might be killed, and the tasks that moved out of
+    such groups or between them. `last` is the time (ns) of the last such event.
     """
 
     def __init__(self) -> None:
         self.came, self.moved, self.last = 0, 0, 0
 
     def note(self, time_ns: int, came: bool, moved: bool) -> None:
-        """Counts a task that came, moved, or did both. Lines at time 0 don't count, because they
-        write the trace's initial state.
+        """Counts a task that entered, moved, or both. Lines at time 0 don't count, because they
+        describe the initial state.
         """
         if time_ns and (came or moved):
             self.came, self.moved, self.last = self.came + came, self.moved + moved, time_ns
 
 
 class Catalog:
-    """All groups and all elements of joint states that occurred so far. A group's number is the
-    index of its path and of its parent's number. The number of a bit is the index of its element's
-    key, which is KINDS times the group's number plus the kind. Nothing is ever removed.
+    """All groups and all elements of joint states that occurred so far. A group's number is its
+    index in `paths` and `parents`. The bit number of an element is the index of its key in `keys`;
+    the key is KINDS times the group's number plus the kind. Nothing is ever removed.
     """
 
     def __init__(self) -> None:
@@ -125,49 +127,53 @@ class Catalog:
         return frozenset(Element(self.paths[slot], Kind(kind)) for slot, kind in keys)
 
     def size(self) -> tuple[int, int]:
-        """Returns the numbers of groups and of bits."""
+        """Returns the number of groups and the number of bits in the catalog."""
         return len(self.paths), len(self.keys)
 
     def since(self, size: tuple[int, int]) -> tuple[list[str], list[int | None], list[int]]:
-        """Returns the paths, parents and keys that were added since the catalog had this size."""
+        """Returns the paths, parents and keys that were added since the catalog had the sizes
+        `size`.
+        """
         return self.paths[size[0] :], self.parents[size[0] :], self.keys[size[1] :]
 
     def add(self, paths: list[str], parents: list[int | None], keys: list[int]) -> None:
-        """Appends paths, parents and keys, as `since` returns them."""
+        """Appends paths, parents and keys that `since` of another catalog returned."""
         self.paths += paths
         self.parents += parents
         self.keys += keys
 
 
 class FoldWorld:
-    """The machine's state after the trace's lines so far. Groups are numbered in the order of their
-    creation; the root is 0.
+    """The state of the machine after the lines so far. Groups are numbered in order of creation,
+    starting with the root (0).
     """
 
     def __init__(self, processors: int) -> None:
         self.processors = processors
         self.tasks: dict[int, Task] = {}
-        # The number of each processor, by its word in a trace.
+        # The number of each processor, by its text in a line.
         self.places = {str(place): place for place in range(processors)}
-        # The running task of each processor, 0 for none.
+        # The number of each processor's running task, or 0 if none runs.
         self.runs = [0] * processors
         self.catalog = Catalog()
         self.paths, self.parents = self.catalog.paths, self.catalog.parents
         self.live = {"/": 0}
         self.off: set[int] = set()
         self.members: Counter[int] = Counter()
-        # For each processor: the number of tasks of each element, by the element's key; the present
-        # joint state, and the time (ns) at which it began; the time (ns) of each joint state in
-        # this window; and the interrupts in this window.
+        # For each processor: `counts` has the number of tasks of each element, by the element's
+        # key. `states` has the current joint state, and `since` the time (ns) at which it began.
+        # `spent` has the time (ns) of each joint state in this window, and `interrupts` the
+        # interrupts in this window.
         self.counts: list[dict[int, int]] = [defaultdict(int) for _ in range(processors)]
         self.states = [0] * processors
         self.since = [0] * processors
         self.spent: list[dict[int, int]] = [{} for _ in range(processors)]
         self.interrupts = [Interrupts() for _ in range(processors)]
-        # The bit of each element, by its key.
+        # The mask of each element's bit, by the element's key.
         self.bits: dict[int, int] = {}
-        # For each group, the groups among itself and its ancestors that might be killed. `changes`
-        # counts the tasks that come to these or leave them, which a folded trace can't preserve.
+        # For each group, `watched` has the groups that might be killed among itself and its
+        # ancestors. `changes` counts the tasks that enter groups that might be killed, or move out
+        # of them or between them, which a folded trace can't preserve.
         self.watched: dict[int, set[int]] = {}
         self.changes = Changes()
         self.verbs: dict[str, Callable[[int, list[str]], None]] = {
@@ -176,11 +182,11 @@ class FoldWorld:
             "unstall": self.stall, "move": self.move, "irq": self.interrupt,
         }  # fmt: skip
 
-    # ------------------------------------------------------------ tasks
+    # ------------------------------------------------------------ changes of tasks
 
     def change(self, processor: int, time_ns: int, before: int, after: int) -> None:
-        """Moves a task of this processor from the element with the key `before` to the element with
-        the key `after`. Elements of the kind ASLEEP aren't counted.
+        """Moves a task on this processor from the element with the key `before` to the one with the
+        key `after`. Elements of the kind ASLEEP aren't counted.
         """
         counts, bits = self.counts[processor], 0
         if before & 7:
@@ -207,7 +213,7 @@ class FoldWorld:
         return bit
 
     def fork(self, time_ns: int, words: list[str]) -> None:
-        """Creates a task, ready on a processor."""
+        """Creates a task, which is ready on a processor."""
         _, _, text, path, processor = words
         number, place = int(text), self.live[path] * KINDS
         if number in self.tasks:
@@ -221,7 +227,7 @@ class FoldWorld:
         self.change(task.processor, time_ns, 0, place + READY)
 
     def ready(self, time_ns: int, words: list[str]) -> None:
-        """Makes a task ready, possibly on another processor than before."""
+        """Makes a task ready, possibly on another processor."""
         _, verb, number, processor = words
         task, target, kind = self.tasks[int(number)], self.places[processor], 0
         if (verb == "wake") == (task.kind & READY):
@@ -236,7 +242,7 @@ class FoldWorld:
             self.change(target, time_ns, 0, task.place + kind)
 
     def switch(self, time_ns: int, words: list[str]) -> None:
-        """Switches from the running task to another one, or to none."""
+        """Switches a processor from its running task to another task, or to idle."""
         _, _, text, following, how = words
         processor, tasks = self.places[text], self.tasks
         number = self.runs[processor]
@@ -272,7 +278,8 @@ class FoldWorld:
         self.change(task.processor, time_ns, before, task.place + task.kind)
 
     def move(self, time_ns: int, words: list[str]) -> None:
-        """Moves a task to another group."""
+        """Moves a task to another group, and counts the move if one of the groups might be killed.
+        """
         _, _, number, path = words
         task = self.tasks[int(number)]
         before = task.place + task.kind
@@ -284,8 +291,8 @@ class FoldWorld:
         self.change(task.processor, time_ns, before, task.place + task.kind)
 
     def interrupt(self, time_ns: int, words: list[str]) -> None:
-        """Adds the time of interrupts to the group of the running task. It is dropped if no task
-        runs.
+        """Adds the time of interrupts to the group of the running task. The time is ignored if no
+        task runs.
         """
         processor, length = self.places[words[2]], int(words[3])
         if not 0 <= length <= MOST_INTERRUPTS or len(words) != 4:
@@ -294,7 +301,7 @@ class FoldWorld:
         if number and length:
             self.interrupts[processor].add(self.tasks[number].place // KINDS, length)
 
-    # ------------------------------------------------------------ groups
+    # ------------------------------------------------------------ changes of groups
 
     def group(self, path: str) -> int:
         """Creates a group, and returns its number."""
@@ -312,7 +319,7 @@ class FoldWorld:
         return slot
 
     def rmgroup(self, path: str) -> None:
-        """Removes an empty group."""
+        """Removes a group, which must be empty."""
         slot = self.live[path]
         if self.members[slot] or any(self.parents[it] == slot for it in self.live.values()):
             raise NotATrace(f"{path} isn't empty")
@@ -327,8 +334,8 @@ class FoldWorld:
         (self.off.discard if switched == "on" else self.off.add)(self.live[path])
 
     def watch(self, slots: Sequence[int]) -> None:
-        """Sets the groups that might be killed: tasks that come to them or to their descendants are
-        counted from now on.
+        """Sets the groups that might be killed. From then on, tasks that enter these groups or
+        their descendants are counted.
         """
         each = (
             (
@@ -341,16 +348,17 @@ class FoldWorld:
         self.watched = {slot: found for slot, found in each if found}
 
     def note_move(self, time_ns: int, source: int, target: int) -> None:
-        """Counts a task that moves from group `source` to group `target`, if one might be killed.
+        """Counts a task that moves from group `source` to group `target`, if one of the groups
+        might be killed.
         """
         before, after = self.watched.get(source, set()), self.watched.get(target, set())
         self.changes.note(time_ns, not after <= before, bool(before) and source != target)
 
-    # ------------------------------------------------------------ windows
+    # ------------------------------------------------------------ ends of time windows
 
     def close(self, time_ns: int) -> list[dict[int, int]]:
-        """Ends a window at `time_ns`. Returns for each processor the time (ns) of each joint state
-        in the window.
+        """Ends the window at `time_ns`, and begins the next one. Returns, for each processor, the
+        time (ns) of each joint state in the ended window.
         """
         closed = self.spent
         for processor, spent in enumerate(closed):
@@ -362,7 +370,9 @@ class FoldWorld:
         return closed
 
     def close_interrupts(self) -> list[Interrupts]:
-        """Returns the interrupts of each processor in the window that ends, and begins new sums."""
+        """Returns the interrupts of each processor in the window that ends, and clears the sums for
+        the next one.
+        """
         closed, self.interrupts = self.interrupts, [Interrupts() for _ in range(self.processors)]
         return closed
 

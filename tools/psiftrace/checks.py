@@ -1,9 +1,9 @@
-"""Checks ftrace text for defects that make a trace of it wrong without an error.
+"""Checks ftrace text for defects that make its trace wrong without an error.
 
 A simple importer converts line by line. It can't know that lines are missing, that a task's number
-changed, or that a sleep in state D was no wait for IO. Each finding has a threshold. Below that,
-the defect changes totals by less than the usual difference between the pressure files of a machine
-and the reports of a replay.
+changed, or that a sleep in state D wasn't a wait for IO. Some defects are reported only above a
+threshold. Below the threshold, a defect changes totals by less than the usual difference between a
+machine's pressure files and the reports of a replay.
 """
 from __future__ import annotations
 
@@ -15,27 +15,28 @@ from psiread.waits import UNINTERRUPTIBLE
 from .lines import FORMS, Line, event_of, forms_of, head_of
 from .text import ENTRIES, LOST
 
-# The least time (ns) by which times must go back to be reported. Smaller steps are normal, since
-# processors write their lines at about the same time.
+# The largest step back (ns) in the times of the lines that isn't reported. Small steps back are
+# normal, since processors write their lines at about the same time.
 LEAST_BACK = 10**6
-# With fewer switches than this, the absence of a kind of event isn't reported.
+# The number of switches that a text must contain before the absence of a kind of event is reported.
 LEAST_SWITCHES = 200
-# The largest share of the time of all sleeps in state D that sleeps without a wait for IO may have.
+# If the text has `sched_stat_iowait`: the largest share of the time in state D (0 to 1) that may be
+# sleeps other than waits for IO.
 MOST_OTHER_SLEEP = 0.05
-# The largest share of the text's time on all processors together that sleeps in state D may have if
-# no event shows which of them were waits for IO.
+# If the text has no `sched_stat_iowait`: the largest share (0 to 1) of the text's time, summed over
+# processors, that tasks may sleep in state D.
 MOST_UNKNOWN_SLEEP = 0.01
-# If the first events of two processors are farther apart than this (ns), that is reported: older
-# events of one of them may have been overwritten.
+# The largest time (ns) between the first events of two processors that isn't reported. If it is
+# longer, older events of the later processor may have been overwritten.
 LEAST_APART = 10**8
 
 KINDS = ("sched_switch", "sched_wakeup", "sched_wakeup_new", "sched_migrate_task")
 
 
 class Sleeps:
-    """The sleeps in state D: the start (ns) of each task's present sleep, and the number and total
-    time (ns) of past sleeps that were waits for IO (True), as sched_stat_iowait reports, or not
-    (False).
+    """The sleeps in state D. `begun` is the start (ns) of each task's current sleep. `waits` and
+    `times` are the number and the total time (ns) of past sleeps. Their key is True for sleeps that
+    `sched_stat_iowait` reported as waits for IO, and False for all others.
     """
 
     def __init__(self) -> None:
@@ -44,7 +45,7 @@ class Sleeps:
         self.times: Counter[bool] = Counter()
 
     def end(self, task: int, time_ns: int, is_wait: bool) -> None:
-        """Ends a task's sleep at `time_ns`, if the task sleeps."""
+        """Ends a task's sleep at `time_ns`. Has no effect if the task isn't asleep."""
         begun = self.begun.pop(task, None)
         if begun is not None:
             self.waits[is_wait] += 1
@@ -52,7 +53,7 @@ class Sleeps:
 
 
 class Check:
-    """Checks the lines of a text one by one, and counts what it finds."""
+    """Checks the lines of a text one by one, and collects the defects."""
 
     def __init__(self) -> None:
         self.kinds: Counter[str] = Counter()
@@ -85,7 +86,7 @@ class Check:
             self.take_event(number, event)
 
     def take_other(self, number: int, line: bytes) -> None:
-        """Checks a line that has no event: it may report lost or overwritten events."""
+        """Checks a line without an event. It may report lost or overwritten events."""
         entries, lost = ENTRIES.match(line), LOST.match(line)
         if entries and entries[1] != entries[2]:
             self.overwritten.append((number, int(entries[1]), int(entries[2])))
@@ -93,7 +94,7 @@ class Check:
             self.lost.append(int(lost[2] or 0))
 
     def take_form(self, head: Line, line: bytes, event: Event | None) -> None:
-        """Counts the line if a simple importer rejects or ignores it."""
+        """Counts the line as a defect if a simple importer rejects or ignores it."""
         self.faults["perf"] += head.is_perf
         self.faults["return"] += line.endswith(b"\r")
         if event is None:
@@ -102,14 +103,18 @@ class Check:
             self.faults["plain"] += 1
 
     def take_time(self, number: int, event: Event) -> None:
-        """Checks the time of an event."""
+        """Checks whether the time of an event goes back, and stores the first time of its
+        processor.
+        """
         if self.latest - event.time_ns > LEAST_BACK:
             self.backs.append((number, self.latest - event.time_ns))
         self.latest = max(self.latest, event.time_ns)
         self.firsts.setdefault(event.processor, event.time_ns)
 
     def take_event(self, number: int, event: Event) -> None:
-        """Checks the contents of an event."""
+        """Updates the running tasks and the sleeps with an event. Stores the number of the line if
+        the event contradicts an earlier one, or if an exec changed a task's number.
+        """
         if isinstance(event, Switch):
             if self.runs.get(event.processor, event.previous) != event.previous:
                 self.strangers.append(number)
@@ -127,11 +132,11 @@ class Check:
         elif isinstance(event, Migration):
             self.firsts.setdefault(event.origin, event.time_ns)
 
-    # ------------------------------------------------------------ findings
+    # ------------------------------------------------------------ the findings
 
     def findings(self) -> list[str]:
-        """Returns the defects that make a trace of the text wrong. The list is empty if there are
-        none.
+        """Returns a description of each defect that makes a trace of the text wrong. The list is
+        empty if there is no defect.
         """
         return [
             *self.form_findings(),
@@ -141,8 +146,8 @@ class Check:
         ]
 
     def form_findings(self) -> list[str]:
-        """Returns the forms of lines that a simple importer rejects or ignores. psitrace accepts
-        all of them, except a text without switches.
+        """Returns the findings about lines that a simple importer rejects or ignores. psitrace
+        accepts all of them, except a text without switches.
         """
         found = []
         if not self.kinds["sched_switch"]:
@@ -229,8 +234,8 @@ class Check:
         return []
 
     def remarks(self) -> list[str]:
-        """Returns remarks that aren't defects: the number of processors, the number of lines of
-        each kind of event, and events that are missing.
+        """Returns remarks that aren't defects: the number of processors, the number of lines for
+        each kind of event, and the absent kinds of events.
         """
         said = [f"--cpus {max(self.firsts) + 1}"] if self.firsts else []
         said += [f"{kind} {count}" for kind, count in sorted(self.kinds.items())]

@@ -27,7 +27,7 @@ from .text import bytes_of
 
 
 def check_text() -> int:
-    """Checks a text, and prints the findings; returns the exit status."""
+    """Checks a text, prints the findings, and returns the exit status."""
     words = Parser(__doc__)
     words.add_argument("text", metavar="TEXT", help="the file, or - for the standard input")
     name = words.values()["text"]
@@ -54,5 +54,5 @@ def check_text() -> int:
 
 
 def main() -> int:
-    """Runs the command; returns the exit status."""
+    """Runs the command, and returns the exit status."""
     return run(check_text)

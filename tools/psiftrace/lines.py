@@ -1,9 +1,9 @@
-"""Parses single lines of ftrace text: of `trace` and `trace_pipe`, of `trace-cmd report` with and
-without -N, and of `perf script`.
+"""Parses single lines of ftrace text. The accepted formats are those of `trace` and `trace_pipe`,
+of `trace-cmd report` with and without -N, and of `perf script`.
 
-The names of tasks may contain any bytes, so fields are found by the text around the names. A name
-can't contain a text that looks like further fields, since it has at most 15 bytes (`TASK_COMM_LEN`
-of Linux, without its terminating zero).
+The name of a task may contain any bytes, so a field is found by the text around a name. A name
+can't imitate further fields, since it has at most 15 bytes (`TASK_COMM_LEN` of Linux, without its
+terminating zero).
 """
 from __future__ import annotations
 
@@ -25,7 +25,8 @@ FTRACE = (
 )
 PERF = rb" +(?:\d+ +)?[a-z0-9_]+:([A-Za-z0-9_]+):(?: +(.*))?$"
 HEADS = (
-    # The kernel pads names to 16 columns, so the dash after them has a fixed position.
+    # The kernel pads the task's name to 16 columns, so the dash after the name has a fixed
+    # position.
     re.compile(rb".{16}" + FTRACE, re.DOTALL),
     re.compile(rb" *\S.*?" + FTRACE, re.DOTALL),
     re.compile(rb" *\S.*? +(?:\d+/)?(\d{1,10}) +\[(\d{1,5})\] +" + TIME + PERF, re.DOTALL),
@@ -33,9 +34,9 @@ HEADS = (
 
 
 class Line(NamedTuple):
-    """The parts of an event's line: the time (ns), the processor, the task in which the event was
-    written, the kind of the event, and the text of its fields. `is_perf` says whether perf wrote
-    the line.
+    """The parts of an event's line. `time_ns` is in ns. `current` is the task in which the event
+    was written, `kind` the name of the event, and `fields` the text of its fields. `is_perf` says
+    whether perf wrote the line.
     """
 
     time_ns: int
@@ -47,7 +48,7 @@ class Line(NamedTuple):
 
 
 def head_of(line: bytes) -> Line | None:
-    """Splits the line of an event into its parts. Returns None for any other line."""
+    """Splits the line of an event into its parts. Returns None if the line has no event."""
     for head in HEADS:
         found = head.match(line)
         if found:
@@ -64,12 +65,11 @@ def head_of(line: bytes) -> Line | None:
     return None
 
 
-# ---------------------------------------------------------------- fields
+# ---------------------------------------------------------------- the fields of events
 
 
 class Form(NamedTuple):
-    """The syntax of the fields of a kind of event, and the function that creates the event from
-    them.
+    """A syntax for the fields of an event, and the function that creates the event from the fields.
     """
 
     pattern: re.Pattern[bytes]
@@ -77,14 +77,14 @@ class Form(NamedTuple):
 
 
 def form(pattern: bytes, make: Callable[[Line, tuple[bytes, ...]], Event]) -> Form:
-    """Returns a form whose pattern must match the whole text of the fields. A dot also matches a
-    newline, since names of tasks may contain newlines.
+    """Returns a form whose pattern must match the whole text of the fields. A dot in the pattern
+    also matches a newline, since names of tasks may contain newlines.
     """
     return Form(re.compile(pattern, re.DOTALL), make)
 
 
 def numbers(kind: type) -> Callable[[Line, tuple[bytes, ...]], Event]:
-    """Returns a function that creates an event of this kind from decimal fields."""
+    """Returns a function that creates an event of the class `kind` from decimal fields."""
 
     def make(line: Line, fields: tuple[bytes, ...]) -> Event:
         event: Event = kind(line.time_ns, line.processor, line.current, *map(int, fields))
@@ -94,7 +94,8 @@ def numbers(kind: type) -> Callable[[Line, tuple[bytes, ...]], Event]:
 
 
 def switch(line: Line, fields: tuple[bytes, ...]) -> Event:
-    """Creates a switch. Of a state with several letters only the first counts, so `R+` is `R`."""
+    """Creates a switch. If the state has several letters, only the first counts: `R+` becomes `R`.
+    """
     previous, state, following = fields
     return Switch(
         line.time_ns,
@@ -107,7 +108,7 @@ def switch(line: Line, fields: tuple[bytes, ...]) -> Event:
 
 
 def new_task(line: Line, fields: tuple[bytes, ...]) -> Event:
-    """Creates the event of a new task. Its flags are hexadecimal."""
+    """Creates the event of a new task. The flags are hexadecimal."""
     return NewTask(line.time_ns, line.processor, line.current, int(fields[0]), int(fields[1], 16))
 
 
@@ -121,24 +122,26 @@ def attach(line: Line, fields: tuple[bytes, ...]) -> Event:
 def group(
     kind: Callable[[int, int, int, int, bytes], Event]
 ) -> Callable[[Line, tuple[bytes, ...]], Event]:
-    """Returns a function that creates the event of a new or removed group, by its constructor."""
+    """Returns a function that creates the event of a new or of a removed group. `kind` is the
+    event's class.
+    """
     return lambda line, fields: kind(
         line.time_ns, line.processor, line.current, int(fields[0]), fields[1]
     )
 
 
 def stall_ends(line: Line, fields: tuple[bytes, ...]) -> Event:
-    """Creates the event of the end of a memory stall. Its flags are hexadecimal."""
+    """Creates the event for the end of a memory stall. The flags are hexadecimal."""
     return StallEnds(line.time_ns, line.processor, line.current, int(fields[0], 16))
 
 
 def marker(line: Line, fields: tuple[bytes, ...]) -> Event:
-    """Creates a marker, a line that was written into `trace_marker`."""
+    """Creates a marker: a text that was written to `trace_marker`."""
     return Marker(line.time_ns, line.processor, line.current, fields[0])
 
 
-# The forms of fields by kind of event: first the form of the kernel's own print format, and then
-# the forms of trace-cmd's plugins.
+# The forms of fields, keyed by the kind of event. The form of the kernel's own print format comes
+# first, followed by the forms of trace-cmd's plugins.
 PRIORITY = rb"(?: prio=-?\d+)?"
 PLAIN = rb"\[-?\d+\]"
 LEAVES = rb"prev_comm=.* prev_pid=(\d{1,10})(?: prev_prio=-?\d+)? prev_state=(\S+)"
@@ -175,8 +178,8 @@ FORMS: dict[str, tuple[Form, ...]] = {
     "print": (form(rb"tracing_mark_write: (.*)", marker),),
 }  # fmt: skip
 
-# The forms of the lines of probes. The names of probes are arbitrary, but the fields of their lines
-# begin with the name of the function.
+# The forms of probe lines. A probe can have any name, but its fields begin with the name of the
+# probed function.
 PROBES = {
     b"(psi_memstall_enter": form(rb"\(\S+\)", numbers(StallBegins)),
     b"(psi_memstall_leave": form(rb"\(\S+\)(?: .*)? flags=0x([0-9a-f]+)(?: .*)?", stall_ends),
@@ -190,7 +193,9 @@ PROBES = {
 
 
 def forms_of(line: Line) -> tuple[Form, ...]:
-    """Returns the possible forms of this line's fields, or nothing if the event isn't needed."""
+    """Returns the forms that this line's fields may have. Returns an empty tuple if the event isn't
+    needed.
+    """
     forms = FORMS.get(line.kind, ())
     if not forms and line.fields.startswith((b"(psi_", b"(cgroup_")):
         forms = tuple(
@@ -200,7 +205,7 @@ def forms_of(line: Line) -> tuple[Form, ...]:
 
 
 def event_of(line: Line, forms: tuple[Form, ...]) -> Event | None:
-    """Returns the event of a line, or None if its fields have none of these forms."""
+    """Returns the event of a line. Returns None if its fields match none of the forms."""
     for one in forms:
         found = one.pattern.fullmatch(line.fields)
         if found:

@@ -1,5 +1,6 @@
-"""Reads ftrace text, and repairs defects: lines out of order, names of tasks with newlines, a
-buffer whose beginning was overwritten, and carriage returns at line ends.
+"""Reads ftrace text, and repairs defects. It sorts lines that are out of order, joins lines if a
+task's name contains newlines, and removes carriage returns. If the buffer was overwritten, it drops
+the time in which some processors have no events.
 """
 from __future__ import annotations
 
@@ -25,17 +26,19 @@ LOST = re.compile(rb"CPU:(\d{1,5}) \[(?:LOST )?(\d{0,18}) ?EVENTS(?: DROPPED)?\]
 ENTRIES = re.compile(rb"# entries-in-buffer/entries-written: (\d{1,18})/(\d{1,18})")
 PROCESSORS = re.compile(rb"#.*#P:(\d{1,6})|cpus=(\d{1,6})$")
 GZIP = b"\x1f\x8b"
-# The most bytes of a compressed text after decompression. 4,000,000 events have about 600 MB. PIECE
-# bytes are decompressed at once.
+# The largest size (bytes) of a decompressed text, and the number of bytes that are decompressed at
+# once. 4,000,000 events need about 600 MB.
 MOST_UNPACKED, PIECE = 2 << 30, 8 << 20
-# The most further lines that are joined to a line whose name of a task contains newlines.
+# The largest number of lines that are appended to a line whose task name contains newlines.
 MOST_JOINED = 3
-# If the times of one processor go back by more than this (ns), another recording begins there.
+# A step back (ns) in the times of one processor that is larger than this begins another recording.
 MOST_BACK = 10**6
 
 
 def bytes_of(name: str) -> bytes:
-    """Returns the contents of a file, possibly gzipped, or of the standard input, which is `-`."""
+    """Returns the bytes of a file, or of the standard input if `name` is `-`. The file may be
+    gzipped.
+    """
     try:
         if name == "-":
             data = sys.stdin.buffer.read()
@@ -50,7 +53,7 @@ def bytes_of(name: str) -> bytes:
 
 
 def unpacked(name: str, data: bytes) -> bytes:
-    """Returns the decompressed bytes."""
+    """Decompresses gzipped data. Raises Unreadable if the result is larger than MOST_UNPACKED."""
     with gzip.GzipFile(fileobj=io.BytesIO(data)) as file:
         pieces, size = [], 0
         while piece := file.read(PIECE):
@@ -65,7 +68,10 @@ def unpacked(name: str, data: bytes) -> bytes:
 
 
 class Text:
-    """The events of a text in the order of its lines, its gaps, and the counts of repairs."""
+    """A parsed text. `events` are in the order of the lines, and `mended` contains the number of
+    repairs of each kind. `overwritten` is the number of events that were overwritten before the
+    first event.
+    """
 
     def __init__(self, data: bytes) -> None:
         self.lines = data.split(b"\n")
@@ -74,8 +80,8 @@ class Text:
         self.mended: Counter[str] = Counter()
         self.processors = 0
         self.overwritten = 0
-        # By processor: the number of events that were lost since its last event, and the time (ns)
-        # of its last event.
+        # For each processor, the number of events that were lost since its last event, and the time
+        # (ns) of that event.
         self.lost: dict[int, int] = {}
         self.lasts: dict[int, int] = {}
         if self.lines.pop():
@@ -89,7 +95,7 @@ class Text:
         ]
 
     def line_at(self, place: int) -> bytes:
-        """Returns a line without its ending."""
+        """Returns the line with the index `place`, without its carriage return."""
         line = self.lines[place]
         if line.endswith(b"\r"):
             self.mended["carriage return at a line's end"] += 1
@@ -97,8 +103,8 @@ class Text:
         return line
 
     def take(self, place: int) -> int:
-        """Parses the line with the index `place`, together with the next lines if a name contains
-        newlines. Returns the number of parsed lines.
+        """Parses the line with the index `place`. If a task's name contains newlines, the next
+        lines are parsed with it. Returns the number of parsed lines.
         """
         line = self.line_at(place)
         head = head_of(line)
@@ -125,7 +131,8 @@ class Text:
         return 1
 
     def take_other(self, line: bytes) -> None:
-        """Parses a line that has no event: lost or overwritten events, or the number of processors.
+        """Parses a line without an event. It may report lost or overwritten events, or the number
+        of processors.
         """
         lost, entries, processors = LOST.match(line), ENTRIES.match(line), PROCESSORS.match(line)
         if lost:
@@ -138,7 +145,9 @@ class Text:
             self.mended["line without an event, passed over"] += 1
 
     def add(self, event: Event) -> None:
-        """Appends an event, and a gap if events were lost before it."""
+        """Appends an event. If events of its processor were lost since the last one, appends a gap
+        too.
+        """
         processor, last = event.processor, self.lasts.get(event.processor, 0)
         if processor in self.lost:
             self.gaps.append(Gap(processor, last, event.time_ns, self.lost.pop(processor)))
@@ -146,12 +155,12 @@ class Text:
         self.events.append(event)
 
 
-# ---------------------------------------------------------------- order
+# ---------------------------------------------------------------- sorting by time
 
 
 def parts_of(events: list[Event]) -> list[list[Event]]:
-    """Splits the events into recordings: a new one begins where the time of a processor goes back
-    by more than MOST_BACK.
+    """Splits the events into recordings. A new recording begins if the time of a processor goes
+    back by more than MOST_BACK.
     """
     parts: list[list[Event]] = [[]]
     lasts: dict[int, int] = {}
@@ -165,8 +174,8 @@ def parts_of(events: list[Event]) -> list[list[Event]]:
 
 
 def ordered(text: Text, source: Source) -> list[Event]:
-    """Returns the events in order of time. If the text contains several recordings, returns only
-    the events of the longest one, and adds a loss.
+    """Returns the events in order of time. If the text contains several recordings, returns the
+    longest one, and reports the others as a loss.
     """
     parts = parts_of(text.events)
     longest = max(
@@ -187,9 +196,9 @@ def ordered(text: Text, source: Source) -> list[Event]:
 
 
 def begin(text: Text, source: Source) -> None:
-    """Sets the start of the source: the time of the recorder's marker if there is one, otherwise of
-    the first event. If the buffer was overwritten, first drops the events from before the time at
-    which all processors have events.
+    """Sets the start of the source to the time of the recorder's start marker, or of the first
+    event if there is no marker. If the buffer was overwritten, drops the events from before the
+    time at which all processors have events.
     """
     if text.overwritten > 0:
         whole_from = max(first_times(source.events).values())
@@ -202,11 +211,12 @@ def begin(text: Text, source: Source) -> None:
     source.start = source.events[0].time_ns if marked is None else marked
 
 
-# ---------------------------------------------------------------- the whole text
+# ---------------------------------------------------------------- reading the whole text
 
 
 def tell_missing(source: Source) -> None:
-    """Adds a loss for each kind of event that a recording of a whole machine must have but lacks.
+    """Adds a loss if the text has no wakeup, and a loss if it has no switch from or to the idle
+    task. Every recording of a whole machine has both.
     """
     kinds = {type(event) for event in source.events}
     if not {Wakeup, FirstWakeup} & kinds:
@@ -223,8 +233,9 @@ def tell_missing(source: Source) -> None:
 
 
 def processors_of(text: Text, wanted: int | None, greatest: int) -> int:
-    """Returns the number of processors: `wanted` if it isn't None, otherwise the number that the
-    text shows. `greatest` is the greatest number of a processor in the text.
+    """Returns the number of processors: `wanted`, or the number that the text shows if `wanted` is
+    None. `greatest` is the largest number of a processor in the text. Raises a Fault if `wanted`
+    isn't above `greatest`.
     """
     if wanted is not None and greatest >= wanted:
         raise Fault(

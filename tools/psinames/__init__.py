@@ -1,3 +1,3 @@
-"""Names of tasks and containers, and the time of day of a trace. A trace can't express them, so
-they are in its companion file, which lies next to it.
+"""Reads and writes companion files. A trace's companion file lies next to the trace, and contains
+what a trace can't express: names of tasks and containers, and the time of day.
 """

@@ -1,6 +1,6 @@
 """Finds the processes that ran most in each group, in consecutive windows of time. The companion
-file stores them for folded traces, which no longer name the tasks, and for tools that don't read
-the whole trace.
+file stores them for folded traces, which don't name the recorded tasks, and for tools that don't
+read the whole trace.
 """
 from __future__ import annotations
 
@@ -14,7 +14,7 @@ MOST_PROCESSES = 3
 
 
 class Process(NamedTuple):
-    """A process in a window of time: its pid, its name, and how long (ns) its threads ran."""
+    """A process in a window of time: its pid, its name, and the run time (ns) of its threads."""
 
     number: int
     name: str
@@ -22,8 +22,8 @@ class Process(NamedTuple):
 
 
 class Busy(NamedTuple):
-    """A group in a window of time: the number of the window from 0, the group's path, how long (ns)
-    its own tasks ran, and the processes that ran longest.
+    """A group in a window of time: the window's number from 0, the group's path, the run time (ns)
+    of its own tasks, and the processes that ran longest.
     """
 
     window: int
@@ -33,8 +33,8 @@ class Busy(NamedTuple):
 
 
 class Runner(NamedTuple):
-    """The task that runs on a processor, the task's group, and the time (ns) since which it
-    runs.
+    """A running task: its group's path, its lifetime, and the time (ns) up to which its run time
+    has been added up already.
     """
 
     path: str
@@ -43,8 +43,8 @@ class Runner(NamedTuple):
 
 
 class Clocks:
-    """Adds up the run times of processes in windows of `length` ns. `done` has the groups of all
-    windows that have ended.
+    """Adds up the run times of processes in windows of `length` ns. `done` contains the groups of
+    all windows that have ended.
     """
 
     def __init__(self, length: int) -> None:
@@ -54,8 +54,8 @@ class Clocks:
         self.done: list[Busy] = []
 
     def run(self, processor: int, path: str, life: Optional[Life], now: int) -> None:
-        """Records that `life` runs on `processor` from `now` (ns) on. None means that the processor
-        is idle.
+        """Records that `life` runs on `processor` at and after `now` (ns). If `life` is None, the
+        processor is idle.
         """
         while now >= self.end:
             self.close()
@@ -69,7 +69,7 @@ class Clocks:
             del self.runners[processor]
 
     def close(self) -> None:
-        """Ends the current window and begins the next one."""
+        """Ends the current window, and starts the next one."""
         for processor, (path, life, since) in self.runners.items():
             key = path, life.leader
             self.ran[key] = self.ran.get(key, 0) + self.end - since
@@ -89,7 +89,7 @@ class Clocks:
 
 
 def busiest(window: int, ran: dict[tuple[str, Life], int]) -> Iterator[Busy]:
-    """Yields each group of a window with the processes that ran longest."""
+    """Yields each group of a window, with the processes that ran longest."""
     groups: dict[str, list[Process]] = {}
     for (path, leader), time in ran.items():
         if time:

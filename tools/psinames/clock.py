@@ -1,4 +1,5 @@
-"""Converts between times of day and times in a trace, which are in ns from the trace's start."""
+"""Converts times of day to times in a trace and back. Times in a trace are in ns since its start.
+"""
 from __future__ import annotations
 
 import re
@@ -17,13 +18,13 @@ OFFSET = re.compile(r"([+-])([0-9]{2}):([0-9]{2})")
 
 
 class TimeOfDay(NamedTuple):
-    """A time of day without a date (ns since midnight), and the text that it was parsed from."""
+    """A time of day without a date: ns since midnight, and the text from which it was parsed."""
 
     since_midnight: int
     text: str
 
 
-# A time in a trace as people write it: ns since the start, a time of day, or a time with a date.
+# A time as an operator writes it: ns since the trace's start, a time of day, or a date with a time.
 TraceTime = Union[int, TimeOfDay, WallTime]
 
 
@@ -42,7 +43,7 @@ def time_of_day(word: str) -> Optional[TimeOfDay]:
 
 
 def trace_time(word: str) -> TraceTime:
-    """Parses a time: seconds since the start of the trace, a time of day, or a date and time."""
+    """Parses a time: seconds since the start of the trace, a time of day, or a date with a time."""
     if "T" in word:
         return wall_time(word)
     if at := time_of_day(word):
@@ -54,13 +55,13 @@ def trace_time(word: str) -> TraceTime:
         raise Malformed(f"{word} is neither seconds nor a time of day, such as {forms}") from None
 
 
-# ---------------------------------------------------------------- zones
+# ---------------------------------------------------------------- time zones
 
 
 def offset_of(word: str, epoch: int) -> Optional[int]:
-    """Returns the offset (ns) of a time zone from UTC at `epoch` (ns since 1970). The zone is
-    `UTC`, an offset such as +01:00, `local`, or a name such as Europe/Berlin. Returns None if
-    `word` isn't a time zone.
+    """Returns a time zone's offset (ns) from UTC at `epoch` (ns since 1970). `word` is `UTC`, an
+    offset such as +01:00, `local`, or a name such as Europe/Berlin. Returns None if `word` isn't a
+    time zone.
     """
     found = OFFSET.fullmatch(word)
     if found and int(found[2]) < 15 and int(found[3]) < 60:
@@ -77,7 +78,7 @@ def offset_of(word: str, epoch: int) -> Optional[int]:
 
 
 def offset_at(at: zoneinfo.ZoneInfo, epoch: int) -> int:
-    """Returns the offset of a named zone from UTC (ns) at `epoch` (ns since 1970)."""
+    """Returns the offset (ns) from UTC of a time zone with a name, at `epoch` (ns since 1970)."""
     offset = datetime.fromtimestamp(epoch // SECOND, timezone.utc).astimezone(at).utcoffset()
     return int(offset.total_seconds()) * SECOND if offset else 0
 
@@ -90,7 +91,8 @@ def zone_name(word: str) -> str:
 
 
 def in_zone(wall: WallTime, word: Optional[str]) -> WallTime:
-    """Converts a time to the zone `word`. Without a zone the time is returned unchanged."""
+    """Converts a time to the time zone `word`. If `word` is None, the time is returned unchanged.
+    """
     ahead = offset_of(word, wall.epoch) if word else None
     return wall if ahead is None else wall._replace(ahead=ahead)
 
@@ -99,14 +101,16 @@ def in_zone(wall: WallTime, word: Optional[str]) -> WallTime:
 
 
 def wall_text(wall: WallTime) -> str:
-    """Formats a time in ISO 8601 with its zone, so that `wall_time` parses it."""
+    """Formats a time in ISO 8601 with its time zone. `wall_time` parses this format."""
     at = clock_time(wall.epoch + wall.ahead)
     offset = zone(wall.ahead).removeprefix("UTC") or "Z"
     return f"{at.date.tm_year:04}-{at.date.tm_mon:02}-{at.date.tm_mday:02}T{at.clock}{offset}"
 
 
 def span_text(wall: WallTime, length: int) -> str:
-    """Says in words when a trace that began at `wall` and is `length` ns long was recorded."""
+    """Returns a text that says when a trace was recorded. The trace began at `wall` and is `length`
+    ns long.
+    """
     first, last = clock_time(wall.epoch + wall.ahead), clock_time(wall.epoch + wall.ahead + length)
     day = f" on {last.day}" if last.day != first.day else ""
     begin, end = (it.clock.partition(".")[0] for it in (first, last))
@@ -114,7 +118,7 @@ def span_text(wall: WallTime, length: int) -> str:
 
 
 def time_text(value: TraceTime) -> str:
-    """Formats a time as the user wrote it."""
+    """Formats a time in the notation that the operator used."""
     if isinstance(value, TimeOfDay):
         return value.text
     return wall_text(value) if isinstance(value, WallTime) else seconds(value)
@@ -123,9 +127,10 @@ def time_text(value: TraceTime) -> str:
 def time_in(
     value: TraceTime, wall: Optional[WallTime], length: int, option: str, after: int = 0
 ) -> int:
-    """Converts a time to ns since the start of a trace that began at `wall` and is `length` ns
-    long. A time of day means its first occurrence after the start, which may be up to `after` ns
-    past the end. Raises a Fault if the time isn't in the trace.
+    """Converts a time to ns since the start of a trace, which began at `wall` and is `length` ns
+    long. A number is returned unchanged. A time of day means its first occurrence after the start.
+    A time of day or a date may be up to `after` ns after the trace's end. Raises a Fault if it
+    isn't in this range, or if `wall` is None.
     """
     if isinstance(value, int):
         return value

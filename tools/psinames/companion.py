@@ -1,5 +1,6 @@
-"""The companion file of a trace, `X.trace.names` next to `X.trace`, which psitrace writes. It
-has the names and times that a trace can't express. docs/TRACES.md describes its lines.
+"""Reads and writes the companion file of a trace, `X.trace.names` next to `X.trace`. psitrace
+writes this file. It contains names and times that a trace can't express. docs/TRACES.md describes
+its lines.
 """
 from __future__ import annotations
 
@@ -29,11 +30,11 @@ PATH = r"(/[A-Za-z0-9_.@:\\/-]*)"
 
 @dataclass
 class Companion:
-    """The contents of a companion file: the trace's size (bytes), its SHA-256, its length (ns),
-    the time of day at its start, the time (ns) at which the recording begins after a warm-up, its
-    tasks with their lifetimes, and the processes that ran most in each window of `window` ns. The
-    tasks of a folded trace have the label 0. `containers` maps the ids of containers and pods to
-    names.
+    """The contents of a companion file: the trace's size (bytes), SHA-256 and length (ns), the time
+    of day at its start, and the time (ns) at which the recording begins after a warm-up. It also
+    contains the tasks with their lifetimes, and the processes that ran most in each window of
+    `window` ns. The tasks of a folded trace have the label 0. `containers` maps the ids of
+    containers and pods to names.
     """
 
     size: int
@@ -52,7 +53,7 @@ def companion_of(trace: str) -> str:
     return trace + SUFFIX
 
 
-# ---------------------------------------------------------------- writing
+# ---------------------------------------------------------------- writing the file
 
 
 def lines_of(known: Companion) -> Iterator[str]:
@@ -91,10 +92,10 @@ def write(name: str, known: Companion) -> None:
         raise
 
 
-# ---------------------------------------------------------------- reading
+# ---------------------------------------------------------------- reading the file
 
 Fields = tuple[str, ...]
-# The form of each kind of line after its first word.
+# The syntax of each kind of line, after the first word.
 FORMS: dict[str, re.Pattern[str]] = {
     "trace": re.compile(f"{NUMBER} ([0-9a-f]{{64}})"),
     "length": re.compile(NUMBER),
@@ -106,22 +107,23 @@ FORMS: dict[str, re.Pattern[str]] = {
     "name": re.compile(f"{NUMBER} (.{{0,80}})"),
     "busy": re.compile(f"{NUMBER} {PATH} {NUMBER}((?: {NUMBER} {NUMBER})*)"),
 }  # fmt: skip
-# The kinds of lines before the tasks. Tools that only need the time of day read no further.
+# The kinds of lines that precede the tasks. A tool that needs only the time of day stops reading
+# after them.
 HEAD = ("trace", "length", "start", "begins", "container")
 
 
 class Malformed(ValueError):
-    """Raised for a line that can't occur in a companion file."""
+    """The error for a line that can't be part of a companion file."""
 
 
 class Reader:
-    """Parses the lines of a companion file, and collects their contents in `known`."""
+    """Parses the lines of a companion file, and stores their contents in `known`."""
 
     def __init__(self) -> None:
         self.known = Companion(0, "", 0)
 
     def take(self, line: str) -> str:
-        """Parses a line, and returns its first word."""
+        """Parses a line, and returns the line's first word."""
         word, _, rest = line.partition(" ")
         found = FORMS[word].fullmatch(rest) if word in FORMS else None
         if not found or not line.isprintable():
@@ -194,9 +196,9 @@ def read(name: str, is_whole: bool = True) -> Companion:
 
 
 def led(known: Companion) -> Companion:
-    """Sets each task's `leader`, the first thread of its process. Since pids are reused, this is
-    the latest task with the number of the process that began no later than the task itself; if
-    there is none, the earliest one.
+    """Sets each task's `leader` to the first thread of its process. Pids are reused, so several
+    tasks may have the process's number. The leader is the latest of them that began no later than
+    the task, or the earliest if all began later.
     """
     leaders: dict[int, list[Life]] = {}
     for life in known.tasks:
@@ -209,7 +211,7 @@ def led(known: Companion) -> Companion:
     return known
 
 
-# ---------------------------------------------------------------- belonging
+# ---------------------------------------------------------------- matching a trace
 
 
 def digest_of(parts: Iterable[Union[bytes, memoryview]]) -> tuple[int, str]:
@@ -229,8 +231,8 @@ def pieces_of(trace: str) -> Iterator[bytes]:
 
 
 def must_belong(name: str, known: Companion, trace: str) -> None:
-    """Rejects the companion of another trace: its names and its times would be wrong for this
-    one.
+    """Raises a Fault if the companion belongs to another trace, since its names and times would be
+    wrong for this trace.
     """
     size = os.path.getsize(trace)
     why = f"its trace has {known.size} bytes, and {trace} {size}" if size != known.size else ""

@@ -1,4 +1,4 @@
-"""Prints the paths of groups with the names of containers, and finds the group that an operator
+"""Replaces container ids by names in the paths of groups, and finds the group that an operator
 names.
 """
 from __future__ import annotations
@@ -15,16 +15,16 @@ from .text import escapes
 
 CONTAINER = re.compile("[0-9a-f]{64}")
 POD = re.compile("[0-9a-f]{8}(?:[-_][0-9a-f]{4}){3}[-_][0-9a-f]{12}")
-# A path component with the id of a container or pod, anywhere in a text.
+# Matches a path component that contains the id of a container or pod.
 LETTERS = r"[A-Za-z0-9_.@:\\-]*"
 COMPONENT = re.compile(f"{LETTERS}(?:{CONTAINER.pattern}|{POD.pattern}){LETTERS}")
-# The number of digits of an id that are printed to distinguish containers of the same name, and the
-# least number of digits of an id in a file of names.
+# Numbers of digits of container ids: SHORT digits are printed to distinguish containers of equal
+# name, and an id in a file of names has at least LEAST digits.
 SHORT, LEAST = 6, 12
 
 
 class GroupNames:
-    """The names of containers and pods by their ids, for paths that contain these ids."""
+    """The names of containers and pods, keyed by the ids that occur in paths."""
 
     def __init__(self, containers: dict[str, str]) -> None:
         self.containers = containers
@@ -34,9 +34,9 @@ class GroupNames:
         self.known: dict[str, str] = {}
 
     def shown(self, path: str) -> str:
-        """Returns `path` with each component that contains the id of a known container or pod
-        replaced by the name in braces: `/kubepods.slice/{default/web/nginx}`. No path contains
-        braces.
+        """Returns `path` with names in place of ids: each component with the id of a known
+        container or pod becomes the name in braces, as in `/kubepods.slice/{default/web/nginx}`.
+        Original paths never contain braces.
         """
         if not self.containers:
             return path
@@ -45,13 +45,13 @@ class GroupNames:
         return self.known[path]
 
     def in_text(self, text: str) -> str:
-        """Replaces the ids of known containers in every path of a text."""
+        """Replaces the ids of known containers by names, in each path within a text."""
         if not self.containers:
             return text
         return COMPONENT.sub(lambda found: self.component(found[0]), text)
 
     def component(self, text: str) -> str:
-        """Returns a path component with the id of a known container replaced by its name."""
+        """Returns the replacement of a path component that contains the id of a known container."""
         for form in (CONTAINER, POD):
             found = form.search(text)
             name = self.name(found[0].replace("_", "-")) if found else None
@@ -60,7 +60,7 @@ class GroupNames:
         return text
 
     def name(self, number: str) -> str | None:
-        """Returns the name of the container or pod with this id, or None if it isn't known."""
+        """Returns the name of the container or pod with this id. Returns None if it isn't known."""
         known = self.starts.get(number[:LEAST], number)
         if not number.startswith(known) or known not in self.containers:
             return None
@@ -68,24 +68,24 @@ class GroupNames:
         return f"{name}@{number[:SHORT]}" if self.containers[known] in self.several else name
 
     def container(self, path: str) -> str | None:
-        """Returns the name of the container or pod whose group is at `path`, or None."""
+        """Returns the name of the container or pod whose group has this path, or None."""
         found = re.search(r"/\{([^{}]*)\}\Z", self.shown(path))
         return found[1] if found else None
 
-    # ------------------------------------------------------------ by name
+    # ------------------------------------------------------------ finding a group by its name
 
     def matches(self, word: str, path: str) -> bool:
-        """Returns whether `word` names the group at `path`. It does if it is the path, as in the
-        trace or as printed; the last component of the path, such as a unit; or the name of the
-        container.
+        """Returns whether `word` names the group with this path. `word` may be the path, as in the
+        trace or as printed; the path's last component, such as a systemd unit; or a container's
+        name.
         """
         container = self.container(path)
         names = {path, self.shown(path), path.rpartition("/")[2]}
         return word in names or container is not None and word in (container, f"{{{container}}}")
 
     def find(self, word: str, paths: Iterable[str], where: str) -> str:
-        """Returns the only path of `paths` that `word` names. Raises a Fault with the candidates if
-        there is none or more than one. `where` says in its message what has these paths.
+        """Returns the path that `word` names. Raises a Fault, which lists the candidates, unless
+        `word` names exactly one of `paths`. In the message, `where` says where the paths come from.
         """
         names = list(dict.fromkeys(paths))
         if word in names:

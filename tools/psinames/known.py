@@ -1,5 +1,5 @@
-"""The options that add names and the time of day to a trace, and the options that select a part of
-the trace. Several tools have these options.
+"""Defines options that several tools share: options that add names and the time of day to a trace,
+and options that select a part of the trace.
 """
 from __future__ import annotations
 
@@ -19,7 +19,7 @@ from .companion import Companion, find
 from .groups import GroupNames
 from .text import escaped
 
-# The default length (ns) of the part that --at selects.
+# The default length (ns) of the part of a trace that --at selects.
 AROUND = 60 * SECOND
 
 HELP = {
@@ -43,15 +43,15 @@ HELP = {
 
 
 class Span(NamedTuple):
-    """A part of a trace, by its start and end (ns since the trace's start)."""
+    """A part of a trace, between two times (ns since the trace's start)."""
 
     start: int
     end: int
 
 
 class Known(NamedTuple):
-    """What is known of a trace: the time of day at its start, its companion, and the names of
-    containers.
+    """Facts about a trace that the trace itself doesn't contain: the time of day at its start, its
+    companion, and the names of containers.
     """
 
     wall: Optional[WallTime]
@@ -65,13 +65,14 @@ def add_zone(parser: Parser) -> None:
 
 
 def add_clock(parser: Parser) -> None:
-    """Adds the options for the start of a trace and for the time zone of times of day."""
+    """Adds the options for the time of day at a trace's start, and for the time zone."""
     add_start(parser, ", if it has no companion file that says so")
     add_zone(parser)
 
 
 def add_part(parser: Parser) -> None:
-    """Adds the options that select a part of a trace, without those for its clock."""
+    """Adds the options that select a part of a trace. Doesn't add the options for the time of day.
+    """
     parser.add_argument("--from", dest="start", type=trace_time, metavar="T", help=HELP["from"])
     parser.add_argument("--to", dest="end", type=trace_time, metavar="T", help=HELP["to"])
     parser.add_argument("--at", type=trace_time, metavar="T", help=HELP["at"])
@@ -79,7 +80,7 @@ def add_part(parser: Parser) -> None:
 
 
 def add_times(parser: Parser) -> None:
-    """Adds the options that select a part of a trace, and those for its clock."""
+    """Adds the options that select a part of a trace, and the options for the time of day."""
     add_part(parser)
     add_clock(parser)
 
@@ -95,11 +96,11 @@ def add_names(parser: Parser) -> None:
     parser.add_argument("--no-names", action="store_true", help=HELP["no-names"])
 
 
-# ---------------------------------------------------------------- what is known
+# ---------------------------------------------------------------- names and time of day
 
 
 def containers_in(name: str) -> dict[str, str]:
-    """Reads a file of container names. Returns escaped names by container id."""
+    """Reads a file of container names. Returns escaped names, keyed by container id."""
     try:
         with open(name, encoding="utf-8", errors="surrogateescape") as file:
             found = names_in(file.read())
@@ -109,8 +110,9 @@ def containers_in(name: str) -> dict[str, str]:
 
 
 def known_of(trace: str, values: Mapping[str, Any], is_whole: bool = False) -> Known:
-    """Collects what is known of a trace from its companion and from those options of `add_clock`
-    and `add_names` that the tool has. Without `is_whole`, the companion's tasks aren't read.
+    """Collects names and the time of day of a trace, from its companion and from a tool's options.
+    These are the options of `add_clock` and `add_names`, if the tool has them. Reads the
+    companion's tasks only if `is_whole`.
     """
     companion = find(trace, is_whole)
     has_names = not values.get("no_names")
@@ -122,11 +124,11 @@ def known_of(trace: str, values: Mapping[str, Any], is_whole: bool = False) -> K
     return Known(zoned, companion if has_names else None, GroupNames(containers))
 
 
-# ---------------------------------------------------------------- the part
+# ---------------------------------------------------------------- selecting a part
 
 
 def must_fit(values: Mapping[str, Any]) -> None:
-    """Rejects options that exclude each other."""
+    """Raises a Fault if the options exclude each other."""
     for option, name in (("--from", "start"), ("--to", "end")):
         if values["at"] is not None and values[name] is not None:
             raise Fault(f"--at is in place of {option}: give one of them")
@@ -135,14 +137,14 @@ def must_fit(values: Mapping[str, Any]) -> None:
 
 
 def has_start(values: Mapping[str, Any]) -> bool:
-    """Returns whether the options give the start of the part."""
+    """Returns whether an option sets the start of the part."""
     return values["start"] is not None or values["at"] is not None
 
 
 def span_in(
     values: Mapping[str, Any], wall: Optional[WallTime], length: int, what: str = "trace"
 ) -> Span:
-    """Returns the part of a trace of `length` ns that the options of `add_times` select."""
+    """Returns the part that the options of `add_times` select, in a trace of `length` ns."""
     must_fit(values)
     if values["at"] is not None:
         at, half = time_in(values["at"], wall, length, "--at"), (values["window"] or AROUND) // 2
@@ -158,14 +160,16 @@ def span_in(
 
 
 def end_in(value: TraceTime, wall: Optional[WallTime], length: int) -> int:
-    """Returns the end of a part (ns), at most the end of the trace. A time of day may be up to
-    half a day after the end.
+    """Returns the end (ns) of the selected part, at most the end of the trace. A time of day may be
+    up to half a day after the end.
     """
     return min(time_in(value, wall, length, "--to", DAY // 2), length)
 
 
 def must_be_in(option: str, at: int, length: int, what: str) -> None:
-    """Rejects a time (ns) after the end of the trace."""
+    """Raises a Fault if `at` (ns) is after the end of the trace, which is `length` ns long. The
+    message names the option, and calls the trace `what`.
+    """
     if at > length:
         why = f"is after the end of the {what}, {seconds(length)} s"
         raise Fault(f"{option} {seconds(at)} {why}", Status.NO_TIME)

@@ -5,10 +5,10 @@ from typing import Optional
 
 
 class Life:
-    """A task from its `fork` line to its exit, with the times of both (ns since the trace's start):
-    its label in the trace, its tid, its pid, and its names, each with the time (ns) since which the
-    task has that name. `leader` is the process's first thread, whose name is the name of the
-    process; if that isn't known, the task itself.
+    """The lifetime of a task, from its `fork` line to its exit (`first` and `last`, ns since the
+    trace's start): its label in the trace, its tid, its pid, and its names. Each name has the time
+    (ns) from which it applies. `leader` is the first thread of the process, and the leader's name
+    is also the name of the process. If it isn't known, `leader` is the task itself.
     """
 
     __slots__ = ("label", "first", "last", "task", "process", "leader", "names")
@@ -23,12 +23,12 @@ class Life:
 
     @property
     def name(self) -> str:
-        """The task's last name, escaped; empty if no name is known."""
+        """Returns the task's last name, escaped. The text is empty if no name is known."""
         return self.names[-1][1] if self.names else ""
 
     def rename(self, now: int, name: str) -> None:
-        """Records that the task has this name from `now` (ns) on. The first name that becomes
-        known counts from the task's start.
+        """Records that the task has this name at and after `now` (ns). The first known name applies
+        from the task's start.
         """
         if not self.names:
             self.names = ((self.first, name),)
@@ -36,7 +36,7 @@ class Life:
             self.names = (*self.names, (now, name))
 
     def name_at(self, now: int) -> str:
-        """Returns the task's name at `now` (ns), or its first name if `now` is earlier."""
+        """Returns the task's name at `now` (ns). Before its first name, returns the first name."""
         found = self.names[0][1] if self.names else ""
         for since, name in self.names:
             if since > now:
@@ -45,8 +45,8 @@ class Life:
         return found
 
     def renumber(self, number: int) -> None:
-        """Records that the task's tid became `number`: a thread that calls exec takes over the tid
-        of its process's first thread.
+        """Records that the task's tid became `number`. A thread that calls exec gets the tid of its
+        process's first thread.
         """
         self.task = number
         if number == self.process:

@@ -1,4 +1,4 @@
-"""Replaces the ids of containers by their names in everything that a tool prints."""
+"""Replaces the ids of containers by names in the output of a tool."""
 from __future__ import annotations
 
 import io
@@ -17,18 +17,18 @@ class Output(io.TextIOBase):
         self.stream, self.names = stream, names
 
     def write(self, text: str) -> int:
-        """Writes `text`, in which no path may be split between two calls."""
+        """Writes `text`. A path must not be split between two calls."""
         self.stream.write(self.names.in_text(text))
         return len(text)
 
     def flush(self) -> None:
-        """Flushes the output."""
+        """Flushes the underlying stream."""
         self.stream.flush()
 
 
 def show_containers(traces: Iterable[str], values: Mapping[str, Any]) -> None:
-    """Wraps standard output so that it shows the container names from the companions of `traces`
-    and from the options of `add_names`.
+    """Replaces standard output by a stream that shows container names. The names come from the
+    companions of `traces`, and from the options of `add_names`.
     """
     containers: dict[str, str] = {}
     for trace in traces:

@@ -1,4 +1,4 @@
-"""Assigns the tasks of a trace to their processes, and prints how long processes ran."""
+"""Attributes the tasks of a trace to their processes, and formats the run times of processes."""
 from __future__ import annotations
 
 from collections.abc import Iterable, Mapping
@@ -7,16 +7,16 @@ from typing import NamedTuple, Optional
 from .companion import Companion
 from .lives import Life
 
-# The number of processes that are printed by name.
+# The number of processes that are listed by name.
 SHOWN = 3
-# The name that is printed for a process whose name isn't known.
+# The text that is printed in place of the name of an unknown process.
 UNNAMED = "?"
 MS = 10**6
 
 
 class Share(NamedTuple):
-    """The processes with the same name, or a single thread: their pids or the tid, and how long
-    (ns) they ran.
+    """The run time (ns) of all processes with the same name, and their pids; or of a single thread,
+    and its tid.
     """
 
     name: str
@@ -26,8 +26,8 @@ class Share(NamedTuple):
 
 
 class Tasks:
-    """The tasks of a trace by label, several if a label was used again. With `has_threads` each
-    thread is counted by itself, otherwise its run time counts for its process.
+    """The tasks of a trace, keyed by label. A label that was reused has several tasks. With
+    `has_threads`, each thread counts by itself; without it, a thread counts for its process.
     """
 
     def __init__(self, known: Optional[Companion], has_threads: bool = False) -> None:
@@ -38,9 +38,9 @@ class Tasks:
                 self.lives.setdefault(life.label, []).append(life)
 
     def runner(self, label: int, now: int) -> Optional[Life]:
-        """Returns the task for which the run time of the task `label`, created at `now` (ns),
-        counts: the first thread of its process, or with `has_threads` the task itself. None if the
-        task isn't known.
+        """Finds the task with the label `label` that was created at `now` (ns). Returns the task to
+        which its run time is attributed: the first thread of its process, or with `has_threads` the
+        task itself. Returns None if there is no such task.
         """
         for life in self.lives.get(label, ()):
             if life.first == now:
@@ -48,8 +48,8 @@ class Tasks:
         return None
 
     def shares(self, times: Mapping[Optional[Life], int], now: int) -> list[Share]:
-        """Adds up the run times (ns) of tasks with the same name at `now` (ns). Returns the shares
-        in descending order of time.
+        """Adds up the run times (ns) of tasks that have the same name at `now` (ns). Returns the
+        sums in descending order.
         """
         found: dict[tuple[str, int], tuple[set[int], int]] = {}
         for life, time in times.items():
@@ -65,13 +65,13 @@ class Tasks:
 
 
 def seconds_text(ns: int) -> str:
-    """Formats a time (ns) as seconds with three decimals."""
+    """Formats a time (ns) in seconds with three decimals."""
     ms = (ns + MS // 2) // MS
     return f"{ms // 1000}.{ms % 1000:03} s"
 
 
 def share_text(share: Share) -> str:
-    """Formats a share such as `import` (pid 4711), or `grep` (812 processes)."""
+    """Formats a share, for example as `import` (pid 4711) or `grep` (812 processes)."""
     many = f"{len(share.numbers)} processes"
     if len(share.numbers) == 1:
         many = f"{'thread' if share.is_thread else 'pid'} {share.numbers[0]}"
@@ -79,8 +79,8 @@ def share_text(share: Share) -> str:
 
 
 def shares_text(shares: Iterable[Share], others: int = 0) -> str:
-    """Formats the first shares with their names and times, and the rest as one sum. `others` is the
-    run time (ns) of processes that aren't in `shares`.
+    """Formats the first shares with names and times, and the rest as one sum. `others` is the run
+    time (ns) of all processes that aren't in `shares`.
     """
     shares = list(shares)
     named = [f"{share_text(it)} {seconds_text(it.time)}" for it in shares[:SHOWN]]
@@ -92,13 +92,14 @@ def shares_text(shares: Iterable[Share], others: int = 0) -> str:
     return ", ".join(named)
 
 
-# ---------------------------------------------------------------- by windows
+# ---------------------------------------------------------------- shares in windows of time
 
 
 def busiest(known: Companion, path: str, start: int, end: int) -> tuple[list[Share], int]:
-    """Returns the shares of the processes that ran most in a group and its descendants, in the
-    windows that begin between `start` and `end` (ns), and how long (ns) other processes ran. In a
-    window, every process that isn't among the busiest counts as another process.
+    """Adds up the run times (ns) of the busiest processes in a group and its descendants. Counts
+    the windows that begin between `start` and `end` (ns). Returns the shares, and the run time (ns)
+    of all other processes. A process that isn't among the busiest of a window counts there as
+    another process.
     """
     prefix = path.rstrip("/") + "/"
     names: dict[int, Life] = {}

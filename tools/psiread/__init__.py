@@ -1,1 +1,1 @@
-"""Reads a recording: its events from pages or text, the losses, and its pressure files."""
+"""Reads a recording: its events, from pages or text, the losses, and the pressure files."""

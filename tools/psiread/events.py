@@ -1,8 +1,9 @@
-"""Defines the events of a recording. Ring-buffer pages and ftrace text give the same events.
+"""Defines the events of a recording. A recording as ring-buffer pages and a recording as ftrace
+text give the same events.
 
-`time_ns` is the time (ns of the recording's clock), `processor` the processor on which the event
-was written, and `current` the task that ran there (0: the idle task). Tasks are threads, with
-their numbers in the initial PID namespace. The names of the kernel's events are those of
+`time_ns` is the time (ns of the recording's clock). `processor` is the processor on which the event
+was written, and `current` the task that ran there (0: the idle task). A task is a thread,
+identified by its number in the initial PID namespace. The names of the kernel's events are those of
 `include/trace/events/{sched,task,cgroup,oom}.h`.
 """
 from __future__ import annotations
@@ -44,8 +45,8 @@ class FirstWakeup(NamedTuple):
 
 
 class Migration(NamedTuple):
-    """`sched_migrate_task`: a ready task, or a task that is about to be woken, moves from
-    processor `origin` to `target`.
+    """`sched_migrate_task`: a task moves from the processor `origin` to `target`. The task is
+    ready, or is about to be woken.
     """
 
     time_ns: int
@@ -69,8 +70,8 @@ class NewTask(NamedTuple):
 
 
 class Exec(NamedTuple):
-    """`sched_process_exec`: if `old` differs from `task`, the thread `old` has taken over the
-    number of its process's first thread.
+    """`sched_process_exec`: a process executed a new program. If `old` differs from `task`, the
+    thread `old` has taken over the number of its process's first thread.
     """
 
     time_ns: int
@@ -81,7 +82,7 @@ class Exec(NamedTuple):
 
 
 class WaitEnds(NamedTuple):
-    """`sched_stat_iowait`: the sleep of `task` that now ends was a wait for IO. This event precedes
+    """`sched_stat_iowait`: a sleep of `task` that was a wait for IO ends now. This event precedes
     the wakeup.
     """
 
@@ -92,8 +93,8 @@ class WaitEnds(NamedTuple):
 
 
 class SwitchProbe(NamedTuple):
-    """A probe on `psi_task_switch`, right before the `sched_switch` of the same processor:
-    `waits` says whether psi counts the task that leaves as waiting for IO.
+    """A probe on `psi_task_switch`. It precedes the `sched_switch` of the same processor. `task`
+    leaves the processor, and `waits` is 1 if psi counts it as waiting for IO, and 0 if not.
     """
 
     time_ns: int
@@ -104,8 +105,9 @@ class SwitchProbe(NamedTuple):
 
 
 class ShowProbe(NamedTuple):
-    """A probe on `psi_show`: `current` reads a pressure file, so the kernel samples the group.
-    `resource` is an index into RESOURCES, and `group` the address of the group's psi data.
+    """A probe on `psi_show`: `current` reads a pressure file, which makes the kernel sample the
+    group. `resource` is the kernel's number of the resource: 0 for IO, 1 for memory, 2 for CPU.
+    `group` is the address of the group's `struct psi_group`.
     """
 
     time_ns: int
@@ -116,8 +118,8 @@ class ShowProbe(NamedTuple):
 
 
 class AverageProbe(NamedTuple):
-    """A probe on `psi_avgs_work`: the kernel's periodic work samples a group. `work` is the
-    address of the work structure, which is part of the group's psi data.
+    """A probe on `psi_avgs_work`: the kernel's periodic work samples a group. `work` is the address
+    of the work item, which is part of the group's `struct psi_group`.
     """
 
     time_ns: int
@@ -146,7 +148,7 @@ class StallBegins(NamedTuple):
 
 
 class StallEnds(NamedTuple):
-    """A probe on `psi_memstall_leave`; `flags` is 0 if `current` is in no other stall."""
+    """A probe on `psi_memstall_leave`. `flags` is 0 if `current` is in no other memory stall."""
 
     time_ns: int
     processor: int
@@ -155,8 +157,9 @@ class StallEnds(NamedTuple):
 
 
 class Attach(NamedTuple):
-    """`cgroup_attach_task`: a task moves to a group. If a process moves with all its threads,
-    `task` is its first thread. `hierarchy` is 0 for cgroup 2 only.
+    """`cgroup_attach_task`: a task moves to another group. If a process moves with all its threads,
+    `task` is its first thread. `hierarchy` is 0 for the hierarchy of cgroup 2, and another number
+    for a hierarchy of cgroup 1.
     """
 
     time_ns: int
@@ -168,9 +171,9 @@ class Attach(NamedTuple):
 
 
 class AttachProbe(NamedTuple):
-    """A probe on the function `cgroup_attach_task`, which `current` runs right before the event
-    of that name. `whole` is 0 if a write to `cgroup.threads` moves only this task, and 1 if its
-    whole process moves.
+    """A probe on the kernel's function `cgroup_attach_task`. `current` calls it right before the
+    event of the same name. `whole` is 1 if the whole process moves, and 0 if a write to
+    `cgroup.threads` moves only this task.
     """
 
     time_ns: int
@@ -211,7 +214,7 @@ class Victim(NamedTuple):
 
 class Interrupts(NamedTuple):
     """A probe on `psi_account_irqtime`: interrupts took `delta` ns. A trace of version 1 can't
-    express this event.
+    contain this event.
     """
 
     time_ns: int
@@ -221,7 +224,7 @@ class Interrupts(NamedTuple):
 
 
 class Marker(NamedTuple):
-    """A line that was written into `trace_marker`."""
+    """A marker: a text that was written to `trace_marker`."""
 
     time_ns: int
     processor: int
@@ -230,8 +233,8 @@ class Marker(NamedTuple):
 
 
 class Named(NamedTuple):
-    """The name of a task, if it differs from the name in earlier events of the processor. This
-    event precedes the switch or the `sched_process_exec` that contains the name.
+    """The name of a task, if it differs from the name in earlier events of the processor. It
+    precedes the switch or the `sched_process_exec` that contains the name.
     """
 
     time_ns: int
@@ -248,8 +251,8 @@ Event = Union[
     Named,
 ]  # fmt: skip
 
-# The name of each kind of event in counts and messages: the name of the kernel's event, or of the
-# function that is probed.
+# The name of each kind of event in counts and messages. It is the name of the kernel's event, or of
+# the probed function.
 NAMES: dict[type, str] = {
     Switch: "sched_switch", Wakeup: "sched_wakeup", FirstWakeup: "sched_wakeup_new",
     Migration: "sched_migrate_task",
@@ -269,16 +272,16 @@ NAMES: dict[type, str] = {
 CLONE_THREAD = 0x10000
 CLONE_INTO_CGROUP = 0x2_0000_0000
 
-# The state letters of tasks that exit: dead, and zombie.
+# The state letters of a task that exits: dead and zombie.
 EXITED = ("X", "Z")
-# The end (ns) of a gap that lasts to the end of the recording.
+# The end (ns) of a gap that extends to the end of the recording.
 NEVER = 2**64
 
 
 class Gap(NamedTuple):
-    """A time span in which events of a processor were lost, from `start` to `end` (ns). `lost` is
-    their number (0 if unknown). A `start` of 0 is the beginning of the recording, and an `end` of
-    NEVER is its end.
+    """A time span from `start` to `end` (ns) in which a processor lost events. `lost` is their
+    number, 0 if unknown. If `start` is 0, the gap begins with the recording. If `end` is NEVER, it
+    ends with the recording.
     """
 
     processor: int

@@ -1,6 +1,6 @@
-"""Opens the files of a recording's folder. Only regular files are opened, since a device or a
-FIFO could block or never end. From compressed pages at most the number of bytes in `meta` is
-read.
+"""Opens the files in a recording's folder. Only regular files are opened, since a device or a FIFO
+could block or never end. The decompressed size of a processor's pages is limited, so that a damaged
+file can't fill the memory.
 """
 from __future__ import annotations
 
@@ -14,14 +14,14 @@ from psirec.layout import PACKED, part_name, raw_name
 
 from .source import Unreadable
 
-# The most bytes that are read from a part if `meta` has no count of bytes, because the recorder was
-# killed: eight times the size of the parts that the recorder writes.
+# The limit of decompressed bytes per part if `meta` has no count of bytes, because the recorder was
+# killed. The limit is eight times the size of a part.
 MOST_PART_BYTES = 64 << 20
 PIECE = 8 << 20
 
 
 def open_regular(path: str) -> IO[bytes]:
-    """Opens a regular file for reading. Raises Unreadable for any other kind of file."""
+    """Opens a regular file for reading. Raises Unreadable if the file isn't a regular file."""
     file = os.open(path, os.O_RDONLY | os.O_NONBLOCK | os.O_CLOEXEC)
     if not stat.S_ISREG(os.fstat(file).st_mode):
         os.close(file)
@@ -30,7 +30,7 @@ def open_regular(path: str) -> IO[bytes]:
 
 
 def bytes_of(folder: str, name: str) -> bytes:
-    """Returns the bytes of a file of the folder."""
+    """Returns the bytes of a file in the folder."""
     try:
         with open_regular(os.path.join(folder, name)) as file:
             return file.read()
@@ -39,14 +39,14 @@ def bytes_of(folder: str, name: str) -> bytes:
 
 
 def text_of(folder: str, name: str) -> str:
-    """Returns a file's text. Bytes that aren't UTF-8 become surrogates, so no byte is lost."""
+    """Returns a file's text. Bytes that aren't UTF-8 become surrogates, so that no byte is lost."""
     return bytes_of(folder, name).decode("utf-8", "surrogateescape")
 
 
 class Raw:
-    """Reads the pages of a processor from one file, or from several parts in their order. Reading
-    more than `most` bytes of compressed parts raises Unreadable. `count` is the number of bytes
-    that were read.
+    """Reads a processor's pages, which are in one file or in several consecutive parts. If the
+    parts are compressed, raises Unreadable after more than `most` decompressed bytes. `count` is
+    the number of bytes that were read.
     """
 
     def __init__(self, folder: str, processor: int, most: int | None) -> None:
@@ -87,8 +87,9 @@ class Raw:
 
 
 def parts_of(folder: str, processor: int) -> list[str]:
-    """Returns the paths of a processor's parts in order. If a part exists both plain and
-    compressed, the recorder was interrupted while compressing it, and the plain file is taken.
+    """Returns the paths of a processor's parts, in order. A part may exist both plain and
+    compressed, if the recorder was interrupted while it compressed the part. In this case the plain
+    file is used.
     """
     names = set(os.listdir(folder))
     parts: list[str] = []
@@ -101,7 +102,7 @@ def parts_of(folder: str, processor: int) -> list[str]:
 
 
 def open_part(name: str) -> IO[bytes]:
-    """Opens a part for reading. A compressed part is decompressed while it is read."""
+    """Opens a part for reading. A compressed part is decompressed on the fly."""
     file = open_regular(name)
     if name.endswith(PACKED):
         return gzip.GzipFile(fileobj=file)  # type: ignore[return-value]

@@ -1,8 +1,7 @@
-"""Parses the kernel's `format` files, which have the offset of each field in the records of an
-event.
+"""Parses the kernel's `format` files. They describe the fields in the records of an event.
 
-A field's line is `field:TYPE NAME; offset:N; size:N; signed:N;`, offsets and sizes in bytes
-(`Documentation/trace/events.rst` of Linux, section 2.2). Numbers are little-endian.
+A field's line is `field:TYPE NAME; offset:N; size:N; signed:N;`, with offsets and sizes in bytes
+(`Documentation/trace/events.rst` of Linux, section 2.2). Numbers in records are little-endian.
 """
 from __future__ import annotations
 
@@ -18,19 +17,20 @@ FIELD = re.compile(
 )
 INTEGERS = {(1, True): "b", (1, False): "B", (2, True): "h", (2, False): "H",
             (4, True): "i", (4, False): "I", (8, True): "q", (8, False): "Q"}  # fmt: skip
-# The largest accepted page (bytes). The largest pages of ring buffers have 1 MB.
+# The size (bytes) of the largest accepted page. The largest ring-buffer pages have 1 MB.
 MOST_PAGE = 1 << 21
-# A function that returns integer fields of the record at an offset in the pages.
+# A function that reads integer fields of a record. Its arguments are the pages and the offset of
+# the record.
 IntegerReader = Callable[[bytes, int], tuple[int, ...]]
 
 
 class FormatFault(Exception):
-    """The error that pages or records with these formats can't be read."""
+    """Raised if pages or records with these formats aren't supported."""
 
 
 class Field(NamedTuple):
-    """A field of a record. `offset` and `size` are in bytes. `size` is 0 for a text that extends
-    to the end of the record.
+    """A field of a record, with its offset and size in bytes. If `size` is 0, the field is a text
+    that extends to the end of the record.
     """
 
     type: str
@@ -40,7 +40,9 @@ class Field(NamedTuple):
 
 
 class Format(NamedTuple):
-    """An event's name, the number that identifies its records, its fields, and its print format."""
+    """The format of an event: its name, the number that identifies its records, its fields, and its
+    print format.
+    """
 
     name: str
     number: int
@@ -50,7 +52,7 @@ class Format(NamedTuple):
 
 def field_of(line: str) -> tuple[str, Field] | None:
     """Parses a line of a format. Returns the field's name and the field, or None if the line
-    describes no field.
+    doesn't describe a field.
     """
     found = FIELD.match(line)
     if not found:
@@ -61,8 +63,8 @@ def field_of(line: str) -> tuple[str, Field] | None:
 
 
 def sections_of(text: str) -> dict[str, list[str]]:
-    """Splits the recording's file of formats into sections, which begin with `== NAME`. Returns the
-    lines of each section, by name.
+    """Splits the recording's file of formats into sections. A section begins with `== NAME`.
+    Returns the lines of each section, keyed by NAME.
     """
     sections: dict[str, list[str]] = {}
     lines: list[str] = []
@@ -75,12 +77,12 @@ def sections_of(text: str) -> dict[str, list[str]]:
 
 
 def fields_of(lines: Sequence[str]) -> dict[str, Field]:
-    """Returns all fields of a format, by name."""
+    """Returns all fields of a format, keyed by name."""
     return dict(found for found in map(field_of, lines) if found)
 
 
 def formats_of(sections: dict[str, list[str]]) -> dict[str, Format]:
-    """Returns the formats of all events, by the event's name without its subsystem."""
+    """Returns the formats of all events, keyed by the event's name without its subsystem."""
     formats = {}
     for path, lines in sections.items():
         number = next(
@@ -94,8 +96,8 @@ def formats_of(sections: dict[str, list[str]]) -> dict[str, Format]:
 
 
 class PageFormat(NamedTuple):
-    """The layout of a ring buffer's page, according to `events/header_page`: the page size, the
-    size of the field `commit`, and the offset of the records, all in bytes.
+    """The layout of a ring-buffer page, according to `events/header_page`: the page size, the size
+    of the field `commit`, and the offset of the records, all in bytes.
     """
 
     size: int
@@ -118,9 +120,9 @@ def page_format_of(sections: dict[str, list[str]]) -> PageFormat:
 
 
 def state_letters(print_format: str) -> tuple[dict[int, str], int]:
-    """Returns the letter of each bit of `prev_state`, by the print format of `sched_switch`, and
-    the bit that is printed as `R+`: the task was preempted while it was about to sleep, and
-    remains ready. That bit is the next one above the bits with letters.
+    """Returns the letter for each bit of `prev_state`, and the bit for `R+`, both derived from the
+    print format of `sched_switch`. `R+` means that the task was preempted while it was about to
+    sleep, and remains ready. Its bit is the one above the bits with letters.
     """
     letters = {
         int(bit, 16): letter
@@ -132,7 +134,7 @@ def state_letters(print_format: str) -> tuple[dict[int, str], int]:
 
 
 def integers_of(form: Format, names: Sequence[str]) -> IntegerReader:
-    """Returns a function that reads the fields `names`, which must be integers, from a record."""
+    """Returns a function that reads the fields `names` of a record. The fields must be integers."""
     try:
         fields = [form.fields[name] for name in names]
         order = sorted(range(len(fields)), key=lambda place: fields[place].offset)
@@ -147,7 +149,7 @@ def integers_of(form: Format, names: Sequence[str]) -> IntegerReader:
 
 
 def in_order(reader: struct.Struct, places: list[int]) -> IntegerReader:
-    """Returns a function that unpacks a structure and returns its numbers in the order of
+    """Returns a function that unpacks a structure, and returns its numbers in the order of
     `places`.
     """
     unpack = reader.unpack_from
@@ -158,7 +160,9 @@ def in_order(reader: struct.Struct, places: list[int]) -> IntegerReader:
 
 
 def text_at(data: bytes, at: int, end: int, field: Field) -> bytes:
-    """Returns a text field of the record from `at` to `end`, without its terminating zero."""
+    """Returns the text field of a record between the offsets `at` and `end`, without its
+    terminating zero.
+    """
     if field.type.startswith("__data_loc"):
         where = int.from_bytes(data[at + field.offset : at + field.offset + 4], "little")
         start = at + (where & 0xFFFF)

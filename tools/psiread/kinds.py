@@ -1,4 +1,6 @@
-"""Recognises the kind of a file by its first bytes, to give advice about a wrong file."""
+"""Recognises what kind of file an operator passed, by its first bytes, to give advice if the file
+isn't of the expected kind.
+"""
 from __future__ import annotations
 
 import glob
@@ -7,10 +9,10 @@ import re
 
 from psirec.meta import is_recording
 
-# The number of bytes at the start of a file by which its kind is recognised.
+# The number of bytes, from the start of a file, that are needed to recognise its kind.
 HEAD = 64
 TRACE_HEADER = re.compile(rb"psitrace [0-9]+ cpus=")
-# The first bytes of each kind of file, and a message about the kind, with advice.
+# The first bytes of each kind of file, and a message that names the kind and gives advice.
 KINDS = (
     (b"\x1f\x8b", "it is compressed by gzip: unpack it with gunzip -c"),
     (b"\xfd7zXZ\0", "it is compressed by xz: unpack it, an archive with tar xf"),
@@ -27,8 +29,8 @@ RULES = "it seems to be a rules file"
 
 
 def kind_of(head: bytes) -> str | None:
-    """Returns a message about a file with these first bytes, with advice. None if it may be a
-    trace, or if its kind is unknown.
+    """Returns a message, with advice, about a file that begins with these bytes. Returns None if
+    the file may be a trace, or if its kind isn't known.
     """
     if not head:
         return "it is empty"
@@ -45,8 +47,8 @@ def kind_of(head: bytes) -> str | None:
 
 
 def kind_of_file(name: str) -> str | None:
-    """Returns a message about the kind of a file or a folder, with advice. None if the kind is
-    unknown, the file can't be read, or `name` is the standard input.
+    """Returns a message, with advice, about the kind of a file or folder. Returns None if the kind
+    isn't known, if the file can't be read, or if `name` is the standard input.
     """
     if os.path.isdir(name):
         return (
@@ -64,7 +66,7 @@ def kind_of_file(name: str) -> str | None:
 
 
 def is_trace(name: str) -> bool:
-    """Whether a file begins with the header of a trace."""
+    """Returns whether a file begins like a trace."""
     try:
         if not os.path.isfile(name):
             return False
@@ -75,8 +77,8 @@ def is_trace(name: str) -> bool:
 
 
 def recording_below(folder: str) -> str | None:
-    """Returns the recording one or two levels below `folder`, if there is exactly one, otherwise
-    None.
+    """Returns the recording one or two levels below `folder`. Returns None unless there is exactly
+    one.
     """
     found = [
         path

@@ -18,7 +18,7 @@ BIG_ENDIAN = ("s390x", "ppc64", "sparc64")
 
 
 class Meta(Lines):
-    """The values of a recording's `meta`."""
+    """The lines of a recording's file `meta`, with a method for each value that a reader needs."""
 
     def processors(self) -> int:
         """Returns the number of the machine's processors."""
@@ -28,7 +28,7 @@ class Meta(Lines):
         return int(count)
 
     def version_fault(self) -> str | None:
-        """Returns why the folder's layout isn't supported, or None if it is supported."""
+        """Returns why this program can't read the recording, or None if it can."""
         version, words = self.one(Key.RECORDING), (self.one(Key.UNAME) or "").split()
         if version is not None and version not in VERSIONS:
             return f"{META}: this is a recording of version {version}, and {VERSION} is known"
@@ -37,32 +37,34 @@ class Meta(Lines):
         return None
 
     def end(self) -> str | None:
-        """Returns why the recording ended, or None if the recorder wrote no end."""
+        """Returns the reason for which the recording ended. Returns None if the recorder wrote no
+        reason, because it was killed or is still running.
+        """
         if self.one(Key.RECORDING) is None:
             return Reason.SECONDS if self.last_key == SKETCH_END else None
         return self.one(Key.END)
 
     def ring_start(self) -> int:
-        """Returns the time (ns) from which a flight recorder's ring has events of all processors. 0
-        for other recordings.
+        """Returns the time (ns) since which a flight recorder's buffers contain the events of all
+        processors. Returns 0 for other recordings.
         """
         start = self.one(Key.RING_START) or ""
         return ns_of(start) if re.fullmatch(r"[0-9]{1,10}(\.[0-9]{1,9})?", start) else 0
 
     def bytes(self) -> int | None:
-        """Returns the total bytes of all pages, as the recorder counted them. None if the recorder
-        was killed.
+        """Returns the size (bytes) of all pages, as counted by the recorder. Returns None if the
+        recorder was killed.
         """
         count = self.one(Key.BYTES) or ""
         return int(count) if re.fullmatch("[0-9]{1,15}", count) else None
 
     def has_snapshot_end(self) -> bool:
-        """Whether the recorder wrote SNAPSHOT_END to its snapshots."""
+        """Returns whether the recorder ends each snapshot with the line SNAPSHOT_END."""
         return self.one(Key.RECORDING) not in (None, WITHOUT_END)
 
     def realtime(self) -> int | None:
-        """Returns by how many ns CLOCK_REALTIME was ahead of CLOCK_MONOTONIC, or None if that isn't
-        recorded.
+        """Returns the number of ns by which CLOCK_REALTIME was ahead of CLOCK_MONOTONIC. Returns
+        None if it wasn't recorded.
         """
         found = re.fullmatch(
             r"realtime ([0-9]{1,12}\.[0-9]{1,9}) monotonic ([0-9]{1,12}\.[0-9]{1,9})",
@@ -71,29 +73,31 @@ class Meta(Lines):
         return ns_of(found[1]) - ns_of(found[2]) if found else None
 
     def ahead(self) -> int:
-        """Returns by how many ns local time was ahead of UTC, or 0 if that isn't recorded."""
+        """Returns the number of ns by which local time was ahead of UTC. Returns 0 if it wasn't
+        recorded.
+        """
         found = re.fullmatch("([+-])([0-9]{2}):([0-9]{2})", self.one(Key.ZONE) or "")
         minutes = 60 * int(found[2]) + int(found[3]) if found else 0
         return minutes * 60 * 10**9 * (-1 if found and found[1] == "-" else 1)
 
     def had_event(self, name: str) -> bool:
-        """Whether the recorder had switched on the event `name`."""
+        """Returns whether the recorder had switched on the event `name`."""
         return any(event.rpartition("/")[2] == name for event in self.all(Key.EVENT))
 
     def has_all_bytes(self) -> bool:
-        """Whether the folder must have all bytes that `meta` counts. After an early end, for
-        example because the disk was full, some bytes may be missing.
+        """Returns whether the folder must contain all bytes that `meta` counts. If the recording
+        ended early, for example because the disk was full, bytes may be missing.
         """
         return self.end() is not None and not self.ended_early()
 
     def ended_early(self) -> bool:
-        """Whether the recording ended because something failed."""
+        """Returns whether the recording ended because of a failure."""
         return (self.end() or "").split(" ")[0] in (Reason.DISK_FULL, Reason.FAILED)
 
 
 def meta_of(folder: str) -> Meta:
-    """Reads the `meta` of a recording. If there is none, the error suggests a recording below
-    the folder.
+    """Reads the `meta` of a recording. If the folder has no `meta`, raises Unreadable. The message
+    suggests the recording below the folder, if there is exactly one.
     """
     if not os.path.lexists(folder):
         raise Unreadable(f"{folder}: No such file or directory")

@@ -14,20 +14,20 @@ from .events import NEVER, Event, Gap, GroupMade, GroupRemoved, Marker
 from .source import Source
 from psicli.times import SECOND, seconds_to_ms
 
-# If pages are missing, a processor whose first or last event is farther than this (ns) from the
-# start or the end of the recording has lost events there.
+# A tolerance (ns) for recordings with missing pages. A processor lost events if its first or last
+# event is farther than this from the start or the end of the recording.
 FAR = SECOND // 10
-# The greatest length of a trace (ns): a million ticks of 2 s.
+# The longest possible trace (ns): a million ticks of 2 s.
 MOST_LENGTH = 10**6 * 2 * SECOND
 RAW = re.compile(r"cpu([0-9]{1,9})(?:\.[0-9]+)?\.raw(?:\.gz)?")
 GROUP_SAMPLE = f"{MARK}mem ".encode()
 
 
 class Expected(NamedTuple):
-    """What the recording should contain. `byte_count` is the number of bytes of pages that `meta`
-    counts, or None if it has no count or if not all could be written. `has_stop` says whether the
-    events include the recorder's last marker, and `has_end` whether the recorder ends its
-    snapshots with an end mark.
+    """The contents that a recording should have. `byte_count` is the size (bytes) of its pages
+    according to `meta`, or None if `meta` has no count, or if some pages couldn't be written.
+    `has_stop` says whether the events include the recorder's last marker, and `has_end` whether the
+    recorder ends its snapshots with an end mark.
     """
 
     byte_count: int | None
@@ -36,7 +36,7 @@ class Expected(NamedTuple):
 
 
 def tell_missing(source: Source, folder: str, expected: Expected) -> None:
-    """Finds what is missing from the recording, and adds it to the source's losses and notes."""
+    """Finds missing parts of the recording, and adds them to the source's losses and notes."""
     if expected.byte_count is not None and source.bytes != expected.byte_count:
         tell_bytes(source, expected.byte_count, expected.has_stop)
     for processor in unread_processors(folder, source.processors):
@@ -59,9 +59,9 @@ def tell_missing(source: Source, folder: str, expected: Expected) -> None:
 
 
 def tell_bytes(source: Source, count: int, has_stop: bool) -> None:
-    """Compares the bytes of pages with the number in `meta`, and adds the difference to the
-    losses. If the events of all processors end at about one time, before the recorder's last
-    marker, then nothing is missing before that time, and the difference becomes a note.
+    """Compares the size of the pages with the size in `meta`, and reports the difference as a loss.
+    If the events of all processors end at about the same time, before the recorder's last marker,
+    nothing is missing before that time. In this case the difference is only a note.
     """
     if source.bytes > count:
         source.losses.append(
@@ -102,7 +102,7 @@ def missing_ends(source: Source) -> Iterator[tuple[Gap, str]]:
 
 
 def ends_of(source: Source) -> tuple[dict[int, int], dict[int, int]]:
-    """Returns the times (ns) of each processor's first and last event."""
+    """Returns the times (ns) of the first and the last event of each processor."""
     firsts: dict[int, int] = {}
     lasts: dict[int, int] = {}
     for event in source.events:
@@ -112,20 +112,20 @@ def ends_of(source: Source) -> tuple[dict[int, int], dict[int, int]]:
 
 
 def unread_processors(folder: str, processors: int) -> list[int]:
-    """Returns the numbers of processors that have files in the folder, although `meta` counts only
-    `processors` processors.
+    """Returns the numbers of processors that have files in the folder although `meta` counts only
+    `processors` processors, numbered from 0.
     """
     found = (RAW.fullmatch(name) for name in os.listdir(folder))
     return sorted({int(it[1]) for it in found if it and int(it[1]) >= processors})
 
 
-# ---------------------------------------------------------------- the snapshot
+# ---------------------------------------------------------------- the contents of a snapshot
 
 
 def missing_in_snapshot(source: Source) -> str | None:
-    """Returns what is missing from a snapshot without an end mark, or None if nothing is. The
-    snapshot must list the recorder, and each group of the first memory sample that wasn't created
-    or removed during the recording.
+    """Describes what is missing from a snapshot that has no end mark. Returns None if nothing is
+    missing. The snapshot must list the recorder. It must also list each group of the first memory
+    sample that wasn't created or removed during the recording.
     """
     snapshot = source.snapshot
     if snapshot.is_cut:
@@ -147,8 +147,8 @@ def missing_in_snapshot(source: Source) -> str | None:
 
 
 def first_sampled(events: list[Event]) -> set[str]:
-    """Returns the groups of the first memory sample, for which the recorder writes a line per
-    group.
+    """Returns the paths of the groups in the first memory sample. In a sample, the recorder writes
+    one marker for each group, so a repeated path begins the second sample.
     """
     found: set[str] = set()
     for event in events:
@@ -160,12 +160,12 @@ def first_sampled(events: list[Event]) -> set[str]:
     return found
 
 
-# ---------------------------------------------------------------- times
+# ---------------------------------------------------------------- implausible times
 
 
 def bound_times(source: Source) -> None:
-    """Ends the source at the latest time that a trace can have. Adds a loss if it has later times,
-    or if it ends before it begins.
+    """Limits the end of the source to the longest possible trace. Adds a loss if there are later
+    events, or if the source ends before it begins.
     """
     if source.stop < source.start:
         source.losses.append("the recording ends before it begins: times of its pages are damaged")

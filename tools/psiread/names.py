@@ -1,5 +1,5 @@
-"""Reads the names of tasks from a processor's records. A switch has the name of the task that
-leaves the processor, and an exec has the name of the executed file.
+"""Reads the names of tasks from a processor's records. A switch contains the name of the task that
+leaves the processor, and an exec contains the name of the executed file.
 """
 from __future__ import annotations
 
@@ -8,14 +8,15 @@ from typing import Any, NamedTuple, Optional
 from .events import Event, Exec, Named
 from .formats import Field, Format, text_at
 
-# The greatest length of a task's name (bytes), without the terminating zero (TASK_COMM_LEN of
+# The largest length (bytes) of a task's name, without the terminating zero (TASK_COMM_LEN of
 # Linux).
 MOST_NAME = 15
 
 
 class NameFields(NamedTuple):
-    """Where records have names: the number of `sched_switch`, with the start and end of the name
-    (offsets in bytes), and the number of `sched_process_exec`, with the field of the file's name.
+    """The positions of names in records. `switch` is the number of the event `sched_switch`, and
+    `start` and `end` are the offsets (bytes) of the name in its records. `exec` is the number of
+    `sched_process_exec`, and `file` the field with the executed file's name.
     """
 
     switch: int
@@ -26,8 +27,8 @@ class NameFields(NamedTuple):
 
 
 def name_fields(forms: dict[str, Format]) -> NameFields:
-    """Returns where records have names, by the recording's formats. The number of an event is -1 if
-    the recording doesn't have the event.
+    """Returns the positions of names, according to the recording's formats. The number of an event
+    that the recording lacks is -1.
     """
     switch, exec_ = forms.get("sched_switch"), forms.get("sched_process_exec")
     name = switch.fields.get("prev_comm") if switch else None
@@ -38,7 +39,7 @@ def name_fields(forms: dict[str, Format]) -> NameFields:
 
 
 class Names:
-    """The names of tasks in the records of one processor that were read so far."""
+    """The names of tasks in one processor's records so far."""
 
     def __init__(self, fields: NameFields) -> None:
         self.fields = fields
@@ -47,8 +48,8 @@ class Names:
         self.known: dict[int, bytes] = {}
 
     def of_switch(self, event: Any, data: bytes, at: int) -> Optional[Named]:
-        """Returns the name of the task that leaves the processor by this switch, or None if the
-        name is already known. `at` is the offset of the record in `data`.
+        """Returns the name of the task that leaves the processor by this switch. Returns None if
+        the name is already known. `at` is the offset of the record in `data`.
         """
         name = data[at + self.start : at + self.end]
         task = event[3]
@@ -61,8 +62,8 @@ class Names:
         return Named(event.time_ns, event.processor, event.current, task, text)
 
     def of_exec(self, event: Event, data: bytes, at: int, end: int) -> Optional[Named]:
-        """Returns the name that a task gets by exec: the name of the executed file. The name of a
-        script may differ; its next switch has the right name.
+        """Returns the name that a task gets by exec: the name of the executed file. A script may
+        get another name, which the task's next switch shows.
         """
         assert isinstance(event, Exec) and self.fields.file
         name = text_at(data, at, end, self.fields.file).rpartition(b"/")[2][:MOST_NAME]
@@ -71,7 +72,9 @@ class Names:
         return Named(event.time_ns, event.processor, event.current, event.task, name)
 
     def of(self, number: int, event: Event, data: bytes, at: int, end: int) -> Optional[Named]:
-        """Returns the new name in the record of an event with this number, or None."""
+        """Returns the new name in the record of an event. `number` identifies the kind of event.
+        Returns None if there is no new name.
+        """
         if number == self.switch:
             return self.of_switch(event, data, at)
         return self.of_exec(event, data, at, end) if number == self.exec else None

@@ -1,10 +1,10 @@
-"""Reads the pages of a kernel's ring buffers, as `per_cpu/cpuN/trace_pipe_raw` returns them.
+"""Reads the pages of a kernel's ring buffers, in the binary form of `per_cpu/cpuN/trace_pipe_raw`.
 
-A page begins with the time of its first record (ns) and the word `commit`, which has the number of
-bytes of the records that follow. Two of its bits say whether events were lost before the page, and
-whether their number is stored after the records. The first word of a record has 5 bits for its kind
-and 27 bits for the time since the previous record. See `include/linux/ring_buffer.h` and
-`kernel/trace/ring_buffer.c` of Linux (`RB_MISSED_EVENTS`, `rb_event_length`,
+A page begins with the time (ns) of its first record, and with the word `commit`, which contains the
+number of bytes of the records that follow. Two of its bits say whether events were lost before the
+page, and whether their number is stored after the records. The first word of a record has 5 bits
+for its kind, and 27 bits for the time since the previous record. See `include/linux/ring_buffer.h`
+and `kernel/trace/ring_buffer.c` of Linux (`RB_MISSED_EVENTS`, `rb_event_length`,
 `ring_buffer_read_page`).
 """
 from __future__ import annotations
@@ -20,14 +20,15 @@ from .records import Decoder
 
 MISSED = 1 << 31
 MISSED_STORED = 1 << 30
-# The bits of `commit` with the number of used bytes (the largest pages have 1 MB).
+# The bits of `commit` that contain the number of used bytes. The largest pages have 1 MB.
 USED = (1 << 30) - 1
 
-# Kinds of records: 0 has its length in an extra word; 1 to 28 are lengths in words of four bytes.
+# The kinds of records. The kinds 1 to 28 are lengths in words of four bytes. Kind 0 has its length
+# in an extra word.
 PADDING, TIME_EXTENDS = 29, 30
 TIME_BITS = 27
-# The number of bits of the time in a record with an absolute timestamp. The higher bits of the time
-# are those of the previous time.
+# The number of time bits in a record with an absolute timestamp. The higher bits are those of the
+# previous time.
 ABSOLUTE_BITS = 59
 
 WORD = struct.Struct("<I").unpack_from
@@ -35,13 +36,13 @@ LONG = struct.Struct("<Q").unpack_from
 
 
 class PageFault(Exception):
-    """A malformed page."""
+    """Raised if a page is malformed."""
 
 
 class Page(NamedTuple):
-    """The header of a page: the time (ns) of its first record, the number of events lost before
-    the page (0 for none, -1 for unknown), and the start and end of its records (offsets in
-    bytes).
+    """The header of a page. `time_ns` is the time (ns) of its first record. `lost` is the number of
+    events lost before the page: 0 for none, -1 for unknown. `start` and `end` are the offsets
+    (bytes) of the first record and of the end of the last.
     """
 
     time_ns: int
@@ -100,8 +101,8 @@ def records_of(data: bytes, page: Page) -> Iterator[tuple[int, int, int]]:
 
 
 class Pages(NamedTuple):
-    """The contents of one processor's pages: its events in order, the gaps, and the number of
-    bytes after the last whole page.
+    """The contents of one processor's pages: its events in order, the gaps, and the number of bytes
+    after the last complete page.
     """
 
     events: list[Event]
@@ -117,8 +118,8 @@ def read_pages(
     names: Names,
     is_ring: bool,
 ) -> Pages:
-    """Reads all pages of a processor. In a flight recorder's ring a loss before the first page
-    is no gap, because the ring overwrites old pages by design.
+    """Reads all pages of a processor. A flight recorder's buffer overwrites old pages by design, so
+    there a loss before the first page isn't a gap.
     """
     events: list[Event] = []
     gaps: list[Gap] = []

@@ -1,5 +1,6 @@
-"""Reads the pressure files of a recording and the reports of a replay, and compares the growth of
-their stall totals (us).
+"""Compares the growth of stall totals (us) between a machine's own pressure files, which a
+recording contains, and the reports of a replay. In a *reading* the recorder reads the pressure
+files of all groups once.
 """
 from __future__ import annotations
 
@@ -26,29 +27,29 @@ READING = re.compile(rb"pressure ([0-9]{1,18}) (begin|end)\s*")
 
 
 class File(NamedTuple):
-    """A pressure file, identified by its group and its resource."""
+    """Identifies a pressure file by its group and its resource."""
 
     path: str
     resource: str
 
 
 class Totals(NamedTuple):
-    """The totals of a pressure file at a time (ns): the stall times of some and full (us)."""
+    """The totals of a pressure file at a time (ns): the stall times (us) of `some` and `full`."""
 
     time_ns: int
     some: int
     full: int
 
 
-# Series: the totals that a replay reported for each file, in order of time. Readings: the totals in
-# the machine's own files, by the number of the reading.
+# Series: the totals that a replay printed for each pressure file, in order of time. Readings: the
+# totals in the machine's own files, keyed by the number of the reading.
 Series = dict[File, list[Totals]]
 Readings = dict[int, dict[File, Totals]]
 
 
 def reading_markers(source: Source) -> Iterator[tuple[Marker, int, bool]]:
-    """Yields the markers at the start and end of each reading of the pressure files, with the
-    number of the reading, and whether the marker is at its start.
+    """Yields the markers at the start and the end of each reading of the pressure files. With each
+    marker, yields the reading's number, and whether the marker is at the start.
     """
     for event in source.events:
         if isinstance(event, Marker) and event.text.startswith(MARK.encode()):
@@ -58,12 +59,14 @@ def reading_markers(source: Source) -> Iterator[tuple[Marker, int, bool]]:
 
 
 def recorder_of(source: Source) -> int | None:
-    """Returns the task that read the pressure files, or None if the recording has no reading."""
+    """Returns the number of the task that read the pressure files. Returns None if the recording
+    has no reading.
+    """
     return next((marker.current for marker, _, _ in reading_markers(source)), None)
 
 
 def spans_of(source: Source) -> dict[int, tuple[int, int]]:
-    """Returns the start and end of each reading of the pressure files (ns of the recording's
+    """Returns the start and the end of each reading of the pressure files (ns of the recording's
     clock).
     """
     begins: dict[int, int] = {}
@@ -78,8 +81,8 @@ def spans_of(source: Source) -> dict[int, tuple[int, int]]:
 
 def machine_readings(folder: str, source: Source) -> Readings:
     """Returns the totals in the machine's own pressure files. The files of a reading were read one
-    after the other, so the times of the files are spaced evenly from the start to the end of the
-    reading.
+    after the other, at times that weren't recorded. They get evenly spaced times between the start
+    and the end of the reading.
     """
     spans = spans_of(source)
     found: dict[int, list[tuple[File, int, int]]] = {}
@@ -107,8 +110,8 @@ def replay_series(printed: str) -> Series:
 
 
 def totals_at(totals: list[Totals], time_ns: int) -> Totals:
-    """Returns the totals at a time (ns), interpolated linearly between two reports. They are 0
-    at time 0.
+    """Returns the totals at a time (ns). They are 0 at time 0, and are interpolated linearly
+    between two reports. After the last report they are those of the last report.
     """
     place = bisect_left([it.time_ns for it in totals], time_ns)
     if place == len(totals):
@@ -126,7 +129,7 @@ def totals_at(totals: list[Totals], time_ns: int) -> Totals:
 
 
 class Pair(NamedTuple):
-    """The growth (us) of a file's totals of some and full, on the machine and in the replay."""
+    """The growth (us) of a file's totals `some` and `full`, on the machine and in the replay."""
 
     file: File
     machine: tuple[int, int]
@@ -134,8 +137,8 @@ class Pair(NamedTuple):
 
 
 class Compared(NamedTuple):
-    """The numbers of the first and last compared readings, the time between them (ns), and the
-    growth of each file.
+    """The result of a comparison: the numbers of the first and the last reading, the time between
+    them (ns), and the growth of each file.
     """
 
     first: int
@@ -145,13 +148,13 @@ class Compared(NamedTuple):
 
 
 def growth(before: Totals, after: Totals) -> tuple[int, int]:
-    """Returns the growth of some and full (us)."""
+    """Returns the growth (us) of `some` and of `full` from `before` to `after`."""
     return after.some - before.some, after.full - before.full
 
 
 def made_in(source: Source) -> dict[str, int]:
-    """Returns the time (ns) at which each group was created during the recording, by path. For a
-    group that was created repeatedly it is the last time.
+    """Returns the time (ns) at which each group was created during the recording, keyed by path.
+    For a group that was created more than once, this is the last of the times.
     """
     made = (it for it in source.events if isinstance(it, GroupMade) and not it.hierarchy)
     return {escaped_path(it.path): it.time_ns for it in made}
@@ -160,9 +163,9 @@ def made_in(source: Source) -> dict[str, int]:
 def first_totals(
     file: File, readings: list[dict[File, Totals]], made: dict[str, int]
 ) -> Totals | None:
-    """Returns the totals from which a file's growth is counted: the totals of the first reading
-    that has the file. (A group that isn't accounted has no files.) Returns None if the group was
-    created after the first reading, so that its totals began at 0.
+    """Returns the totals from which a file's growth is counted. They are those of the first reading
+    that contains the file: a group that isn't accounted has no pressure files. Returns None if the
+    group was created after the first reading, since its totals then began at 0.
     """
     is_new = file not in readings[0] and made.get(file.path, 0) > max(
         it.time_ns for it in readings[0].values()
@@ -171,8 +174,7 @@ def first_totals(
 
 
 def readings_within(readings: Readings, start: int, end: int) -> list[int]:
-    """Returns the numbers of the readings that lie entirely between `start` and `end` (ns of the
-    recording's clock).
+    """Returns the numbers of the readings between `start` and `end` (ns of the recording's clock).
     """
     return [
         number
@@ -184,9 +186,10 @@ def readings_within(readings: Readings, start: int, end: int) -> list[int]:
 def compared(
     readings: Readings, series: Series, made: dict[str, int], start: int, end: int
 ) -> Compared | None:
-    """Compares the growth of all files that both the machine and the replay have at the last
-    reading of a trace from `start` to `end` (ns of the recording's clock). `made` has the times
-    (ns) at which groups were created. Returns None if the trace has fewer than two readings.
+    """Compares the growth of each file that both the machine and the replay have at the last
+    reading. The trace lasts from `start` to `end` (ns of the recording's clock). `made` contains
+    the times (ns) at which groups were created. Returns None if the trace contains fewer than two
+    readings.
     """
     inside = readings_within(readings, start, end)
     if len(inside) < 2:

@@ -1,5 +1,5 @@
-"""Reads the folder of a recording at once. The names of its files are in `psirec.layout`; `slices`
-reads long recordings in parts.
+"""Reads the folder of a recording in one step. The module `slices` reads long recordings in parts.
+`psirec.layout` defines the names of the files.
 """
 from __future__ import annotations
 
@@ -27,12 +27,15 @@ from .records import Decoder, decoders_of
 from .snapshot import snapshot_of
 from .source import Source, Unreadable
 
-# The first word after MARK in the markers of a reading of the pressure files.
+# The word after MARK in a marker at the start or end of a reading of the pressure files.
 READING = "pressure"
 
 
 class Kernel(NamedTuple):
-    """The kernel's formats: of pages, of records, and of the names of tasks in records."""
+    """The formats of the recorded kernel. `page` is the layout of its pages. `decoders` contains a
+    decoder for each event number, `names` the positions of tasks' names in records, and `forms` the
+    format of each event, keyed by name.
+    """
 
     page: PageFormat
     decoders: dict[int, Decoder]
@@ -51,9 +54,10 @@ def kernel_of(folder: str) -> Kernel:
 
 
 def gaps_at_end(processor: int, lost: int, gaps: list[Gap], last: Event | None) -> list[Gap]:
-    """Returns a gap for the events that a processor lost after its last page, if there are any.
-    Their number is `lost`, which the kernel's statistics count, less the events of the known
-    `gaps`. `last` is the processor's last event.
+    """Returns a list with a gap for the events that a processor lost after its last page. Their
+    number is `lost`, which the kernel's statistics count, minus the losses in the known `gaps`.
+    `last` is the processor's last event. The list is empty if no event was lost then, or if the
+    number of losses in some known gap is unknown.
     """
     rest = lost - sum(gap.lost for gap in gaps)
     return (
@@ -64,8 +68,8 @@ def gaps_at_end(processor: int, lost: int, gaps: list[Gap], last: Event | None) 
 
 
 def read_processors(folder: str, meta: Meta, source: Source) -> None:
-    """Reads the pages of all processors, and merges their events by time. Events of one
-    processor remain in the order in which they were written.
+    """Reads the pages of all processors, and merges their events by time. The events of one
+    processor keep the order in which they were written.
     """
     kernel = kernel_of(folder)
     overrun = {} if meta.is_ring() else meta.lost("overrun")
@@ -92,11 +96,11 @@ def read_processors(folder: str, meta: Meta, source: Source) -> None:
     source.events.sort(key=itemgetter(0))
 
 
-# ---------------------------------------------------------------- the whole recording
+# ---------------------------------------------------------------- reading the whole recording
 
 
 def is_marker(event: Event, word: str) -> bool:
-    """Whether `event` is a marker of the recorder that begins with `word`."""
+    """Returns whether `event` is a recorder's marker that begins with `word`."""
     return isinstance(event, Marker) and event.text.startswith((MARK + word).encode())
 
 
@@ -114,9 +118,9 @@ def first_marker_time(events: list[Event], word: str) -> int | None:
 
 
 def begin_ring(source: Source, start: int) -> None:
-    """Drops the events of a flight recorder's ring from before the time at which all processors
-    have events, which is at least `start` (ns). The source then begins at the next reading of the
-    pressure files, so that totals can be compared from there on.
+    """Drops the events of a flight recorder from before the time at which all processors have
+    events, which is at least `start` (ns). The source then begins at the next reading of the
+    pressure files, so that the totals can be compared.
     """
     whole_from = max([start, *first_times(source.events).values()])
     source.events = [event for event in source.events if event.time_ns >= whole_from]
@@ -129,7 +133,7 @@ def begin_ring(source: Source, start: int) -> None:
 
 def tell_losses(source: Source, meta: Meta) -> None:
     """Adds the losses that the pages don't show: events that were lost at unknown times, and all
-    events after an early end.
+    events after an early end of the recording.
     """
     for line in LOST_STATS[1:]:
         for processor, count in sorted(meta.lost(line).items()):
@@ -146,8 +150,8 @@ def tell_losses(source: Source, meta: Meta) -> None:
 def read_recording(
     folder: str, is_forced: bool, read: Callable[[str, Meta, Source], None] = read_processors
 ) -> Source:
-    """Reads the folder of a recording. `read` reads its pages. A recording without an end, whose
-    recorder was killed, is rejected unless `is_forced`.
+    """Reads the folder of a recording. `read` is the function that reads its pages. Unless
+    `is_forced`, rejects a recording that has no end because its recorder was killed.
     """
     meta = meta_of(folder)
     fault = meta.version_fault()
@@ -184,7 +188,8 @@ def read_recording(
 
 
 def containers_of(folder: str) -> dict[str, str]:
-    """Returns the names of containers and pods, by their ids. A damaged file counts as empty."""
+    """Returns the names of containers and pods, keyed by their ids. A damaged file counts as empty.
+    """
     if not os.path.isfile(os.path.join(folder, containers.FILE)):
         return {}
     try:

@@ -1,4 +1,4 @@
-"""Decodes the records of ring buffers to events, by the formats in the recording."""
+"""Decodes the records of ring buffers to events, according to the recording's formats."""
 from __future__ import annotations
 
 from collections.abc import Callable
@@ -18,13 +18,14 @@ from .formats import Format, FormatFault, integers_of, state_letters, text_at
 Decoder = Callable[[int, int, bytes, int, int], Event]
 
 CURRENT = "common_pid"
-# The fields of `sched_switch` after the common ones.
+# The fields that `sched_switch` has in addition to the common fields.
 SWITCH = ("prev_pid", "prev_state", "next_pid")
 
-# Creates an event from a tuple of its values, three times as fast as the constructor of its class.
+# Creates an event from a tuple of its values. This is three times as fast as the constructor.
 made: Any = tuple.__new__
 
-# The events whose fields are all integers: the class of each, and its fields after the common ones.
+# The events that have only integer fields: the class of each event, and its fields in addition to
+# the common ones.
 NUMBERS: dict[str, tuple[type, tuple[str, ...]]] = {
     "sched_wakeup": (Wakeup, ("pid", "target_cpu")),
     "sched_wakeup_new": (FirstWakeup, ("pid", "target_cpu")),
@@ -45,7 +46,9 @@ NUMBERS: dict[str, tuple[type, tuple[str, ...]]] = {
 
 
 def number_decoder(kind: type, form: Format, names: tuple[str, ...]) -> Decoder:
-    """Returns a decoder for an event of the class `kind`, whose integer fields are `names`."""
+    """Returns a decoder for an event of the class `kind`. The fields `names`, besides the common
+    ones, are integers.
+    """
     read = integers_of(form, (CURRENT, *names))
 
     def decode(time_ns: int, processor: int, data: bytes, start: int, end: int) -> Event:
@@ -62,8 +65,8 @@ def switch_decoder(form: Format) -> Decoder:
     known: dict[int, str] = {0: "R"}
 
     def letter_of(state: int) -> str:
-        # As in the print format, the letter of the lowest set bit counts, and R if no letter's bit
-        # is set.
+        # As in the kernel's print format, the letter of the lowest set bit counts. It is R if no
+        # bit with a letter is set.
         lowest = state & -state
         known[state] = "R" if state & stays else letters.get(lowest, "R")
         return known[state]
@@ -90,7 +93,7 @@ def group_decoder(kind: Union[type[GroupMade], type[GroupRemoved]], form: Format
 
 
 def attach_decoder(form: Format) -> Decoder:
-    """Returns a decoder for `cgroup_attach_task`."""
+    """Returns a decoder for `cgroup_attach_task`. It reads the group's path as a text."""
     read = integers_of(form, (CURRENT, "dst_root", "pid"))
     path = form.fields["dst_path"]
 
@@ -113,7 +116,7 @@ def marker_decoder(form: Format) -> Decoder:
 
 
 def decoder_of(name: str, form: Format) -> Decoder | None:
-    """Returns the decoder of an event's records, None if the event isn't needed."""
+    """Returns the decoder for the records of an event. Returns None if the event isn't needed."""
     if name in NUMBERS:
         return number_decoder(NUMBERS[name][0], form, NUMBERS[name][1])
     if name == "sched_switch":
@@ -126,7 +129,7 @@ def decoder_of(name: str, form: Format) -> Decoder | None:
 
 
 def decoders_of(formats: dict[str, Format]) -> dict[int, Decoder]:
-    """Returns the decoders of all needed events, by the event's number."""
+    """Returns the decoders of all needed events, keyed by the event's number."""
     decoders: dict[int, Decoder] = {}
     for name, form in formats.items():
         try:

@@ -1,9 +1,9 @@
 """Reads a recording of any length in little memory: its pages in parts, and the events of all
 processors in slices of time.
 
-Before the first slice, a *survey* reads what must be known of the whole recording: the rare events,
-the first and the last event of each processor, the first event of each kind, the losses, and the
-tasks that never leave a processor.
+Before the first slice, a *survey* collects what must be known of the whole recording: the rare
+events, the first and the last event of each processor, the first event of each kind, the losses,
+and the tasks that never leave a processor.
 """
 from __future__ import annotations
 
@@ -30,18 +30,18 @@ from .meta import Meta
 from .recording import gaps_at_end, kernel_of
 from .source import Source, Unreadable
 
-# The frequent events, which a machine writes thousands of times a second. The markers that begin
-# with one of SAMPLES are frequent too.
+# The frequent events, of which a machine writes thousands per second. A marker that begins with one
+# of SAMPLES is frequent too.
 OFTEN = (
     "sched_switch", "sched_wakeup", "sched_migrate_task", "sched_stat_iowait", Probe.SWITCH,
     Probe.STALL_BEGINS, Probe.STALL_ENDS,
     Probe.INTERRUPT, Probe.READY, Probe.SHOW, Probe.AVERAGE,
 )  # fmt: skip
 SAMPLES = (MARK + "mem ").encode(), (MARK + "host ").encode()
-# The number of memory samples per processor that a survey stores, to check the snapshot: the most
-# groups that the first sample can have.
+# The largest number of memory samples that a survey stores per processor, to check the snapshot.
 FIRST_SAMPLES = 2048
-# The shortest slice (ns). A slice consists of one or more parts, which may be much shorter.
+# The shortest slice (ns). A slice consists of one or several parts, each of which may be much
+# shorter.
 LEAST_SLICE = 2 * 10**9
 # The number of bytes that are read at once, for all processors together.
 READ_BYTES = 8 << 20
@@ -49,9 +49,7 @@ BY_TIME = itemgetter(0)
 
 
 class WaitingSwitch(Switch):
-    """A switch that begins a wait for IO, according to the probe right before it. The event of that
-    probe is dropped.
-    """
+    """A switch that begins a wait for IO. It replaces the switch and the probe right before it."""
 
     __slots__ = ()
 
@@ -62,19 +60,19 @@ class Records:
     def __init__(self, folder: str) -> None:
         self.kernel = kernel_of(folder)
         forms = self.kernel.forms
-        # `ends_of` reads the task that leaves and the next task from a switch. `read_probe` reads
-        # the task from the probe of a switch, and whether that task waits for IO.
+        # `ends_of` reads the two tasks of a switch. `read_probe` reads from the probe of a switch
+        # the task, and whether it waits for IO.
         self.switch, self.ends_of = reader_of(forms, "sched_switch", ("prev_pid", "next_pid"))
         self.probe, self.read_probe = reader_of(forms, Probe.SWITCH, (Probe.PID, Probe.IO))
-        # The numbers of the events that a survey skips.
+        # The numbers of the events that a survey ignores.
         self.often = {forms[name].number for name in OFTEN if name in forms}
 
 
 def reader_of(
     forms: dict[str, Format], name: str, fields: tuple[str, ...]
 ) -> tuple[int, IntegerReader]:
-    """Returns an event's number, and a function that reads these fields of its records. If the
-    recording doesn't have the event, the number is -1 and the function reads nothing.
+    """Returns the number of an event, and a function that reads these fields of its records. If the
+    recording lacks the event, returns -1 and a function that reads nothing.
     """
     form = forms.get(name)
     return (
@@ -85,8 +83,8 @@ def reader_of(
 
 
 class Reader:
-    """Reads one processor's pages in parts of about `size` bytes. `gaps` are the gaps in the pages
-    that were read, and `rest` is the number of bytes after the last whole page.
+    """Reads one processor's pages, in parts of about `size` bytes. `gaps` are the gaps found so
+    far, and `rest` is the number of bytes after the last complete page.
     """
 
     def __init__(
@@ -107,21 +105,21 @@ class Reader:
         self.form = records.kernel.page
         self.size = max(size // self.form.size, 1) * self.form.size
         self.rest, self.before, self.gaps = 0, 0, list[Gap]()
-        # The values of the last probe if its switch hasn't been read yet: the task, and whether it
+        # The values of the last probe, until its switch has been read: the task, and whether it
         # waits for IO.
         self.pending: tuple[int, ...] | None = None
         self.file = Raw(folder, processor, most)
         self.names = Names(records.kernel.names)
 
     def data(self) -> bytes:
-        """Returns the next whole pages, empty at the end."""
+        """Returns the next complete pages, or no bytes at the end."""
         data = self.file.read(self.size)
         rest = len(data) % self.form.size
         self.rest += rest
         return data[: len(data) - rest]
 
     def pages(self, data: bytes) -> Iterator[Page]:
-        """Yields the headers of these pages. Adds a gap if events were lost before a page."""
+        """Yields the headers of these pages. If events were lost before a page, adds a gap."""
         for at in range(0, len(data), self.form.size):
             page = page_at(data, at, self.form)
             if page.lost and not self.is_ring:
@@ -130,7 +128,7 @@ class Reader:
             yield page
 
     def part(self) -> list[Event] | None:
-        """Returns the events of the next pages, None at the end."""
+        """Returns the events of the next pages, or None at the end."""
         data = self.data()
         try:
             return self.decoded(data) if data else None
@@ -138,8 +136,8 @@ class Reader:
             raise Unreadable(f"{self.name}: {fault}") from None
 
     def decoded(self, data: bytes) -> list[Event]:
-        """Returns the events in these pages, without the probes of switches: a switch that begins a
-        wait for IO is a WaitingSwitch instead.
+        """Returns the events in these pages, without the probes of switches. A switch that begins a
+        wait for IO becomes a WaitingSwitch.
         """
         events: list[Event] = []
         add, processor, records, pending, time_ns = (
@@ -179,12 +177,12 @@ class Reader:
         return events
 
 
-# ---------------------------------------------------------------- survey
+# ---------------------------------------------------------------- the survey
 
 
 class Surveyed:
-    """The survey of a processor: its rare events, its last event, and the tasks that came to the
-    processor (`coming`) and left it (`leaving`) by switches.
+    """The survey of a processor: its rare events, its last event, and the tasks that got the
+    processor (`coming`) or left it (`leaving`) by a switch.
     """
 
     def __init__(self, reader: Reader) -> None:
@@ -203,8 +201,7 @@ class Surveyed:
         self.gaps, self.rest, self.bytes = reader.gaps, reader.rest, reader.file.count
 
     def take(self, reader: Reader, data: bytes) -> None:
-        """Surveys the next pages. Stores each rare event, and the first event of each frequent
-        kind.
+        """Stores each rare event, and the first event of each frequent kind, from the next pages.
         """
         records, processor, known, leave, come = (
             reader.records,
@@ -238,7 +235,7 @@ class Surveyed:
             self.last = decoders[number](last[0], processor, data, *last[1:])
 
     def take_rare(self, event: Event, number: int) -> None:
-        """Stores an event of the kind `number`. Of memory samples it stores only the first."""
+        """Stores an event of the kind `number`. Stores at most FIRST_SAMPLES memory samples."""
         is_sample = type(event) is Marker and event.text.startswith(SAMPLES)
         self.samples += is_sample
         if not is_sample or self.samples <= FIRST_SAMPLES:
@@ -247,8 +244,9 @@ class Surveyed:
 
 
 def survey_share(readers: list[Reader], own: Connection, others: list[Connection]) -> None:
-    """Surveys some of the processors, as the main function of a process, and sends the result or
-    the error. The process ends when the parent closes its end of `own`. It must close `others`.
+    """The main function of a child process: sends the survey of some processors, or an error. The
+    process ends if the parent closes its end of `own`. It closes `others`, the connections of its
+    siblings.
     """
     signal.signal(signal.SIGINT, signal.SIG_IGN)
     for line in others:
@@ -262,14 +260,14 @@ def survey_share(readers: list[Reader], own: Connection, others: list[Connection
 
 
 def end_with(line: Connection) -> None:
-    """Ends this process when the other end of the connection, which sends nothing, is closed."""
+    """Ends this process when the parent closes its end of the connection."""
     with contextlib.suppress(EOFError, OSError):
         line.recv()
     os._exit(1)
 
 
 def surveyed_at_once(readers: list[Reader]) -> list[Surveyed]:
-    """Surveys all processors, in one process for each processor of this machine."""
+    """Surveys all processors, in one child process for each processor of this machine."""
     context, count = multiprocessing.get_context("fork"), min(
         len(readers), len(os.sched_getaffinity(0))
     )
@@ -287,7 +285,7 @@ def surveyed_at_once(readers: list[Reader]) -> list[Surveyed]:
 
 
 def share_from(line: Connection) -> list[Surveyed]:
-    """Receives the result of a survey. Raises Unreadable if the process failed or ended."""
+    """Receives a survey. Raises Unreadable if the child process failed or ended early."""
     try:
         found = line.recv()
     except EOFError:
@@ -299,9 +297,9 @@ def share_from(line: Connection) -> list[Surveyed]:
 
 
 class Survey:
-    """Reads the folder of a recording twice: first the rare events, in several processes if the
-    recording is large, and then all events in slices. `silent` are the tasks that came to a
-    processor by a switch but never left one.
+    """Reads the folder of a recording twice: first only the rare events, and then all events in
+    slices. For a large recording, several processes read the rare events. `silent` are the tasks
+    that got a processor by a switch, but never left one.
     """
 
     def __init__(self, folder: str, is_large: bool) -> None:
@@ -318,7 +316,7 @@ class Survey:
         ]
 
     def read(self, _: str, meta: Meta, source: Source) -> None:
-        """Surveys the whole recording, and adds the rare events and the losses to `source`."""
+        """Surveys the whole recording. Adds the rare events and the losses to `source`."""
         self.processors, self.is_ring, self.most = source.processors, meta.is_ring(), meta.bytes()
         overrun = {} if self.is_ring else meta.lost("overrun")
         coming, leaving = set[int](), set[int]()
@@ -341,8 +339,8 @@ class Survey:
         self.silent = coming - leaving
 
     def slices(self, whole_from: int) -> Iterator[list[Event]]:
-        """Yields the events in slices, without those from before `whole_from` (ns), where events of
-        some processors are missing.
+        """Yields the events in slices, without those from before `whole_from` (ns), when the events
+        of some processors are missing.
         """
         for events in slices_of(self.readers()):
             yield (
@@ -352,12 +350,12 @@ class Survey:
             )
 
 
-# ---------------------------------------------------------------- slices
+# ---------------------------------------------------------------- events in slices
 
 
 def slices_of(readers: list[Reader]) -> Iterator[list[Event]]:
-    """Yields the events of all processors in order of time, in slices. All slices but the last
-    cover at least LEAST_SLICE ns.
+    """Yields the events of all processors in order of time, in slices. Each slice except the last
+    covers at least LEAST_SLICE ns.
     """
     events: list[Event] = []
     for part in parts_of(readers):
@@ -369,8 +367,8 @@ def slices_of(readers: list[Reader]) -> Iterator[list[Event]]:
 
 
 def parts_of(readers: list[Reader]) -> Iterator[list[Event]]:
-    """Yields the events of all processors in order of time, in parts. A part ends at the earliest
-    of the processors' last events in memory, so it may be short.
+    """Yields the events of all processors in order of time, in parts. A part ends at the first time
+    after which some processor's next events are not in memory yet, so it may be short.
     """
     waiting: dict[int, list[Event]] = {place: [] for place in range(len(readers))}
     ended: set[int] = set()

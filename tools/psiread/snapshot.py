@@ -12,8 +12,8 @@ NUMBER = re.compile("[0-9]{1,18}")
 
 
 def snapshot_of(folder: str) -> Snapshot:
-    """Parses the snapshot. Malformed lines are ignored, since a task's name may contain
-    anything.
+    """Parses the snapshot. Malformed lines are ignored, since a task's name may contain any
+    characters.
     """
     snapshot, text = Snapshot(), text_of(folder, SNAPSHOT)
     for words in (line.split(" ", 6) for line in text.split("\n")):
@@ -41,5 +41,5 @@ def snapshot_of(folder: str) -> Snapshot:
 
 
 def path_of(text: str) -> str:
-    """Converts a path from the folder's files to the form that it has in a trace."""
+    """Converts a path in a recording's files to the notation of a trace."""
     return escaped_path(text.encode("utf-8", "surrogateescape"))

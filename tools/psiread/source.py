@@ -1,5 +1,5 @@
 """Defines the input of a conversion: the events in order of time, the losses, and other facts about
-the recording. Ring-buffer pages and ftrace text give an input of the same form.
+the recording. Ring-buffer pages and ftrace text are both read into this form.
 """
 from __future__ import annotations
 
@@ -13,12 +13,12 @@ from .events import Event, Gap
 
 
 class Unreadable(Fault):
-    """The error that an input can't be used. The message says why."""
+    """Raised if an input can't be used. The message says why."""
 
 
 class ListedTask(NamedTuple):
-    """A thread of a snapshot: its process, the letter of its state, its processor, its group's
-    path as in a trace, and its name.
+    """A thread in a snapshot. `process` is the number of its process, `state` the letter of its
+    state, and `path` its group's path as written in a trace.
     """
 
     process: int
@@ -30,9 +30,9 @@ class ListedTask(NamedTuple):
 
 @dataclass
 class Snapshot:
-    """A snapshot that was taken during the recording, at `time_ns`: the groups with their
-    preferences, the groups whose pressure isn't accounted, the threads by number, and the types of
-    groups if the recorder wrote them.
+    """A snapshot, taken at `time_ns` during the recording. `groups` contains the preference of each
+    group, and `types` the types of groups if the recorder wrote them. `unaccounted` lists the
+    groups whose pressure isn't accounted, and `tasks` contains the threads by number.
     """
 
     time_ns: int = 0
@@ -40,15 +40,15 @@ class Snapshot:
     unaccounted: list[str] = field(default_factory=list)
     tasks: dict[int, ListedTask] = field(default_factory=dict)
     types: dict[str, str] = field(default_factory=dict)
-    # Whether the last line is the end mark, and whether the last line is cut off.
+    # Whether the snapshot's last line is the end mark, and whether its last line is cut off.
     has_end: bool = False
     is_cut: bool = False
 
 
 @dataclass
 class Source:
-    """A recording. Times are in ns of the recording's own clock; adding `realtime` gives ns
-    since 1970.
+    """A recording. All times are in ns of the recording's own clock. A time plus `realtime` is in
+    ns since 1970.
     """
 
     events: list[Event]
@@ -56,10 +56,10 @@ class Source:
     start: int
     stop: int
     gaps: list[Gap] = field(default_factory=list)
-    # Losses that concern the whole recording or have an unknown time, so that no part of the
-    # recording is certainly complete.
+    # The losses that concern the whole recording, or whose time isn't known. Because of them no
+    # part of the recording is certainly complete.
     losses: list[str] = field(default_factory=list)
-    # The number of repairs of each kind, and other remarks.
+    # The number of repairs of each kind, and other remarks for the report.
     mended: Counter[str] = field(default_factory=Counter)
     notes: list[str] = field(default_factory=list)
     snapshot: Snapshot = field(default_factory=Snapshot)
@@ -69,12 +69,12 @@ class Source:
     # Whether the events include the time at which psi counts a wakeup.
     has_ready_probe: bool = False
     realtime: int | None = None
-    # The number of ns by which the recorded machine's local time was ahead of UTC.
+    # The difference (ns) between the recorded machine's local time and UTC.
     ahead: int = 0
     # The names of containers and pods, by their ids.
     containers: dict[str, str] = field(default_factory=dict)
     # The number of bytes of pages that were read.
     bytes: int = 0
-    # The time (ns) from which the events of a flight recorder's ring are complete, 0 for other
+    # The time (ns) since which the events of a flight recorder are complete. It is 0 for other
     # recordings.
     whole_from: int = 0

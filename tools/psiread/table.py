@@ -1,7 +1,7 @@
 """Writes a recording's formats as the table that `psi_convert` reads.
 
-Its lines are `psi_layout 1`, `page SIZE HEADER` (bytes), `letter BITS LETTER` for the states of
-tasks, `kind NUMBER NAME FIELD..` for each event, and `end`. A field is `FORM:OFFSET:SIZE`.
+The table's lines are `psi_layout 1`, `page SIZE HEADER` (bytes), `letter BITS LETTER` for each
+state of tasks, `kind NUMBER NAME FIELD..` for each event, and `end`. A field is `FORM:OFFSET:SIZE`.
 """
 from __future__ import annotations
 
@@ -16,14 +16,14 @@ from .formats import (
 from .records import CURRENT, NUMBERS, SWITCH
 from .source import Unreadable
 
-# The fields of the events with fields that aren't integers, in the order of the table.
+# For each event with fields that aren't integers, these fields in the order of the table.
 TEXTS: dict[str, tuple[str, ...]] = {
     "cgroup_mkdir": ("root", "path"),
     "cgroup_rmdir": ("root", "path"),
     "cgroup_attach_task": ("dst_root", "dst_path", "pid"),
     "print": ("buf",),
 }
-# The greatest number of an event, and the greatest offset and size (bytes) of a field.
+# The largest number of an event, and the largest offset and size (bytes) of a field.
 MOST = 65535
 
 
@@ -43,7 +43,9 @@ def field_word(name: str, field: Field) -> str:
 
 
 def fields_of(name: str) -> tuple[str, ...] | None:
-    """Returns the fields of an event after the common ones, or None if the event isn't read."""
+    """Returns the fields of an event in addition to the common ones. Returns None if psi_convert
+    doesn't read the event.
+    """
     if name in NUMBERS:
         return NUMBERS[name][1]
     return SWITCH if name == "sched_switch" else TEXTS.get(name)

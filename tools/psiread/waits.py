@@ -1,6 +1,6 @@
-"""Finds the sleeps that were waits for IO. The kernel counts a sleep as such only if the task's
-`in_iowait` is set. A sleep in state D isn't enough: on a journaling file system a third to a half
-of those sleeps don't count.
+"""Finds the sleeps that were waits for IO. The kernel counts a sleep as a wait for IO only if the
+task's bit `in_iowait` is set. State D alone doesn't show this: on a journaling file system the bit
+isn't set in a third to a half of the sleeps in state D.
 """
 from __future__ import annotations
 
@@ -14,7 +14,7 @@ UNINTERRUPTIBLE = "D"
 
 
 class Method(Enum):
-    """The ways to recognise a wait for IO, the most exact first."""
+    """The methods by which a wait for IO is recognised, the most exact first."""
 
     PROBE = "probe"  # the bit that psi itself reads, by a probe on psi_task_switch
     STATISTICS = "stat"  # sched_stat_iowait, which needs kernel.sched_schedstats=1
@@ -22,8 +22,9 @@ class Method(Enum):
 
 
 def best_method(events: Sequence[Event], has_probe: bool) -> Method:
-    """Returns the most exact method that the recording supports. If the probe was switched on
-    (`has_probe`), its method applies even without any event of the probe: then nothing waited.
+    """Returns the most exact method that the recording supports. `has_probe` says that the probe
+    was switched on. Its method then applies even if the recording has no event of the probe, since
+    in this case no task waited for IO.
     """
     kinds = {type(event) for event in events}
     if has_probe or SwitchProbe in kinds:
@@ -32,9 +33,11 @@ def best_method(events: Sequence[Event], has_probe: bool) -> Method:
 
 
 def by_probe(events: Sequence[Event], probes: dict[int, SwitchProbe] | None = None) -> set[int]:
-    """Returns the indices of the switches that begin a wait for IO, by the probe that precedes each
-    on the same processor. If events are read in parts, pass the same `probes` for each part: it
-    has the last probe of each processor whose switch hasn't been read yet.
+    """Returns the indices of the switches that begin a wait for IO, according to the probe before
+    each switch on the same processor.
+
+    If events are read in parts, pass the same `probes` for each part. It contains the last probe of
+    each processor, until the probe's switch has been read.
     """
     waits: set[int] = set()
     probes = {} if probes is None else probes
@@ -49,8 +52,8 @@ def by_probe(events: Sequence[Event], probes: dict[int, SwitchProbe] | None = No
 
 
 def by_statistics(events: Sequence[Event]) -> set[int]:
-    """Returns the indices of the switches that begin a wait for IO, by the events that report
-    the end of such a sleep before its wakeup.
+    """Returns the indices of the switches that begin a wait for IO. The event `sched_stat_iowait`,
+    which precedes the wakeup, reports that the sleep was a wait for IO.
     """
     waits: set[int] = set()
     asleep: dict[int, int] = {}
@@ -74,7 +77,7 @@ def by_state(events: Sequence[Event]) -> set[int]:
 
 
 def waits_for_io(events: Sequence[Event], method: Method) -> set[int]:
-    """Returns the indices of the switches that begin a wait for IO, according to a method."""
+    """Returns the indices of the switches that begin a wait for IO, according to `method`."""
     ways: dict[Method, Callable[[Sequence[Event]], set[int]]] = {
         Method.PROBE: by_probe, Method.STATISTICS: by_statistics, Method.STATE: by_state,
     }  # fmt: skip

@@ -1,5 +1,5 @@
-"""Selects the part of a recording that is converted: a time window, or the longest part of the
-window without losses.
+"""Selects the part of a recording to convert: a time window, or the longest part of it without
+losses.
 """
 from __future__ import annotations
 
@@ -12,7 +12,7 @@ from psicli.times import seconds_to_ms
 
 
 class Window(NamedTuple):
-    """A window of time, in ns of the recording's clock. Both ends are included."""
+    """A window of time, in ns of the recording's clock. It includes both ends."""
 
     start: int
     end: int
@@ -23,15 +23,15 @@ class Window(NamedTuple):
 
 
 def overlapping(gaps: Iterable[Gap], window: Window) -> list[Gap]:
-    """Returns the gaps that overlap the window. A gap begins at the last event before the loss, and
-    ends at the first event after it.
+    """Returns the gaps that overlap the window. A gap extends from the last event before a loss to
+    the first event after it.
     """
     return [gap for gap in gaps if gap.end > window.start and gap.start < window.end]
 
 
 def longest_stretch(gaps: Iterable[Gap], window: Window) -> Window:
     """Returns the longest part of the window in which no processor lost events. If several parts
-    are equally long, returns the first.
+    have this length, returns the first of them.
     """
     best, start = Window(window.start, window.start), window.start
     for gap in sorted(gaps, key=lambda it: it.start):
@@ -44,8 +44,8 @@ def longest_stretch(gaps: Iterable[Gap], window: Window) -> Window:
 
 
 def loss_text(gaps: Iterable[Gap], whole: Window) -> str:
-    """Returns a text: how many events each processor lost, and between which times (s since the
-    start of `whole`).
+    """Returns a text that says how many events each processor lost, and when (s since the start of
+    `whole`).
     """
     gaps = list(gaps)
     lost = Counter({gap.processor: 0 for gap in gaps})

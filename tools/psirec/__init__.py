@@ -1,3 +1,3 @@
-"""The format of a recording: the names of its files, keys and markers. The recorder writes them and
-the other tools read them, so both import this package, which imports neither.
+"""Defines the format of a recording: names of files, keys and markers. The recorder and the tools
+that read recordings import this package, and it imports neither.
 """

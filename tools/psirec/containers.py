@@ -1,6 +1,6 @@
-"""Parses the names of containers and pods, keyed by the identifiers in the names of their control
-groups: 64 hexadecimal digits for a container, the UID for a pod. A recording has a line `NUMBER
-NAME` for each of them in the file FILE.
+"""Parses the names of containers and pods. They are keyed by the identifiers in the names of
+control groups: 64 hexadecimal digits for a container, or the UID for a pod. The file FILE of a
+recording has them as lines `NUMBER NAME`.
 
 These commands print the names: `crictl ps -a -o json`, `crictl pods -o json`,
 `docker ps -a --no-trunc --format '{{json .}}'`, `podman ps -a --no-trunc --format json`, and
@@ -14,13 +14,13 @@ from collections.abc import Iterator
 from typing import Any
 
 FILE = "containers"
-# The identifier of a container, possibly shortened to 12 digits as docker prints it, or of a pod.
+# Matches the identifier of a container, which docker may shorten to 12 digits, or of a pod.
 NUMBER = re.compile("[0-9a-f]{12,64}|[0-9a-f]{8}(?:[-_][0-9a-f]{4}){3}[-_][0-9a-f]{12}")
 KUBERNETES = "io.kubernetes."
 
 
 def names_in(text: str) -> dict[str, str]:
-    """Parses the output of one of the commands, or lines `NUMBER NAME`. Returns the names by
+    """Parses the output of crictl, docker or podman, or lines `NUMBER NAME`. Returns the names by
     identifier. Raises ValueError if the text has neither form.
     """
     found: dict[str, str] = {}
@@ -38,7 +38,10 @@ def names_in(text: str) -> dict[str, str]:
 
 
 def values_in(text: str) -> Iterator[Any]:
-    """Yields the objects of a JSON text, which is a single value or has one value per line."""
+    """Yields the JSON objects in a text, which is either a single JSON value or has one value on
+    each line. If a single value is an object with a list `containers` or `items`, yields the
+    objects in that list.
+    """
     try:
         whole = json.loads(text)
     except ValueError:
@@ -49,7 +52,8 @@ def values_in(text: str) -> Iterator[Any]:
 
 
 def first_text(*values: Any) -> str:
-    """Returns the first non-empty string among the values. A list counts as its first element."""
+    """Returns the first non-empty string among the values. A list is replaced by its first element.
+    """
     for value in values:
         value = value[0] if isinstance(value, list) and value else value
         if isinstance(value, str) and value:
@@ -58,12 +62,12 @@ def first_text(*values: Any) -> str:
 
 
 def part_of(value: Any, key: str) -> Any:
-    """Returns the value of `key` if `value` is an object; None otherwise."""
+    """Returns the value at `key` if `value` is a JSON object, and None if not."""
     return value.get(key) if isinstance(value, dict) else None
 
 
 def names_of(value: dict[str, Any]) -> Iterator[tuple[str, str]]:
-    """Yields each identifier of a container or a pod, with its name."""
+    """Yields the identifier and the name of each container and pod."""
     own, labels = value.get("metadata"), value.get("labels") or value.get("Labels")
     number = first_text(value.get("id"), value.get("Id"), value.get("ID"))
     name = first_text(part_of(own, "name"), value.get("Names"), value.get("Name")).lstrip("/")

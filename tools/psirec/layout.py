@@ -28,13 +28,13 @@ from __future__ import annotations
 import re
 
 # The version of this layout, in the first line of `meta`: `recording 2`. If that line is missing,
-# an early draft of the recorder wrote the folder; its `meta` ends in a line with the key SKETCH_END
-# in place of `end REASON`.
+# an early draft of the recorder wrote the folder. The `meta` of the draft ends in a line with the
+# key SKETCH_END in place of `end REASON`.
 VERSION = "2"
-# The versions that can be read. In version 1 a snapshot has no last line SNAPSHOT_END.
+# The versions that the tools can read. In version 1, snapshots lack the last line SNAPSHOT_END.
 WITHOUT_END, VERSIONS = "1", ("1", VERSION)
 
-# ---------------------------------------------------------------- files
+# ---------------------------------------------------------------- files of a recording
 
 META = "meta"
 FORMATS = "formats"
@@ -43,26 +43,28 @@ PRESSURE = "pressure"
 
 
 def raw_name(processor: int) -> str:
-    """Returns the name of the file of a processor's pages, if they aren't compressed."""
+    """Returns the file name of a processor's pages if they are in a single uncompressed file."""
     return f"cpu{processor}.raw"
 
 
-# The suffix of a compressed part's name.
+# The suffix of the file name of a compressed part.
 PACKED = ".gz"
 
 
 def part_name(processor: int, part: int) -> str:
-    """Returns the name of the file of a part of a processor's pages. Parts are numbered from 0, and
-    are compressed after they are complete.
+    """Returns the file name of a part of a processor's pages. Parts are numbered from 0, and are
+    compressed once they are complete.
     """
     return f"cpu{processor}.{part}.raw"
 
 
-# ---------------------------------------------------------------- keys of meta
+# ---------------------------------------------------------------- keys of the file meta
 
 
 class Key:
-    """The keys of `meta`: the first word of a line. Comments describe the values."""
+    """The keys of the file `meta`. A key is the first word of a line. The comment after a key
+    describes the rest of the line.
+    """
 
     RECORDING = "recording"  # VERSION; this is the first line
     UNAME = "uname"  # the words of uname(2)
@@ -80,7 +82,7 @@ class Key:
     FIRED = "fired"  # the time (s) at which the trigger signalled pressure
     STATS = "stats"  # `cpuN LINE`, a line of `per_cpu/cpuN/stats` at the end
     SECONDS = "seconds"  # the length of the recording (s)
-    BYTES = "bytes"  # the size of all pages
+    BYTES = "bytes"  # the size of all pages (bytes)
     PROCESSOR_SECONDS = "cpu-seconds"  # `user S sys S`, the processor time that the recorder used
     COMPRESSING = "compress-seconds"  # the processor time (s) that compressing took
     LEFT = "left"  # a change of the machine that couldn't be undone
@@ -89,12 +91,12 @@ class Key:
 
 SKETCH_END = Key.PROCESSOR_SECONDS
 
-# Lines of `stats` that count lost events.
+# The names of lines in `stats` that count lost events.
 LOST_STATS = ("overrun", "commit overrun", "dropped events")
 
 
 class Reason:
-    """Why a recording ended."""
+    """The reasons for which a recording ended."""
 
     SECONDS = "seconds"  # the requested time was over
     SIGNAL = "signal"  # SIGINT, SIGTERM or SIGHUP was received
@@ -105,22 +107,26 @@ class Reason:
     KILLED = "killed"  # `meta` has no reason: the recorder was killed, or the machine crashed
 
 
-# ---------------------------------------------------------------- probes
+# ---------------------------------------------------------------- names of kernel probes
 
-# The name of a recorder's tracing instance and probe group begins with PREFIX, followed by its pid,
-# "_", and the start time of its process in clock ticks since boot (from /proc/PID/stat).
+# The recorder names its tracing instance and its probe group PREFIX, its pid, "_", and its start
+# time in clock ticks since boot (from /proc/PID/stat).
 PREFIX = "psirec"
 
 
 class Probe:
-    """Names of probes, and of the values that they fetch. Comments have the probed function."""
+    """The names of probes, and of the values that they report. A comment names the probed function
+    of the kernel.
+    """
 
     STALL_BEGINS = "ms_enter"  # psi_memstall_enter
     STALL_ENDS = "ms_leave"  # psi_memstall_leave; FLAGS is 0 at the end of the outermost stall
-    # psi_task_switch: task PID leaves its processor; IO is 1 if psi counts it as waiting for IO.
+    # psi_task_switch: task PID leaves its processor. IO is 1 if psi counts the task as waiting for
+    # IO.
     SWITCH = "psw"
     INTERRUPT = "irq"  # psi_account_irqtime: interrupts took DELTA ns
-    # cgroup_attach_task: task PID moves; ALL is 1 if all threads of its process move.
+    # cgroup_attach_task: task PID moves to another group. ALL is 1 if all threads of its process
+    # move.
     ATTACH = "cga"
     # psi_show: a process reads the pressure file of resource RES; GROUP is the address of the
     # group's `struct psi_group`.
@@ -144,54 +150,54 @@ class Probe:
 SET_READY = 4
 
 
-# ---------------------------------------------------------------- markers
+# ---------------------------------------------------------------- markers among the events
 
-# A marker is a line that the recorder writes to the `trace_marker` of its instance: MARK, followed
-# by one of these words or by the result of one of these functions.
+# A marker is a line that the recorder writes to the file `trace_marker` of its tracing instance. It
+# consists of MARK and one of these words, or the result of one of these functions.
 MARK = "psirec "
 START = "start"
 STOP = "stop"
 TRIGGERED = "fired"
 SNAPSHOT_BEGINS = "snapshot begin"
 SNAPSHOT_ENDS = "snapshot end"
-# The longest marker (bytes): the kernel may truncate longer ones.
+# The largest length of a marker (bytes). The kernel may truncate longer markers.
 MOST_MARKER_BYTES = 1000
 
 
 def host_marker(memory_total: int, swap_total: int, swap_free: int) -> str:
-    """Returns the marker of the machine's memory (bytes)."""
+    """Returns the marker with the machine's memory and swap (bytes)."""
     return f"{MARK}host {memory_total} {swap_total} {swap_free}"
 
 
 def memory_marker(path: str, current: int, swap: int, scanned: int) -> str:
-    """Returns the marker of a group's memory and swap (bytes) and its count of scanned pages
+    """Returns the marker with a group's memory and swap (bytes) and its count of scanned pages
     (`pgscan`). `path` is escaped.
     """
     return f"{MARK}mem {path} {current} {swap} {scanned}"
 
 
 def pressure_marker(number: int, is_end: bool) -> str:
-    """Returns the marker before or after a reading of all pressure files. `number` counts the
-    readings from 0.
+    """Returns the marker that precedes or follows a reading of all pressure files. `number` counts
+    the readings from 0.
     """
     return f"{MARK}pressure {number} {'end' if is_end else 'begin'}"
 
 
 def accounting_marker(path: str, is_on: bool) -> str:
-    """Returns the marker for a change of a group's `cgroup.pressure` since the previous sample. The
-    value of a new group is 1. `path` is escaped.
+    """Returns the marker that a group's `cgroup.pressure` has changed since the previous sample. A
+    new group is assumed to start with 1. `path` is escaped.
     """
     return f"{MARK}accounting {path} {'on' if is_on else 'off'}"
 
 
-# ---------------------------------------------------------------- lines of snapshot and pressure
+# ---------------------------------------------------------------- lines of snapshots and readings
 
 PREFERENCES = ("none", "prefer", "avoid", "omit")
 RESOURCES = ("io", "memory", "cpu")
 
 
 def at_line(time_ns: int) -> str:
-    """Returns the line with the time at which a snapshot began (CLOCK_MONOTONIC, ns)."""
+    """Returns the line of a snapshot with the time at which it began (CLOCK_MONOTONIC, ns)."""
     return f"at {time_ns}"
 
 
@@ -200,41 +206,43 @@ SNAPSHOT_END = "end"
 
 
 def group_line(path: str, preference: str) -> str:
-    """Returns the line of a group in a snapshot. `preference` is one of PREFERENCES, from the
-    attributes that oomd and systemd-oomd read.
+    """Returns the line for a group in a snapshot. `preference` is one of PREFERENCES, from the
+    extended attributes that oomd and systemd-oomd read.
     """
     return f"group {path} {preference}"
 
 
-# The type of a group that contains processes with all their threads.
+# The `cgroup.type` of a group that contains whole processes, with all their threads.
 PLAIN_TYPE = "domain"
 
 
 def type_line(path: str, kind: str) -> str:
-    """Returns the line of a group's `cgroup.type`, with its words joined by a dash: PLAIN_TYPE,
-    `domain-threaded`, `threaded` or `domain-invalid`.
+    """Returns the line for a group's `cgroup.type`: PLAIN_TYPE, `domain-threaded`, `threaded` or
+    `domain-invalid`. A blank is replaced by a dash.
     """
     return f"type {path} {'-'.join(kind.split())}"
 
 
 def unaccounted_line(path: str) -> str:
-    """Returns the line of a group whose pressure isn't accounted (`cgroup.pressure` is 0)."""
+    """Returns the line for a group whose pressure isn't accounted, because its `cgroup.pressure` is
+    0.
+    """
     return f"unaccounted {path}"
 
 
 def task_line(task: int, process: int, state: str, processor: int, path: str, name: str) -> str:
-    """Returns the line of a thread: its number, its process (Tgid), the letter of its state and its
-    processor from /proc/TID/stat, its group and its name. A newline in the name becomes a blank.
+    """Returns the line for a thread: its number, its process (Tgid), its state and processor from
+    /proc/TID/stat, its group and its name. A newline in the name is replaced by a blank.
     """
     return f"task {task} {process} {state} {processor} {path} {' '.join(name.splitlines())}"
 
 
 def sample_line(number: int, path: str, resource: str) -> str:
-    """Returns the line before the contents of one pressure file of a reading."""
+    """Returns the line that precedes the content of a pressure file in a reading."""
     return f"sample {number} {path} {resource}"
 
 
-# ---------------------------------------------------------------- paths
+# ---------------------------------------------------------------- paths of control groups
 
 _PLAIN = frozenset(b"ABCDEFGHIJKLMNOPQRSTUVWXYZabcdefghijklmnopqrstuvwxyz0123456789_.@:-\\")
 
@@ -246,7 +254,7 @@ def _escaped_component(component: bytes) -> str:
 
 
 def escaped_path(path: bytes) -> str:
-    """Escapes a group's path: each byte that a path in a trace can't contain becomes `\\xHH`, as in
-    systemd's names of units. An escaped path is returned unchanged.
+    """Escapes a group's path: each byte that a trace doesn't allow in a path becomes `\\xHH`, as in
+    systemd's names of units. An escaped path doesn't change if it is escaped again.
     """
     return "/" + "/".join(_escaped_component(it) for it in re.split(b"/+", path) if it)

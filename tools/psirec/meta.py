@@ -1,4 +1,5 @@
-"""Reads the lines of a recording's `meta`, for the recorder and for what reads recordings."""
+"""Parses the file `meta` of a recording, for the recorder and for the tools that read recordings.
+"""
 from __future__ import annotations
 
 import os
@@ -8,7 +9,7 @@ from .layout import META, Key
 
 
 class Lines:
-    """The lines of a `meta` file: the values of each key, in order."""
+    """The content of a file `meta`: the values of each key, in order."""
 
     def __init__(self, text: str) -> None:
         lines = [line.partition(" ") for line in text.splitlines() if line]
@@ -22,16 +23,16 @@ class Lines:
         return self.values.get(key, [])
 
     def one(self, key: str) -> str | None:
-        """Returns the first value of a key; None if the key is absent."""
+        """Returns the first value of a key, or None if the key is absent."""
         return next(iter(self.all(key)), None)
 
     def is_ring(self) -> bool:
-        """Returns whether a flight recorder made this recording."""
+        """Returns whether this recording was made by a flight recorder."""
         return Key.RING in self.values
 
     def lost(self, line: str) -> dict[int, int]:
-        """Returns the number of lost events of each processor according to the line `line` of its
-        `stats`.
+        """Returns the number of lost events of each processor, from the lines of `stats` with the
+        name `line`.
         """
         form = re.compile(rf"cpu([0-9]{{1,5}}) {line}: ([0-9]{{1,19}})")
         found = (form.fullmatch(it) for it in self.all(Key.STATS))
@@ -39,5 +40,5 @@ class Lines:
 
 
 def is_recording(folder: str) -> bool:
-    """Returns whether a folder is a recording, which has a file `meta`."""
+    """Returns whether a folder is a recording: whether it has a file `meta`."""
     return os.path.isfile(os.path.join(folder, META))

@@ -1,11 +1,11 @@
-"""The names of systemd-oomd's settings in the folder `systemd` of a recording: the recorder stores
-them, and tools/systemd-oomd reads them. `psirecord.systemd_settings` describes the contents of each
-file.
+"""Names in the folder `systemd` of a recording, which has systemd-oomd's settings. The recorder
+writes the folder, and tools/systemd-oomd reads it. `psirecord.systemd_settings` describes the
+content of each file.
 """
 
 FOLDER = "systemd"
 VERSION, UNITS, GROUPS = "version", "units", "groups"
-# The folders of oomd.conf and oomd.conf.d, in order of priority.
+# The folders of oomd.conf and oomd.conf.d. The first has the highest priority.
 CONFIGURATIONS = (
     "etc/systemd",
     "run/systemd",
@@ -13,8 +13,8 @@ CONFIGURATIONS = (
     "usr/lib/systemd",
     "lib/systemd",
 )
-# The folders of unit files, of the system's manager and of the users', in order of priority
-# (systemd.unit(5)).
+# The folders of unit files, for the system's manager and for users' managers. The first has the
+# highest priority (systemd.unit(5)).
 SYSTEM_UNITS = (
     "etc/systemd/system.control",
     "run/systemd/system.control",

@@ -1,3 +1,3 @@
 """The recorder, `tools/record`. It is the only tool that runs as root on the recorded machine, so
-it imports no other package but `psirec`.
+it imports no other package except `psirec`.
 """

@@ -1,4 +1,4 @@
-"""The command tools/record: the steps from the first check of the machine to the summary."""
+"""Implements the command tools/record, from the first check of the machine to the summary."""
 from __future__ import annotations
 
 import contextlib
@@ -42,28 +42,28 @@ from .undoing import Undoing
 from .waiting import Signals
 
 PRIORITY = -10
-# From <sys/mman.h>: MCL_CURRENT, MCL_FUTURE, MCL_ONFAULT.
+# The flags MCL_CURRENT, MCL_FUTURE and MCL_ONFAULT of <sys/mman.h>.
 LOCK_CURRENT, LOCK_FUTURE, LOCK_ON_FAULT = 1, 2, 4
 
 
 def tell(line: str) -> None:
     """Prints a line on standard error. A failed write is ignored, so that the recording continues
-    if nobody reads it. The line is written unbuffered, since Python exits with its own status if it
-    can't flush a buffer.
+    if nobody reads the line. The line is written unbuffered, since Python exits with its own status
+    if it can't flush a buffer.
     """
     if sys.stderr is not None:
         with contextlib.suppress(OSError, ValueError):
             os.write(sys.stderr.fileno(), f"record: {line}\n".encode(errors="backslashreplace"))
 
 
-# ---------------------------------------------------------------- the recording
+# ---------------------------------------------------------------- one recording
 
 
 def choose_sources(
     machine: Machine, wanted: Wanted, group: str, folder: Folder, undoing: Undoing
 ) -> tuple[Sources, bool]:
     """Chooses the best available sources of events. Returns the sources, and whether they require
-    that the kernel's scheduler statistics are switched on.
+    the kernel's scheduler statistics to be switched on.
     """
     if wanted.has_probes:
         sources = add_probes(machine, group, undoing, folder.say, wanted.has_wakeups)
@@ -89,8 +89,8 @@ def choose_sources(
 def prepare(
     machine: Machine, wanted: Wanted, folder: Folder, undoing: Undoing
 ) -> tuple[Instance, Sources]:
-    """Adds the probes and creates the tracing instance, with nothing traced yet. Returns the
-    instance and the sources of events.
+    """Adds the probes and creates the tracing instance. Nothing is traced yet. Returns the instance
+    and the sources of events.
     """
     name = recorder_name()
     sources, needs_statistics = choose_sources(machine, wanted, name, folder, undoing)
@@ -114,8 +114,8 @@ def prepare(
 
 
 def say_machine(folder: Folder, machine: Machine, wanted: Wanted) -> None:
-    """Writes the machine's name, processors and time zone, and the offset from event times to the
-    time of day.
+    """Writes the machine's name, its processors and its time zone, and the difference between the
+    time of day and event times.
     """
     before, realtime, after = time.monotonic(), time.time(), time.monotonic()
     folder.say(Key.UNAME, " ".join(os.uname()))
@@ -133,7 +133,7 @@ def record(
     machine: Machine, wanted: Wanted, service: Service, folder: Folder, signals: Signals,
     trigger: Trigger | None, condition: int | None,
 ) -> Status:
-    """Makes one recording, undoes all changes of the machine, and returns the exit status."""
+    """Makes one recording, and undoes all changes of the machine. Returns the exit status."""
     ending = None
     with Undoing() as undoing:
         try:
@@ -162,7 +162,8 @@ def record(
                 names.store(folder)
             check_statistics(machine, sources, folder, ending)
     if ending:
-        # This happens before the lock on `folder` is released, so that the limit always holds.
+        # Old recordings are deleted before the lock on `folder` is released, so that the limit
+        # always holds.
         keep(
             os.path.dirname(os.path.abspath(folder.path)), service.limits, tell,
             os.path.basename(folder.path),
@@ -171,8 +172,8 @@ def record(
 
 
 def check_statistics(machine: Machine, sources: Sources, folder: Folder, ending: Ending) -> None:
-    """Reports if the kernel's scheduler statistics were switched off during the recording, perhaps
-    by another recorder. Waits for IO then seem shorter than they were.
+    """Prints a warning if the kernel's scheduler statistics were switched off during the recording,
+    perhaps by another recorder. In this case waits for IO seem shorter than they were.
     """
     if sources.waits == BY_STATISTICS and statistics_of(machine) != Statistics.ON:
         what = "kernel.sched_schedstats was switched off meanwhile, so waits for IO are missing"
@@ -208,7 +209,7 @@ def closed(folder: Folder, ending: Ending | None, left: list[str]) -> Status:
 
 
 def finish_compressing(folder: Folder, ending: Ending) -> None:
-    """Waits until all pages are compressed, and reports the processor time that this took. If
+    """Waits until all pages are compressed, and reports the processor time (s) of compressing. If
     compressing fails, the remaining pages stay in uncompressed files, so nothing is lost.
     """
     finished = folder.finish_compressing()
@@ -221,7 +222,7 @@ def finish_compressing(folder: Folder, ending: Ending) -> None:
 
 
 def summarize(folder: Folder, ending: Ending) -> None:
-    """Prints what was recorded, and in which respects the recording is incomplete."""
+    """Prints the size and length of the recording, and every way in which it is incomplete."""
     tell(f"{ending.seconds:.1f} s, {folder.bytes / 1e6:.1f} MB of events, ended by {ending.reason}")
     if ending.lost:
         each = ", ".join(f"cpu {processor}: {count}" for processor, count in ending.lost.items())
@@ -231,8 +232,8 @@ def summarize(folder: Folder, ending: Ending) -> None:
 
 
 def make_ready() -> None:
-    """Prepares this process so that it isn't late when the machine is overloaded: raises its
-    priority and locks its memory (mlockall(2)). Raises the limit of open files too, since each
+    """Prepares this process so that it isn't late if the machine is overloaded. Raises its
+    priority, locks its memory (mlockall(2)), and raises the limit of open files, since each
     processor needs two open files. Steps that aren't permitted are skipped.
     """
     _, most = resource.getrlimit(resource.RLIMIT_NOFILE)
@@ -247,7 +248,7 @@ def make_ready() -> None:
 
 
 def print_status(arguments: list[str]) -> Status:
-    """Runs the command `record status` and returns the exit status."""
+    """Runs the command `record status`, and returns the exit status."""
     options = status_parser().parse_args(arguments)
     try:
         if options.textfile:
@@ -261,7 +262,7 @@ def print_status(arguments: list[str]) -> Status:
 
 
 def update_textfile(service: Service, above: str) -> None:
-    """Writes the metrics of `above`, the folder of all recordings, if the service has a textfile.
+    """Writes the metrics of `above`, the folder of all recordings, if the options name a textfile.
     """
     if service.textfile:
         try:
@@ -274,8 +275,8 @@ def record_once(
     machine: Machine, out: str, wanted: Wanted, service: Service, signals: Signals,
     is_compressed: bool,
 ) -> Status:
-    """Records into the new folder `out`, and then updates the metrics and runs the hook. Returns
-    the exit status.
+    """Records into the new folder `out`, and then writes the metrics and runs the hook. Returns the
+    exit status.
     """
     above = os.path.dirname(os.path.abspath(out))
     trigger = Trigger(machine, wanted.until, wanted.group) if wanted.until else None
@@ -295,7 +296,7 @@ def record_once(
 
 
 def main(arguments: list[str] | None = None) -> int:
-    """Runs the command line and returns the exit status."""
+    """Parses the command line, runs the command, and returns the exit status."""
     arguments = sys.argv[1:] if arguments is None else arguments
     if arguments[:1] == [STATUS_WORD]:
         return print_status(arguments[1:])

@@ -1,9 +1,9 @@
-"""Compresses the pages of a long recording as they arrive, in a separate process with the lowest
-priority.
+"""Compresses the pages of a long recording while it is written, in a separate process with the
+lowest priority.
 
-The recorder writes pages to parts; the compressor replaces each complete part by a gzip file. If
-the machine leaves no processor time for that, the recording temporarily needs more disk space, but
-nothing is late or lost. A recorder that is killed leaves parts that can be read.
+The recorder writes pages in parts, and the compressor replaces each complete part by a gzip file.
+If the machine is too busy for that, the recording temporarily needs more disk space, but nothing is
+late or lost. After a recorder was killed, the remaining parts can be read.
 """
 from __future__ import annotations
 
@@ -20,7 +20,7 @@ from psirec.layout import PACKED
 
 from .waiting import ENDING
 
-# The level of compression, from 1 to 9. Level 1 saves the most bytes per processor time.
+# The compression level, from 1 to 9. Level 1 saves the most bytes per processor time.
 LEVEL = 1
 LEAST_PRIORITY = 19
 # The time (s) between two searches for complete parts.
@@ -30,7 +30,9 @@ UNFINISHED = ".part"
 
 
 class Compressor:
-    """The process that compresses the complete parts in an open folder."""
+    """A child process that compresses the complete parts of a recording. `folder` is the descriptor
+    of the recording's folder.
+    """
 
     def __init__(self, folder: int) -> None:
         reader, self.writer = os.pipe2(os.O_CLOEXEC)
@@ -54,8 +56,8 @@ class Compressor:
 
 def serve(folder: int, line: int) -> None:
     """Compresses complete parts until the other end of the pipe `line` is closed, and then the
-    remaining ones. Ignores the signals that end a recording, since the recorder handles them, and
-    closes all files inherited from the recorder.
+    remaining parts. Ignores the signals that end a recording, since the recorder handles these
+    signals. Closes all files that were inherited from the recorder.
     """
     for number in ENDING:
         signal.signal(number, signal.SIG_IGN)
@@ -74,8 +76,8 @@ def serve(folder: int, line: int) -> None:
 
 
 def whole_parts(folder: int, is_ended: bool) -> Iterator[str]:
-    """Yields the names of the parts that are complete: for each processor all but its last part, or
-    all parts if `is_ended`.
+    """Yields the names of the complete parts. For each processor these are all parts except the
+    last one, or all parts if `is_ended`.
     """
     parts = sorted(
         (int(it[1]), int(it[2]), it[0]) for it in map(PART.fullmatch, os.listdir(folder)) if it
@@ -86,8 +88,8 @@ def whole_parts(folder: int, is_ended: bool) -> Iterator[str]:
 
 
 def opener_in(folder: int) -> Callable[[str, int], int]:
-    """Returns an opener for `open` that opens names in the open folder `folder`. The opener follows
-    no link, and gives new files the mode 0600.
+    """Returns an `opener` for the function `open`, which opens names in the open folder `folder`.
+    The opener doesn't follow links, and gives new files the mode 0600.
     """
     return lambda name, flags: os.open(
         name, flags | os.O_NOFOLLOW | os.O_CLOEXEC, 0o600, dir_fd=folder
@@ -95,7 +97,9 @@ def opener_in(folder: int) -> Callable[[str, int], int]:
 
 
 def compress(folder: int, name: str) -> None:
-    """Replaces the file `name` of an open folder by its gzip file, once that is complete."""
+    """Compresses the file `name` of an open folder. The file is removed when its gzip file is
+    complete.
+    """
     unfinished = name + PACKED + UNFINISHED
     opener = opener_in(folder)
     with open(name, "rb", opener=opener) as source, open(unfinished, "xb", opener=opener) as target:

@@ -1,8 +1,8 @@
 """Stores the names of containers and pods in a recording, since the paths of their groups contain
-only their identifiers.
+only their ids.
 
-The names are those that the container runtimes print, before and after the recording. A runtime's
-command is run only if the machine has groups of its containers.
+The container runtimes print the names, before and after the recording. A runtime's command is run
+only if the machine has groups of its containers.
 """
 from __future__ import annotations
 
@@ -17,7 +17,7 @@ from .folder import DiskFull, Folder
 from .machine import Machine
 from .samples import groups
 
-# Each runtime: a word that the paths of its groups contain, and the command that prints its
+# For each runtime, a word that the paths of its groups contain, and the command that lists its
 # containers.
 COMMANDS = (
     ("kubepods", ("crictl", "ps", "-a", "-o", "json")),
@@ -31,13 +31,13 @@ Tell = Callable[[str], None]
 
 
 class ContainerNames:
-    """The names found so far, keyed by the identifier of the container or pod."""
+    """The names so far, keyed by the id of the container or pod."""
 
     def __init__(self, machine: Machine, tell: Tell) -> None:
         self.machine, self.tell = machine, tell
         self.names: dict[str, str] = {}
-        # The folder that contains the commands in tests. Empty on the real machine, on which
-        # commands are searched in PATH.
+        # In tests, the folder of the runtimes' commands. On a real machine it is empty, and the
+        # commands are found in PATH.
         self.root = os.path.dirname(machine.proc).rstrip("/")
 
     def collect(self) -> None:
@@ -49,7 +49,9 @@ class ContainerNames:
                 self.ask([command, *words[1:]])
 
     def ask(self, words: list[str]) -> None:
-        """Runs a command and adds the names that it prints. A failure is reported."""
+        """Runs a command, and stores the names that it prints. A failure is reported, and has no
+        other effect.
+        """
         try:
             done = subprocess.run(
                 words, stdin=subprocess.DEVNULL, capture_output=True, timeout=PATIENCE_SECONDS
@@ -62,7 +64,9 @@ class ContainerNames:
             self.tell(f"{os.path.basename(words[0])} doesn't say the names of containers: {fault}")
 
     def store(self, folder: Folder) -> None:
-        """Writes the names to the recording, unless there are none. A failure is reported."""
+        """Writes the names to the recording if there are any. A failure is reported, and has no
+        other effect.
+        """
         names = sorted(self.names.items())
         lines = "".join(f"{number} {' '.join(name.split())}\n" for number, name in names)
         text = lines.encode("utf-8", "surrogateescape")

@@ -13,13 +13,13 @@ from psirec.layout import META
 from .waiting import Signals, Waiting
 
 DAY_SECONDS = 86400.0
-# The longest time (s) between two checks, since meanwhile somebody may set the clock or remove
+# The longest time (s) between two checks. In between, somebody may set the clock or remove
 # recordings.
 LOOK_SECONDS = 60.0
 
 
 def recording_times(folder: str) -> list[float]:
-    """Returns the end times (s since the epoch) of the recordings in a folder."""
+    """Returns the time (s since 1970) at which each recording in a folder ended."""
     times = []
     with contextlib.suppress(OSError), os.scandir(folder) as entries:
         for entry in entries:
@@ -29,16 +29,16 @@ def recording_times(folder: str) -> list[float]:
 
 
 def seconds_to_wait(folder: str, limit: int, now: float) -> float:
-    """Returns the time (s) until fewer than `limit` recordings are younger than a day. Recordings
-    that seem to end after `now` don't count: they were made before the clock was set back.
+    """Returns the time (s) until fewer than `limit` recordings are younger than a day. A recording
+    that seems to end after `now` doesn't count: it was made before the clock was set back.
     """
     latest = sorted((it for it in recording_times(folder) if it <= now), reverse=True)
     return max(0.0, latest[limit - 1] + DAY_SECONDS - now) if len(latest) >= limit else 0.0
 
 
 def wait_for_room(out: str, limit: int, signals: Signals, tell: Callable[[str], None]) -> bool:
-    """Waits until the daily limit permits another recording in the folder above `out`. Returns
-    False if a signal came first.
+    """Waits until the daily limit permits another recording in the folder that contains `out`.
+    Returns False if a signal ended the wait.
     """
     folder = os.path.dirname(os.path.abspath(out))
     waiting, is_announced = Waiting(signals), False

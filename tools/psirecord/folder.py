@@ -1,9 +1,9 @@
 """The folder of a recording, with the file names of `psirec.layout`. All writes are unbuffered, so
 nothing is lost if the recorder is killed.
 
-A recording shows which programs run on a machine, and addresses of its kernel, so only its owner
-may read it. All files are opened through the descriptor of the folder, since the owner of the
-parent folder may rename it and put something else in its place during the recording.
+A recording shows which programs run on a machine, and contains addresses of its kernel, so only its
+owner may read it. All files are opened through the descriptor of the folder. During the recording,
+the owner of the parent folder may rename it and put something else in its place.
 """
 from __future__ import annotations
 
@@ -23,7 +23,8 @@ RESERVE = ".reserve"
 RESERVE_BYTES = 1 << 18
 FULL = (errno.ENOSPC, errno.EDQUOT, errno.EFBIG)
 PAGE_BYTES = 4096
-# A compressed recording stores the pages of a processor in parts of about this size (bytes).
+# The approximate size (bytes) of a part, in which a compressed recording stores a processor's
+# pages.
 PART_BYTES = 8 << 20
 FOLDER_MODE, FILE_MODE = 0o700, 0o600
 FOLDER_FLAGS = os.O_RDONLY | os.O_DIRECTORY | os.O_NOFOLLOW | os.O_CLOEXEC
@@ -31,11 +32,14 @@ NEW_FILE_FLAGS = os.O_WRONLY | os.O_CREAT | os.O_EXCL | os.O_NOFOLLOW | os.O_APP
 
 
 class DiskFull(Exception):
-    """Raised if a write fails because the disk is full, or a quota or size limit is reached."""
+    """Raised if a write fails because the disk is full, or because a quota or a size limit is
+    reached.
+    """
 
 
 def append(file: int, data: bytes) -> None:
-    """Writes all of `data` to the descriptor `file`. Raises DiskFull if there is no room."""
+    """Writes all of `data` to the descriptor `file`. Raises DiskFull if there isn't enough space.
+    """
     rest = memoryview(data)
     while rest:
         try:
@@ -77,16 +81,16 @@ def remove_all(folder: int) -> None:
 
 
 class Folder:
-    """A new folder, and the files written to it."""
+    """The folder of a new recording, and the open files in it."""
 
     def __init__(self, path: str, is_compressed: bool = False) -> None:
-        """Creates the folder. Raises OSError if it already exists, and DiskFull if there isn't room
-        for the first lines. The compressing process is started before other files are opened, since
-        it must not inherit their descriptors.
+        """Creates the folder. Raises OSError if it already exists, and DiskFull if there isn't
+        space for the first lines. The compressing process is started before other files are opened,
+        since it must not inherit their descriptors.
         """
         self.path, self.bytes, self.page_bytes = path, 0, PAGE_BYTES
         self.raw: dict[int, int] = {}
-        # The number of parts of each processor, and the number of bytes in the last part.
+        # The number of parts of each processor, and the size (bytes) of its last part.
         self.parts: dict[int, int] = {}
         self.part_bytes: dict[int, int] = {}
         self.descriptor = made_folder(path)
@@ -96,7 +100,8 @@ class Folder:
                 self.compressor = Compressor(self.descriptor)
             self.reserve()
             self.meta, self.pressure = self.made(layout.META), self.made(layout.PRESSURE)
-            # The lock shows that the recording is still being written, so that nobody deletes it.
+            # The lock shows that the recorder is still writing the recording, so that nobody
+            # deletes it.
             fcntl.flock(self.meta, fcntl.LOCK_EX)
             self.say(layout.Key.RECORDING, layout.VERSION)
         except BaseException:
@@ -124,7 +129,7 @@ class Folder:
             os.unlink(RESERVE, dir_fd=self.descriptor)
 
     def say(self, key: str, value: str) -> None:
-        """Writes a line of `meta`, using the reserved disk space if the disk is full."""
+        """Writes a line of `meta`. Uses the reserved disk space if the disk is full."""
         line = f"{key} {' '.join(value.splitlines())}\n".encode(errors="surrogateescape")
         try:
             append(self.meta, line)
@@ -133,8 +138,8 @@ class Folder:
             append(self.meta, line)
 
     def write_formats(self, machine: Machine, events: list[str]) -> None:
-        """Stores the kernel's descriptions of ring buffer pages and of `events`, and sets the page
-        size.
+        """Stores the kernel's format of ring-buffer pages and the formats of `events`, and sets the
+        page size.
         """
         header = read_file(f"{machine.tracing}/events/header_page")
         parts = [b"== header_page\n" + header]
@@ -147,7 +152,7 @@ class Folder:
         self.page_bytes = page_bytes(header)
 
     def write_whole(self, name: str, data: bytes) -> None:
-        """Creates a file with the contents `data`."""
+        """Creates the file `name` in the folder with the contents `data`."""
         file = self.made(name)
         try:
             append(file, data)
@@ -155,7 +160,7 @@ class Folder:
             os.close(file)
 
     def open_raw(self, processors: int) -> None:
-        """Creates a file, or a first part, for each processor's pages."""
+        """Creates a file for the pages of each processor, or its first part."""
         for processor in range(processors):
             if self.compressor:
                 self.begin_part(processor)
@@ -163,7 +168,7 @@ class Folder:
                 self.raw[processor] = self.made(layout.raw_name(processor))
 
     def begin_part(self, processor: int) -> None:
-        """Begins a new part for the pages of `processor`, which completes the previous one."""
+        """Starts a new part for the pages of `processor`. The previous part is then complete."""
         if processor in self.raw:
             os.close(self.raw.pop(processor))
         part = self.parts.get(processor, 0)
@@ -171,15 +176,15 @@ class Folder:
         self.parts[processor], self.part_bytes[processor] = part + 1, 0
 
     def finish_compressing(self) -> tuple[float, bool] | None:
-        """Waits until all parts are compressed. Returns the processor time (s) that this took, and
-        whether all parts were compressed. None if the recording isn't compressed.
+        """Waits until all parts are compressed. Returns the processor time (s) of compressing, and
+        whether all parts were compressed. Returns None if the recording isn't compressed.
         """
         compressor, self.compressor = self.compressor, None
         return compressor.finish() if compressor else None
 
     def append_pages(self, processor: int, pages: bytes) -> None:
-        """Appends pages of a processor to its file. If the disk is full, truncates the file after
-        the last whole page and raises DiskFull.
+        """Appends pages to a processor's file. If the disk is full, truncates the file after the
+        last complete page, and raises DiskFull.
         """
         if self.compressor and self.part_bytes[processor] >= PART_BYTES:
             self.begin_part(processor)
@@ -194,12 +199,12 @@ class Folder:
             self.part_bytes[processor] += len(pages)
 
     def append_pressure(self, text: bytes) -> None:
-        """Appends a reading of the pressure files."""
+        """Appends a reading of the pressure files to the recording."""
         append(self.pressure, text)
 
     def write_below(self, name: str, data: bytes) -> None:
-        """Creates a file with the contents `data`. `name` may contain folders, which are created
-        too.
+        """Creates a file with the contents `data`. `name` may contain folders, which are then
+        created too.
         """
         *folders, last = name.split("/")
         at = os.dup(self.descriptor)
@@ -219,8 +224,8 @@ class Folder:
             os.close(file)
 
     def discard(self) -> None:
-        """Removes the folder, since nothing was recorded. If another folder has replaced it at the
-        path, that folder isn't removed.
+        """Removes the folder, because nothing was recorded. If another folder has replaced it at
+        the path, that other folder stays.
         """
         self.finish_compressing()
         remove_all(self.descriptor)
@@ -245,8 +250,8 @@ class Folder:
 
 
 def page_bytes(header: bytes) -> int:
-    """Returns the size (bytes) of a ring buffer page: the offset plus the size of the field `data`
-    in `header`, the contents of `events/header_page`.
+    """Returns the size (bytes) of a ring-buffer page: the offset plus the size of the field `data`
+    in `header`, which is the contents of `events/header_page`.
     """
     for line in header.splitlines():
         words = {

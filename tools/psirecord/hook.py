@@ -1,4 +1,6 @@
-"""A program of the operator that is run after each recording, to notify or to upload."""
+"""Runs a program of the operator after each recording, for example to notify somebody or to upload
+the recording.
+"""
 from __future__ import annotations
 
 import contextlib
@@ -10,14 +12,17 @@ from collections.abc import Callable
 
 from .waiting import Signals, Waiting
 
-# The time (s) after which a hook is terminated, and the time (s) after that until it is killed.
+# The time (s) after which a hook is terminated, and the additional time (s) after which it is
+# killed.
 MOST_SECONDS, KILL_SECONDS = 600.0, 10.0
 LOOK_SECONDS = 0.2
 OTHERS_WRITE = stat.S_IWGRP | stat.S_IWOTH
 
 
 def why_not(path: str) -> str | None:
-    """Returns why the recorder, which is root, refuses to run this program; None if it may run."""
+    """Returns the reason why the recorder, which is root, refuses to run this program. Returns None
+    if it may run.
+    """
     if not os.path.isabs(path):
         return "it must be a whole path, since a service has no working directory"
     try:
@@ -32,8 +37,8 @@ def why_not(path: str) -> str | None:
 
 
 def make_ordinary() -> None:
-    """Gives the new process an ordinary priority, and lets the kernel's OOM killer choose it. The
-    recorder's own settings would be inherited otherwise.
+    """Gives the new process an ordinary priority, and lets the kernel's OOM killer choose it.
+    Without this, it would inherit the recorder's settings.
     """
     with contextlib.suppress(OSError):
         os.setpriority(os.PRIO_PROCESS, 0, 0)
@@ -44,8 +49,8 @@ def make_ordinary() -> None:
 
 
 def wait_for(child: subprocess.Popen[bytes], signals: Signals) -> str | None:
-    """Waits for the end of the hook. Returns why the hook was terminated or how it failed; None if
-    it succeeded.
+    """Waits for the end of the hook. Returns how the hook failed, or why it was terminated. Returns
+    None if it succeeded.
     """
     waiting, end = Waiting(signals), time.monotonic() + MOST_SECONDS
     while child.poll() is None:
@@ -62,7 +67,7 @@ def wait_for(child: subprocess.Popen[bytes], signals: Signals) -> str | None:
 
 
 def run_hook(path: str, folder: str, signals: Signals, tell: Callable[[str], None]) -> None:
-    """Runs the program `path` with the recording's folder as its argument. A failure is reported
+    """Runs the program `path`, with the recording's folder as its argument. A failure is reported,
     and has no other effect.
     """
     fault = why_not(path)

@@ -1,9 +1,8 @@
 """An instance of the kernel's tracing with its own ring buffers, so that other users of tracing
-aren't affected.
+aren't affected. Documentation/trace/ftrace.rst describes the files of an instance.
 
-Documentation/trace/ftrace.rst describes the files of an instance. Pages are read in binary form
-(`trace_pipe_raw`): an event has about 40 bytes instead of 140 as text, reading takes a quarter of
-the time, and pages record the number of lost events.
+Pages are read in binary form (`trace_pipe_raw`). An event has about 40 bytes, compared to 140 as
+text, and reading takes a quarter of the time. Pages also contain the number of lost events.
 """
 from __future__ import annotations
 
@@ -20,18 +19,18 @@ from .probing import NEEDED, Say, Sources, Tell, without
 from .undoing import Undoing
 
 READ_BYTES = 1 << 16
-# The suffix of an instance whose recorder also switched on the sysctl kernel.sched_schedstats, so
-# that a later recorder knows that it must be switched off.
+# The suffix of an instance whose recorder also switched on the sysctl kernel.sched_schedstats. If
+# that recorder was killed, a later recorder knows that it must switch the sysctl off.
 STATISTICS_SUFFIX = "-schedstats"
-# A recorder's pid, and its start time (clock ticks since boot). Names made by earlier versions have
-# no start time.
+# Matches a recorder's pid and start time (clock ticks since boot) in the name of an instance.
+# Earlier versions wrote no start time.
 RECORDER = rf"{PREFIX}(?P<number>\d+)(?:_(?P<start>\d+))?"
 INSTANCE = re.compile(rf"{RECORDER}(?P<statistics>{STATISTICS_SUFFIX})?")
 PROBE = re.compile(rf"[a-z]\d*:(?P<probe>{RECORDER}/\w+) ")
-# The states, in /proc/PID/stat, of processes that have ended but haven't been waited for.
+# The states, in /proc/PID/stat, of a process that has ended but wasn't waited for.
 ENDED = (b"Z", b"X")
-# The options that are set in a new instance, which would otherwise inherit the values of the
-# top-level instance.
+# The options that are set explicitly, since a new instance inherits the values of the top-level
+# instance.
 OPTIONS = {"overwrite": "1", "markers": "1"}
 
 
@@ -40,7 +39,7 @@ class NotRecorded(Exception):
 
 
 class Instance:
-    """A tracing instance of a recorder. All events are off when it is created."""
+    """A tracing instance that a recorder created. At first all its events are off."""
 
     def __init__(self, machine: Machine, name: str, undoing: Undoing) -> None:
         self.machine, self.name, self.undoing = machine, name, undoing
@@ -59,8 +58,8 @@ class Instance:
         write_file(f"{self.folder}/{file}", text)
 
     def prepare(self, buffer_kb: int) -> None:
-        """Sets up the instance without switching any event on. Timestamps are CLOCK_MONOTONIC, and
-        each processor's buffer has `buffer_kb` KiB.
+        """Configures the instance, without switching on any event. Timestamps are CLOCK_MONOTONIC,
+        and each processor's buffer has `buffer_kb` KiB.
         """
         self.write("tracing_on", "0")
         self.write("trace_clock", "mono")
@@ -70,7 +69,9 @@ class Instance:
                 self.write(f"options/{option}", value)
 
     def enable(self, event: str, wanted: str) -> None:
-        """Switches `event` on, with the filter `wanted` unless that is empty."""
+        """Switches `event` on. `wanted` is the filter of its events, or empty to record all of
+        them.
+        """
         switch = f"events/{event}/enable"
         self.undoing.note(f"the event {event}", lambda: self.write(switch, "0"))
         try:
@@ -82,7 +83,7 @@ class Instance:
             raise
 
     def enable_all(self, sources: Sources, say: Say, tell: Tell) -> list[str]:
-        """Switches on the available events and returns their names. Reports each unavailable
+        """Switches on the available events, and returns their names. Reports each unavailable
         event, and what the recording lacks without it.
         """
         events = []
@@ -102,8 +103,8 @@ class Instance:
         return events
 
     def open_files(self) -> None:
-        """Opens the buffers and the marker file. Undoing closes them before it removes the
-        instance, since an instance can't be removed while one of its files is open.
+        """Opens the buffers and the marker file. The undo steps close these files before they
+        remove the instance, since an instance with an open file can't be removed.
         """
         self.undoing.note("open files", self.close_files)
         self.marker = os.open(f"{self.folder}/trace_marker", os.O_WRONLY)
@@ -120,8 +121,8 @@ class Instance:
                 os.close(file)
 
     def mark(self, words: str) -> bool:
-        """Writes a marker among the events. Returns False, and writes nothing, if it is so long
-        that the kernel might cut it.
+        """Writes a marker among the events. Returns False, without writing, if the marker is so
+        long that the kernel might truncate it.
         """
         line = words.encode(errors="surrogateescape")
         if len(line) > MOST_MARKER_BYTES:
@@ -130,12 +131,12 @@ class Instance:
         return True
 
     def note_mark(self, word: str) -> None:
-        """Writes a marker that consists of one word."""
+        """Writes a marker that consists of a single word."""
         self.mark(f"{MARK}{word}")
 
     def pages(self, processor: int, most_bytes: float) -> Iterator[bytes]:
-        """Yields a processor's events in pieces of whole pages until its buffer is empty, or until
-        about `most_bytes` were read.
+        """Yields a processor's events in pieces of whole pages. Stops if the buffer is empty, or
+        after about `most_bytes`.
         """
         taken = 0
         while taken < most_bytes:
@@ -153,7 +154,7 @@ class Instance:
             yield piece
 
     def statistics(self, processor: int) -> dict[str, str]:
-        """Returns the values of `per_cpu/cpuN/stats` of a processor by name."""
+        """Returns the values in a processor's `per_cpu/cpuN/stats`, keyed by name."""
         text = read_file(f"{self.folder}/per_cpu/cpu{processor}/stats").decode(errors="replace")
         return {
             key: value.strip()
@@ -163,23 +164,23 @@ class Instance:
 
 
 def lost_events(statistics: dict[str, str], is_ring: bool) -> int:
-    """Returns the number of lost events of a processor. Overwritten events of a flight recorder
+    """Returns the number of events that a processor lost. For a flight recorder, overwritten events
     don't count, since it overwrites its buffer on purpose.
     """
     return sum(int(statistics.get(it, 0)) for it in LOST_STATS if not (is_ring and it == "overrun"))
 
 
 def oldest_time_s(statistics: dict[str, str]) -> float:
-    """Returns the time (s) of the oldest event in a processor's buffer if older ones were
-    overwritten, and 0 otherwise.
+    """Returns the time (s) of the oldest event in a processor's buffer. Returns 0 if no older event
+    was overwritten.
     """
     return float(statistics.get("oldest event ts", 0)) if int(statistics.get("overrun", 0)) else 0.0
 
 
 def start_time(proc: str, process: str) -> str:
-    """Returns the start time of a process in clock ticks since boot. Empty if the process has
-    ended, even if it hasn't been waited for. Fields are counted from the last bracket, since the
-    process's name may contain blanks.
+    """Returns the start time of a process, in clock ticks since boot. Returns an empty string if
+    the process has ended, even if it wasn't waited for. The fields are counted from the last
+    bracket, since the process's name may contain blanks.
     """
     words = read_file(f"{proc}/{process}/stat").rpartition(b")")[2].split()
     return words[19].decode() if len(words) > 19 and words[0] not in ENDED else ""
@@ -193,7 +194,7 @@ def recorder_name() -> str:
 
 
 def remover(remove: Callable[[str], None], name: str) -> Callable[[], None]:
-    """Returns an undo step that calls `remove` with `name`."""
+    """Returns an undo step: a function that calls `remove` with `name`."""
     return lambda: remove(name)
 
 

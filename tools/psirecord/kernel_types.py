@@ -1,9 +1,8 @@
-"""Looks up the offsets of members of a kernel structure, and the number of a function's parameters,
-in the kernel's type information (BTF).
+"""Looks up, in the kernel's type information (BTF), the offsets of the members of a structure, and
+the number of a function's parameters. Documentation/bpf/btf.rst describes the format.
 
-Documentation/bpf/btf.rst describes the format. Only a few names are needed from its 10 MB:
-searching for a name's bytes takes a tenth of a second, and a walk over all types takes seconds on a
-slow machine.
+Only a few names are needed from its 10 MB. A search for a name's bytes takes a tenth of a second,
+while a walk over all types takes seconds on a slow machine.
 """
 from __future__ import annotations
 
@@ -22,16 +21,17 @@ WORD_BITS = 32
 @dataclass(frozen=True)
 class Place:
     """The position of a member in its structure: its first bit, and its width in bits. The width is
-    0 unless the member is a bit field.
+    0 if the member isn't a bit field.
     """
 
     bit: int
     width: int
 
     def fetch(self, argument: int, plain_type: str) -> str:
-        """Returns the words with which a probe fetches the member from the structure to which the
-        function's argument number `argument` points (Documentation/trace/kprobetrace.rst).
-        `plain_type`, such as `s32`, is used unless the member is a bit field.
+        """Returns the words with which a probe fetches this member
+        (Documentation/trace/kprobetrace.rst). The function's argument with the number `argument`
+        points to the structure. `plain_type` is the type, such as `s32`, of a member that isn't a
+        bit field.
         """
         if not self.width:
             return f"+{self.bit // 8}($arg{argument}):{plain_type}"
@@ -40,8 +40,8 @@ class Place:
 
 
 class KernelTypes:
-    """The types of a kernel, parsed from the bytes of /sys/kernel/btf/vmlinux. There are none if
-    the bytes aren't valid.
+    """The types of a kernel, parsed from the contents of /sys/kernel/btf/vmlinux. If the contents
+    aren't valid, there are no types.
     """
 
     def __init__(self, data: bytes) -> None:
@@ -54,9 +54,9 @@ class KernelTypes:
                 self.strings = header + strings
 
     def named(self, name: str, kind: int) -> Iterator[int]:
-        """Yields the possible positions of types with this name and kind. Each name occurs once
-        among the strings. Other bytes can look like a type, so the caller tries the positions until
-        one fits.
+        """Yields the positions at which a type with this name and kind may begin. Each name occurs
+        once among the strings. Other bytes can look like a type, so the caller must try each
+        position.
         """
         found = self.data.find(b"\0" + name.encode() + b"\0", self.strings)
         if self.strings == 0 or found < 0:
@@ -69,8 +69,8 @@ class KernelTypes:
             place = self.data.find(wanted, place + 1, self.types_end)
 
     def members(self, structure: str, wanted: tuple[str, ...]) -> dict[str, Place]:
-        """Returns the positions of the wanted members of a structure, or an empty dictionary if one
-        doesn't exist.
+        """Returns the positions of the wanted members of a structure, keyed by name. The result is
+        empty if the structure or a member doesn't exist.
         """
         for place in self.named(structure, STRUCTURE):
             info = TYPE.unpack_from(self.data, place)[1]
@@ -100,15 +100,17 @@ class KernelTypes:
         return "".join(known), Place(offset, 0)
 
     def parameters(self, function: str) -> int | None:
-        """Returns the number of the function's parameters; None if there is no such function."""
+        """Returns the number of parameters of a function. Returns None if the kernel has no such
+        function.
+        """
         for place in self.named(function, FUNCTION):
             number = TYPE.unpack_from(self.data, place)[2]
             return self.prototype_parameters(number)
         return None
 
     def prototype_parameters(self, number: int) -> int | None:
-        """Returns the number of parameters of the prototype with the type number `number` (types
-        are numbered from 1); None if there is no such type.
+        """Returns the number of parameters of the prototype with the type number `number`. Types
+        are numbered from 1. Returns None if there is no such type.
         """
         place = self.types
         for _ in range(number - 1):

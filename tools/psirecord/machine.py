@@ -1,5 +1,4 @@
-"""The machine that is recorded: the paths of its files, and the few changes that the recorder
-makes.
+"""The machine to record: the paths of its files, and the few changes that the recorder makes.
 
 The kernel's documentation describes each file: Documentation/trace/ftrace.rst (instances,
 trace_marker, trace_pipe_raw), Documentation/trace/kprobetrace.rst (kprobe_events),
@@ -15,14 +14,14 @@ from collections.abc import Iterator
 from dataclasses import dataclass
 
 SCHEDULER_STATISTICS = "sys/kernel/sched_schedstats"
-# The inode number of the first PID namespace (PROC_PID_INIT_INO). Events have the pids of that
+# The inode number of the initial PID namespace (PROC_PID_INIT_INO). Events contain the pids of that
 # namespace.
 FIRST_PROCESS_NAMESPACE = "pid:[4026531836]"
 
 
 def read_file(path: str) -> bytes:
-    """Returns the contents of a file. Empty if it can't be read, for example because its group was
-    removed.
+    """Returns the contents of a file. Returns no bytes if the file can't be read, for example
+    because its group was removed.
     """
     try:
         with open(path, "rb", buffering=0) as file:
@@ -44,7 +43,7 @@ def write_file(path: str, text: str, flags: int = 0) -> None:
 
 @dataclass(frozen=True)
 class Machine:
-    """The paths of the machine's files. The defaults are those of the real machine."""
+    """The paths of the machine's files. The defaults are the paths on a real machine."""
 
     tracing: str = "/sys/kernel/tracing"
     groups: str = "/sys/fs/cgroup"
@@ -52,13 +51,14 @@ class Machine:
     types: str = "/sys/kernel/btf/vmlinux"
 
     def processors(self) -> int:
-        """Returns the number of configured processors. Absent ones count, and have empty buffers.
+        """Returns the number of configured processors. This includes absent processors, whose
+        buffers are empty.
         """
         return os.sysconf("SC_NPROCESSORS_CONF")
 
     def missing(self) -> Iterator[str]:
-        """Yields the requirements of a recording that this machine doesn't meet. Changes
-        nothing.
+        """Yields a message for each requirement of a recording that this machine doesn't meet.
+        Doesn't change the machine.
         """
         if os.geteuid() != 0:
             yield "root: tracing a whole machine takes it"
@@ -91,11 +91,13 @@ class Machine:
             yield f"pressure: {self.proc}/pressure/cpu can't be read (psi=1 at boot)"
 
     def make_instance(self, name: str) -> None:
-        """Creates the folder of a tracing instance, in which the kernel creates the files."""
+        """Creates the folder of a tracing instance. The kernel then creates the files in this
+        folder.
+        """
         os.mkdir(f"{self.tracing}/instances/{name}")
 
     def remove_instance(self, name: str) -> None:
-        """Removes a tracing instance, which switches its events off. Raises EBUSY while one of its
+        """Removes a tracing instance. This switches its events off. Raises EBUSY while one of its
         files is open.
         """
         os.rmdir(f"{self.tracing}/instances/{name}")
@@ -111,10 +113,10 @@ class Machine:
         write_file(f"{self.tracing}/kprobe_events", f"-:{name}\n", os.O_APPEND)
 
     def open_trigger(self, resource: str, words: str, group: str = "") -> tuple[int, int]:
-        """Opens a trigger: a file that signals pressure of `group`, or of the machine if that is
-        empty, as long as it is open. Returns its descriptor, and the condition of poll(2) for the
-        signal. `words` are `some|full THRESHOLD WINDOW` in us
-        (Documentation/accounting/psi.rst).
+        """Opens a trigger: a file that signals pressure as long as it is open, for `group`, or for
+        the whole machine if `group` is empty. `words` are `some|full THRESHOLD WINDOW` in us
+        (Documentation/accounting/psi.rst). Returns the file's descriptor, and the poll(2) condition
+        for the signal.
         """
         path = (
             f"{self.groups}{group}/{resource}.pressure"

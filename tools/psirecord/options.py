@@ -1,4 +1,4 @@
-"""The command line of tools/record."""
+"""Parses the command line of tools/record."""
 from __future__ import annotations
 
 import argparse
@@ -14,10 +14,11 @@ from .recorder import FOREVER, Wanted
 from .status import SERVICE_FOLDER
 from .stored import MEGABYTE, Limits
 
-# The first argument that prints the state of a folder instead of recording. To record into a new
+# The argument that selects the command `record status` instead of a recording. To record into a new
 # folder of this name, one writes ./status.
 STATUS_WORD = "status"
-# The default limit (MB). The longest possible trace, of 4,000,000 events, needs about 220 MB.
+# The default size limit (MB) of a recording. The longest possible trace, of 4,000,000 events, needs
+# about 220 MB.
 MOST_MB = 400.0
 BUFFER_KB = 8192
 TRIGGER = re.compile(rf"({'|'.join(RESOURCES)}) (some|full) ([1-9]\d*) ([1-9]\d*)")
@@ -61,7 +62,7 @@ disk is full
 
 
 class Status(enum.IntEnum):
-    """The exit status, as in docs/OPERATING.md."""
+    """The exit statuses, as in docs/OPERATING.md."""
 
     RECORDED = 0
     FAILED = 2
@@ -70,10 +71,10 @@ class Status(enum.IntEnum):
 
 
 class Words(argparse.ArgumentParser):
-    """A parser that exits with this tool's own status on a usage error."""
+    """A parser that exits with this tool's own exit status after a usage error."""
 
     def error(self, message: str) -> NoReturn:
-        """Prints the error."""
+        """Prints the error `message`, and exits."""
         usage = f"usage: {self.prog} OUT [OPTION ..]; {self.prog} --help has the options"
         self.exit(Status.FAILED, f"record: {message}\n{usage}\n")
 
@@ -116,7 +117,7 @@ def trigger(word: str) -> str:
 
 
 def group_path(word: str) -> str:
-    """Parses the path of a control group from the root, with or without its first slash."""
+    """Parses the path of a control group, relative to the root. The leading slash is optional."""
     parts = [it for it in word.split("/") if it]
     if not parts or {".", ".."} & set(parts):
         raise argparse.ArgumentTypeError(
@@ -126,7 +127,7 @@ def group_path(word: str) -> str:
 
 
 def hook(word: str) -> str:
-    """Checks that root may run this program, and returns its path."""
+    """Checks that root may run the program at this path, and returns the path."""
     fault = why_not(word)
     if fault:
         raise argparse.ArgumentTypeError(f"{word}: {fault}")
@@ -135,9 +136,8 @@ def hook(word: str) -> str:
 
 @dataclass(frozen=True)
 class Service:
-    """The options that don't concern a single recording: the limit of recordings per day, the
-    limits of stored recordings, the program to run afterwards, and the file for metrics. None if
-    the operator didn't give one.
+    """The options that don't concern a single recording: the daily limit, the limits of stored
+    recordings, the hook to run afterwards, and the file for metrics. An absent option is None.
     """
 
     daily_limit: int | None
@@ -147,7 +147,7 @@ class Service:
 
 
 def service_of(arguments: argparse.Namespace) -> Service:
-    """Returns the options of the command line that aren't about the recording itself."""
+    """Returns the options of the command line that don't concern a single recording."""
     most = None if arguments.keep_mb is None else int(arguments.keep_mb * MEGABYTE)
     return Service(arguments.daily_limit, Limits(arguments.keep, most), arguments.hook,
                    arguments.textfile)
@@ -196,7 +196,7 @@ def parser() -> argparse.ArgumentParser:
 
 
 def add_ring(words: argparse.ArgumentParser) -> None:
-    """Adds the options of a flight recorder, and of a service that records again and again."""
+    """Adds the options for a flight recorder, and for a service that records again and again."""
     add = words.add_argument
     add("--ring", action="store_true", help="a flight recorder")
     add("--until", type=trigger, metavar="TRIGGER",
@@ -218,7 +218,9 @@ def add_ring(words: argparse.ArgumentParser) -> None:
 
 
 def wanted_of(arguments: argparse.Namespace, words: argparse.ArgumentParser) -> Wanted:
-    """Returns the request for a recording, after checking that the options fit together."""
+    """Returns the parsed request for a recording. Exits with a usage error if options exclude each
+    other.
+    """
     if arguments.until and not arguments.ring:
         words.error("--until is for a flight recorder: --ring")
     if arguments.wakeups and arguments.no_probes:

@@ -1,12 +1,12 @@
-"""A folder of plain files in place of the machine, for tests. The class does here what the kernel
-does when somebody writes to the real files.
+"""Imitates a machine by a folder DIR of plain files, for tests. PlainMachine does what the kernel
+does when a program writes to the real files.
 
-    DIR/tracing    a folder with the files of an instance, `instances` and, if probes are available,
-                   `kprobe_events`
-    DIR/cgroup     the root of the control groups
-    DIR/proc       processes, `meminfo`, `pressure` and `sys/kernel/sched_schedstats`
-    DIR/btf        the kernel's types, in the format of /sys/kernel/btf/vmlinux
-    DIR/trigger    a FIFO: writing to it is a signal of pressure
+    DIR/tracing    contains the files of an instance, the folder `instances` and, if probes are
+                   available, `kprobe_events`
+    DIR/cgroup     is the root of the control groups
+    DIR/proc       contains processes, `meminfo`, `pressure` and `sys/kernel/sched_schedstats`
+    DIR/btf        contains the kernel's types, in the format of /sys/kernel/btf/vmlinux
+    DIR/trigger    is a FIFO. A write to it signals pressure
 """
 from __future__ import annotations
 
@@ -22,7 +22,7 @@ from .machine import Machine, read_file
 
 
 def plain_machine(folder: str) -> PlainMachine:
-    """Returns the machine that `folder` replaces."""
+    """Returns the machine that the plain files in `folder` imitate."""
     top = os.path.abspath(folder)
     return PlainMachine(
         tracing=f"{top}/tracing", groups=f"{top}/cgroup", proc=f"{top}/proc", types=f"{top}/btf"
@@ -30,12 +30,12 @@ def plain_machine(folder: str) -> PlainMachine:
 
 
 def busy(path: str) -> OSError:
-    """Returns the error (EBUSY) that the kernel raises while something is in use."""
+    """Returns the error (EBUSY) that the kernel raises for a file that is in use."""
     return OSError(errno.EBUSY, os.strerror(errno.EBUSY), path)
 
 
 def open_files() -> Iterator[str]:
-    """Yields the paths of the files that this process has open."""
+    """Yields the paths of all files that this process has open."""
     for number in os.listdir("/proc/self/fd"):
         try:
             yield os.readlink(f"/proc/self/fd/{number}")
@@ -45,10 +45,10 @@ def open_files() -> Iterator[str]:
 
 @dataclass(frozen=True)
 class PlainMachine(Machine):
-    """A folder of plain files in place of the real machine."""
+    """A machine that a folder of plain files imitates."""
 
     def processors(self) -> int:
-        """Returns the number of processors that have buffers."""
+        """Returns the number of processors that have a folder of buffers."""
         return sum(
             bool(re.fullmatch(r"cpu\d+", it)) for it in os.listdir(f"{self.tracing}/per_cpu")
         )
@@ -58,7 +58,7 @@ class PlainMachine(Machine):
         return self.missing_files()
 
     def instance(self, name: str) -> str:
-        """Returns the folder of an instance."""
+        """Returns the folder of the tracing instance `name`."""
         return f"{self.tracing}/instances/{name}"
 
     def make_instance(self, name: str) -> None:
@@ -74,7 +74,7 @@ class PlainMachine(Machine):
                 shutil.copy(source, copy, follow_symlinks=False)
 
     def remove_instance(self, name: str) -> None:
-        """Removes an instance; like the kernel, only if none of its files is open."""
+        """Removes an instance. Like the kernel, raises EBUSY if one of its files is open."""
         folder = self.instance(name)
         if any(it.startswith(f"{folder}/") for it in open_files()):
             raise busy(folder)
@@ -94,7 +94,7 @@ class PlainMachine(Machine):
                 made.write(text)
 
     def remove_probe(self, name: str) -> None:
-        """Removes a probe; like the kernel, only if its event is off in all instances."""
+        """Removes a probe. Like the kernel, raises EBUSY if its event is on in some instance."""
         instances = [self.instance(it) for it in os.listdir(f"{self.tracing}/instances")]
         if any(
             read_file(f"{it}/events/{name}/enable").startswith(b"1")
@@ -110,8 +110,8 @@ class PlainMachine(Machine):
             os.rmdir(os.path.dirname(f"{self.tracing}/events/{name}"))
 
     def open_trigger(self, resource: str, words: str, group: str = "") -> tuple[int, int]:
-        """Opens the FIFO `trigger`, which signals pressure when somebody writes to it. The machine
-        and all groups share this FIFO.
+        """Opens the FIFO `trigger`. A write to this FIFO signals pressure of the machine and of all
+        groups.
         """
         return (
             os.open(f"{os.path.dirname(self.tracing)}/trigger", os.O_RDWR | os.O_NONBLOCK),

@@ -1,9 +1,11 @@
-"""The events and probes from which a trace is made, and the alternatives if one isn't available.
+"""Selects the events and probes from which a trace is made, with alternatives for those that aren't
+available.
 
-A task waits for IO if it sleeps while the kernel has set its bit `in_iowait`. Tasks sleep in state
-D without that bit too: on a journaling file system these are a third to a half of all sleeps in
-state D. Three sources show the waits, the best first: a probe on `psi_task_switch` that reads the
-bit; the event `sched_stat_iowait`, which requires the sysctl kernel.sched_schedstats; and state D.
+A task waits for IO if it sleeps while its bit `in_iowait` is set. Tasks also sleep in state D
+without that bit. On a journaling file system these are a third to a half of all sleeps in state D.
+Three sources show the waits for IO. The best is a probe on `psi_task_switch` that reads the bit.
+The second is the event `sched_stat_iowait`, which requires the sysctl kernel.sched_schedstats. The
+last is state D.
 """
 from __future__ import annotations
 
@@ -18,7 +20,8 @@ from .kernel_types import KernelTypes
 from .machine import SCHEDULER_STATISTICS, Machine, read_file, write_file
 from .undoing import Undoing
 
-# Each event, and what a recording lacks without it. Recording is impossible without NEEDED.
+# For each event, what a recording lacks without it. Without the events NEEDED, recording is
+# impossible.
 NEEDED = ("sched/sched_switch", "sched/sched_wakeup")
 EVENTS = {
     "sched/sched_switch": "nothing can be said",
@@ -39,7 +42,7 @@ NO_STALLS = "memory stalls aren't recorded, so memory pressure will be 0"
 NO_WAKEUPS = (
     "no probe of wakeups: when psi counts them isn't recorded, only when their events are written"
 )
-# What a recording lacks without a probe.
+# For each probe, what a recording lacks without it.
 PROBES: dict[str, str] = {
     Probe.STALL_BEGINS: NO_STALLS,
     Probe.STALL_ENDS: NO_STALLS,
@@ -56,21 +59,21 @@ STATE_ALONE = (
 
 
 def without(event: str) -> str:
-    """Returns what a recording lacks without `event`, which may be the event of a probe."""
+    """Returns what a recording lacks without `event`, which may also be the event of a probe."""
     probe = PROBES.get(event.rpartition("/")[2], "nothing is known of what it tells")
     return EVENTS.get(event, probe)
 
 
-# Writes a key of `meta` and its value.
+# A function that writes a key and its value to `meta`.
 Say = Callable[[str, str], None]
-# Prints a line for the operator.
+# A function that prints a line for the operator.
 Tell = Callable[[str], None]
 
 
 @dataclass
 class Sources:
-    """What is recorded: the events as SYSTEM/EVENT, the filters of some of them by event, and the
-    source of waits for IO.
+    """The sources of a recording: the events as SYSTEM/EVENT, the filters of some events, and the
+    method that shows waits for IO.
     """
 
     events: list[str] = field(default_factory=list)
@@ -80,8 +83,8 @@ class Sources:
 
 @dataclass(frozen=True)
 class Plan:
-    """A probe to add: the name of its event, the kernel's function, the values to fetch, and the
-    filter of its events.
+    """A probe to add: the name of its event, the probed kernel function, the values to fetch, and
+    the filter of its events.
     """
 
     name: str
@@ -90,13 +93,14 @@ class Plan:
     wanted: str = ""
 
     def definition(self, group: str) -> str:
-        """Returns the definition for `kprobe_events`, in the probe group `group`."""
+        """Returns the probe's definition for the file `kprobe_events`, in the probe group `group`.
+        """
         return f"p:{group}/{self.name} {self.function} {self.fetched}".rstrip()
 
 
 def stall_plans() -> list[Plan]:
     """Returns the probes on the functions with which a task enters and leaves a memory stall. Both
-    run in the task itself. FLAGS is 0 when the task leaves the outermost of nested stalls.
+    functions run in the task itself. FLAGS is 0 if the task leaves the outermost of nested stalls.
     """
     return [
         Plan(Probe.STALL_BEGINS, "psi_memstall_enter"),
@@ -106,8 +110,8 @@ def stall_plans() -> list[Plan]:
 
 def switch_plan(types: KernelTypes) -> Plan | None:
     """Returns the probe on psi_task_switch(prev, next, sleep), which runs right before the event of
-    the context switch. Without the probe's filter a third of all events would be its events. None
-    if the kernel's types don't have the two members of `task_struct`.
+    the context switch. Without the probe's filter, a third of all recorded events would come from
+    this probe. Returns None if the kernel's types lack one of the two members of `task_struct`.
     """
     places = types.members("task_struct", ("pid", "in_iowait"))
     if not places:
@@ -120,8 +124,9 @@ def switch_plan(types: KernelTypes) -> Plan | None:
 
 
 def interrupt_plan(machine: Machine, types: KernelTypes) -> Plan | None:
-    """Returns the probe on psi_account_irqtime(task, delta); None if the kernel doesn't account
-    interrupts. Since Linux 6.10 the parameters differ, and none of them is the time.
+    """Returns the probe on psi_account_irqtime(task, delta). Returns None if the kernel doesn't
+    account interrupts. Since Linux 6.10 the function has other parameters, and none of them is the
+    time.
     """
     pressure = read_file(f"{machine.proc}/pressure/irq")
     if not pressure or types.parameters("psi_account_irqtime") != 2:
@@ -130,7 +135,7 @@ def interrupt_plan(machine: Machine, types: KernelTypes) -> Plan | None:
 
 
 def attach_plan(types: KernelTypes) -> Plan | None:
-    """Returns the probe on cgroup_attach_task(group, task, whole); None if that isn't available.
+    """Returns the probe on cgroup_attach_task(group, task, whole), or None if it isn't available.
     The kernel's own event doesn't show whether a task moves alone or with its whole process.
     """
     places = types.members("task_struct", ("pid",))
@@ -142,8 +147,9 @@ def attach_plan(types: KernelTypes) -> Plan | None:
 
 def sample_plans(types: KernelTypes) -> list[Plan]:
     """Returns the probes on psi_show(file, group, resource) and psi_avgs_work(work), in which the
-    kernel samples a group's stall times. They cause a few events per second. Returns no probe
-    unless both functions are available, since one alone shows only some of the sampling times.
+    kernel samples a group's stall times. They cause a few events per second. The list is empty
+    unless both functions are available, since one function alone shows only some of the sampling
+    times.
     """
     if types.parameters("psi_show") != 3 or types.parameters("psi_avgs_work") != 1:
         return []
@@ -155,7 +161,7 @@ def sample_plans(types: KernelTypes) -> list[Plan]:
 
 
 def ready_plan(types: KernelTypes) -> Plan | None:
-    """Returns the probe on psi_task_change(task, clear, set); None if that isn't available. It
+    """Returns the probe on psi_task_change(task, clear, set), or None if it isn't available. It
     causes an event for each wakeup, and for each task that moves to another processor or group.
     """
     places = types.members("task_struct", ("pid",))
@@ -168,8 +174,8 @@ def ready_plan(types: KernelTypes) -> Plan | None:
 def add_probes(
     machine: Machine, group: str, undoing: Undoing, say: Say, has_wakeups: bool
 ) -> Sources:
-    """Adds the available probes, and returns the events to record. Probes of wakeups are added only
-    if `has_wakeups`. Reports why a probe isn't available.
+    """Adds the available probes, and returns the events to record. The probe of wakeups is added
+    only if `has_wakeups`. Reports each probe that isn't available, and why.
     """
     types = KernelTypes(read_file(machine.types))
     switch, attach, samples = switch_plan(types), attach_plan(types), sample_plans(types)
@@ -207,12 +213,14 @@ def add_probes(
 
 
 def probe_remover(machine: Machine, name: str) -> Callable[[], None]:
-    """Returns the undo step that removes the probe `name`."""
+    """Returns a function that removes the probe `name`, as an undo step."""
     return lambda: machine.remove_probe(name)
 
 
 class Statistics(enum.Enum):
-    """The state of the scheduler statistics that the event `sched_stat_iowait` requires."""
+    """The state of the kernel's scheduler statistics, which the event `sched_stat_iowait` requires.
+    ABSENT means that the kernel has no such sysctl.
+    """
 
     ON = "on"
     OFF = "off"
@@ -220,7 +228,9 @@ class Statistics(enum.Enum):
 
 
 def statistics_of(machine: Machine) -> Statistics:
-    """Returns the state of the scheduler statistics, from the sysctl kernel.sched_schedstats."""
+    """Returns the state of the scheduler statistics, as the sysctl kernel.sched_schedstats shows
+    it.
+    """
     if not os.path.exists(f"{machine.proc}/{SCHEDULER_STATISTICS}"):
         return Statistics.ABSENT
     is_on = read_file(f"{machine.proc}/{SCHEDULER_STATISTICS}").strip() == b"1"

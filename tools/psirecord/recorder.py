@@ -1,8 +1,8 @@
 """Runs one recording: its periodic jobs until it ends, and then the last writes.
 
-A plain recording reads the ring buffers empty at least four times a second. A flight recorder lets
-the kernel overwrite the oldest events, waits for pressure, and writes the buffers after the
-incident, so the size of the buffers determines how much of the past a recording contains.
+A plain recording empties the ring buffers at least four times a second. A flight recorder lets the
+kernel overwrite the oldest events, waits for pressure, and writes the buffers to the disk after the
+incident. So the size of the buffers determines how much of the past its recording contains.
 """
 from __future__ import annotations
 
@@ -23,15 +23,15 @@ from .trigger import Trigger
 from .waiting import Job, Signals, Waiting
 
 DRAIN_SECONDS = 0.25
-# The largest share of the busiest buffer that may fill between two reads. At 600,000 switches/s a
+# The largest part of the busiest buffer that should fill between two reads. At 600,000 switches/s a
 # buffer of 8 MB is full after 0.1 s.
 MOST_FULL = 0.25
 LEAST_DRAIN_SECONDS = 0.01
 SNAPSHOT_SECONDS = 60.0
-# The time (s) between two checks of whether the trigger's group was removed or created again.
+# The time (s) between two checks whether the trigger's group was removed or created again.
 GROUP_SECONDS = 1.0
-# A recording ends this time (s) late, since the last reading of the pressure files is due exactly
-# at the end.
+# The recording continues for this time (s) after the requested time. The last reading of the
+# pressure files is due when the requested time ends, and would otherwise be missing.
 LAST_READING_SECONDS = 0.02
 FOREVER = float("inf")
 MEGABYTE = 10**6
@@ -39,10 +39,11 @@ MEGABYTE = 10**6
 
 @dataclass(frozen=True)
 class Wanted:
-    """The operator's options. Times are in s, and sizes in the unit at the end of the name.
-    `is_ring` requests a flight recorder. `until` is its trigger, `RESOURCE some|full THRESHOLD
-    WINDOW`, or empty. `has_settings` requests the settings of systemd-oomd, and `has_containers`
-    the names of containers. `group` is the path of the trigger's group, or empty.
+    """A request for a recording, from the operator's options. Times are in s, and sizes in the unit
+    at the end of the name. `is_ring` requests a flight recorder. `until` is its trigger, `RESOURCE
+    some|full THRESHOLD WINDOW`, or empty. `group` is the path of the trigger's group, or empty.
+    `has_settings` requests the settings of systemd-oomd, and `has_containers` the names of
+    containers.
     """
 
     seconds: float
@@ -62,8 +63,9 @@ class Wanted:
 
 @dataclass
 class Ending:
-    """How a recording ended: the reason (`layout.Reason`), the number of lost events of each
-    processor that lost any, and the length in s. `is_whole` is False if anything else is missing.
+    """The end of a recording: its reason (`layout.Reason`), the number of lost events of each
+    processor that lost any, and the recording's length in s. `is_whole` is False if anything else
+    is missing.
     """
 
     reason: str
@@ -101,8 +103,8 @@ class Recorder:
         self.draining = Job(self.drain, 0.0, DRAIN_SECONDS)
 
     def record(self) -> Ending:
-        """Runs the recording that `begin` started until it ends. After an error, everything
-        recorded until then is still written.
+        """Runs the recording that `begin` started, until it ends. After an error, the recorder
+        still writes everything that was recorded before the error.
         """
         try:
             reason = self.run()
@@ -170,13 +172,15 @@ class Recorder:
         return Reason.SIGNAL
 
     def watch(self, condition: int) -> None:
-        """Waits for `condition` of the trigger's open file."""
+        """Adds the trigger's open file to the files that `waiting` polls. `condition` is the
+        poll(2) condition for the trigger's signal.
+        """
         assert self.trigger
         self.waiting.watch(self.trigger.file, condition)
 
     def is_signal(self) -> bool:
-        """Returns whether pressure was signalled. The file of a removed group becomes ready too,
-        which isn't a signal.
+        """Returns whether pressure was signalled. poll(2) also reports the file of a removed group
+        as ready, but that isn't a signal.
         """
         if self.trigger and self.trigger.is_current():
             return True
@@ -184,7 +188,7 @@ class Recorder:
         return False
 
     def follow_group(self) -> None:
-        """Opens the trigger again if its group was removed and created again, which happens to the
+        """Opens the trigger again if its group was removed and created again. This happens to the
         group of a service at a restart.
         """
         trigger = self.trigger
@@ -204,7 +208,7 @@ class Recorder:
                 self.tell(f"the trigger watches the group {trigger.group} now")
 
     def fire(self, jobs: list[Job]) -> None:
-        """Handles the trigger's signal: the recording ends `after_seconds` later. No further
+        """Responds to the trigger's signal: the recording ends `after_seconds` later. No further
         snapshots are taken, since they would replace the snapshots from before the signal.
         """
         self.waiting.unwatch()
@@ -214,11 +218,11 @@ class Recorder:
         self.folder.say(Key.FIRED, f"{self.fired:.3f}")
         jobs[:] = [it for it in jobs if it.run not in (self.take_snapshot, self.follow_group)]
 
-    # ---------------------------------------------------------------- jobs
+    # ---------------------------------------------------------------- periodic jobs
 
     def read_pressure(self) -> None:
-        """Reads the pressure files. A flight recorder stores its readings in memory, since most
-        readings are older than the events in its buffers when it ends.
+        """Reads the pressure files. A flight recorder stores its readings in memory, since at its
+        end most readings are older than the events in its buffers.
         """
         reading = read_pressure(
             self.machine, self.instance.mark, self.reading_count, time.monotonic()
@@ -231,9 +235,9 @@ class Recorder:
 
     def take_snapshot(self) -> None:
         """Takes a snapshot of all groups and tasks. The snapshot and the events after it show the
-        group of each task at any time. A flight recorder stores the last two snapshots, so that
-        at least one is younger than the oldest event if its buffers are large enough. Readings of
-        the pressure files older than both snapshots are dropped.
+        group of each task at any time. A flight recorder stores the last two snapshots, so that at
+        least one is younger than the oldest event if its buffers are large enough. It drops
+        readings of the pressure files that are older than both snapshots by more than one period.
         """
         self.instance.note_mark(layout.SNAPSHOT_BEGINS)
         self.snapshots.append(take_snapshot(self.machine, time.monotonic_ns()))
@@ -248,8 +252,8 @@ class Recorder:
             self.readings.popleft()
 
     def drain(self) -> None:
-        """Reads the buffers, and adapts the time until the next read to the busiest processor. At
-        most one buffer size is read per processor, since a busy processor may fill its buffer as
+        """Reads the buffers, and adapts the time until the next read to the busiest processor.
+        Reads at most one buffer size per processor, since a busy processor may fill its buffer as
         fast as the recorder reads it.
         """
         size, before = self.wanted.buffer_kb * 1024, self.drained
@@ -259,8 +263,8 @@ class Recorder:
         self.draining.period = min(DRAIN_SECONDS, max(LEAST_DRAIN_SECONDS, period))
 
     def take_pages(self, most_bytes: float) -> int:
-        """Reads at most about `most_bytes` of each processor's buffer, and appends them to the
-        recording. Returns the largest number of bytes that was read from one buffer.
+        """Reads at most about `most_bytes` from each processor's buffer, and appends them to the
+        recording. Returns the largest number of bytes that came from one buffer.
         """
         busiest = 0
         for processor in self.instance.buffers:
@@ -270,11 +274,11 @@ class Recorder:
             busiest = max(busiest, self.folder.bytes - before)
         return busiest
 
-    # ---------------------------------------------------------------- the end
+    # ---------------------------------------------------------------- the end of a recording
 
     def finish(self, reason: str) -> Ending:
-        """Switches tracing off, and writes the remaining events and the numbers of lost events.
-        Returns how the recording ended.
+        """Switches tracing off. Writes the remaining events and the numbers of lost events. Returns
+        how the recording ended.
         """
         with contextlib.suppress(OSError):
             if self.wanted.is_ring and not self.has_snapshot_inside():
@@ -301,13 +305,15 @@ class Recorder:
         return Ending(reason, lost, seconds, is_whole)
 
     def has_snapshot_inside(self) -> bool:
-        """Returns whether the buffers contain all events since the last snapshot. There is no
-        snapshot if the first marker couldn't be written.
+        """Returns whether the buffers contain all events since the last snapshot. Returns False
+        without a snapshot, which happens if the first marker couldn't be written.
         """
         return bool(self.snapshots) and self.snapshots[-1].time_ns >= self.buffers_begin() * 1e9
 
     def buffers_begin(self) -> float:
-        """Returns the time (s) since which the buffers contain all events of all processors."""
+        """Returns the earliest time (s) since which the buffers of all processors contain all
+        events.
+        """
         return max(
             [
                 self.start,
@@ -348,8 +354,8 @@ class Recorder:
         return {processor: count for processor, count in lost.items() if count}
 
     def write_cost(self, seconds: float) -> None:
-        """Writes the length of the recording, and the processor time and bytes that the recorder
-        used.
+        """Writes the length of the recording, and the processor time and the bytes that the
+        recorder used.
         """
         usage = resource.getrusage(resource.RUSAGE_SELF)
         user, system = usage.ru_utime - self.usage.ru_utime, usage.ru_stime - self.usage.ru_stime

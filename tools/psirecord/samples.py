@@ -1,9 +1,9 @@
-"""Reads groups, tasks, memory and pressure from /proc and the control groups, since the events
-don't show them.
+"""Reads groups, tasks, memory and pressure from /proc and the control groups, since no event
+contains their values.
 
-The recorder reads them while events are recorded, and writes markers among the events that show
-when. Changes between two snapshots are known from the events. A group or a task that disappears
-before it is read is skipped.
+The recorder reads them while events are recorded, and writes markers among the events that show the
+time of each read. The events show the changes between two snapshots. A group or a task that
+disappears before it is read is skipped.
 """
 from __future__ import annotations
 
@@ -16,8 +16,8 @@ from psirec import layout
 from .machine import Machine, read_file
 
 KIB = 1024
-# Attributes of a group's folder with which its owner asks oomd or systemd-oomd to kill the group
-# first, last or never.
+# Attributes of a group's folder, by which the group's owner asks oomd or systemd-oomd to kill the
+# group first, last or never.
 PREFERENCES = {
     "user.oomd_prefer": "prefer",
     "trusted.oomd_prefer": "prefer",
@@ -32,7 +32,7 @@ Mark = Callable[[str], bool]
 @dataclass(frozen=True)
 class Group:
     """A control group: its folder, its path as written in a recording, and the folder's inode
-    number, which changes if a group is removed and created again.
+    number. The inode number changes if the group is removed and created again.
     """
 
     folder: str
@@ -40,8 +40,8 @@ class Group:
     number: int
 
     def is_root(self) -> bool:
-        """Returns whether this is the root group. It has no memory files, and its pressure files
-        are in /proc.
+        """Returns whether this is the root group. The root has no memory files, and its pressure
+        files are in /proc.
         """
         return self.path == "/"
 
@@ -62,7 +62,7 @@ def groups(machine: Machine) -> Iterator[Group]:
         pending.extend(reversed(children))
 
 
-# ---------------------------------------------------------------- memory
+# ---------------------------------------------------------------- memory samples
 
 
 def memory_information(machine: Machine) -> dict[str, int]:
@@ -75,8 +75,8 @@ def memory_information(machine: Machine) -> dict[str, int]:
 
 
 def scanned_pages(group: Group) -> int:
-    """Returns `pgscan` of `memory.stat`, the number of scanned pages; 0 if there is no such
-    line.
+    """Returns the number of scanned pages, `pgscan` in the text of `memory.stat`. Returns 0 if
+    there is no such line.
     """
     for line in read_file(f"{group.folder}/memory.stat").splitlines():
         if line.startswith(b"pgscan "):
@@ -85,14 +85,17 @@ def scanned_pages(group: Group) -> int:
 
 
 def number_in(path: str) -> int | None:
-    """Returns the number in a file; None if the file can't be read or has no number."""
+    """Returns the number in a file. Returns None if the file can't be read, or if it contains no
+    number.
+    """
     words = read_file(path).split()
     return int(words[0]) if words and words[0].isdigit() else None
 
 
 def is_accounted(group: Group) -> bool | None:
-    """Returns whether the group's pressure is accounted, according to `cgroup.pressure`. None if
-    there is no such file: the root may have none, and before Linux 6.1 no group has one.
+    """Returns whether the group's pressure is accounted, according to the file `cgroup.pressure`.
+    Returns None if there is no such file: the root may have none, and before Linux 6.1 no group has
+    one.
     """
     number = number_in(f"{group.folder}/cgroup.pressure")
     return None if number is None else number != 0
@@ -100,10 +103,10 @@ def is_accounted(group: Group) -> bool | None:
 
 @dataclass
 class MemorySampler:
-    """Writes the memory of the machine and of each group as markers among the events. Writes
-    changes of `cgroup.pressure` too, since no event shows them. `unaccounted` has the groups whose
-    pressure wasn't accounted at the last check, and `too_long` counts the markers that were too
-    long to be written.
+    """Writes the memory of the machine and of each group as markers among the events. Also writes a
+    marker for each change of `cgroup.pressure`, since no event shows these changes. `unaccounted`
+    contains the groups whose pressure wasn't accounted at the last check. `too_long` counts the
+    markers that were too long to be written.
     """
 
     machine: Machine
@@ -112,8 +115,8 @@ class MemorySampler:
     too_long: int = 0
 
     def sample(self) -> None:
-        """Samples all groups once. The root has no memory files, so its memory use is the
-        machine's total minus available memory: rules for the root need a value.
+        """Samples all groups once. The root has no memory files, so its memory use is the machine's
+        total memory minus its available memory. Rules for the root need this value.
         """
         known = memory_information(self.machine)
         total, swap_total, swap_free = (
@@ -133,16 +136,18 @@ class MemorySampler:
         self.unaccounted = unaccounted
 
     def sample_memory(self, group: Group) -> None:
-        """Writes a memory sample of a group, unless the group has no memory files, as the root."""
+        """Writes a memory sample of a group. Has no effect if the group, like the root, has no
+        memory files.
+        """
         current = number_in(f"{group.folder}/memory.current")
         if current is not None:
             swap = number_in(f"{group.folder}/memory.swap.current") or 0
             self.write(layout.memory_marker(group.path, current, swap, scanned_pages(group)))
 
     def sample_accounting(self, group: Group) -> bool | None:
-        """Returns whether the group's pressure is accounted, and writes a marker if that changed
-        since the last check. A new group counts as accounted before its first check, even if an
-        unaccounted group had the same path before.
+        """Returns whether the group's pressure is accounted. Writes a marker if that changed since
+        the last check. A new group counts as accounted before its first check, even if an earlier
+        group with the same path wasn't accounted.
         """
         is_on = is_accounted(group)
         if is_on is not None and is_on == (group in self.unaccounted):
@@ -150,7 +155,7 @@ class MemorySampler:
         return is_on
 
     def write(self, marker: str) -> None:
-        """Writes a marker. A marker that is too long is counted instead; its path is too long for
+        """Writes a marker. If the marker is too long, it is only counted: its path is too long for
         a trace, too.
         """
         if not self.mark(marker):
@@ -162,8 +167,8 @@ class MemorySampler:
 
 @dataclass(frozen=True)
 class Reading:
-    """The contents of the pressure files of all groups, read between two markers. `time_s` is
-    CLOCK_MONOTONIC in s.
+    """A reading: the contents of the pressure files of all groups, which were read between two
+    markers. `time_s` is CLOCK_MONOTONIC in s.
     """
 
     time_s: float
@@ -171,8 +176,8 @@ class Reading:
 
 
 def read_pressure(machine: Machine, mark: Mark, number: int, time_s: float) -> Reading:
-    """Reads the pressure files of all groups, between two markers with the reading's `number`.
-    The kernel updates a group's totals at each read, so they depend on how often this is done.
+    """Reads the pressure files of all groups, between two markers that contain `number`. The kernel
+    updates a group's totals at each read, so the totals depend on how often they are read.
     """
     mark(layout.pressure_marker(number, is_end=False))
     parts = []
@@ -196,8 +201,8 @@ def read_pressure(machine: Machine, mark: Mark, number: int, time_s: float) -> R
 
 @dataclass(frozen=True)
 class Snapshot:
-    """The groups and tasks at one time, as lines. `time_ns` is CLOCK_MONOTONIC in ns, taken before
-    the first group is read.
+    """The groups and tasks at one time, as lines of text. `time_ns` is CLOCK_MONOTONIC in ns, taken
+    before the first group is read.
     """
 
     time_ns: int
@@ -212,8 +217,8 @@ class Snapshot:
 
 
 def preference(group: Group) -> str:
-    """Returns the preference that the group's owner set by the attributes PREFERENCES, of which the
-    first that exists counts; `none` if there is no such attribute.
+    """Returns the preference that the group's owner set by one of the attributes PREFERENCES. The
+    first attribute that exists counts. Returns `none` without such an attribute.
     """
     for attribute, word in PREFERENCES.items():
         try:
@@ -225,10 +230,12 @@ def preference(group: Group) -> str:
 
 
 def task_line(machine: Machine, number: bytes, group: Group) -> str | None:
-    """Returns the line of a thread of `group`, from /proc/TID; None if the thread has ended. A
-    thread's name may contain blanks and brackets, so the fields of `stat` are counted from the last
-    bracket: the state is the first word after it, the processor the 37th (fields 3 and 39 in
-    proc(5)).
+    """Returns the line of a thread of `group`, from /proc/TID. Returns None if the thread has
+    ended.
+
+    A thread's name may contain blanks and brackets, so the fields of `stat` are counted from the
+    last bracket. The state is the first word after it, and the processor the 37th (fields 3 and 39
+    in proc(5)).
     """
     folder = f"{machine.proc}/{number.decode()}"
     text = read_file(f"{folder}/stat")
@@ -248,7 +255,7 @@ def task_line(machine: Machine, number: bytes, group: Group) -> str | None:
 
 
 def take_snapshot(machine: Machine, time_ns: int) -> Snapshot:
-    """Reads all groups and their threads. `time_ns` is the time (ns) now."""
+    """Reads all groups and their threads. `time_ns` is the current time (CLOCK_MONOTONIC, ns)."""
     lines, unaccounted = [], set()
     for group in groups(machine):
         lines.append(layout.group_line(group.path, preference(group)))

@@ -1,5 +1,5 @@
-"""Describes the recordings in a folder, as lines for people or as metrics for node_exporter's
-textfile collector.
+"""Describes the recordings in a folder, as text lines or as metrics for node_exporter's textfile
+collector.
 """
 from __future__ import annotations
 
@@ -41,13 +41,15 @@ def is_incomplete(it: Stored) -> bool:
 
 
 def free_bytes(folder: str) -> int:
-    """Returns the disk space (bytes) that an ordinary user can still use."""
+    """Returns the disk space (bytes) that is available to an ordinary user."""
     found = os.statvfs(folder)
     return found.f_bavail * found.f_frsize
 
 
 def waits_for(it: Stored) -> str:
-    """Returns what the recorder of a recording in progress waits for, in words."""
+    """Returns a text that says for which trigger the recorder of an unfinished recording waits. If
+    there is no trigger, the text says what kind of recording it is.
+    """
     ring, group = it.meta.all(Key.RING), it.meta.all(Key.RING_GROUP)
     if not ring or ring[0] == "none":
         return "until it is stopped" if ring else "an ordinary recording"
@@ -55,19 +57,19 @@ def waits_for(it: Stored) -> str:
 
 
 def began(it: Stored) -> str:
-    """Returns the time of day at which a recording began, by the recording's own clocks."""
+    """Returns the time of day at which a recording began, according to the clocks in its `meta`."""
     words = (it.meta.one(Key.MOMENT) or "").split()
     return clock(float(words[1])) if len(words) > 1 else "an unknown time"
 
 
 def row(it: Stored) -> str:
-    """Returns the line of a finished recording."""
+    """Returns the text line that describes a finished recording."""
     lost = f", {it.lost()} events lost" if it.lost() else ""
     return f"{it.name}  {clock(it.ended)}  {it.bytes / MEGABYTE:8.1f} MB  {it.reason()}{lost}"
 
 
 def lines(folder: str) -> Iterator[str]:
-    """Yields the lines that describe a folder of recordings, for people."""
+    """Yields text lines that describe a folder of recordings."""
     found = recordings(folder)
     finished = [it for it in found if not it.is_written]
     total = sum(it.bytes for it in finished) / MEGABYTE
@@ -82,7 +84,7 @@ def lines(folder: str) -> Iterator[str]:
 
 
 def escaped(text: str) -> str:
-    """Escapes a label's value for the text format of Prometheus."""
+    """Escapes the value of a label for the text format of Prometheus."""
     return text.replace("\\", r"\\").replace('"', r"\"").replace("\n", r"\n")
 
 
@@ -109,7 +111,7 @@ def metrics(folder: str) -> str:
 
 def write_textfile(path: str, folder: str) -> None:
     """Writes the metrics of `folder` to `path`. The file is replaced by renaming, so node_exporter
-    never reads an incomplete one.
+    never reads an incomplete file.
     """
     text, part = metrics(folder), f"{path}.{os.getpid()}"
     try:

@@ -1,4 +1,4 @@
-"""Lists the recordings in a folder, and deletes the oldest to stay within limits."""
+"""Lists the recordings in a folder, and deletes the oldest ones to stay within limits."""
 from __future__ import annotations
 
 import contextlib
@@ -20,7 +20,9 @@ FIRST = f"{Key.RECORDING} ".encode()
 
 @dataclass(frozen=True)
 class Limits:
-    """The largest number of stored recordings, and of their bytes. None if there is no limit."""
+    """The largest number of stored recordings, and their largest total size (bytes). None means no
+    limit.
+    """
 
     count: int | None = None
     bytes: int | None = None
@@ -28,8 +30,9 @@ class Limits:
 
 @dataclass(frozen=True)
 class Stored:
-    """A stored recording: the name of its folder, the time of the last write (s since 1970), its
-    size in bytes, whether a recorder is still writing it, and the lines of its `meta`.
+    """A stored recording. `name` is the name of its folder, and `ended` the time of the last write
+    to its `meta` (s since 1970). `is_written` says whether a recorder is still writing it, and
+    `meta` contains the lines of its `meta`.
     """
 
     name: str
@@ -39,11 +42,13 @@ class Stored:
     meta: Lines
 
     def reason(self) -> str:
-        """Returns why the recording ended."""
+        """Returns the reason for which the recording ended. Returns KILLED if its `meta` has no
+        reason.
+        """
         return self.meta.one(Key.END) or Reason.KILLED
 
     def lost(self) -> int:
-        """Returns the number of lost events. Overwritten events of a flight recorder don't count,
+        """Returns the number of lost events. For a flight recorder, overwritten events don't count,
         since it overwrites its buffers on purpose.
         """
         names = [it for it in layout.LOST_STATS if it != "overrun" or not self.meta.is_ring()]
@@ -51,8 +56,8 @@ class Stored:
 
 
 def is_locked(file: int) -> bool:
-    """Returns whether a recorder is still writing the open `meta` file. A recorder holds a lock on
-    that file until its process ends.
+    """Returns whether a recorder is still writing the recording of this open `meta` file. A
+    recorder locks that file until its process ends.
     """
     try:
         fcntl.flock(file, fcntl.LOCK_SH | fcntl.LOCK_NB)
@@ -76,7 +81,7 @@ def size_of(path: str) -> int:
 
 
 def stored_at(path: str) -> Stored | None:
-    """Returns the recording in this folder; None if there is none."""
+    """Returns the recording in this folder, or None if the folder isn't a recording."""
     try:
         file = os.open(f"{path}/{layout.META}", os.O_RDONLY | os.O_NOFOLLOW | os.O_NONBLOCK)
     except OSError:
@@ -101,9 +106,10 @@ def recordings(folder: str) -> list[Stored]:
 
 
 def beyond(found: list[Stored], limits: Limits, own: str) -> Iterator[Stored]:
-    """Yields the recordings to delete so that the rest is within the limits. `found` has all
-    recordings, the newest first. The newest finished recording and unfinished ones are never
-    deleted. `own` names the recording that ends now, which counts as finished.
+    """Yields the recordings to delete so that the remaining ones are within the limits. `found`
+    contains all recordings, the newest first. The newest finished recording and unfinished
+    recordings are never deleted. `own` is the name of the recording that ends now, which counts as
+    finished.
     """
     finished = [it for it in found if not it.is_written or it.name == own]
     total = 0
@@ -134,9 +140,9 @@ def delete(folder: str, name: str) -> None:
 
 
 def keep(folder: str, limits: Limits, tell: Callable[[str], None], own: str = "") -> None:
-    """Deletes the oldest recordings until the rest is within the limits, but none that a recorder
-    is still writing. `own` names the recording that ends now, which counts towards the limits;
-    empty if none ends.
+    """Deletes the oldest recordings until the remaining ones are within the limits. A recording
+    that a recorder is still writing stays. `own` is the name of the recording that ends now and
+    counts towards the limits, or empty if no recording ends.
     """
     if limits == Limits():
         return

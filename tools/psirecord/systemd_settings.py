@@ -1,17 +1,17 @@
-"""Stores the settings of systemd-oomd, if systemd runs, in the folder `systemd` of a recording, for
-tools/systemd-oomd.
+"""Stores the settings of systemd-oomd in the folder `systemd` of a recording, if systemd runs.
+tools/systemd-oomd reads them. The folder contains these files:
 
 version     the first words of `systemctl --version`
 units       the output of `systemctl show` for all services, slices and scopes (SHOWN)
-groups      a line for each control group: its path, and its owner, memory.oom.group and attributes
+groups      a line for each control group: its path, its owner, memory.oom.group and its attributes
             (group_line)
-etc/.. run/.. usr/..   oomd.conf with its drop-in files, and each unit file that has a setting of
-            systemd-oomd, with those of the same name in other folders, since one folder's files
-            override another's. All other lines of unit files are empty, since environments and
-            arguments aren't recorded
+etc/.. run/.. usr/..   oomd.conf with its drop-in files, and each unit file that contains a setting
+            of systemd-oomd. Files of the same name in other folders are included, since one of
+            them may override the setting. All other lines of unit files are empty, since
+            environments and arguments aren't recorded
 
-`tools/systemd-oomd --settings` accepts this folder, and also a folder that has only the last kind
-of files. All files are written before the recording begins.
+`tools/systemd-oomd --settings` accepts this folder. It also accepts a folder that contains only
+files of the last kind. All files are written before the recording begins.
 """
 from __future__ import annotations
 
@@ -28,7 +28,7 @@ from .machine import Machine, read_file
 from .samples import Group, groups, number_in
 
 BOOTED = "run/systemd/system"
-# The properties of units that show the unit's group and how systemd-oomd treats it.
+# The properties of units that show a unit's group and what systemd-oomd does with it.
 SHOWN = (
     "Id",
     "ControlGroup",
@@ -39,8 +39,8 @@ SHOWN = (
     "ManagedOOMPreference",
 )
 SETTING = re.compile(rb"^\s*(ManagedOOM|OOMPolicy)", re.MULTILINE)
-# The lines of a unit file that are stored: section headings, the settings of systemd-oomd, and the
-# slice of the unit's group.
+# Matches the lines of a unit file that are stored: section headings, the settings of systemd-oomd,
+# and the slice of the unit's group.
 STORED = re.compile(rb"\s*(\[|(ManagedOOM\w*|OOMPolicy|Slice)\s*=)")
 TRUE = (b"1", b"yes", b"y", b"true", b"t", b"on")
 PATIENCE_SECONDS = 10
@@ -50,7 +50,7 @@ Tell = Callable[[str], None]
 
 @dataclass(frozen=True)
 class Answer:
-    """The output of `systemctl`, and the error if there was no output."""
+    """The output of `systemctl`, or the error if there was no output."""
 
     printed: bytes
     fault: str
@@ -58,8 +58,8 @@ class Answer:
 
 @dataclass(frozen=True)
 class Place:
-    """The root of the machine's files, and the command that queries systemd. On the real machine
-    the root is empty.
+    """The location of systemd: the root of the machine's files, and the command that queries
+    systemd. On a real machine the root is empty.
     """
 
     root: str
@@ -87,16 +87,18 @@ class Place:
 
 
 def place_of(machine: Machine) -> Place:
-    """Returns the place of the real machine, or of the folder of plain files that replaces it."""
+    """Returns the location of systemd: on the real machine, or in the folder of plain files that
+    replaces the machine in tests.
+    """
     root = os.path.dirname(machine.proc).rstrip("/")
     return Place(root, f"{root}/systemctl" if root else "systemctl")
 
 
-# ---------------------------------------------------------------- groups
+# ---------------------------------------------------------------- control groups
 
 
 def is_true(folder: str, attribute: str) -> bool:
-    """Returns whether an attribute of a group's folder exists and is true by systemd's rules for
+    """Returns whether an attribute of a group's folder exists, and is true by systemd's rules for
     booleans.
     """
     try:
@@ -106,7 +108,7 @@ def is_true(folder: str, attribute: str) -> bool:
 
 
 def owner(folder: str) -> int:
-    """Returns the uid of a group's owner; 0 if the group was removed."""
+    """Returns the uid of a group's owner, or 0 if the group was removed."""
     try:
         return os.stat(folder).st_uid
     except OSError:
@@ -114,8 +116,8 @@ def owner(folder: str) -> int:
 
 
 def group_line(group: Group) -> str:
-    """Returns the line of a group, with the properties that systemd-oomd reads and that a trace
-    doesn't contain.
+    """Returns the line of a group. It contains the properties that systemd-oomd reads but a trace
+    lacks.
     """
     is_whole = number_in(f"{group.folder}/memory.oom.group") == 1
     avoid, omit = (is_true(group.folder, f"user.oomd_{it}") for it in ("avoid", "omit"))
@@ -123,12 +125,12 @@ def group_line(group: Group) -> str:
     return f"{group.path} uid={owner(group.folder)} {attributes}\n"
 
 
-# ---------------------------------------------------------------- files
+# ---------------------------------------------------------------- unit files
 
 
 def files_below(root: str, folder: str) -> Iterator[str]:
     """Yields the paths, relative to `root`, of the unit files in `folder` and of their drop-in
-    files, which are one folder deeper.
+    files. Drop-in files are one folder deeper.
     """
     try:
         names = sorted(os.listdir(f"{root}/{folder}"))
@@ -156,8 +158,8 @@ def configurations(root: str) -> Iterator[str]:
 
 
 def unit_files(root: str, folders: tuple[str, ...]) -> Iterator[str]:
-    """Yields the unit files that have a setting of systemd-oomd, and the files of the same name in
-    other folders, which may override them.
+    """Yields the unit files that contain a setting of systemd-oomd. Also yields the files of the
+    same name in other folders, since one of them may override the setting.
     """
     found = {
         name: os.path.basename(name) for folder in folders for name in files_below(root, folder)
@@ -167,9 +169,9 @@ def unit_files(root: str, folders: tuple[str, ...]) -> Iterator[str]:
 
 
 def settings_alone(text: bytes) -> bytes:
-    """Returns the text of a unit file in which all lines but the settings are empty, so that line
-    numbers are unchanged. A line that ends in a backslash continues on the next line that isn't a
-    comment.
+    """Returns the text of a unit file in which only the lines that match STORED keep their
+    contents. A comment becomes `#`, and any other line becomes empty, which preserves the line
+    numbers. A line that ends in a backslash continues on the next line that isn't a comment.
     """
     lines, is_stored, goes_on = [], False, False
     for line in text.splitlines():
@@ -183,12 +185,14 @@ def settings_alone(text: bytes) -> bytes:
 
 
 def is_other_name(root: str, name: str) -> bool:
-    """Returns whether `name` is a second name of a file: `lib` may be a link to `usr/lib`."""
+    """Returns whether `name` is a second name of another file. For example, `lib` may be a link to
+    `usr/lib`.
+    """
     return name.startswith("lib/") and os.path.islink(f"{root}/lib")
 
 
 def contents(machine: Machine, tell: Tell) -> Iterator[tuple[str, bytes]]:
-    """Yields the names and contents of the files to store."""
+    """Yields the name and the contents of each file to store."""
     place = place_of(machine)
     yield VERSION, place.asked("--version").printed.partition(b"\n")[0] + b"\n"
     shown = place.asked(
@@ -211,8 +215,8 @@ def contents(machine: Machine, tell: Tell) -> Iterator[tuple[str, bytes]]:
 
 
 def store(machine: Machine, folder: Folder, tell: Tell) -> None:
-    """Stores the settings in a recording's folder, if systemd runs. An error is reported, and the
-    recording continues, since no trace depends on the settings.
+    """Stores the settings of systemd-oomd in a recording's folder, if systemd runs. After an error
+    the recording continues, since no trace depends on the settings. The error is reported.
     """
     if not place_of(machine).is_booted():
         return

@@ -1,5 +1,5 @@
-"""The trigger of a flight recorder: pressure of the machine, or of one group. The group may be
-created later, or be removed and created again.
+"""The trigger of a flight recorder, which signals pressure of the machine or of one group. The
+group may be created later, or be removed and created again.
 """
 from __future__ import annotations
 
@@ -9,9 +9,9 @@ from .machine import Machine
 
 
 class Trigger:
-    """A trigger in the kernel's syntax, `RESOURCE some|full THRESHOLD WINDOW`, for the group with
-    the path `group`, or for the whole machine if that is empty. `file` is the descriptor that
-    signals pressure, or -1 while the trigger is closed.
+    """A trigger in the kernel's syntax, `RESOURCE some|full THRESHOLD WINDOW`. `group` is the path
+    of its group, or empty for the whole machine. `file` is the descriptor that signals pressure, or
+    -1 while the trigger is closed.
     """
 
     def __init__(self, machine: Machine, words: str, group: str = "") -> None:
@@ -20,7 +20,7 @@ class Trigger:
         self.identity: tuple[int, int] | None = None
 
     def open(self) -> int | None:
-        """Opens the trigger. Returns the condition of poll(2) for its signal; None if the group
+        """Opens the trigger. Returns the poll(2) condition for its signal, or None if the group
         doesn't exist yet.
         """
         self.identity = self.found()
@@ -31,8 +31,8 @@ class Trigger:
         return condition
 
     def found(self) -> tuple[int, int] | None:
-        """Returns the device and inode number of the group's folder; None if the group doesn't
-        exist.
+        """Returns the device number and the inode number of the group's folder, or None if the
+        group doesn't exist.
         """
         try:
             it = os.stat(f"{self.machine.groups}{self.group}")
@@ -41,7 +41,7 @@ class Trigger:
         return it.st_dev, it.st_ino
 
     def is_current(self) -> bool:
-        """Returns whether the trigger is open and its group wasn't replaced by another one."""
+        """Returns whether the trigger is open and its group wasn't replaced by another group."""
         return self.file >= 0 and (not self.group or self.identity == self.found())
 
     def close(self) -> None:

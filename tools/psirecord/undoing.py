@@ -1,5 +1,5 @@
-"""Undoes the recorder's changes to the machine, in reverse order. The step that undoes a change is
-registered with the change itself, so that an error at any point leaves nothing on the machine.
+"""Undoes the recorder's changes to the machine, in reverse order. Each change is registered
+together with the step that undoes it, so that an error at any point leaves nothing on the machine.
 """
 from __future__ import annotations
 
@@ -31,11 +31,11 @@ class Undoing:
         error: BaseException | None,
         trace: TracebackType | None,
     ) -> None:
-        """Undoes all changes, also after an error."""
+        """Undoes all changes when the context ends, also after an error."""
         self.undo()
 
     def undo(self) -> None:
-        """Runs all registered steps; a second call does nothing."""
+        """Runs all registered steps. A second call does nothing."""
         while self.steps:
             what, step = self.steps.pop()
             try:

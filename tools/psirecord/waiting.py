@@ -1,4 +1,4 @@
-"""Waits for the next job, a signal or pressure with a single poll(2), so that none of them is
+"""Waits for the next job, a signal or pressure with a single poll(2), so that none of the three is
 delayed.
 """
 from __future__ import annotations
@@ -15,9 +15,9 @@ ENDING = (signal.SIGINT, signal.SIGTERM, signal.SIGHUP)
 
 
 class Signals:
-    """The signals that end a recording. SIGHUP isn't among them if it is ignored, as with nohup.
-    The handler only stores the signal, so that a change of the machine or an undo step is never
-    interrupted.
+    """The signals that end a recording. SIGHUP doesn't end it if SIGHUP is ignored, as with nohup.
+    The handler only stores the signal, so that it never interrupts a change of the machine or an
+    undo step.
     """
 
     def __init__(self) -> None:
@@ -29,25 +29,24 @@ class Signals:
                 signal.signal(number, self.note)
 
     def note(self, number: int, _: FrameType | None) -> None:
-        """Stores the first signal that comes."""
+        """Stores the signal, unless an earlier one is already stored."""
         self.came = self.came or signal.Signals(number)
 
     def end_by_it(self) -> None:
-        """Ends this process by the signal that was received, as if it hadn't been caught."""
+        """Ends this process by the signal that was received, as if the signal hadn't been caught.
+        """
         if self.came:
             signal.signal(self.came, signal.SIG_DFL)
             signal.raise_signal(self.came)
 
     def ignore(self) -> None:
-        """Ignores further signals, so that they don't change the exit status after all work is
-        done.
-        """
+        """Ignores further signals, so that a late signal doesn't change the exit status."""
         for number in ENDING:
             signal.signal(number, signal.SIG_IGN)
 
 
 class Waiting:
-    """Waits until a time, and reports whether pressure was signalled."""
+    """Waits until a certain time, and reports whether pressure was signalled."""
 
     def __init__(self, signals: Signals) -> None:
         self.poll = select.poll()
@@ -55,18 +54,20 @@ class Waiting:
         self.signals, self.trigger = signals, -1
 
     def watch(self, trigger: int, condition: int) -> None:
-        """Watches a file that signals pressure by the poll(2) condition `condition`."""
+        """Adds the file `trigger` to the polled files. poll(2) reports `condition` for this file if
+        pressure was signalled.
+        """
         self.trigger = trigger
         self.poll.register(trigger, condition)
 
     def unwatch(self) -> None:
-        """Stops watching: one signal of pressure is enough."""
+        """Stops watching the file, since one signal of pressure is enough."""
         self.poll.unregister(self.trigger)
         self.trigger = -1
 
     def until(self, time_s: float) -> bool:
-        """Waits until `time_s` (CLOCK_MONOTONIC, s), a signal or pressure. Returns whether pressure
-        came.
+        """Waits until `time_s` (CLOCK_MONOTONIC, s), a signal or pressure. Returns True if pressure
+        was signalled and no signal was received.
         """
         pause = max(0.0, time_s - time.monotonic())
         found = [file for file, _ in self.poll.poll(int(pause * 1000 + 0.999))]
@@ -75,18 +76,19 @@ class Waiting:
 
 @dataclass
 class Job:
-    """A periodic job: `due` is CLOCK_MONOTONIC in s, `period` is in s."""
+    """A periodic job. `due` is the time of its next run (CLOCK_MONOTONIC, s), and `period` is in s.
+    """
 
     run: Callable[[], None]
     due: float
     period: float
-    # Whether a run that is late is followed by a run for each further period that has passed.
-    # Otherwise a single late run replaces all of them.
+    # Whether every period needs its own run. If so, a late run is followed by one run for each
+    # period that has passed. If not, a single late run replaces them.
     is_each_due: bool = False
 
     def run_until(self, time_s: float) -> None:
-        """Runs the job once for each turn that is due at `time_s`, or once for all if not each is
-        due.
+        """Runs the job if it is due at `time_s`. If `is_each_due`, runs the job once for each
+        period that has passed, and otherwise once.
         """
         while self.due <= time_s:
             self.run()

@@ -1,3 +1,3 @@
-"""Keeps the state of the machine while a trace is written: its control groups and tasks. Only lines
-that are valid in that state are written, within the limits of traces.
+"""Writes the lines of a trace. Keeps the state of the machine, its control groups and tasks, so
+that it writes only lines that are valid in that state and within the limits of traces.
 """

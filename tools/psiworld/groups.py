@@ -1,12 +1,12 @@
-"""Keeps the control groups of a trace: which groups exist, how many tasks and child groups each
-has, and which groups are folded into an ancestor because of a limit.
+"""Keeps the control groups of a trace: which groups exist, how many tasks and children each group
+has, and which groups are replaced by an ancestor because of a limit.
 """
 from __future__ import annotations
 
 from collections import Counter
 
-# The limits of a trace: the number of groups that are ever created (without the root), the
-# components of a path, and the bytes of a path.
+# The limits of a trace: the number of groups that are ever created (without the root), the number
+# of components of a path, and the bytes of a path.
 MOST_GROUPS = 1023
 MOST_LEVELS = 32
 MOST_BYTES = 255
@@ -14,19 +14,21 @@ ROOT = "/"
 
 
 def parent_of(path: str) -> str:
-    """Returns the path of the group's parent. The parent of the root is the root."""
+    """Returns the path of a group's parent. The parent of the root is the root itself."""
     return path.rpartition("/")[0] or ROOT
 
 
 def prefixes_of(path: str) -> list[str]:
-    """Returns the paths of the group's ancestors below the root, from the top down, and its own."""
+    """Returns the paths of a group's ancestors without the root, from the top down, followed by the
+    group's own path.
+    """
     ends = [place for place, letter in enumerate(path) if letter == "/" and place] + [len(path)]
     return [path[:end] for end in ends] if path != ROOT else []
 
 
 class Groups:
-    """The groups by path. A group that was removed while it had tasks stays in the trace until the
-    last of these leaves. Groups deeper than `deepest` components are folded into an ancestor.
+    """All groups by path. A group that is removed while it has tasks stays in the trace until its
+    last task leaves. A group with more than `deepest` components is replaced by an ancestor.
     """
 
     def __init__(self, deepest: int | None = None) -> None:
@@ -36,13 +38,16 @@ class Groups:
         self.live = {ROOT}
         self.leaving: set[str] = set()
         self.made = 0
-        # The group that replaces each path that the trace can't have.
+        # For each path that the trace can't have, the path of the ancestor that replaces it.
         self.folded: dict[str, str] = {}
-        # The groups that were folded into an ancestor because of a limit, by the limit's text.
+        # The groups that are replaced by an ancestor because of a limit, keyed by a description of
+        # the limit.
         self.limits: dict[str, list[str]] = {}
 
     def limit_of(self, path: str) -> str | None:
-        """Returns the limit that a new group with this path would exceed, or None."""
+        """Returns a description of the limit that a new group with this path would exceed, or None
+        if it exceeds none.
+        """
         if path.count("/") > MOST_LEVELS:
             return f"more than {MOST_LEVELS} levels"
         if len(path) > MOST_BYTES:
@@ -50,8 +55,9 @@ class Groups:
         return f"more than {MOST_GROUPS} groups" if self.made >= MOST_GROUPS else None
 
     def make(self, path: str) -> tuple[str, list[str]]:
-        """Adds a group. Returns the path that stands for it in the trace, which is usually its own,
-        and the groups to create for that, parents first.
+        """Adds a group. Returns its path in the trace, and the paths of the groups to create,
+        parents first. If the trace can't have the group, its path in the trace is the path of an
+        ancestor.
         """
         if path in self.live:
             return path, []
@@ -78,27 +84,27 @@ class Groups:
         return place, made
 
     def is_folded(self, path: str) -> bool:
-        """Whether this group was folded into an existing ancestor."""
+        """Whether this group is replaced by an existing ancestor."""
         return self.folded.get(path) in self.live
 
     def place_of(self, path: str) -> str | None:
-        """Returns the path that stands for this group in the trace, or None if the group doesn't
-        exist.
+        """Returns the group's path in the trace, or the path of the ancestor that replaces it.
+        Returns None if the group doesn't exist.
         """
         return path if path in self.live else self.folded[path] if self.is_folded(path) else None
 
     def enter(self, path: str) -> None:
-        """Adds a task to a group."""
+        """Counts a task that enters a group."""
         self.tasks[path] += 1
 
     def leave(self, path: str) -> list[str]:
-        """Removes a task from a group. Returns the groups that are then removed from the trace."""
+        """Removes a task from a group. Returns the groups that the trace can remove then."""
         self.tasks[path] -= 1
         return self.swept(path)
 
     def remove(self, path: str) -> list[str]:
-        """Marks a group for removal, because the kernel removed it. Returns the groups that are
-        then removed from the trace.
+        """Marks a group for removal, because the kernel removed it. Returns the groups that the
+        trace can remove at once.
         """
         self.folded.pop(path, None)
         if path not in self.live or path == ROOT:
@@ -107,8 +113,8 @@ class Groups:
         return self.swept(path)
 
     def swept(self, path: str) -> list[str]:
-        """Removes the group and its ancestors as far as they are marked for removal and empty.
-        Returns the removed groups.
+        """Removes the group if it is marked for removal and empty. Then removes its parent and
+        further ancestors, as long as they are marked and empty too. Returns the removed groups.
         """
         removed = []
         while path in self.leaving and not self.tasks[path] and not self.children[path]:
@@ -120,16 +126,16 @@ class Groups:
         return removed
 
     def is_leaving(self, path: str) -> bool:
-        """Whether the kernel removed the group, but the trace still has it."""
+        """Whether the kernel has removed the group while the trace still has it."""
         return path in self.leaving
 
     def leaving_below(self, path: str) -> list[str]:
-        """Returns the groups that are marked for removal among this group and its descendants, the
-        deepest first.
+        """Returns this group and its descendants as far as they are marked for removal, the deepest
+        first.
         """
         found = (it for it in self.leaving if it == path or it.startswith(path + "/"))
         return sorted(found, key=lambda it: (-it.count("/"), it))
 
     def keep(self, path: str) -> None:
-        """Withdraws the mark for removal, so that the group stays in the trace."""
+        """Unmarks a group for removal, so that it stays in the trace."""
         self.leaving.discard(path)

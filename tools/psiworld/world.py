@@ -1,4 +1,4 @@
-"""Writes the lines of a trace, and keeps the state of the machine that they describe.
+"""Writes the lines of a trace, and keeps the machine's state after these lines.
 
 Any sequence of calls gives a valid trace: a running task is preempted before another task runs on
 its processor, a task leaves its memory stall before it exits, a group is created after its parent,
@@ -15,8 +15,8 @@ from psinames.lives import Life
 from .groups import ROOT, Groups, parent_of
 from .limits import MOST_INTERRUPTS, MOST_LABEL
 
-# A task's label, its number in the trace, is the kernel's number of the task. If another task has
-# that label, LABEL_STEP is added.
+# A task's number in the trace, its label, is usually the kernel's number of the task. LABEL_STEP is
+# added while another task has the same label.
 LABEL_STEP = 100_000_000
 
 
@@ -30,8 +30,8 @@ class State(Enum):
 
 
 class How(Enum):
-    """How a running task leaves its processor: the word of the switch line, and the task's state
-    after the switch (None after an exit).
+    """How a running task leaves its processor: the word in the line of the switch, and the task's
+    state after the switch (None after an exit).
     """
 
     PREEMPT = "preempt", State.READY
@@ -45,7 +45,7 @@ class How(Enum):
 
 class Task:
     """A task of the trace: its label, the path of its group, its processor, its state, whether it
-    is in a memory stall, the number of its process, and its life, which has its names over time.
+    is in a memory stall, the number of its process, and its `Life`, which has its names over time.
     """
 
     __slots__ = ("label", "group", "processor", "state", "is_stalled", "process", "life")
@@ -65,8 +65,9 @@ class Task:
 
 
 class World:
-    """The machine's state and the lines of the trace so far. `tasks` has the tasks by the kernel's
-    numbers, `runs` the running task of each processor, and `now` is the time (ns) of the next line.
+    """The machine's state, and the lines of the trace so far. `tasks` has the tasks by the kernel's
+    numbers, `runs` has the running task of each processor, and `now` is the time (ns) of the next
+    line.
 
     If the trace has interrupts, `interrupted` has the time (ns) of each processor's last interrupt
     line. `off` has the groups that aren't accounted, `switched` the groups whose accounting was
@@ -85,28 +86,29 @@ class World:
         self.tasks: dict[int, Task] = {}
         self.runs: dict[int, int] = {}
         self.labels: set[int] = set()
-        # The lives of all tasks so far; the names of tasks that no line names yet; and, if they are
-        # needed, the clocks that measure for how long each process ran in each group.
+        # `lives` has the life of each task so far, and `names` the names of tasks that the trace
+        # doesn't have yet. `clocks` measures for how long each process ran in each group, or is
+        # None if that isn't needed.
         self.lives: list[Life] = []
         self.names: dict[int, str] = {}
         self.clocks: Clocks | None = None
-        # The lines to write when a group is created, by the group's path.
+        # Lines that are written when a group is created, by the group's path.
         self.upon: dict[str, list[str]] = {}
         self.mended: Counter[str] = Counter()
 
     def put(self, words: str) -> None:
-        """Writes a line with the time `now`."""
+        """Appends a line with the time `now`."""
         self.lines.append(f"{self.now} {words}")
 
     def version(self) -> int:
-        """Returns the lowest version of the trace format that has all lines of this trace."""
+        """Returns the lowest version of the trace format that allows all lines of this trace."""
         return 2 if self.has_interrupts or self.switches else 1
 
-    # ------------------------------------------------------------ groups
+    # ------------------------------------------------------------ changes of groups
 
     def make_group(self, path: str) -> str:
-        """Creates the group and its ancestors, unless they exist. Returns the path that stands for
-        the group in the trace: a group that the trace can't have is folded into an ancestor.
+        """Creates the group and its ancestors, unless they exist. Returns the group's path in the
+        trace, or the path of an ancestor if the trace can't have the group.
         """
         place, made = self.groups.make(path)
         for one in made:
@@ -116,23 +118,25 @@ class World:
         return place
 
     def remove_group(self, path: str) -> None:
-        """Removes the group now, or once its last task has left it."""
+        """Removes the group at once, or after its last task has left it."""
         self.end_groups(self.groups.remove(path))
 
     def leave_group(self, path: str) -> None:
-        """Removes a task from the group. Removes the group too if it is marked for that and empty.
+        """Removes a task from the group. Also removes the group if it is then empty and marked for
+        removal.
         """
         self.end_groups(self.groups.leave(path))
 
     def end_groups(self, removed: list[str]) -> None:
-        """Writes the removal of these groups. A group that is created again will be accounted."""
+        """Appends lines that remove these groups. A group that is created again will be accounted.
+        """
         for one in removed:
             self.put(f"rmgroup {one}")
             self.off.discard(one)
 
     def make_again(self, path: str) -> None:
-        """Creates a group although the trace still has a removed group with its path. The tasks
-        that are left in the removed group move to its parent, and that group is used again.
+        """Creates a group whose path still belongs to a removed group with tasks. These tasks move
+        to its parent, and the removed group is used again.
         """
         for below in self.groups.leaving_below(path):
             for task in [it for it in self.tasks.values() if it.group == below]:
@@ -154,8 +158,8 @@ class World:
         self.leave_group(before)
 
     def switch_accounting(self, path: str, is_on: bool) -> None:
-        """Switches the group's accounting on or off, unless it is so already. Does nothing for the
-        root, which a trace always accounts, and for groups that are folded into others.
+        """Switches the group's accounting on or off, unless it is already. Ignores the root, which
+        is always accounted, and groups that the trace doesn't have.
         """
         if path == ROOT or path not in self.groups.live or is_on != (path in self.off):
             return
@@ -164,12 +168,11 @@ class World:
         self.switches += 1
         self.put(f"pressure {path} {'on' if is_on else 'off'}")
 
-    # ------------------------------------------------------------ interrupts
+    # ------------------------------------------------------------ interrupt lines
 
     def interrupt(self, processor: int, length: int) -> None:
-        """Writes that interrupts took `length` ns from the running task of a processor. A line has
-        at most one second, and includes no time from before the processor's previous interrupt
-        line.
+        """Appends an interrupt line of `length` ns, if a task runs on the processor. The line
+        reports at most one second, and no time before the processor's previous interrupt line.
         """
         if not self.has_interrupts or not self.running(processor):
             return
@@ -180,10 +183,11 @@ class World:
             self.put(f"irq {processor} {written}")
             self.interrupted[processor] = self.now
 
-    # ------------------------------------------------------------ tasks
+    # ------------------------------------------------------------ changes of tasks
 
     def fork(self, number: int, path: str, processor: int, process: int) -> Task:
-        """Creates a task, which is ready on the processor. An earlier task with this number exits.
+        """Creates a task, which is ready on the processor. If a task with this number exists, it
+        exits first.
         """
         if number in self.tasks:
             self.vanish(number)
@@ -197,7 +201,7 @@ class World:
         return task
 
     def begun_life(self, label: int, number: int, process: int) -> Life:
-        """Creates the life of a new task, with the task's name if that is known."""
+        """Creates the `Life` of a new task, with the task's name if it is known."""
         first = self.tasks.get(process) if process != number else None
         life = Life(label, self.now, number, process, first.life.leader if first else None)
         name = self.names.pop(number, None)
@@ -207,8 +211,8 @@ class World:
         return life
 
     def free_label(self, number: int) -> int:
-        """Returns an unused label for a task: the kernel's number, unless another task has that
-        label or a trace can't have it.
+        """Returns an unused label for a task: the kernel's number, or another number if the label
+        is in use or not allowed in a trace.
         """
         if not 0 < number <= MOST_LABEL:
             self.mended["number of a task that a trace can't have, replaced"] += 1
@@ -218,18 +222,20 @@ class World:
         return label
 
     def place_of(self, processor: int) -> int:
-        """Returns this processor, or processor 0 if the machine doesn't have it."""
+        """Returns this processor's number, or 0 if the machine has no such processor."""
         if 0 <= processor < self.processors:
             return processor
         self.mended["processor that the machine doesn't have, taken to be the first"] += 1
         return 0
 
     def running(self, processor: int) -> int:
-        """Returns the number of the running task of a processor, or 0 if none runs."""
+        """Returns the number of the task that runs on a processor, or 0 if none runs."""
         return self.runs.get(processor, 0)
 
     def ready(self, number: int, processor: int) -> None:
-        """Makes the task ready on the processor. It is preempted, woken or migrated for that."""
+        """Makes the task ready on the processor: preempts it if it runs, wakes it if it is blocked,
+        or migrates it.
+        """
         task, processor = self.tasks[number], self.place_of(processor)
         if task.state is State.RUNNING:
             self.leave(task.processor, How.PREEMPT)
@@ -240,21 +246,23 @@ class World:
             task.processor = processor
 
     def wake(self, task: Task, processor: int) -> None:
-        """Wakes a blocked task on the processor."""
+        """Wakes a blocked task. It is then ready on the processor."""
         if not 0 <= processor < self.processors:
             processor = self.place_of(processor)
         self.lines.append(f"{self.now} wake {task.label} {processor}")
         task.state, task.processor = State.READY, processor
 
     def run(self, number: int, processor: int, how: How = How.PREEMPT) -> None:
-        """Makes the task run on the processor. The task that runs there leaves by `how`."""
+        """Makes the task run on the processor. The task that was running there leaves as `how`
+        says.
+        """
         if self.running(processor) != number:
             self.ready(number, processor)
             self.leave(processor, how, number)
 
     def leave(self, processor: int, how: How, following: int = 0) -> None:
-        """Switches a processor from its running task, if any, which leaves by `how`, to the task
-        `following`, which must be ready there. No task runs then if `following` is 0.
+        """Switches a processor from its running task, if any, to the task `following`, or to idle
+        if that is 0. The running task leaves as `how` says. `following` must be ready there.
         """
         number, label = self.runs.get(processor, 0), 0
         leaves = self.tasks[number] if number else None
@@ -275,8 +283,8 @@ class World:
             self.forget(number)
 
     def detour(self, number: int, how: How, stalls: bool = False) -> None:
-        """Makes a ready task run for zero time and leave by `how`, in a memory stall if `stalls`.
-        Then the previous task runs again.
+        """Makes a ready task run for zero time and leave as `how` says, with `stalls` in a memory
+        stall. Then the previous task runs again.
         """
         processor = self.tasks[number].processor
         before = self.running(processor)
@@ -286,14 +294,14 @@ class World:
         self.leave(processor, how, before)
 
     def forget(self, number: int) -> None:
-        """Removes the task from the trace."""
+        """Removes a task that has exited."""
         task = self.tasks.pop(number)
         task.life.last = self.now
         self.labels.discard(task.label)
         self.leave_group(task.group)
 
     def vanish(self, number: int) -> None:
-        """Makes a task exit although no event shows that it did."""
+        """Makes a task exit, although the recording has no event for the exit."""
         task = self.tasks[number]
         if task.state is State.RUNNING:
             self.leave(task.processor, How.EXIT)
@@ -303,7 +311,7 @@ class World:
         self.mended["task gone without a word"] += 1
 
     def end_wait(self, number: int) -> None:
-        """Makes a task that waits for IO only sleep from now on."""
+        """Changes a task that waits for IO to a sleeping task."""
         self.ready(number, self.tasks[number].processor)
         self.detour(number, How.SLEEP)
 
@@ -318,7 +326,7 @@ class World:
         self.put(f"unstall {task.label}")
 
     def swap_numbers(self, number: int, other: int) -> None:
-        """Exchanges the numbers of two tasks. Their labels stay."""
+        """Exchanges the kernel's numbers of two tasks. Their labels don't change."""
         one, two = self.tasks.pop(number, None), self.tasks.pop(other, None)
         for task, new in ((one, other), (two, number)):
             if task:
