@@ -1,3 +1,3 @@
-"""Computes for `tools/blame` which groups ran on the processors for which a group waited, and which
-groups waited for IO or were in a memory stall at the same time as the group.
+"""Computes, for `tools/blame`, which groups ran while a group waited for a processor. Also finds
+the groups that waited for IO, or were in a memory stall, at the same time as that group.
 """

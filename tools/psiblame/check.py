@@ -1,4 +1,4 @@
-"""Checks the sums of a whole trace against the stall times that psi_oomd computes."""
+"""Compares the sums over a whole trace with the stall times that psi_oomd prints."""
 from __future__ import annotations
 
 from collections.abc import Iterable
@@ -24,8 +24,9 @@ def states_of(parts: list[Sums], processor: int, group: Group) -> States:
 
 
 def must_add_up(parts: list[Sums], live: Iterable[Group], cpus: int, expected: Stalls) -> None:
-    """Raises a Fault unless the sums of all parts of the trace equal psi_oomd's times `expected`,
-    for each processor and each group of `live`, which are the groups that exist at the end.
+    """Compares the sums of all parts of the trace with `expected`, the times that psi_oomd printed,
+    for each processor and each group in `live`. Raises a Fault if a time differs. `live` contains
+    the groups that exist at the end of the trace.
     """
     groups = {(processor, group.path): group for processor in range(cpus) for group in live}
     if groups.keys() != expected.keys():

@@ -1,4 +1,4 @@
-"""Parses the command line of tools/blame, and prints the figures that it requests."""
+"""Parses the command line of tools/blame, and prints the requested figures."""
 from __future__ import annotations
 
 from typing import Any, NamedTuple, Optional
@@ -49,8 +49,8 @@ HELP = {
         " without it at least"
     ),
 }
-# If the rows of all processors have more entries than this, they are added to the sums, which keeps
-# the use of memory small.
+# The largest number of entries in the rows of all processors together. If there are more, the rows
+# are added to the sums, which bounds the memory use.
 MOST_ENTRIES = 200_000
 
 
@@ -99,8 +99,8 @@ def options_of() -> Options:
 
 
 def with_paths(options: Options, known: Known, file: str) -> Options:
-    """Returns the options with each name of a group, for example of a container, replaced by the
-    group's path.
+    """Returns the options with group names replaced by paths. A group name may be the name of a
+    container.
     """
     paths = sorted(groups_of(file))
 
@@ -113,14 +113,14 @@ def with_paths(options: Options, known: Known, file: str) -> Options:
 
 
 def asked_time(options: Options, lines: Lines, known: Known) -> Asked:
-    """Returns the requested time span, which must lie within the trace."""
+    """Returns the request, with the time span that the options select within the trace."""
     span = span_in(options.values, known.wall, lines.end)
     victim, top = options.victim, options.top
     return Asked(options.trace, lines.end, span.start, span.end, lines.cpus, victim, top)
 
 
 def walked(options: Options, lines: Lines, asked: Asked, expected: Stalls, known: Known) -> Walk:
-    """Plays the whole trace, and compares the sums with the times `expected`, which psi_oomd
+    """Replays the whole trace, and compares the sums with `expected`, the times that psi_oomd
     printed.
     """
     victims = Named([options.victim] if options.victim is not None else [], True)
@@ -150,7 +150,9 @@ def asked_groups(options: Options, walk: Walk) -> list[Group]:
 
 
 def work(options: Options) -> str:
-    """Returns the text to print, after checking the sums of all groups against psi_oomd's."""
+    """Returns the text to print. Before that, compares the sums of all groups with psi_oomd's
+    times.
+    """
     with as_file(options.trace) as file:
         refuse_sampled(file, options.trace, "who ran while a group waited")
         expected = stalls(file, options.trace)
@@ -167,7 +169,7 @@ def work(options: Options) -> str:
 
 
 def blame() -> int:
-    """Prints what the arguments ask for."""
+    """Computes and prints what the command line requests."""
     write(work(options_of()).encode())
     return Status.DONE
 

@@ -1,5 +1,5 @@
-"""Computes the figures that are printed for a group: its times, and which groups ran, waited or
-stalled meanwhile.
+"""Computes the figures that are printed for a group: its times, and the groups that ran, waited or
+stalled at the same time.
 """
 from __future__ import annotations
 
@@ -20,8 +20,9 @@ DEEPEST = 32
 
 
 class Part(NamedTuple):
-    """A part of a time: `time` (ns) is attributed to `group`, or to no group if that is None.
-    `shares` divides the part among the group's processes, if processes have names.
+    """A part of a time span: during `time` (ns) the group `group` ran, waited or stalled. `group`
+    is None if no task ran. If processes have names, `shares` divides the part among the group's
+    processes.
     """
 
     group: Optional[Group]
@@ -30,11 +31,11 @@ class Part(NamedTuple):
 
 
 class Figures(NamedTuple):
-    """The figures of a group in the requested time span. All times are in ns: `ran` is the time for
-    which its tasks ran, summed over processors; `waits` the time for which it waited for each
-    processor; `io` and `memory` the times for which it waited for IO and was in a memory stall. The
-    lists of parts say which groups ran, waited or stalled meanwhile. `while_victim` is the time for
-    which the victim ran while the group waited, and `less` the part of that in which the group
+    """The figures of a group in the requested time span, all times in ns. `ran` is the run time of
+    its tasks, summed over processors. `waits` is the wait for each processor. `io` and `memory` are
+    the times for which the group waited for IO and was in a memory stall. The lists of parts say
+    which groups ran, waited or stalled at the same time. `while_victim` is the time for which the
+    victim ran while the group waited. `less` is the part of `while_victim` in which the group
     wouldn't have waited without the victim. Both are None for the victim and its descendants.
     """
 
@@ -58,17 +59,17 @@ class Figures(NamedTuple):
 
     @property
     def worst(self) -> int:
-        """The longest of the group's waits (ns), by which groups are sorted."""
+        """The longest of the group's waits (ns). Groups are sorted by this time."""
         return max(self.waited, self.io, self.memory)
 
     @property
     def has_some(self) -> bool:
-        """Whether some figure of the group isn't 0."""
+        """Returns whether at least one figure of the group isn't 0."""
         return bool(self.ran or self.worst or self.growth)
 
 
 def depth(group: Group) -> int:
-    """Returns the number of components of the group's path."""
+    """Returns the number of components in the group's path."""
     return group.path.count("/") if group.parent else 0
 
 
@@ -78,7 +79,7 @@ def at_depth(group: Group, most: int) -> Group:
 
 
 def longest_first(times: Mapping[Optional[Group], int]) -> list[Part]:
-    """Returns the times (ns) that aren't 0 as parts, the longest first."""
+    """Returns a part for each time (ns) above 0, the longest first."""
     found = [Part(group, time) for group, time in times.items() if time]
     return sorted(found, key=lambda it: (-it.time, it.group.number if it.group else NOBODY))
 
@@ -129,8 +130,8 @@ class Asker:
         )
 
     def of_victims(self, runners: dict[int, int]) -> int:
-        """Returns the part (ns) of a group's wait in which a task of the victim ran. `runners` has
-        the parts of the wait (ns) by runner.
+        """Returns how long (ns) a task of the victim ran while the group waited. `runners` has the
+        group's wait (ns) during which each runner ran, keyed by the runner's number.
         """
         of = self.runners.all
         return sum(
@@ -140,14 +141,14 @@ class Asker:
         )
 
     def shares(self, times: Mapping[Optional[Life], int]) -> tuple[Share, ...]:
-        """Returns the times (ns) of processes with their names, or nothing if processes have no
-        names.
+        """Returns the run times (ns) of processes, each with the process's name. Returns an empty
+        tuple if processes have no names.
         """
         return tuple(self.runners.tasks.shares(times, self.to)) if self.runners.tasks.lives else ()
 
     def while_ran(self, runners: dict[int, int]) -> list[Part]:
-        """Returns the parts of a group's wait for processors, by the group that ran meanwhile.
-        `runners` has the parts (ns) by runner.
+        """Splits a group's wait for processors among the groups that ran during the wait. `runners`
+        has the wait (ns) during which each runner ran, keyed by the runner's number.
         """
         times = collections.defaultdict[Optional[Group], collections.Counter[Optional[Life]]](
             collections.Counter
@@ -164,7 +165,8 @@ class Asker:
 
     def beside(self, group: Group, pairs: Pairs) -> list[Part]:
         """Returns the groups that were in the same state as `group` at the same time, and for how
-        long. The group's ancestors are left out, since they are always in its state.
+        long (ns). Ancestors of `group` are omitted, since an ancestor is in every state of its
+        descendants.
         """
         others = {
             self.groups[other]: time
@@ -180,6 +182,8 @@ class Asker:
         )
 
     def table(self) -> list[Figures]:
-        """Returns the figures of all groups down to `depth`, the longest wait first."""
+        """Returns the figures of all groups up to `depth` components deep. The group with the
+        longest wait comes first.
+        """
         found = [self.figures(group) for group in self.groups if depth(group) <= self.depth]
         return sorted(found, key=lambda it: (-it.worst, it.group.number))

@@ -1,4 +1,4 @@
-"""Writes the output as JSON: times in ns, memory in bytes, and numbers of pages."""
+"""Writes the output as JSON. Times are in ns, and sizes of memory in bytes."""
 from __future__ import annotations
 
 import json
@@ -14,9 +14,9 @@ from .figures import Figures, Part
 
 
 class Asked(NamedTuple):
-    """The request: the name of the trace, the trace's end and the requested time span from `start`
-    to `to` (all in ns), the number of processors, the victim's path, and the greatest number of
-    rows.
+    """The request to print: `end` is the trace's end, and `start` and `to` are the ends of the
+    requested time span (ns). `cpus` is the number of processors, `victim` a path, and `top` the
+    largest number of rows.
     """
 
     trace: str
@@ -34,7 +34,7 @@ class Asked(NamedTuple):
 
 
 def parts_of(groups: Groups, parts: list[Part], top: Optional[int]) -> list[dict[str, Any]]:
-    """Returns the first `top` parts as objects. The group is null for the time in which no task
+    """Returns the first `top` parts as JSON objects. `group` is null in a part in which no task
     ran.
     """
     return [
@@ -48,7 +48,7 @@ def parts_of(groups: Groups, parts: list[Part], top: Optional[int]) -> list[dict
 
 
 def shares_of(shares: Sequence[Share]) -> dict[str, Any]:
-    """Returns the times of the processes, or an empty object if processes have no names."""
+    """Returns the run times of a part's processes for JSON. Empty if processes have no names."""
     rows = [
         {"name": it.name, "threads" if it.is_thread else "pids": list(it.numbers), "ns": it.time}
         for it in shares
@@ -57,7 +57,7 @@ def shares_of(shares: Sequence[Share]) -> dict[str, Any]:
 
 
 def group_of(groups: Groups, it: Figures, asked: Asked, is_named: bool) -> dict[str, Any]:
-    """Returns the object of a group. A group that is named in the request has more fields."""
+    """Returns the JSON object of a group. A requested group has more fields."""
     fields: dict[str, Any] = {
         "group": groups.name(it.group),
         "path": it.group.path,
@@ -84,8 +84,8 @@ def group_of(groups: Groups, it: Figures, asked: Asked, is_named: bool) -> dict[
 def as_json(
     groups: Groups, found: list[Figures], everyone: list[Figures], asked: Asked, known: Known
 ) -> str:
-    """Returns one JSON object with the request and an array of the requested groups `found`, or of
-    all groups if none was requested.
+    """Returns one JSON object that contains the request and an array of groups: the requested
+    groups `found`, or all groups if none was requested.
     """
     whole = {
         "trace": asked.trace,

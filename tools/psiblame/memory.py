@@ -1,5 +1,5 @@
-"""Computes from memory samples by how much the memory of groups grew, and how many pages were
-scanned for them.
+"""Computes, from memory samples, how much the memory of groups grew and how many pages were scanned
+for each group.
 """
 from __future__ import annotations
 
@@ -8,8 +8,8 @@ from typing import NamedTuple
 
 class Growth(NamedTuple):
     """The growth (bytes) of a group's memory in a time span, and the increase of its count of
-    scanned pages. The growth is the difference between the highest sample in the time span and the
-    last sample before it, or the first sample in it if there is none before.
+    scanned pages. The growth is the highest sample in the time span minus the last sample before
+    the time span. Without an earlier sample, the first sample in the time span is subtracted.
     """
 
     grown: int
@@ -17,8 +17,8 @@ class Growth(NamedTuple):
 
 
 class Samples:
-    """The memory samples in the current time span, by the group's number. The last sample before
-    the time span counts as the first in it, since the group had that memory when the span began.
+    """The memory samples of the current time span, keyed by the group's number. The last sample
+    before the time span counts as its first sample: it is the group's memory at the start.
     """
 
     def __init__(self) -> None:
@@ -38,7 +38,7 @@ class Samples:
         self.last[group] = current, pages
 
     def taken(self) -> dict[int, Growth]:
-        """Returns the growth of each group in the current time span, and begins a new time span."""
+        """Returns the growth of each group in the current time span, and starts a new time span."""
         found = {
             group: Growth(self.highest[group] - self.first[group], self.scanned[group])
             for group in self.last

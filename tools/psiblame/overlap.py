@@ -1,19 +1,20 @@
-"""Measures for how long other groups waited for IO, or were in a memory stall, at the same time as
-a requested group.
+"""Measures how long other groups waited for IO, or were in a memory stall, at the same time as a
+requested group.
 """
 from __future__ import annotations
 
 import collections
 
-# Times (ns) by the numbers of the requested group and of the other group.
+# Overlaps (ns), keyed by the numbers of the requested group and of the other group.
 Pairs = dict[tuple[int, int], int]
 
 
 class Beside:
-    """The clock of a requested group, which runs while the group is in the state. `total` is the
-    time (ns) that it shows, summed over processors, and `processors` is the number of processors on
-    which the group is in the state now. For each other group in the state, `since` has the clock's
-    time at which the group entered the state. The clock's time since then is their overlap.
+    """A clock that runs while a requested group is in a certain state. `total` is the clock's time
+    (ns), summed over processors, at the time `last` (ns). `processors` is the number of processors
+    on which the group is in the state now. For each other group in the state, `since` is the
+    clock's time at which that group entered the state. The clock's advance since then is the
+    overlap of both groups.
     """
 
     __slots__ = ("group", "total", "processors", "last", "since", "sums")
@@ -25,7 +26,7 @@ class Beside:
         self.sums = collections.defaultdict[int, int](int)
 
     def at(self, now: int) -> int:
-        """Returns the clock's time (ns) at the time `now` (ns)."""
+        """Returns the time (ns) that the clock shows at `now` (ns)."""
         return self.total + self.processors * (now - self.last)
 
     def change(self, by: int, now: int) -> None:
@@ -34,8 +35,8 @@ class Beside:
         self.processors += by
 
     def count(self, other: int, now: int) -> None:
-        """Adds the overlap with the group `other` since it entered the state. If the requested
-        group didn't exist at that time, its clock counts from 0.
+        """Adds the overlap with the group `other` since that group entered the state. If the
+        requested group was created later, the overlap counts from its creation.
         """
         total = self.at(now)
         self.sums[other] += total - self.since.get(other, 0)
@@ -43,21 +44,23 @@ class Beside:
 
 
 class Overlap:
-    """Measures, for each requested group and each other group, the part of the requested group's
-    time in a state in which the other group was in the same state, on any processor.
+    """Measures, for each requested group and each other group, how long the other group was in a
+    certain state while the requested group was. The time is summed over the processors on which the
+    requested group is in the state. The other group may be in the state on any processor.
     """
 
     def __init__(self) -> None:
         self.asked: list[Beside] = []
-        # The number of processors on which each group is in the state, if it isn't 0.
+        # The number of processors on which each group is in the state. Groups with 0 processors are
+        # absent.
         self.processors: dict[int, int] = {}
 
     def ask(self, group: int) -> None:
-        """Adds a requested group, which was just created."""
+        """Adds a requested group at its creation."""
         self.asked.append(Beside(group))
 
     def begin(self, group: int, now: int) -> None:
-        """Counts that the group entered the state on one more processor."""
+        """Counts one more processor on which a group is in the state."""
         is_first = group not in self.processors
         self.processors[group] = 1 if is_first else self.processors[group] + 1
         for asked in self.asked:
@@ -67,7 +70,7 @@ class Overlap:
                 asked.since[group] = asked.at(now)
 
     def end(self, group: int, now: int) -> None:
-        """Counts that the group left the state on one processor."""
+        """Counts one processor less on which a group is in the state."""
         is_last = self.processors[group] == 1
         if is_last:
             del self.processors[group]
@@ -80,7 +83,7 @@ class Overlap:
                 asked.count(group, now)
 
     def taken(self, now: int) -> Pairs:
-        """Returns the overlaps up to `now` (ns), and sets them to 0."""
+        """Returns all overlaps up to `now` (ns), and resets them to 0."""
         found: Pairs = {}
         for asked in self.asked:
             for group in self.processors:

@@ -1,5 +1,5 @@
-"""Measures, for one processor, how long each group waited while a certain group ran, and how long
-groups waited for IO or were in a memory stall.
+"""Measures, for one processor, how long each group waited while a certain group ran. Also measures
+how long groups waited for IO or were in a memory stall.
 """
 from __future__ import annotations
 
@@ -13,19 +13,20 @@ from psireplay.groups import Group
 
 from .overlap import Overlap
 
-# The number of the runner if no task runs.
+# The runner's number while no task runs.
 NOBODY = -1
-# The key in a row for the time (ns) for which the row's runner ran.
+# The key in a row for the run time (ns) of the row's runner.
 LENGTH = -1
-# This is added to a runner's number for the times in which no task would have waited if the victim
-# hadn't run.
+# An offset that is added to a runner's number. It marks times in which, without the victim, no task
+# would have waited.
 ALONE = 1 << 40
 Row = collections.defaultdict[int, int]
 
 
 class Task(world.Task):
-    """A task, with the process or thread to which its time is attributed, if that is known, and the
-    number of the runner: of this process or thread in the task's group.
+    """A task with its runner. `life` is the process or thread to which the task's time is
+    attributed, or None if it is unknown. `runner` is the number of the runner that consists of the
+    task's group and `life`.
     """
 
     __slots__ = ("life", "runner")
@@ -38,8 +39,8 @@ class Task(world.Task):
 
 
 class GroupTimes:
-    """Measures for how long (ns) each group had a task in a certain state on a processor: waiting
-    for IO, or in a memory stall. `overlap` is notified when a group enters or leaves the state.
+    """Measures how long (ns) each group had a task in a certain state on a processor: waiting for
+    IO, or in a memory stall. `overlap` is notified when a group enters or leaves the state.
     """
 
     __slots__ = ("counts", "since", "sums", "overlap")
@@ -51,7 +52,8 @@ class GroupTimes:
         self.overlap = overlap
 
     def enter(self, chain: Iterable[int], now: int) -> None:
-        """Counts a task that enters the state, for the groups of `chain`: its own and ancestors."""
+        """Counts a task that enters the state. `chain` contains the task's group and all ancestors.
+        """
         counts = self.counts
         for group in chain:
             if group in counts:
@@ -63,7 +65,8 @@ class GroupTimes:
                     self.overlap.begin(group, now)
 
     def leave(self, chain: Iterable[int], now: int) -> None:
-        """Counts a task that leaves the state, for the groups of `chain`: its own and ancestors."""
+        """Counts a task that leaves the state. `chain` contains the task's group and all ancestors.
+        """
         counts = self.counts
         for group in chain:
             if counts[group] > 1:
@@ -75,7 +78,7 @@ class GroupTimes:
                     self.overlap.end(group, now)
 
     def taken(self, now: int) -> Row:
-        """Returns the times (ns) of groups up to `now` (ns), and sets them to 0."""
+        """Returns the times (ns) of all groups up to `now` (ns), and resets them to 0."""
         sums = self.sums
         for group, since in self.since.items():
             sums[group] += now - since
@@ -85,8 +88,9 @@ class GroupTimes:
 
 
 class Rows(dict[int, Row]):
-    """A row for each runner, by its number: the time (ns) for which each group waited while the
-    runner ran and, with the key LENGTH, the time (ns) for which the runner ran.
+    """Rows, keyed by the number of a runner. A row has, for each group's number, how long (ns) the
+    group waited while the runner ran. The row's entry LENGTH is the time (ns) for which the runner
+    ran.
     """
 
     def __missing__(self, runner: int) -> Row:
@@ -95,8 +99,9 @@ class Rows(dict[int, Row]):
 
 
 class Processor:
-    """A processor's state between two events: the running task, and the number of ready tasks in
-    each group that has any. `rows` has the times so far.
+    """The state of a processor between two events: the running task, and the number of ready tasks
+    of each group. Groups without ready tasks are absent. `rows` contains the times up to the last
+    event.
     """
 
     __slots__ = ("number", "task", "ready", "rows", "row", "last", "io", "memory")
@@ -111,7 +116,9 @@ class Processor:
         self.io, self.memory = GroupTimes(io), GroupTimes(memory)
 
     def pass_time(self, now: int) -> None:
-        """Adds the time up to `now` (ns) to the current row, before the state changes."""
+        """Adds the time up to `now` (ns) to the current row. Must be called before the state
+        changes.
+        """
         length = now - self.last
         if length:
             self.last = now
@@ -141,7 +148,7 @@ class Processor:
         self.row = self.rows[task.runner if task else NOBODY]
 
     def taken(self, now: int) -> Rows:
-        """Returns the rows up to `now` (ns), and begins new rows."""
+        """Returns the rows up to `now` (ns), and starts new rows."""
         self.pass_time(now)
         rows, self.rows = self.rows, Rows()
         self.run(self.task)
@@ -150,7 +157,7 @@ class Processor:
 
 class WatchedProcessor(Processor):
     """A processor that also measures how much shorter waits would have been without a victim.
-    `others` is the number of ready tasks that aren't the victim's. While the victim runs and
+    `others` is the number of ready tasks that don't belong to the victim. While the victim runs and
     `others` is at most 1, no task would wait if the victim didn't run.
     """
 

@@ -1,5 +1,5 @@
-"""Numbers the runners of a trace: its groups, or the processes within its groups if the trace's
-companion file names its tasks.
+"""Numbers the runners of a trace. A runner is a group, or a process within its group if the trace's
+companion file names the tasks.
 """
 from __future__ import annotations
 
@@ -11,14 +11,16 @@ from psireplay.groups import Group
 
 
 class Runner(NamedTuple):
-    """A group and a process or thread in it. `life` is None if tasks have no names."""
+    """A runner: a group, and a process or thread in the group. `life` is None if tasks have no
+    names.
+    """
 
     group: Group
     life: Optional[Life]
 
 
 class Runners:
-    """All runners that have occurred so far. A runner's number is its index in `all`."""
+    """All runners so far. A runner's number is its index in `all`."""
 
     def __init__(self, tasks: Tasks) -> None:
         self.tasks = tasks
@@ -26,13 +28,13 @@ class Runners:
         self.numbers: dict[Runner, int] = {}
 
     def life(self, pid: str, now: int) -> Optional[Life]:
-        """Returns the process or thread to which the time of a task is attributed that is created
-        at `now` (ns), or None if it is unknown.
+        """Returns the process or thread to which the time of a new task is attributed. The task is
+        created at `now` (ns). Returns None if the process is unknown.
         """
         return self.tasks.runner(int(pid), now)
 
     def number(self, group: Group, life: Optional[Life]) -> int:
-        """Returns the number of a runner. A new runner gets the next number."""
+        """Returns the number of a runner. A runner without a number gets the next one."""
         runner = Runner(group, life)
         if runner not in self.numbers:
             self.numbers[runner] = len(self.all)

@@ -1,4 +1,4 @@
-"""Adds up the times of a time span of the trace, by groups and processors, all in ns."""
+"""Adds up the times (ns) of a part of the trace, by groups and processors."""
 from __future__ import annotations
 
 import collections
@@ -12,12 +12,12 @@ Places = collections.defaultdict[tuple[int, int], int]
 
 
 class Sums:
-    """The sums (ns) of a time span. The time of a running task counts for its own group only; the
-    time of a waiting task counts for its group and all ancestors.
+    """The sums (ns) of a time span. A running task counts for its own group only. A waiting task
+    counts for its group and all ancestors.
 
-    `waited`, `io` and `memory` have a sum for each processor and group. `pairs` has a sum for each
-    group that waited for a processor and each runner that ran there meanwhile, or NOBODY. `alone`
-    is the part of `pairs` in which no task would have waited without the victim that ran.
+    `waited`, `io` and `memory` are keyed by processor and group. `pairs` is keyed by a group that
+    waited for a processor, and the runner that ran there at that time (NOBODY if none). `alone` is
+    the part of `pairs` in which, without the victim that ran, no task would have waited.
     """
 
     def __init__(self) -> None:
@@ -30,7 +30,9 @@ class Sums:
         self.growth: dict[int, Growth] = {}
 
     def take_rows(self, processor: Processor, now: int) -> None:
-        """Adds a processor's times of runners and waiting groups up to `now` (ns)."""
+        """Adds, for one processor, the run times of runners and the waiting times of groups up to
+        `now` (ns).
+        """
         for key, row in processor.taken(now).items():
             runner = key - ALONE if key >= ALONE else key
             for group, time in row.items():
@@ -43,14 +45,16 @@ class Sums:
                     self.alone[group, runner] += time
 
     def take_group_times(self, processor: Processor, now: int) -> None:
-        """Adds a processor's times of IO waits and memory stalls up to `now` (ns)."""
+        """Adds, for one processor, the times of IO waits and memory stalls of groups up to `now`
+        (ns).
+        """
         for group_times, sums in ((processor.io, self.io), (processor.memory, self.memory)):
             for group, time in group_times.taken(now).items():
                 sums[processor.number, group] += time
 
 
 class Stretches:
-    """The sums of three time spans: before, in and after the requested time span."""
+    """The sums of three time spans: before, within and after the requested time span."""
 
     def __init__(self, start: int, end: int) -> None:
         self.cuts = [start, end]
@@ -59,12 +63,14 @@ class Stretches:
         self.done: list[Sums] = []
 
     def next_cut(self) -> float:
-        """Returns the time (ns) at which the current time span ends, or infinity for the last one.
+        """Returns the time (ns) at which the current time span ends. Infinity for the last time
+        span.
         """
         return self.cuts[0] if self.cuts else float("inf")
 
     def fold(self, processors: Iterable[Processor], now: int) -> None:
-        """Adds the rows of all processors up to `now` (ns) to the current sums, and empties them.
+        """Adds the rows of all processors up to `now` (ns) to the current sums, and clears the
+        rows.
         """
         for processor in processors:
             self.now.take_rows(processor, now)

@@ -1,5 +1,5 @@
-"""Writes the output as text: a few lines about each requested group, or a table and a matrix of all
-groups.
+"""Formats the output as text: a few lines about each requested group, or a table and a matrix of
+all groups.
 """
 from __future__ import annotations
 
@@ -15,8 +15,8 @@ from .figures import Figures, Part
 from .json_output import Asked
 
 MS = 10**6
-# The default number of rows of each table, and the most characters of a group's name in a column
-# heading.
+# The default number of rows in each table, and the largest number of characters of a group's name
+# in a column heading.
 TOP = 10
 HEAD = 22
 NONE = "no task"
@@ -35,7 +35,7 @@ def percent(part: int, whole: int) -> str:
 
 
 def size(number: int) -> str:
-    """Formats a growth (bytes), in the largest unit in which it is at least 1."""
+    """Formats a memory growth (bytes) in the largest unit in which it is at least 1."""
     value, units = float(number), ["bytes", "KiB", "MiB", "GiB", "TiB"]
     while value >= 1024 and len(units) > 1:
         value, units = value / 1024, units[1:]
@@ -44,7 +44,7 @@ def size(number: int) -> str:
 
 
 def shortened(name: str) -> str:
-    """Shortens a long name to its end, which is the most specific part."""
+    """Shortens a long name from the left, since the end of a name is its most specific part."""
     return name if len(name) <= HEAD else f"..{name[2 - HEAD :]}"
 
 
@@ -61,8 +61,8 @@ def columns(rows: list[list[str]], indent: str = "") -> list[str]:
 
 
 def without_same(found: Sequence[Row], shown: Callable[[Row], object]) -> list[Row]:
-    """Returns the rows without those of groups that have a child with equal values. `shown` returns
-    a row's values.
+    """Removes the row of a group if one of its children has equal values. `shown` returns a row's
+    values.
     """
     by_group = {it.group: it for it in found}
     hidden = {
@@ -75,8 +75,8 @@ def without_same(found: Sequence[Row], shown: Callable[[Row], object]) -> list[R
 
 
 def with_names(lines: list[str], shares: Sequence[Sequence[Share]], head: str = "") -> list[str]:
-    """Returns the lines of a table, with the processes of each row at the end of its line, if
-    processes have names.
+    """Returns the lines of a table. If processes have names, each line ends with the processes of
+    its row.
     """
     if not any(shares):
         return lines
@@ -94,13 +94,14 @@ class Formatter:
         self.when = f"between {seconds(asked.start)} s and {seconds(asked.to)} s"
 
     def shown(self, group: Group) -> str:
-        """Returns the name of a group, with the names of containers instead of their ids."""
+        """Returns the group's name, with container names instead of container ids."""
         return self.known.groups.shown(group.path) + self.groups.name(group).removeprefix(
             group.path
         )
 
     def name(self, of: Group, group: Optional[Group]) -> str:
-        """Returns the name of `group`, to which a part of the time of the group `of` is attributed.
+        """Returns the name of `group` in a list of the parts of a wait or stall of the group `of`.
+        `group` is None for the time in which no task ran.
         """
         if group is None:
             return NONE
@@ -109,8 +110,8 @@ class Formatter:
         )
 
     def parts(self, of: Group, parts: list[Part], whole: int, head: str) -> list[str]:
-        """Returns a table of the longest parts, each with its share of `whole` (ns), and a line
-        with the number of parts that aren't shown.
+        """Returns a table of the longest parts, each with its share of `whole` (ns). The last line
+        counts the omitted parts.
         """
         rows = [[head, "s", "of it"]]
         rows += [
@@ -121,10 +122,10 @@ class Formatter:
         more = [f"  and {left} more: --top shows them"] if left > 0 else []
         return with_names(columns(rows, "  "), [it.shares for it in parts[: self.top]]) + more
 
-    # ------------------------------------------------------------ one group
+    # ------------------------------------------------------------ lines about one group
 
     def group(self, it: Figures, growing: list[Figures]) -> list[str]:
-        """Returns the lines about one group. The last ones are about the groups `growing`, whose
+        """Returns the lines about one group. The last lines are about the groups `growing`, whose
         memory grew in the requested time span.
         """
         lines = [self.waited(it)]
@@ -166,8 +167,8 @@ class Formatter:
         ]
 
     def beside(self, it: Figures, where: str, did: str, whole: int, parts: list[Part]) -> list[str]:
-        """Returns the lines about the groups that were in the same state at the same time. They
-        need not be the cause of the group's state: a trace doesn't contain causes.
+        """Returns the lines about the groups that were in the same state at the same time. These
+        groups need not be the cause, since a trace doesn't contain causes.
         """
         if not whole:
             return []
@@ -181,8 +182,8 @@ class Formatter:
         return [first, *self.parts(it.group, without_same(parts, lambda it: it.time), whole, "")]
 
     def growth(self, it: Figures, growing: list[Figures]) -> list[str]:
-        """Returns the lines about the groups whose memory grew, or for which pages were scanned, in
-        the requested time span.
+        """Returns the lines about memory. They list each group whose memory grew, or for which
+        pages were scanned, in the requested time span.
         """
         if not growing:
             return []
@@ -201,10 +202,12 @@ class Formatter:
             *columns(rows, "  "),
         ]
 
-    # ------------------------------------------------------------ all groups
+    # ------------------------------------------------------------ tables of all groups
 
     def table(self, found: list[Figures]) -> list[str]:
-        """Returns the table of all groups that ran or waited, the longest wait first."""
+        """Returns the table of all groups that ran or waited. The group with the longest wait comes
+        first.
+        """
         some = without_same([it for it in found if it.has_some], lambda it: self.row(it)[1:])
         victim = self.asked.victim
         heads = [
@@ -245,8 +248,8 @@ class Formatter:
         return cells + (without if self.asked.victim is not None else [])
 
     def matrix(self, found: list[Figures]) -> list[str]:
-        """Returns the matrix of waits: a row for each group that waited, and a column for each
-        group that ran meanwhile.
+        """Returns the matrix of waits. It has a row for each group that waited, and a column for
+        each group that ran during those waits.
         """
         waiting = without_same([it for it in found if it.waited], lambda it: it.while_ran)
         if not waiting:

@@ -1,5 +1,4 @@
-"""Reads a trace that psi_oomd accepts, and runs psi_oomd for the time that each group was in each
-state.
+"""Reads a trace that psi_oomd accepts, and runs `psi_oomd stall` for the stall times of each group.
 """
 from __future__ import annotations
 
@@ -34,8 +33,8 @@ MESSAGES: dict[int, str] = {
 
 
 class States(NamedTuple):
-    """The times (ns) for which a group waited for IO, was in a memory stall, and waited for the
-    processor, on one processor.
+    """The times (ns) of a group on one processor: waiting for IO, in a memory stall, and waiting
+    for the processor.
     """
 
     io: int
@@ -43,13 +42,13 @@ class States(NamedTuple):
     waited: int
 
 
-# The times by processor and path, for the groups that exist at the end of the trace.
+# The times of all groups that exist at the end of the trace, keyed by processor and path.
 Stalls = dict[tuple[int, str], States]
 
 
 @contextlib.contextmanager
 def as_file(name: str) -> Iterator[str]:
-    """Yields the name of a file with the trace's bytes. Standard input is stored in a temporary
+    """Yields the name of a file that contains the trace. Standard input is copied to a temporary
     file, since the trace is read twice.
     """
     if name != "-":
@@ -71,8 +70,9 @@ def program() -> str:
 
 
 def stalls(file: str, name: str) -> Stalls:
-    """Returns the times that `psi_oomd stall` prints for the trace in `file`, which the user knows
-    as `name`. If psi_oomd rejects the trace, raises a Fault with its message and status.
+    """Runs `psi_oomd stall` on the trace in `file`, and returns the times that it prints. If
+    psi_oomd rejects the trace, raises a Fault with its message and exit status. `name` is the
+    trace's name in messages.
     """
     path = program()
     try:
@@ -97,8 +97,8 @@ def stalls(file: str, name: str) -> Stalls:
 
 
 class Lines:
-    """The lines of a trace that psi_oomd accepts. `cpus` is the number of processors in its header,
-    and `end` the time (ns) of its last line.
+    """The lines of a valid trace. `cpus` is the number of processors in its header, and `end` the
+    time (ns) of its last line.
     """
 
     def __init__(self, file: str) -> None:
@@ -108,8 +108,8 @@ class Lines:
         self.cpus = cpus_in(self.file) or 0
 
     def pieces(self) -> Iterator[list[str]]:
-        """Yields the event lines in large pieces. If standard error is a terminal, shows the
-        progress there.
+        """Yields the event lines in large pieces. Shows the progress on standard error if that is a
+        terminal.
         """
         shown = time.monotonic()
         is_shown = sys.stderr.isatty()

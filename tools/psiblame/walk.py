@@ -1,4 +1,4 @@
-"""Plays the events of a trace, and adds up the times in which groups ran, waited and stalled."""
+"""Replays the events of a trace, and adds up how long groups ran, waited and stalled."""
 from __future__ import annotations
 
 from typing import Optional
@@ -14,8 +14,8 @@ from .sums import Stretches
 
 
 class Named:
-    """Arguments that name groups, by path or as PATH#N, and the numbers of the groups so far that
-    they name. If `with_below`, they also name the descendants of these groups.
+    """Selects the groups that arguments name, by path or as PATH#N. `numbers` contains the numbers
+    of the groups that matched so far. If `with_below`, descendants of these groups match too.
     """
 
     def __init__(self, words: list[str], with_below: bool) -> None:
@@ -23,9 +23,7 @@ class Named:
         self.numbers: set[int] = set()
 
     def takes(self, group: Group) -> bool:
-        """Returns whether the arguments name a group, which was just created. Stores its number if
-        they do.
-        """
+        """Returns whether the arguments name a new group, and stores the group's number if so."""
         is_named = group.path in self.words or f"{group.path}#{group.life}" in self.words
         is_below = (
             self.with_below and group.parent is not None and group.parent.number in self.numbers
@@ -36,8 +34,8 @@ class Named:
 
 
 class Walk(World[Task]):
-    """Plays a trace. Adds up the times of its groups in `stretches`, for three time spans. `asked`
-    are the requested groups, and `victims` the victim.
+    """Replays a trace, and adds up the times of its groups in `stretches`, for three time spans.
+    `asked` selects the requested groups, and `victims` the victim.
     """
 
     def __init__(
@@ -53,32 +51,32 @@ class Walk(World[Task]):
         self.made(self.all[0])
 
     def processor(self, number: int, io: Optional[Overlap], memory: Optional[Overlap]) -> Processor:
-        """Returns a processor in its state before the first event."""
+        """Returns a processor in its initial state."""
         if self.victims.words:
             return WatchedProcessor(number, io, memory, self.victims.numbers)
         return Processor(number, io, memory)
 
     def new_task(self, pid: str, group: Group, cpu: int) -> Task:
-        """Returns a task that was just created."""
+        """Creates a task for a `fork` line."""
         life = self.runners.life(pid, self.now)
         return Task(pid, group, cpu, life, self.runners.number(group, life))
 
     def made(self, group: Group) -> None:
-        """Checks whether a new group is requested or a victim."""
+        """Records whether a new group is requested, and whether it belongs to the victim."""
         self.victims.takes(group)
         if self.asked.takes(group):
             self.io.ask(group.number)
             self.memory.ask(group.number)
 
-    # ------------------------------------------------------------ time
+    # ------------------------------------------------------------ time spans
 
     def pass_to(self, time_ns: int) -> None:
-        """Ends the time spans of the sums that end before `time_ns`."""
+        """Ends each time span whose end is before `time_ns`."""
         while time_ns > self.next_cut:
             self.cut(int(self.next_cut))
 
     def cut(self, now: int) -> None:
-        """Ends a time span of the sums at `now` (ns). It includes the events at that time."""
+        """Ends the current time span at `now` (ns). Events at `now` belong to this time span."""
         ended = self.stretches.end(self.processors, now)
         ended.io_beside, ended.memory_beside = self.io.taken(now), self.memory.taken(now)
         ended.growth = self.growth.taken()
@@ -95,10 +93,11 @@ class Walk(World[Task]):
         return sum(len(row) for processor in self.processors for row in processor.rows.values())
 
     def fold(self) -> None:
-        """Adds the rows of all processors to the sums, which keeps them small."""
+        """Adds the rows of all processors to the sums and clears the rows, so that they stay small.
+        """
         self.stretches.fold(self.processors, max(it.last for it in self.processors))
 
-    # ------------------------------------------------------------ events
+    # ------------------------------------------------------------ changes of tasks
 
     def leave(self, task: Task) -> None:
         """Removes a task from its processor before its state, group or processor changes."""

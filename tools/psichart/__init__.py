@@ -1,1 +1,1 @@
-"""Draws the output of `psi_oomd replay` as an SVG picture, for `tools/chart`."""
+"""Draws the output of `psi_oomd replay` as an SVG image, for `tools/chart`."""

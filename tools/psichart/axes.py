@@ -1,4 +1,4 @@
-"""Computes the axes of a chart: round steps of percentages, bytes and time, and their labels."""
+"""Computes the axes of a chart: round steps of percentages, bytes and times, with their labels."""
 from __future__ import annotations
 
 import itertools
@@ -27,7 +27,7 @@ CLOCK_STEPS = [
 ]  # fmt: skip
 UNITS = (("days", DAY), ("hours", HOUR), ("minutes", MINUTE), ("seconds", SECOND))
 SIZES = ("bytes", "KiB", "MiB", "GiB", "TiB", "PiB", "EiB")
-# The most steps on a time axis, and the smallest gap (pixels) between two labels.
+# The largest number of steps on a time axis, and the smallest gap (pixels) between two labels.
 MOST_STEPS = 10
 GAP = 12
 
@@ -40,7 +40,7 @@ class Mark(NamedTuple):
 
 
 def round_steps() -> Iterator[int]:
-    """Yields the round numbers in ascending order: 1, 2 and 5 times each power of ten."""
+    """Yields 1, 2 and 5 times each power of ten, in ascending order."""
     return (digit * int(10**power) for power in itertools.count() for digit in (1, 2, 5))
 
 
@@ -52,8 +52,8 @@ def share_step(most: int) -> int:
 
 
 def byte_step(most: int) -> int:
-    """Returns the smallest round number of bytes, KiB, MiB and so on with which five steps reach
-    `most`.
+    """Returns the smallest round step with which five steps reach `most` bytes. The step is a round
+    number of bytes, KiB, MiB and so on.
     """
     counts = (1, 2, 5, 10, 20, 50, 100, 200, 500)
     steps = (count * int(1024**size) for size in itertools.count() for count in counts)
@@ -61,13 +61,15 @@ def byte_step(most: int) -> int:
 
 
 def byte_text(number: int, step: int) -> str:
-    """Returns a number of bytes as text, in the largest unit that isn't greater than the step."""
+    """Formats a number of bytes in the largest unit that is at most the step."""
     size = next(it for it in reversed(range(len(SIZES))) if step >= 1024**it)
     return f"{number // 1024**size} {SIZES[size]}"
 
 
 def time_steps() -> Iterator[int]:
-    """Yields the round steps of time (ns) in ascending order."""
+    """Yields round steps of time (ns) in ascending order. From 10 s on, they are the steps of a
+    clock: seconds, minutes, hours, and then days.
+    """
     yield from itertools.takewhile(lambda step: step < 10 * SECOND, round_steps())
     yield from CLOCK_STEPS
     yield from (step * DAY for step in round_steps())
@@ -84,13 +86,14 @@ class TimeAxis:
         )
 
     def x(self, time_ns: int) -> float:
-        """Returns the x coordinate (pixels) of a time. It is rounded to two decimals as in the
-        picture, so that the time is counted in the pixel column in which it is drawn.
+        """Returns the x coordinate (pixels) of `time_ns`. It is rounded to two decimals, like the
+        coordinates in the picture, so that a time always counts in the pixel column in which it is
+        drawn.
         """
         return round(LEFT + (time_ns - self.start) * (RIGHT - LEFT) / (self.end - self.start), 2)
 
     def holds(self, time_ns: int) -> bool:
-        """Whether a time is within the chart."""
+        """Returns whether `time_ns` lies within the chart."""
         return self.start <= time_ns <= self.end
 
     def marks(self) -> Iterator[Mark]:
@@ -106,12 +109,15 @@ class TimeAxis:
         return f"{self.unit} since the start of the trace"
 
     def time_text(self, time_ns: int) -> str:
-        """Formats a time (ns) like the axis, for example as `146 s` or `2 h 1 min`."""
+        """Formats a time (ns) in the form of the axis labels, for example `146 s` or `2 h 1 min`.
+        """
         return f"{seconds(time_ns)} s" if self.unit == "seconds" else duration(time_ns)
 
 
 class WallAxis(TimeAxis):
-    """A time axis with the time of day. `wall` is the time of day at the start of the trace."""
+    """A time axis that is labelled with the time of day. `wall` is the time of day at the start of
+    the trace.
+    """
 
     def __init__(self, start: int, end: int, wall: WallTime) -> None:
         super().__init__(start, end)
@@ -120,14 +126,14 @@ class WallAxis(TimeAxis):
         self.step = next(step for step in time_steps() if self.has_room(step))
 
     def has_room(self, step: int) -> bool:
-        """Whether the labels fit on the axis if they are `step` ns apart."""
+        """Returns whether labels at a distance of `step` ns fit on the axis."""
         steps = math.ceil((self.end - self.start) / step)
         width = LETTER * len(self.text(step, step)) + GAP
         return steps <= MOST_STEPS and steps * width <= RIGHT - LEFT
 
     def text(self, local: int, step: int) -> str:
-        """Returns the label of the local time `local` (ns since 1970). The start of a day has its
-        date as label.
+        """Returns the label of the local time `local` (ns since 1970). At midnight the label is the
+        date.
         """
         at = clock_time(local)
         if step >= DAY or (local % DAY == 0 and self.has_days()):
@@ -147,11 +153,11 @@ class WallAxis(TimeAxis):
             yield Mark(local - self.first, self.text(local, self.step))
 
     def days(self) -> tuple[ClockTime, ClockTime]:
-        """Returns the local times of the start and the end of the chart."""
+        """Returns the local times at both ends of the chart."""
         return clock_time(self.first + self.start), clock_time(self.first + self.end)
 
     def has_days(self) -> bool:
-        """Whether the start and the end of the chart have different dates."""
+        """Returns whether the chart starts and ends on different dates."""
         first, last = self.days()
         return first.date[:3] != last.date[:3]
 
@@ -169,6 +175,5 @@ class WallAxis(TimeAxis):
 
 
 def time_axis(start: int, end: int, wall: Optional[WallTime]) -> TimeAxis:
-    """Returns an axis with the time of day if `wall` isn't None, otherwise with the trace's time.
-    """
+    """Returns an axis labelled with the time of day, or with the trace's time if `wall` is None."""
     return WallAxis(start, end, wall) if wall else TimeAxis(start, end)

@@ -1,5 +1,5 @@
-"""Draws the whole picture: a title, a legend, panels with one common time axis, and vertical lines
-for kills and removals of groups.
+"""Draws the whole chart: a title, a legend, panels with a common time axis, and vertical lines for
+kills and removals of groups.
 """
 from __future__ import annotations
 
@@ -36,24 +36,25 @@ NAMES = {
     "irq": "interrupt pressure", "use": "memory in use"
 }  # fmt: skip
 MARKS_TOP = 74
-# The height (pixels) that the first panel's name needs below the labels of vertical lines.
+# The height (pixels) of the space for the first panel's name, below the labels of the vertical
+# lines.
 NAME_ROOM = 18
 LEGEND = 50
-# The gap between two panels, and the height of a panel that shows no pressure (pixels).
+# The vertical gap between two panels, and the height of a panel without pressure (pixels).
 PANEL_GAP = 48
 FLAT_HEIGHT = 30
-# The height (pixels) of a second row of the legend, if two replays are drawn.
+# The additional height (pixels) of the legend if two replays are drawn.
 LEGEND_ROW = 20
 AVERAGES = ("10 s", "60 s", "300 s")
-# The most groups in a title, the most characters in all their paths, and the most characters in the
-# whole title.
+# The limits of a title: the number of groups, the number of characters in all their paths, and the
+# number of characters in the whole title.
 TITLED = 3
 PATHS_ROOM = 60
 TITLE_ROOM = int((WIDTH - 32) / TITLE_LETTER)
 
 
 class Place(NamedTuple):
-    """The position of a panel: its top and its height (pixels)."""
+    """The position of a panel: its upper edge and its height (pixels)."""
 
     top: int
     height: int
@@ -67,9 +68,9 @@ NO_NAMES = GroupNames({})
 
 
 class Wanted(NamedTuple):
-    """The data to draw: a replay, the resources, the time axis, and optionally the rules and the
-    memory samples. If `replay` is without the killed groups, `recorded` is the replay of the
-    original trace, which is drawn in the same panels.
+    """The data to draw: a replay, the resources, the time axis, and the rules and memory samples,
+    each None if absent. If `replay` omits the killed groups, `recorded` is the replay of the
+    recorded trace, which is drawn in the same panels.
     """
 
     replay: Replay
@@ -82,7 +83,7 @@ class Wanted(NamedTuple):
 
 
 class Chart:
-    """A chart, which computes the positions of its parts and draws them."""
+    """A chart. It computes the positions of its parts and draws them."""
 
     def __init__(self, wanted: Wanted) -> None:
         self.wanted, self.replay, self.axis = wanted, wanted.replay, wanted.axis
@@ -108,13 +109,15 @@ class Chart:
     # ------------------------------------------------------------ parts of the picture
 
     def panels_of(self, resource: str) -> list[Panel]:
-        """Returns a panel of the resource for each group. The resource `use` has memory panels, if
-        there are memory samples.
+        """Returns a panel for each drawn group and this resource. The resource `use` needs memory
+        samples.
         """
         return [panel for path in self.replay.groups for panel in self.panel(resource, path)]
 
     def panel(self, resource: str, path: str) -> list[Panel]:
-        """Returns the panel of a resource and a group, or nothing without memory samples."""
+        """Returns a list with the panel of `resource` for the group `path`. The list is empty for a
+        memory panel if there are no memory samples.
+        """
         rules, samples = self.wanted.rules, self.wanted.samples
         name = NAMES[resource] + (
             f" of {self.shown(path)}" if len(self.replay.groups) > 1 else ""
@@ -129,8 +132,8 @@ class Chart:
         return [MemoryPanel(name, self.axis, thresholds, samples.lives[path])]
 
     def places_of(self) -> list[Place]:
-        """Returns the positions of the panels, one below the other. Panels that show no pressure
-        are low.
+        """Returns the positions of the panels, from top to bottom. A panel without pressure has the
+        height FLAT_HEIGHT.
         """
         full = [it for it in self.panels if not it.is_flat()]
         height = 300 if len(full) == 1 else 132 if len(full) <= 5 else 96
@@ -147,7 +150,7 @@ class Chart:
         ]
 
     def kill(self, kill: Kill) -> Event:
-        """Returns the description and the labels of a kill."""
+        """Returns a kill as an event, with its description and its labels."""
         at = self.axis.time_text(kill.time_ns)
         path = self.shown(kill.path)
         would, who = f"{path} would be killed", f"ruleset {kill.ruleset}, action {kill.action}"
@@ -159,21 +162,22 @@ class Chart:
                 f"{would} at {at} by ruleset {kill.ruleset} {who}, action"
                 f" {kill.action} {killer.plugin}"
             )
-        # If there is no room for the longest label, the label has the killer and not the time,
-        # which the axis shows. If the title names the killer, the label has the time.
+        # A shorter label for a kill, if the longest doesn't fit. It omits the time, which the axis
+        # shows; if the title already names the killer, it omits the killer instead.
         second = f"{would} at {at}" if f" by {who}" in self.heading else f"{would} by {who}"
         texts = (f"{would} at {at} by {who}", second, f"{would} at {at}", would, path)
         return Event(kill.time_ns, "kill", hint, texts)
 
     def end(self, removal: Removal) -> Event:
-        """Returns the description and the labels of a removal."""
-        # Only the time of the first report without the group is known, not the time of its removal.
+        """Returns the removal of a group as an event, with its description and its labels."""
+        # The exact time of the removal isn't known, only the time of the first report without the
+        # group.
         was = f"{self.shown(removal.path)} was gone"
         by = f"{was} by {self.axis.time_text(removal.time_ns)}"
         return Event(removal.time_ns, "gone", by, (by, by, by, was, was))
 
     def title(self, most: int) -> str:
-        """Returns the title with paths of at most `most` characters."""
+        """Returns the title. The paths in it together have at most `most` characters."""
         groups = self.replay.groups
         paths = [short(self.shown(path), most) for path in groups]
         which = ", ".join(paths[:-1]) + " and " * (len(paths) > 1) + paths[-1]
@@ -187,14 +191,14 @@ class Chart:
         )
 
     def fitting_title(self) -> str:
-        """Returns the title with the longest paths that fit into the picture."""
+        """Returns the title. Its paths are as long as the width of the picture permits."""
         most = PATHS_ROOM // min(TITLED, len(self.replay.groups))
         titles = [self.title(it) for it in range(most, most // 2, -1)]
         return next((it for it in titles if len(it) <= TITLE_ROOM), short(titles[-1], TITLE_ROOM))
 
     def killers(self) -> str:
-        """Returns the part of the title about the rulesets that kill: the name of the ruleset, or
-        the number of rulesets. Returns an empty text without rules.
+        """Returns the part of the title about the rulesets that killed: the ruleset's name, or the
+        number of rulesets. The text is empty if there are no rules or no kills.
         """
         rules = self.wanted.rules
         names = {it.ruleset: rules.killer(it).ruleset for it in self.replay.kills} if rules else {}
@@ -203,10 +207,10 @@ class Chart:
         return "".join(f" by '{name}'" for name in names.values())
 
     def has_events(self) -> bool:
-        """Whether any panel has ticks for events, which the legend must then explain."""
+        """Returns whether some panel shows events of triggers. If so, the legend explains them."""
         return any(panel.has_events() for panel in self.panels)
 
-    # ------------------------------------------------------------ the drawing
+    # ------------------------------------------------------------ drawing
 
     def draw(self) -> Element:
         """Draws the picture, and returns its root element."""
@@ -224,8 +228,8 @@ class Chart:
             self.draw_supposed()
         self.draw_time()
         for panel, at in zip(self.panels, self.places):
-            # Panels of one kind have one scale, so that groups can be compared. Panels without
-            # pressure are an exception.
+            # Panels of the same kind share one scale, so that groups can be compared. A panel
+            # without pressure has its own scale.
             alike = [it for it in self.panels if it.kind == panel.kind]
             panel.draw(
                 self.svg,
@@ -237,7 +241,8 @@ class Chart:
         return self.svg
 
     def draw_legend(self) -> None:
-        """Draws the legend: the styles of curves and, if there are any, of events and kills."""
+        """Draws the legend: the styles of the curves, and of events and kills if the chart has any.
+        """
         legend = add(self.svg, "g", class_="legend")
         y = LEGEND
         add(legend, "text", "average over", x=16, y=y + 4)
@@ -257,7 +262,7 @@ class Chart:
             add(kill, "text", "would be killed", x=844, y=y + 4)
 
     def draw_legend_beside(self) -> None:
-        """Draws the legend for the two replays."""
+        """Draws the additional legend that explains the styles of two replays."""
         legend = add(self.svg, "g", class_="legend beside")
         y = LEGEND + LEGEND_ROW
         for text, classes, x in (
@@ -270,8 +275,8 @@ class Chart:
         add(legend, "text", "after the first kill: others as recorded", x=630, y=y + 4)
 
     def draw_supposed(self) -> None:
-        """Shades all panels after the first kill. In the shaded time the replay without the killed
-        groups assumes that all other tasks behave as recorded.
+        """Shades all panels from the first kill on. From that time the replay without the killed
+        groups is hypothetical: it assumes that all other tasks behave as recorded.
         """
         first = min((kill.time_ns for kill in self.replay.kills), default=self.axis.end)
         if first >= self.axis.end:
@@ -283,7 +288,7 @@ class Chart:
             height=at.height)  # fmt: skip
 
     def draw_time(self) -> None:
-        """Draws the lines of the time axis through all panels, and their labels below the last
+        """Draws the lines of the time axis across all panels. Their labels are below the last
         panel.
         """
         axis = add(self.svg, "g", class_="time")
@@ -297,7 +302,9 @@ class Chart:
         text_anchor="middle")  # fmt: skip
 
     def draw_marks(self) -> None:
-        """Draws the vertical lines, and a note if some have no label for lack of room."""
+        """Draws the vertical lines. If some have no label because there is no space, adds a note
+        with the number of their events.
+        """
         marks = add(self.svg, "g", class_="marks")
         for mark in self.marks:
             self.draw_mark(marks, mark)
@@ -318,8 +325,8 @@ class Chart:
             )
 
     def draw_mark(self, marks: Element, mark: Mark) -> None:
-        """Draws a vertical line from its label through all panels, with a triangle for a kill and a
-        cross for a removal.
+        """Draws a vertical line from its label through all panels. A triangle marks a kill, and a
+        cross marks a removal.
         """
         group = add(marks, "g", class_=mark.kind)
         add(group, "title", mark.hint())

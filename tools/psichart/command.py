@@ -57,9 +57,9 @@ HELP = {
 
 
 class Options(NamedTuple):
-    """The parsed command line. `replayed` is the trace to replay, or None if a replay is read from
-    standard input; `trace` is the trace of that replay, if it is known. `values` has all options by
-    name.
+    """The parsed command line. `replayed` is the trace to replay; None if a replay is read from
+    standard input. `trace` is the trace of the replay, or None if it isn't known. `values` contains
+    all options by name.
     """
 
     replayed: Optional[str]
@@ -93,7 +93,7 @@ def parser() -> Parser:
 
 
 def options_of() -> Options:
-    """Parses the command line, and rejects options that exclude each other."""
+    """Parses the command line. Rejects options that exclude each other."""
     values = parser().values()
     must_fit(values)
     if values["top"] and values["group"]:
@@ -123,8 +123,8 @@ def options_of() -> Options:
 
 
 def resources_of(replay: Replay, options: Options) -> list[str]:
-    """Returns the resources to draw. They include interrupts only if a drawn group has reports on
-    interrupts.
+    """Returns the resources to draw. Interrupts are included only if a drawn group has reports on
+    them.
     """
     if options.resource:
         return [options.resource]
@@ -135,7 +135,7 @@ def resources_of(replay: Replay, options: Options) -> list[str]:
 def must_have_reports(
     replay: Replay, resources: list[str], start: int, end: int, groups: list[str]
 ) -> None:
-    """Raises a Fault, which suggests other options, if the replay has no report on these groups and
+    """Raises a Fault, with suggested options, if the replay has no report on these groups and
     resources between `start` and `end` (ns).
     """
     series = [
@@ -155,7 +155,9 @@ def must_have_reports(
 
 
 def read_recorded(name: str, groups: list[str], replay: Replay) -> Replay:
-    """Returns the replay in the file `name`, which must be of the same trace as `replay`."""
+    """Reads the second replay, from the file `name`. Raises a Fault if its end or its number of
+    ticks differs from that of `replay`, since both must be replays of one trace.
+    """
     with opened(name) as printed:
         try:
             recorded = read_replay(printed, groups)
@@ -173,8 +175,9 @@ def read_recorded(name: str, groups: list[str], replay: Replay) -> Replay:
 
 
 def read_printed(printed: IO[bytes], options: Options, known: Known) -> tuple[list[str], Replay]:
-    """Returns the paths of the groups to draw, and the parts of the replay's output that are drawn.
-    The output is copied and read twice, unless the command line has the paths of all groups.
+    """Returns the paths of the groups to draw, and the parsed reports of these groups. Reads the
+    output of the replay twice, from a copy, unless the command line contains the paths of all
+    groups.
     """
     if not options.top and all(
         it.startswith("/") and known.groups.shown(it) == it for it in options.groups
@@ -201,8 +204,8 @@ def read_printed(printed: IO[bytes], options: Options, known: Known) -> tuple[li
 
 
 def span_of(options: Options, known: Known, replay: Replay) -> tuple[int, int]:
-    """Returns the start and the end of the time span to draw (ns). Without an option it begins
-    where the recording begins in the trace.
+    """Returns the start and the end of the time span to draw (ns). By default the span starts with
+    the recording, after the warm-up at the start of the trace.
     """
     span = span_in(options.values, known.wall, replay.end.time_ns, "replay")
     source = options.summary or known.companion
@@ -211,8 +214,8 @@ def span_of(options: Options, known: Known, replay: Replay) -> tuple[int, int]:
 
 
 def samples_of(options: Options, groups: list[str], end: int) -> Optional[Samples]:
-    """Returns the memory samples of the groups up to `end` (ns), or None if the trace isn't known,
-    or if the replayed trace has no samples.
+    """Returns the memory samples of the groups up to `end` (ns). Returns None if the trace isn't
+    known, or if it contains no samples.
     """
     if options.trace is None:
         return None

@@ -14,8 +14,8 @@ NAMED = 4
 
 
 class Event(NamedTuple):
-    """A kill or a removal: its time (ns), its style, its full description, and its possible labels
-    from the longest to the shortest.
+    """A kill or a removal: its time (ns), its style, its full description, and its possible labels,
+    the longest first.
     """
 
     time_ns: int
@@ -25,9 +25,9 @@ class Event(NamedTuple):
 
 
 class Mark:
-    """The vertical line for the events in one pixel column, and the position of its label: the
-    number of its row, counted from below, or None if it has no label; and whether it is left of the
-    line.
+    """A vertical line for the events in one pixel column, with its label. `row` is the row of the
+    label, counted from below, or None without a label. `is_left` says whether the label is to the
+    left of the line.
     """
 
     def __init__(self, x: float, events: list[Event]) -> None:
@@ -38,15 +38,15 @@ class Mark:
         self.text = ""
 
     def say(self, length: int) -> None:
-        """Sets the label: the label with the index `length` of the first event (0 is the longest),
-        with the number of further events.
+        """Sets the label to a text of the first event: the text with index `length`. The text with
+        index 0 is the longest. Appends the number of further events.
         """
         more = f" +{len(self.events) - 1}" if len(self.events) > 1 else ""
         self.text = short(self.events[0].texts[length], 96 if length == 0 else 64) + more
 
     def hint(self) -> str:
         """Returns the tooltip: the descriptions of the first NAMED events, and the number of
-        others.
+        remaining events.
         """
         lines = [it.hint for it in self.events[:NAMED]]
         return "\n".join(
@@ -54,15 +54,14 @@ class Mark:
         )
 
     def span(self, is_left: bool) -> tuple[float, float]:
-        """Returns the left and the right end (pixels) of the label if it is left or right of the
-        line.
+        """Returns the left and right end (pixels) of the label, which is left or right of the line.
         """
         width = MONOSPACE * len(self.text)
         return (self.x - 7 - width, self.x - 7) if is_left else (self.x + 7, self.x + 7 + width)
 
     def is_free(self, row: int, is_left: bool, placed: list[Mark]) -> bool:
-        """Whether the label would cover no other label and no line in this row, and its line would
-        cross no label.
+        """Returns whether the label fits in this row. It must not cover another label or line, and
+        its own line must not cross another label.
         """
         left, right = self.span(is_left)
         for other in placed:
@@ -78,8 +77,8 @@ class Mark:
         return LEFT <= left and right <= WIDTH - 4
 
     def place(self, placed: list[Mark]) -> bool:
-        """Places the label in the lowest free row to the right of the line, or else in the highest
-        free row to its left. Returns whether there is room.
+        """Places the label to the right of the line, in the lowest free row. If no row is free
+        there, places it to the left, in the highest free row. Returns whether there was a free row.
         """
         rows = range(ROWS)
         for row, is_left in itertools.chain(
@@ -92,7 +91,9 @@ class Mark:
 
 
 def marks_of(events: Iterable[Event], x_of: Callable[[int], float]) -> list[Mark]:
-    """Returns a mark for each pixel column and style of its events."""
+    """Returns a vertical line for each pixel column that contains events, and for each style of
+    event in it.
+    """
 
     def column_of(it: Event) -> tuple[int, str]:
         return int(x_of(it.time_ns)), it.kind
@@ -105,8 +106,8 @@ def marks_of(events: Iterable[Event], x_of: Callable[[int], float]) -> list[Mark
 
 
 def place_all(marks: list[Mark], length: int, are_kills_first: bool) -> list[Mark]:
-    """Places the label with the index `length` of each mark, from the last mark to the first.
-    Returns the marks for whose labels there is no room.
+    """Places the label with the index `length` of each line, from the last line to the first.
+    Returns the lines that remain without a label.
     """
     for mark in marks:
         mark.row = None
@@ -119,9 +120,9 @@ def place_all(marks: list[Mark], length: int, are_kills_first: bool) -> list[Mar
 
 
 def place(marks: list[Mark]) -> list[Mark]:
-    """Places the longest labels with which there is room for all marks. If there are none, places
-    the shortest labels, first those of kills. Removes empty rows. Returns the marks for whose
-    labels there is no room.
+    """Places the longest labels for which there is space at all lines. If no length fits
+    everywhere, places the shortest labels, those of kills first. Removes empty rows. Returns the
+    lines that remain without a label.
     """
     lengths = min((len(mark.events[0].texts) for mark in marks), default=1)
     if not any(not place_all(marks, length, False) for length in range(lengths)):

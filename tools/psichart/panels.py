@@ -29,24 +29,25 @@ from .svg import (
 )
 from .thresholds import Threshold, draw_thresholds
 
-# A panel's scale reaches at least 1 % (in hundredths of a percent) or 1 MiB (in bytes), so that
-# tiny values don't look large.
+# The smallest scale of a panel: 1 % (in hundredths of a percent) or 1 MiB (in bytes). It prevents
+# tiny values from looking large.
 LEAST_SHARE = 100
 LEAST_BYTES = 1024**2
-# The number of its periods after which an average that began at 0 is meaningful.
+# The time after which an average that began at 0 is meaningful, in multiples of the average's
+# period.
 SETTLED = 3
-# The left end of a panel's name, and the gap to its right (pixels).
+# The left end of a panel's name, and the gap to the right of the name (pixels).
 NAME_LEFT, NAME_GAP = 16, 12
-# The legend of a memory panel: the distance of its start from the right end of the panel, and the
-# width of each entry (pixels). The larger letters of browsers on phones fit too.
+# The legend of a memory panel (pixels): the distance from its left end to the panel's right end,
+# and the width of an entry. There is enough space for the larger letters of phone browsers.
 MEMORY_LEGEND, MEMORY_ENTRY = 246, 140
-# The most characters of a text to the left of a panel.
+# The largest number of characters in a text to the left of a panel.
 COUNT_ROOM = 17
 
 
 class Frame(NamedTuple):
-    """The position and the scale of a panel: its top and its height (pixels), and the value at its
-    upper edge.
+    """The position and the scale of a panel: its upper edge and its height (pixels), and the value
+    at its upper edge.
     """
 
     top: float
@@ -59,13 +60,13 @@ class Frame(NamedTuple):
 
     @property
     def scale(self) -> float:
-        """The pixels for a unit of the panel's values."""
+        """Returns the number of pixels per unit of the panel's values."""
         return self.height / self.most
 
 
 class Panel:
-    """A panel with a name, an axis with its unit, and the thresholds of rules. Subclasses draw the
-    curves.
+    """A panel: a name, an axis with a unit, and lines for the thresholds of rules. Subclasses draw
+    the curves.
     """
 
     kind = ""
@@ -73,27 +74,27 @@ class Panel:
 
     def __init__(self, name: str, axis: TimeAxis, thresholds: list[Threshold]) -> None:
         self.name, self.axis, self.thresholds = name, axis, thresholds
-        # A text in small letters after the name, and the most characters of the name.
+        # The small text after the panel's name, and the largest number of characters of the name.
         self.remark, self.longest = "", 1000
 
     def most(self) -> int:
-        """Returns the smallest value that the panel's upper edge may have."""
+        """Returns the lower bound for the value at the panel's upper edge."""
         raise NotImplementedError
 
     def is_flat(self) -> bool:
-        """Whether the panel shows nothing that needs its full height."""
+        """Returns whether the panel has no content that needs its full height."""
         return False
 
     def has_events(self) -> bool:
-        """Whether the panel has ticks for events of triggers."""
+        """Returns whether the panel shows events of triggers."""
         return False
 
     def name_end(self) -> float:
-        """Returns the right end (pixels) of the room for the name."""
+        """Returns the x coordinate (pixels) at which the space for the name ends."""
         return RIGHT
 
     def draw_name(self, panel: Element, y: float) -> None:
-        """Draws the name, which is shortened if it doesn't fit. The tooltip has the whole name."""
+        """Draws the name, shortened to the available space. The tooltip contains the full name."""
         room = self.name_end() - NAME_LEFT - NAME_GAP
         if self.remark:
             room -= NAME_GAP + SMALL_LETTER * len(self.remark)
@@ -105,7 +106,7 @@ class Panel:
             add(text, "tspan", self.remark, class_="small", dx=NAME_GAP)
 
     def step(self, most: int) -> int:
-        """Returns the distance between horizontal lines on a scale that reaches `most`."""
+        """Returns the distance between horizontal lines for a scale from 0 to `most`."""
         raise NotImplementedError
 
     def apart(self, most: int) -> int:
@@ -115,15 +116,15 @@ class Panel:
         return most if self.is_flat() else self.step(most)
 
     def number(self, value: int, step: int) -> str:
-        """Formats the value of a horizontal line. The lines are `step` apart."""
+        """Formats the value of a horizontal line. Lines are at multiples of `step`."""
         raise NotImplementedError
 
     def draw_inside(self, panel: Element, frame: Frame) -> None:
-        """Draws the curves."""
+        """Draws the curves. Implemented by subclasses."""
         raise NotImplementedError
 
     def draw(self, svg: Element, top: float, height: float, most: int) -> None:
-        """Draws the panel. Its scale reaches `most`, or the next line above it."""
+        """Draws the panel. Its scale ends at the first horizontal line at or above `most`."""
         step = self.apart(most)
         frame = Frame(top, height, -(-most // step) * step)
         panel = add(svg, "g", class_=f"panel {self.kind}")
@@ -143,14 +144,14 @@ class Panel:
 
 
 class Curves:
-    """The curves of the averages in a group's reports on one resource, in one style."""
+    """The curves of a group's averages for one resource, in one style."""
 
     def __init__(self, series: Series, axis: TimeAxis, style: str = "") -> None:
         self.series, self.axis, self.style = series, axis, style
         self.shown = [place for place, time_ns in enumerate(series.times_ns) if axis.holds(time_ns)]
 
     def most(self) -> int:
-        """Returns the greatest value of the curves, in hundredths of a percent."""
+        """Returns the largest value of all curves, in hundredths of a percent."""
         shares = (
             shares[place]
             for shares in self.series.shares.values()
@@ -160,7 +161,7 @@ class Curves:
         return max(shares, default=0)
 
     def draw(self, panel: Element, frame: Frame) -> None:
-        """Draws the curve of each average and level."""
+        """Draws a curve for each average and level."""
         for average, level in itertools.product(reversed(AVERAGES), LEVELS):
             shares = self.series.shares[level, average]
             lines = add(panel, "g", class_=f"series {level} {average}{self.style}")
@@ -173,8 +174,8 @@ class Curves:
                 add_line(lines, thinned(points), **style)
 
     def does_climb(self, average: str) -> bool:
-        """Whether the chart only shows how the average climbs from 0 at the start of the trace. The
-        machine's own average had another value there, which isn't known.
+        """Returns whether the curve only shows the rise of an average from 0 at the start of the
+        trace. At that time the machine's own average had another value, which isn't known.
         """
         period = int(average[len("avg") :]) * SECOND
         if self.axis.start >= period or self.axis.end >= SETTLED * period:
@@ -189,8 +190,8 @@ class Curves:
         )
 
     def unbroken(self) -> Iterator[list[int]]:
-        """Yields lists of the indexes of consecutive reports. A new list begins after a time of two
-        pixels or more in which the group didn't exist.
+        """Yields lists of the indexes of consecutive reports. Between two lists the group didn't
+        exist for a time of at least two pixels.
         """
         rounds, times_ns = self.series.rounds, self.series.times_ns
         run: list[int] = []
@@ -205,9 +206,8 @@ class Curves:
 
 
 class PressurePanel(Panel):
-    """A panel with the averages in a group's reports on one resource. Below the curves it has a
-    tick for each event of the group's triggers. If there are two replays, it shows the averages of
-    both.
+    """A panel with a group's averages for one resource, from one replay or two. A row of ticks
+    below the curves shows the events of the group's triggers.
     """
 
     of_what = "share of time"
@@ -225,7 +225,7 @@ class PressurePanel(Panel):
         self.kind = resource
         found = [replay.series.get((path, resource), Series()) for replay in replays]
         self.curves = [Curves(series, axis, style) for series, style in zip(found, ("", " was"))]
-        # The times (ns) of the shown events, for each replay and each level.
+        # The times (ns) of the events that are shown, by replay and level.
         self.events = [
             [
                 list(filter(axis.holds, replay.events.get((path, resource, level), [])))
@@ -240,7 +240,7 @@ class PressurePanel(Panel):
         )
 
     def is_flat(self) -> bool:
-        """Whether the panel has no pressure, no event, and no threshold of a rule."""
+        """Returns whether the panel contains no pressure, no event and no threshold."""
         return (
             not any(it.most() for it in self.curves)
             and not self.has_events()
@@ -265,7 +265,9 @@ class PressurePanel(Panel):
         self.draw_events(panel, frame.bottom + 5)
 
     def caveat(self) -> str:
-        """Returns a note to the right of the name: which averages only climb from 0."""
+        """Returns a note to the right of the name. It says which averages only show their rise from
+        0.
+        """
         climbing = [it for it in AVERAGES if self.curves[0].does_climb(it)]
         verb = "climbs" if len(climbing) == 1 else "climb"
         averages = " and ".join(climbing)
@@ -275,7 +277,7 @@ class PressurePanel(Panel):
         return RIGHT - SMALL_LETTER * len(self.caveat())
 
     def draw_events(self, panel: Element, top: float) -> None:
-        """Draws a tick for each pixel column with an event, in a row for each level."""
+        """Draws a tick for each pixel column with an event. Each level has its own row of ticks."""
         for row, (level, times_ns) in enumerate(zip(LEVELS, self.events[0])):
             columns = itertools.groupby(map(self.axis.x, times_ns), key=int)
             ticks = "".join(
@@ -286,8 +288,8 @@ class PressurePanel(Panel):
         add(panel, "text", self.counts(), class_="small", x=LEFT - 7, y=top + 10, text_anchor="end")
 
     def counts(self) -> str:
-        """Returns a text with the number of events in the chart, and the number in the replay of
-        the recorded trace if that differs.
+        """Returns a text with the number of events in the chart. Adds the number in the replay of
+        the recorded trace, if that differs.
         """
         count, *was = (sum(map(len, events)) for events in self.events)
         text = counted(count, "event")
@@ -298,8 +300,8 @@ class PressurePanel(Panel):
 
 
 class MemoryPanel(Panel):
-    """A panel with a group's memory and swap. A sample is valid until the next sample, or until the
-    group is removed.
+    """A panel with a group's memory and swap use. A sample is valid until the next sample, or until
+    the removal of the group.
     """
 
     kind = "use"
@@ -313,8 +315,8 @@ class MemoryPanel(Panel):
         self.has_swap = any(it.swap for samples in self.lives for it in samples)
 
     def shown(self, life: Life) -> list[Sample]:
-        """Returns the samples within the time span of the chart. The last sample before the time
-        span is moved to its start, and the last sample is repeated at its end.
+        """Returns the samples within the chart. The last sample before the chart's start is moved
+        to the start, and the last sample is repeated at the end.
         """
         end = self.axis.end if life.end is None else min(life.end, self.axis.end)
         inside = [it for it in life.samples if self.axis.start <= it.time_ns <= end]
@@ -352,8 +354,7 @@ class MemoryPanel(Panel):
             text_anchor="middle")  # fmt: skip
 
     def steps(self, samples: list[Sample], is_swap: bool, frame: Frame) -> Iterator[Point]:
-        """Yields the points of a stepped curve: the value is constant from each sample to the next.
-        """
+        """Yields the points of a stepped curve. The value is constant between two samples."""
         last: Optional[float] = None
         for sample in samples:
             x, y = (

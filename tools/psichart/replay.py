@@ -1,4 +1,4 @@
-"""Reads the parts of a replay's output that a chart draws: the reports and events of some groups,
+"""Reads those parts of a replay's output that a chart shows: the reports and events of some groups,
 all kills, and removals of groups.
 """
 from __future__ import annotations
@@ -12,9 +12,9 @@ Which = tuple[str, str]
 
 
 class Series:
-    """The averages of one resource of a group: the time (ns), the number of the round, and the
-    shares (hundredths of a percent) of each report. A round is a tick with reports. If a round has
-    no report on the group, the group didn't exist.
+    """The averages of a group for one resource: the time (ns), the round and the shares (hundredths
+    of a percent) of each report. A round is a tick at which reports are printed, numbered in order
+    of time. If a round has no report on the group, the group didn't exist at that time.
     """
 
     def __init__(self) -> None:
@@ -24,7 +24,7 @@ class Series:
         }
 
     def take(self, report: Report, number: int) -> None:
-        """Adds a report of the round `number`."""
+        """Adds a report from the round `number`."""
         self.times_ns.append(report.time_ns)
         self.rounds.append(number)
         for level, pressure in (("some", report.some), ("full", report.full)):
@@ -32,14 +32,14 @@ class Series:
                 self.take_line(level, pressure)
 
     def take_line(self, level: str, pressure: Pressure) -> None:
-        """Adds the averages of one level of a report."""
+        """Adds the averages of one line of a report: `some` or `full`."""
         for average, share in zip(AVERAGES, pressure):
             self.shares[level, average].append(share)
 
 
 class Removal(NamedTuple):
-    """The removal of a group: the group has a report in the previous round, but none in the round
-    at the time `time_ns`.
+    """The removal of a group. The group has a report in one round, and none in the next round, at
+    `time_ns`.
     """
 
     time_ns: int
@@ -48,7 +48,7 @@ class Removal(NamedTuple):
 
 class Rounds:
     """Finds removals of groups. `before` and `now` are the groups with reports in the previous and
-    in the current round, and `paths` the groups with any report.
+    in the current round. `paths` are all groups with a report so far.
     """
 
     def __init__(self) -> None:
@@ -60,7 +60,7 @@ class Rounds:
         self.paths: set[str] = set()
 
     def take(self, time_ns: int, path: str) -> None:
-        """Adds a report on the group at `path`. A later time begins a new round."""
+        """Adds a report on the group `path`. A report with a later time starts a new round."""
         if time_ns != self.time_ns:
             self.close()
             self.time_ns, self.number = time_ns, self.number + 1
@@ -68,7 +68,9 @@ class Rounds:
         self.paths.add(path)
 
     def close(self) -> None:
-        """Ends the round. The groups with a report only in the previous round were removed."""
+        """Ends the round. A group that had a report in the previous round but not in this one was
+        removed.
+        """
         if self.time_ns is not None:
             removed = sorted(self.before - self.now)
             self.removals += [Removal(self.time_ns, path) for path in removed]
@@ -76,7 +78,7 @@ class Rounds:
 
 
 class Replay:
-    """The parts of a replay's output that a chart of these groups draws."""
+    """The part of a replay's output that a chart of certain groups shows."""
 
     def __init__(self, groups: list[str]) -> None:
         self.groups = groups
@@ -87,27 +89,27 @@ class Replay:
         self.end = End(0, 0, 0, 0)
 
     def take_report(self, report: Report) -> None:
-        """Adds a report if it is on a drawn group, and counts it for its round."""
+        """Counts a report for its round, and stores it if its group is drawn."""
         self.rounds.take(report.time_ns, report.path)
         if report.path in self.groups:
             series = self.series.setdefault((report.path, report.resource), Series())
             series.take(report, self.rounds.number)
 
     def take_event(self, event: Event) -> None:
-        """Adds an event of a trigger if it is of a drawn group."""
+        """Stores an event of a trigger if its group is drawn."""
         if event.path in self.groups:
             self.events.setdefault((event.path, event.resource, event.level), []).append(
                 event.time_ns
             )
 
     def removals(self) -> list[Removal]:
-        """Returns the removals of the drawn groups, and of the groups that would be killed."""
+        """Returns the removals of drawn groups, and of groups that the rules would have killed."""
         named = {*self.groups, *(kill.path for kill in self.kills)}
         return [it for it in self.rounds.removals if it.path in named]
 
 
 def read_replay(printed: Iterable[bytes], groups: list[str]) -> Replay:
-    """Reads the lines of a replay's output. `groups` are the drawn groups."""
+    """Parses the lines of a replay's output. `groups` contains the paths of the groups to draw."""
     replay = Replay(groups)
     for line in read(printed):
         if isinstance(line, Report):

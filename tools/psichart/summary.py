@@ -1,5 +1,5 @@
-"""Reads the report that tools/psitrace prints on standard error, to learn the time of day at which
-the trace began.
+"""Parses the report that tools/psitrace prints on standard error. It contains, for example, the
+time of day at which the trace began.
 """
 from __future__ import annotations
 
@@ -15,9 +15,9 @@ from .replay import Replay
 
 
 class Summary(NamedTuple):
-    """The report in the file `name`: the time of day at which the trace began, the time (ns of the
-    trace) at which the recording begins, the trace's length (ns, rounded to ms), and its SHA-256.
-    What the report lacks is None.
+    """The contents of a psitrace report: the time of day at which the trace began, the trace's time
+    (ns) at which the recording begins, the trace's length (ns, rounded to ms), and its SHA-256. A
+    field is None if the report doesn't contain it.
     """
 
     name: str
@@ -27,8 +27,8 @@ class Summary(NamedTuple):
     digest: Optional[str]
 
     def must_be_of(self, replay: Replay, trace: Optional[str]) -> None:
-        """Raises a Fault if the report is about another trace: one with another length or, if the
-        trace is known, with another SHA-256.
+        """Raises a Fault if the report is about another trace. Compares the lengths (to 1 ms) and,
+        if the trace's file is known, the SHA-256.
         """
         if self.digest and trace is not None and digest_of(pieces_of(trace))[1] != self.digest:
             raise Fault(
@@ -44,7 +44,7 @@ class Summary(NamedTuple):
 
 
 def summary_of(name: str) -> Summary:
-    """Reads the report in the file `name`."""
+    """Parses the report in the file `name`."""
     with opened(name) as file:
         said = file.read().decode("utf-8", "replace")
     if not re.search("^psitrace: ", said, re.MULTILINE):

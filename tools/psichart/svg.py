@@ -1,4 +1,4 @@
-"""Creates the elements of an SVG picture, and defines their positions and styles."""
+"""Creates the elements of an SVG image, and defines the positions and styles of a chart."""
 from __future__ import annotations
 
 import itertools
@@ -8,21 +8,20 @@ from xml.etree import ElementTree
 Element = ElementTree.Element
 Point = tuple[float, float]
 
-# Positions are in pixels from the left and from the top. The time axis extends from LEFT to RIGHT.
+# Positions are in pixels from the upper left corner. The time axis extends from LEFT to RIGHT.
 WIDTH = 960
 LEFT = 112
 RIGHT = 936
-# The greatest average width (pixels) of a character: in monospace fonts of 11 pixels, in other
-# fonts of 11 and 12 pixels, and in bold fonts of 13 pixels (names of panels) and 16 pixels
-# (titles).
+# The largest average width (pixels) of a character: in monospace fonts of 11 pixels, in other fonts
+# of 11 and 12 pixels, and in bold fonts of 13 pixels (names of panels) and 16 pixels (titles).
 MONOSPACE = 6.7
 SMALL_LETTER = 6.6
 LETTER = 7.2
 NAME_LETTER = 7.8
 TITLE_LETTER = 9.6
 
-# The colours are those of Okabe and Ito, which colour-blind people can distinguish. Some are darker
-# or lighter here because of the background.
+# The colours of Okabe and Ito, which colour-blind people can distinguish. Some are darker or
+# lighter here because of the background.
 STYLE = """
 text { font: 12px sans-serif; fill: #222; }
 .title { font-size: 16px; font-weight: bold; }
@@ -68,8 +67,8 @@ text { fill: #e6e6e6; }
 }
 """
 
-# The further styles if two replays are drawn: the recorded one has thin lines, and the one without
-# the killed groups has thick lines.
+# Additional styles for two replays. Curves of the recorded trace are thin. Curves without the
+# killed groups are thick.
 STYLE_BESIDE = """.series.some { stroke-width: 2.5; }
 .series.full { stroke-width: 4.5; }
 .series.some.was { stroke-width: 1; }
@@ -86,8 +85,8 @@ def decimal(value: float) -> str:
 def add(
     parent: Element, tag: str, text: Optional[str] = None, **attributes: Union[str, float]
 ) -> Element:
-    """Adds an element, and returns it. In an attribute's name `_` means `-`, and a trailing `_`
-    avoids a Python keyword.
+    """Adds an element, and returns it. In an attribute's name `_` means `-`, and a trailing `_` is
+    dropped, as in `class_`.
     """
     names = {name.rstrip("_").replace("_", "-"): value for name, value in attributes.items()}
     element = ElementTree.SubElement(
@@ -103,8 +102,8 @@ def add(
 
 
 def add_line(parent: Element, points: Iterable[Point], **style: str) -> None:
-    """Adds a line through these points, with the attributes `style`. A single point is written
-    twice, so that it is drawn as a dot.
+    """Adds a polyline through these points, with the attributes `style`. A single point is written
+    twice, so that it appears as a dot.
     """
     places = [f"{decimal(x)},{decimal(y)}" for x, y in points]
     add(parent, "polyline", points=" ".join(places * 2 if len(places) == 1 else places), **style)
@@ -116,8 +115,7 @@ def counted(number: int, what: str) -> str:
 
 
 def short(text: str, most: int) -> str:
-    """Returns a text of at most `most` characters: the text itself, or its beginning and its end.
-    """
+    """Shortens a text to `most` characters by omitting its middle."""
     return (
         text
         if len(text) <= most
@@ -126,13 +124,13 @@ def short(text: str, most: int) -> str:
 
 
 def columns(points: Iterable[Point]) -> Iterator[list[Point]]:
-    """Yields a list of the points in each pixel column. The points are in order of x."""
+    """Groups points by pixel column. The points must be in order of x."""
     for _, column in itertools.groupby(points, key=lambda point: int(point[0])):
         yield list(column)
 
 
 def thinned(points: Iterable[Point]) -> Iterator[Point]:
-    """Yields the highest and the lowest point of each pixel column, in order."""
+    """Yields the highest and the lowest point of each pixel column, in order of x."""
     for column in columns(points):
         yield from sorted(
             {min(column, key=lambda point: point[1]), max(column, key=lambda point: point[1])}
@@ -140,8 +138,8 @@ def thinned(points: Iterable[Point]) -> Iterator[Point]:
 
 
 def thinned_steps(points: Iterable[Point]) -> Iterator[Point]:
-    """Yields the first, the highest, the lowest and the last point of each pixel column. A step
-    continues from the last point.
+    """Yields the first, the highest, the lowest and the last point of each pixel column. The last
+    point is needed because a stepped curve continues at its height.
     """
     for column in columns(points):
         places = range(len(column))

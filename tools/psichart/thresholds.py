@@ -7,13 +7,13 @@ from psireplay.rules import Plugin, Rules, Ruleset, size
 
 from .svg import LEFT, RIGHT, SMALL_LETTER, Element, Point, add, short
 
-# For each detector of pressure, the average that it compares, which is the style of its line, and a
-# description.
+# For each pressure detector: the average that it compares, and a description. The average also
+# selects the style of the threshold's line.
 WATCHED = {
     "pressure_above": ("avg10", "full over 10 s"),
     "pressure_rising_beyond": ("avg60", "full over 60 s and over 10 s"),
 }
-# The free space around a label, and the position of a label above or below its line (pixels).
+# The space around a label, and the distance of a label from its line (pixels).
 NEXT_TO = 2.0
 ABOVE, BELOW = -5.0, 14.0
 
@@ -29,12 +29,12 @@ class Threshold(NamedTuple):
 
 
 def lasting(args: dict[str, str]) -> str:
-    """Returns the part of a label with the duration of a detector."""
+    """Formats a detector's duration for a label."""
     return "" if args["duration"] == "0" else f" for {args['duration']} s"
 
 
 def of_pressure(ruleset: Ruleset, detector: Plugin) -> Threshold:
-    """Returns the threshold of a detector of pressure."""
+    """Returns the threshold of a pressure detector."""
     style, what = WATCHED[detector.name]
     args = detector.args
     return Threshold(
@@ -45,8 +45,8 @@ def of_pressure(ruleset: Ruleset, detector: Plugin) -> Threshold:
 
 
 def of_memory(ruleset: Ruleset, detector: Plugin, host: Optional[int]) -> Iterator[Threshold]:
-    """Yields the threshold of a detector of memory, if its size (bytes) is known. `host` is the
-    memory of the host (bytes).
+    """Yields the threshold of a memory detector. `host` is the memory of the host (bytes). If it is
+    None, yields nothing for a threshold in percent, since the size isn't known.
     """
     args = detector.args
     level = size(args["threshold"], host)
@@ -57,7 +57,7 @@ def of_memory(ruleset: Ruleset, detector: Plugin, host: Optional[int]) -> Iterat
 
 
 def pressure_thresholds(rules: Optional[Rules], path: str, resource: str) -> list[Threshold]:
-    """Returns the thresholds of the detectors that check this group's pressure for the resource."""
+    """Returns the thresholds of all detectors that check this group's pressure for the resource."""
     return [
         of_pressure(ruleset, detector)
         for ruleset in (rules.rulesets if rules else [])
@@ -69,7 +69,7 @@ def pressure_thresholds(rules: Optional[Rules], path: str, resource: str) -> lis
 
 
 def memory_thresholds(rules: Optional[Rules], path: str, host: Optional[int]) -> list[Threshold]:
-    """Returns the thresholds of the detectors that check this group's memory. `host` is the memory
+    """Returns the thresholds of all detectors that check this group's memory. `host` is the memory
     of the host (bytes), or None if it isn't known.
     """
     return [
@@ -82,7 +82,9 @@ def memory_thresholds(rules: Optional[Rules], path: str, host: Optional[int]) ->
 
 
 def merged(thresholds: list[Threshold]) -> list[Threshold]:
-    """Merges thresholds with equal value and style into one threshold with the texts of all."""
+    """Merges thresholds that have the same value and style. The merged threshold has all their
+    texts.
+    """
     found: dict[tuple[int, str], list[str]] = {}
     for it in thresholds:
         texts = found.setdefault((it.level, it.style), [])
@@ -91,7 +93,7 @@ def merged(thresholds: list[Threshold]) -> list[Threshold]:
 
 
 class Box(NamedTuple):
-    """The rectangle of a label (pixels)."""
+    """A rectangle that a label covers (pixels)."""
 
     left: float
     right: float
@@ -99,7 +101,7 @@ class Box(NamedTuple):
     bottom: float
 
     def overlaps(self, other: Box) -> bool:
-        """Whether this rectangle and another one overlap."""
+        """Returns whether two rectangles overlap."""
         return (
             self.left < other.right
             and other.left < self.right
@@ -108,12 +110,13 @@ class Box(NamedTuple):
         )
 
     def is_crossed(self, points: list[Point]) -> bool:
-        """Whether a line through these points crosses the rectangle."""
+        """Returns whether a line through these points crosses the rectangle."""
         return any(self.meets(one, other) for one, other in zip(points, points[1:] or points))
 
     def meets(self, one: Point, other: Point) -> bool:
-        """Whether the segment between two points crosses the rectangle: the part of the segment
-        between the left and the right side isn't entirely above or below the rectangle.
+        """Returns whether the segment between two points crosses the rectangle: between the
+        rectangle's left and right side, part of the segment is neither above nor below the
+        rectangle.
         """
         (x, y), (end, level) = sorted([one, other])
         if end < self.left or x > self.right:
@@ -128,7 +131,9 @@ class Box(NamedTuple):
 
 
 class Label(NamedTuple):
-    """The label of a threshold. `anchor` says whether `x` is its start, middle or end."""
+    """The label of a threshold's line. `anchor` says whether `x` is the label's start, middle or
+    end.
+    """
 
     text: str
     x: float
@@ -136,7 +141,7 @@ class Label(NamedTuple):
     anchor: str
 
     def box(self) -> Box:
-        """Returns the rectangle of the label with the free space around it."""
+        """Returns the rectangle of the label, including the space around it."""
         width = SMALL_LETTER * len(self.text)
         left = self.x - {"start": 0.0, "middle": width / 2, "end": width}[self.anchor]
         return Box(
@@ -145,9 +150,9 @@ class Label(NamedTuple):
 
 
 def labels_of(it: Threshold, y: float) -> Iterator[Label]:
-    """Yields the possible labels of a threshold whose line is at `y`, the best first. A label has
-    the whole text, or the part before the ruleset's name. It is at the right end, the left end, the
-    middle or a quarter of the line, above or below it.
+    """Yields possible labels for a threshold with its line at `y`, the best first. A label contains
+    the whole text, or only the part before the ruleset's name. It is above or below the line: at
+    the right end, the left end, the middle or a quarter.
     """
     for text in dict.fromkeys((short(it.text, 100), short(it.text.partition(":")[0], 60))):
         for part, anchor in (
@@ -164,8 +169,8 @@ def labels_of(it: Threshold, y: float) -> Iterator[Label]:
 def draw_thresholds(
     panel: Element, thresholds: list[Threshold], top: float, bottom: float, scale: float
 ) -> None:
-    """Draws the thresholds from the top down. A label must not cover a curve or another label, and
-    must lie within the panel. If there is no room for its label, a line has only a tooltip.
+    """Draws the thresholds from the top down, with labels. A label lies within the panel, and
+    covers no curve and no other label. A line without space for a label has only a tooltip.
     """
     groups = [it for it in panel if (it.get("class") or "").startswith("series")]
     curves = [points_of(line) for group in groups for line in group]
@@ -193,7 +198,7 @@ def draw_thresholds(
 
 
 def points_of(line: Element) -> list[Point]:
-    """Returns the points of a line that is already drawn."""
+    """Parses the points of a polyline element."""
     return [
         (float(x), float(y))
         for x, y in (it.split(",") for it in (line.get("points") or "").split())

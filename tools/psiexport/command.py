@@ -27,7 +27,7 @@ from .rows import COLUMNS, KINDS, Exporter, Row, selected
 
 REPORT_S = 1
 STANDARD_INPUT = "-"
-# A spreadsheet takes a text with one of these first characters for a formula.
+# A spreadsheet reads a text as a formula if it begins with one of these characters.
 FORMULAS = ("=", "+", "-", "@", "\t", "\r")
 HELP = {
     "csv": "a table with a header in place of JSON lines",
@@ -38,7 +38,7 @@ HELP = {
 
 
 def kinds(word: str) -> tuple[str, ...]:
-    """Parses the kinds of rows."""
+    """Parses a comma-separated list of kinds of rows."""
     found = tuple(word.split(","))
     if not set(found) <= set(KINDS):
         raise Malformed(f"{word} isn't a list of {', '.join(KINDS)}")
@@ -64,8 +64,8 @@ def parser() -> Parser:
 
 
 def in_groups(lines: Iterable[Line], words: list[str], known: Known) -> Iterator[Line]:
-    """Yields the lines of the groups that the words name. Raises a Fault at the end if a word names
-    no group, or more than one.
+    """Yields the lines of the groups named by `words`. At the end, raises a Fault if a word names
+    no group or more than one.
     """
     paths: dict[str, bool] = {}
     for line in lines:
@@ -87,7 +87,7 @@ def as_json(rows: Iterable[Row]) -> Iterator[str]:
 
 
 def as_table(rows: Iterable[Row]) -> Iterator[str]:
-    """Yields a table with a header, as in RFC 4180 except that lines end in LF."""
+    """Yields the lines of a CSV table with a header, as in RFC 4180 except that lines end in LF."""
     text = io.StringIO()
     writer = csv.writer(text, lineterminator="\n")
     writer.writerow(COLUMNS)
@@ -100,14 +100,14 @@ def as_table(rows: Iterable[Row]) -> Iterator[str]:
 
 
 def cell(value: Any) -> Any:
-    """Returns the value for a cell. A text that a spreadsheet would take for a formula begins with
-    an apostrophe.
+    """Returns the value for a cell. A text that a spreadsheet would read as a formula gets an
+    apostrophe in front.
     """
     return f"'{value}" if isinstance(value, str) and value.startswith(FORMULAS) else value
 
 
 def export() -> int:
-    """Prints the rows."""
+    """Prints the selected rows."""
     values = parser().values()
     trace: Optional[str] = values["trace"]
     known = known_of(trace or STANDARD_INPUT, values)
@@ -123,5 +123,5 @@ def export() -> int:
 
 
 def main() -> int:
-    """Runs the command; returns the exit status."""
+    """Runs the command, and returns the exit status."""
     return run(export)

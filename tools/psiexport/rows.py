@@ -1,4 +1,4 @@
-"""The rows of an export, one for each report, signal and kill."""
+"""Converts the lines of a replay to rows of a table: one row for each report, signal and kill."""
 from __future__ import annotations
 
 from collections.abc import Iterable, Iterator
@@ -17,7 +17,7 @@ REPORT, SIGNAL, KILL = "report", "signal", "kill"
 KINDS = (REPORT, SIGNAL, KILL)
 AVERAGES = ("avg10", "avg60", "avg300")
 PRESSURES = tuple(f"{level}_{it}" for level in ("some", "full") for it in (*AVERAGES, "total_us"))
-# The columns of a table, in order.
+# The columns of the CSV table, in order.
 COLUMNS = (
     "kind", "time_s", "time", "group", "name", "resource", "level", *PRESSURES,
     "trigger", "threshold_us", "window_us", "ruleset", "action", "ruleset_name", "plugin",
@@ -25,14 +25,16 @@ COLUMNS = (
 
 
 def kind_of(line: Line) -> str:
-    """Returns the kind of a line's row; empty for the last line, which has none."""
+    """Returns the kind of row for a line. Returns an empty string for the last line, which has no
+    row.
+    """
     if isinstance(line, Report):
         return REPORT
     return SIGNAL if isinstance(line, Event) else KILL if isinstance(line, Kill) else ""
 
 
 def pressure_of(level: str, pressure: Optional[Pressure]) -> Row:
-    """Returns the columns for a line of a pressure file: averages in percent, the total in us."""
+    """Returns the columns for one level of pressure: averages in percent, and the total in us."""
     if not pressure:
         return {}
     shares = {f"{level}_{name}": getattr(pressure, name) / 100 for name in AVERAGES}
@@ -40,7 +42,9 @@ def pressure_of(level: str, pressure: Optional[Pressure]) -> Row:
 
 
 class Exporter:
-    """Makes rows. `wall` is the time of day at the start of the trace; None if it isn't known."""
+    """Converts lines to rows. `wall` is the time of day at the start of the trace, or None if it
+    isn't known.
+    """
 
     def __init__(
         self, wall: Optional[WallTime], groups: GroupNames, rules: Optional[Rules]
@@ -48,7 +52,7 @@ class Exporter:
         self.wall, self.groups, self.rules = wall, groups, rules
 
     def row(self, line: Union[Report, Event, Kill]) -> Row:
-        """Returns the row of a line."""
+        """Returns the row for a line."""
         row: Row = {"kind": kind_of(line), "time_s": line.time_ns / SECOND}
         if self.wall:
             row["time"] = wall_text(self.wall._replace(epoch=self.wall.epoch + line.time_ns))
@@ -65,7 +69,8 @@ class Exporter:
         return {**row, "ruleset": line.ruleset, "action": line.action, **self.killer(line)}
 
     def killer(self, kill: Kill) -> Row:
-        """Returns the names of a ruleset and an action, if the rules are known."""
+        """Returns the names of a kill's ruleset and action, or nothing if the rules aren't known.
+        """
         if not self.rules:
             return {}
         killer = self.rules.killer(kill)
@@ -75,7 +80,7 @@ class Exporter:
 def selected(
     lines: Iterable[Line], kinds: tuple[str, ...], span: Span
 ) -> Iterator[Union[Report, Event, Kill]]:
-    """Yields the lines of these kinds within `span`, including both of its ends."""
+    """Yields the lines of these kinds whose time is within `span`, including both ends."""
     for line in lines:
         if isinstance(line, End) or kind_of(line) not in kinds:
             continue

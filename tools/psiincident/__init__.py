@@ -1,3 +1,3 @@
-"""The command tools/incident: makes a page from a machine or a recording, and shows each step as a
-command.
+"""Implements the command tools/incident, which writes a page about a machine or a recording. The
+command prints each of its steps, which are shell commands.
 """

@@ -45,21 +45,22 @@ DONE = (RecordStatus.RECORDED, RecordStatus.NOT_WHOLE, RecordStatus.LEFT_BEHIND)
 
 
 def host_name(word: str) -> str:
-    """Returns a host's name for ssh, and rejects a name that ssh would read as an option."""
+    """Parses a host's name for ssh. Rejects a name that ssh would read as an option."""
     if word.startswith("-") or not word.strip():
         raise Malformed(f"'{word}' isn't a host's name")
     return word
 
 
 def page_name(word: str) -> str:
-    """Returns the name of the page's file. Without .html it is the name of the other files."""
+    """Parses the name of the page's file. Without .html it is the name of the other output files.
+    """
     if not word.endswith(".html") or os.path.basename(word) == ".html":
         raise Malformed(f"{word} isn't a name such as incident.html")
     return word
 
 
 def recorder_words(words: str) -> str:
-    """Returns options of the recorder, each quoted for the shell."""
+    """Splits the recorder's options at spaces, and quotes each for the shell."""
     try:
         return " ".join(map(shlex.quote, shlex.split(words)))
     except ValueError as fault:
@@ -67,7 +68,7 @@ def recorder_words(words: str) -> str:
 
 
 def add_shared(words: Parser) -> None:
-    """Adds the options that recording and `open` share."""
+    """Adds the options that recording an incident and `open` share."""
     add = words.add_argument
     add(
         "-o",
@@ -143,13 +144,15 @@ def open_parser() -> Parser:
 
 
 def report_words(options: argparse.Namespace) -> list[str]:
-    """Returns the arguments for tools/report."""
+    """Returns the arguments that are passed on to tools/report."""
     named = (("--rules", options.rules), ("--oomd", options.oomd))
     return [f"{name}={value}" for name, value in named if value is not None]
 
 
 def check(options: argparse.Namespace) -> None:
-    """Raises a Fault, before the first step, if a file that the last step needs doesn't exist."""
+    """Raises a Fault if a file that only the last step reads doesn't exist, or if the page can't be
+    written. Called before the first step.
+    """
     for path in (it for it in (options.rules, options.oomd) if it is not None):
         if not os.path.isfile(path):
             raise Fault(f"no file: {path}")
@@ -157,7 +160,7 @@ def check(options: argparse.Namespace) -> None:
 
 
 def record_here(steps: Steps, options: argparse.Namespace, folder: str, words: str) -> int:
-    """Records this machine into a new folder, and returns the recorder's status."""
+    """Records this machine into a new folder, and returns the recorder's exit status."""
     sudo = "sudo -n " if options.sudo else ""
     status = steps.run(
         f"{sudo}{tools_path('record')} {shlex.quote(folder)} {words}", DONE, "recording"
@@ -168,8 +171,8 @@ def record_here(steps: Steps, options: argparse.Namespace, folder: str, words: s
 
 
 def record_there(steps: Steps, options: argparse.Namespace, folder: str, words: str) -> int:
-    """Records another machine, fetches the recording into a new folder, and returns the recorder's
-    status.
+    """Records another machine, copies the recording into a new folder here, and returns the
+    recorder's exit status.
     """
     with Host(steps, options.host, options.ssh, options.sudo) as host:
         host.copy_recorder()
@@ -179,7 +182,7 @@ def record_there(steps: Steps, options: argparse.Namespace, folder: str, words: 
 
 
 def record(options: argparse.Namespace) -> int:
-    """Records, writes the page, and returns the exit status."""
+    """Records a machine, writes the page, and returns the exit status."""
     steps, output = Steps(), Output(options.output)
     output.must_be_new(output.base)
     words = f"--seconds {options.seconds} {options.record}".rstrip()
@@ -217,7 +220,9 @@ def incident() -> int:
 
 
 def interrupt(number: int, frame: FrameType | None) -> NoReturn:
-    """Ends the command like Ctrl-C, so that all that was copied to a host is removed."""
+    """A signal handler that ends the command as Ctrl-C does, so that all files on a host are
+    removed.
+    """
     raise KeyboardInterrupt
 
 

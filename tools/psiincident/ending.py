@@ -1,4 +1,4 @@
-"""Ends the processes of a step that is interrupted, after they had time to undo their changes."""
+"""Ends the processes of an interrupted step, after they have had time to undo their changes."""
 from __future__ import annotations
 
 import contextlib
@@ -8,25 +8,26 @@ import subprocess
 import time
 from typing import NamedTuple
 
-# How long (s) the processes of a step may take to undo their changes, and the time (s) between two
-# checks whether they have ended.
+# The time (s) within which the processes of a step must undo their changes, and the time (s)
+# between two checks whether they have ended.
 UNDO_SECONDS = 60.0
 CHECK_SECONDS = 0.05
 
 
 class Process(NamedTuple):
-    """A process: its number, and its start time, since a number may be reused."""
+    """A process: its pid, and its start time, since a pid may be reused."""
 
     number: int
     start: int
 
 
 def running() -> dict[Process, int]:
-    """Returns the running processes of the machine, each with its parent's number."""
+    """Returns all running processes of the machine, each with its parent's pid."""
     found = {}
     for name in filter(str.isdecimal, os.listdir("/proc")):
         with contextlib.suppress(OSError), open(f"/proc/{name}/stat", "rb") as file:
-            # The fields from the third on (proc_pid_stat(5)): the second is a name in parentheses.
+            # The words after the name of the process in parentheses, which are the fields from
+            # number 3 of proc_pid_stat(5).
             words = file.read().rpartition(b")")[2].split()
             if words[0] != b"Z":
                 found[Process(int(name), int(words[19]))] = int(words[1])
@@ -34,7 +35,7 @@ def running() -> dict[Process, int]:
 
 
 def with_descendants(known: set[Process]) -> set[Process]:
-    """Returns those of the known processes that still run, and their descendants."""
+    """Returns those of the processes `known` that still run, and all their descendants."""
     parents = running()
     found = new = known & parents.keys()
     while new:
@@ -45,7 +46,7 @@ def with_descendants(known: set[Process]) -> set[Process]:
 
 
 def send(process: Process, number: signal.Signals) -> None:
-    """Sends a signal, by sudo if the process belongs to root."""
+    """Sends a signal to a process. Uses sudo if the process belongs to root."""
     try:
         os.kill(process.number, number)
     except PermissionError:
@@ -56,8 +57,8 @@ def send(process: Process, number: signal.Signals) -> None:
 
 
 def end(step: subprocess.Popen[bytes]) -> None:
-    """Terminates a step and its descendants, and waits until they have ended. Kills those that
-    don't end in time.
+    """Sends SIGTERM to a step and its descendants, and waits until they have ended. Sends SIGKILL
+    to those that haven't ended after UNDO_SECONDS.
     """
     known = {it for it in running() if it.number == step.pid}
     asked: set[Process] = set()

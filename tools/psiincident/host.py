@@ -1,4 +1,4 @@
-"""A machine that is reached over ssh. The files that are put there are always removed again."""
+"""Runs the recorder on another machine over ssh. Removes all files that it copied there."""
 from __future__ import annotations
 
 import secrets
@@ -10,16 +10,17 @@ from psicli.running import complain
 
 from .steps import Steps, tools_path
 
-# The files of the recorder. Nothing else of this repository is copied to a host.
+# The files of the recorder. No other files are copied to a host.
 RECORDER = ("record", "psirecord", "psirec")
 NAME = "recording"
-# How long (s) the removal waits for an interrupted recorder, which first undoes its changes.
+# The time (s) to wait for an interrupted recorder, which undoes its changes, before its folder is
+# removed.
 MOST_WAIT_S = 60
 
 
 class Host:
-    """A host: its ssh name, the commands for ssh and sudo, and the path of a new folder on it. The
-    folder exists only inside a `with` statement.
+    """A host: its ssh name, the commands for ssh and sudo, and a new folder on it, which is removed
+    at the end of the `with` statement.
     """
 
     def __init__(self, steps: Steps, name: str, ssh: str, has_sudo: bool) -> None:
@@ -37,7 +38,7 @@ class Host:
         error: BaseException | None,
         trace: TracebackType | None,
     ) -> None:
-        """Removes the folder, as soon as no recorder writes into it."""
+        """Removes the folder on the host after the recorder has finished."""
         if not self.is_made:
             return
         wait = f"flock -w {MOST_WAIT_S} {self.folder}/{NAME}/meta true"
@@ -50,22 +51,22 @@ class Host:
         return f"{self.ssh} {options}{shlex.quote(self.name)} {shlex.quote(command)}"
 
     def copy_recorder(self) -> None:
-        """Copies the recorder into the new folder."""
+        """Copies the recorder into a new folder on the host."""
         pack = f"tar -C {tools_path()} -c {' '.join(RECORDER)}"
         unpack = self.line(f"mkdir -m 700 {self.folder} && tar -C {self.folder} -x")
         self.is_made = True
         self.steps.run(f"{pack} | {unpack}", what=f"copying the recorder to {self.name}")
 
     def record(self, words: str, taken: tuple[int, ...]) -> int:
-        """Runs the recorder on the host, and returns its status. With its own terminal the recorder
-        gets a hangup if the connection ends, and then also ends and undoes its changes.
+        """Runs the recorder on the host, and returns its exit status. The recorder has its own
+        terminal. If the connection ends, it receives SIGHUP, undoes its changes and exits.
         """
         command = f"{self.sudo}python3 {self.folder}/record {self.folder}/{NAME} {words}"
         return self.steps.run(self.line(command, "-tt "), taken, f"recording on {self.name}")
 
     def fetch(self, path: str, into: str) -> None:
-        """Fetches a folder under another name, which must be new here, as a whole or not at all.
-        Nothing changes on the host.
+        """Copies a folder from the host to the new folder `into`. Removes `into` if the copy fails.
+        Doesn't change anything on the host.
         """
         above, _, last = path.rstrip("/").rpartition("/")
         start = f"{above}/" if above or path.startswith("/") else "."

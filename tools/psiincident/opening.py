@@ -1,4 +1,4 @@
-"""Opens an existing recording: a folder, an archive, or a folder on another machine."""
+"""Opens an existing recording, which is a folder, an archive, or a folder on another machine."""
 from __future__ import annotations
 
 import os
@@ -14,21 +14,21 @@ from .steps import Steps
 
 ARCHIVE = re.compile(r"\.(tar(\.(gz|xz|bz2|zst))?|tgz|txz)$")
 REMOTE = re.compile(r"([^/:]+):(.+)")
-# The largest depth of a recording's folder in its archive.
+# The number of levels of subfolders that are searched for a recording.
 DEEPEST = 2
 
 
 def remote_of(source: str) -> tuple[str, str] | None:
-    """Returns the host and the folder of HOST:FOLDER, or None if the text has another form or a
-    file with this name exists.
+    """Parses HOST:FOLDER, and returns the host and the folder. Returns None if the text has another
+    form, or if a file with this name exists.
     """
     found = REMOTE.fullmatch(source)
     return (found[1], found[2]) if found and not os.path.exists(source) else None
 
 
 def recordings_in(folder: str, depth: int = 0) -> Iterator[str]:
-    """Yields the recordings in a folder, or the folder itself if it is a recording. Links aren't
-    followed.
+    """Yields the recordings in a folder, or the folder itself if it is a recording. Doesn't follow
+    links.
     """
     if is_recording(folder):
         yield folder
@@ -44,8 +44,8 @@ def recordings_in(folder: str, depth: int = 0) -> Iterator[str]:
 
 
 def only_recording(folder: str, name: str) -> str:
-    """Returns the recording in a folder, and raises a Fault unless there is exactly one. `name` is
-    for messages.
+    """Returns the only recording in a folder. Raises a Fault if there is none or more than one.
+    `name` is used in messages.
     """
     found = list(recordings_in(folder))
     if not found:
@@ -61,7 +61,7 @@ def only_recording(folder: str, name: str) -> str:
 
 
 def unpack(steps: Steps, archive: str, into: str) -> str:
-    """Unpacks an archive into a folder; returns its recording."""
+    """Unpacks an archive into a folder, and returns the path of its recording."""
     steps.run(
         f"tar -C {shlex.quote(into)} --no-same-owner -xf {shlex.quote(archive)}",
         what=f"unpacking {archive}",
@@ -74,7 +74,7 @@ def is_archive(source: str) -> bool:
 
 
 def folder_of(source: str) -> str:
-    """Returns the folder `source`, which must be a recording."""
+    """Returns the folder `source`. Raises a Fault if it isn't a recording."""
     if os.path.isdir(source):
         return only_recording(source, source)
     if os.path.isfile(source):

@@ -1,4 +1,4 @@
-"""Makes the trace and the page of a recording, with its comparison."""
+"""Converts a recording to a trace, and writes the page about it."""
 from __future__ import annotations
 
 import os
@@ -12,7 +12,7 @@ from psicli.status import Status
 
 from .steps import Steps, tools_path
 
-# The line that psitrace prints if the trace has only a part of the recording.
+# The line that psitrace prints if the trace contains only a part of the recording.
 PART = re.compile(r"^psitrace: of \S+ s: --from (\S+) --to \S+$", re.MULTILINE)
 LIMIT = re.compile(r"^psitrace: limit: more than .*$", re.MULTILINE)
 FOLD_S = 2
@@ -20,7 +20,7 @@ FOLD_S = 2
 
 @dataclass(frozen=True)
 class Output:
-    """The file of the page, and the other output files, which have the same name and other
+    """The names of the output files: the page, and other files with the same name and other
     suffixes.
     """
 
@@ -39,7 +39,9 @@ class Output:
         return f"{self.base}.summary"
 
     def must_be_new(self, recording: str | None) -> None:
-        """Raises a Fault if a file exists that would be overwritten and isn't a page."""
+        """Raises a Fault if one of the other output files already exists. An existing page is
+        overwritten.
+        """
         names = f"{self.trace}.names"  # psitrace writes this file next to a trace
         for path in filter(None, (self.trace, names, self.summary, recording)):
             if os.path.lexists(path):
@@ -55,8 +57,8 @@ def text_of(path: str) -> str:
 
 
 def convert(steps: Steps, recording: str, output: Output, fold: str | None) -> str:
-    """Makes the trace. Lost parts are omitted, and the groups of a trace that would be too long are
-    folded. Returns the summary.
+    """Converts a recording to a trace, and returns psitrace's summary. Omits parts with lost
+    events. Folds the trace if it would exceed a limit.
     """
 
     def psitrace(*options: str) -> int:
@@ -80,7 +82,7 @@ def convert(steps: Steps, recording: str, output: Output, fold: str | None) -> s
 def write_page(
     steps: Steps, recording: str, output: Output, fold: str | None, words: list[str]
 ) -> None:
-    """Makes the trace and the page of a recording."""
+    """Converts a recording to a trace, and writes the page."""
     summary = convert(steps, recording, output, fold)
     part = PART.search(summary)
     if part:
@@ -92,7 +94,7 @@ def write_page(
     report = f"{tools_path('report')} {shlex.quote(output.trace)}"
     ending = " ".join([*map(shlex.quote, words), f"-o {shlex.quote(output.page)}"])
     compared = " ".join([report, f"--recording {shlex.quote(recording)}", *begin, ending])
-    # A part may be too short for a comparison with the machine's own files.
+    # A part may be too short to be compared with the machine's own files.
     if steps.run(
         compared, (Status.DONE, Status.FAILED) if part else (Status.DONE,), "writing the page"
     ):

@@ -1,4 +1,4 @@
-"""Runs the steps of an incident: each is a line of shell, which is shown before it is run."""
+"""Runs the steps of an incident. Each step is a shell command, which is printed before it runs."""
 from __future__ import annotations
 
 import os
@@ -15,8 +15,8 @@ SHELL = ("bash", "-o", "pipefail", "-c")
 
 
 def tools_path(*names: str) -> str:
-    """Returns a path in the folder of tools, relative if that is below the working directory;
-    quoted.
+    """Returns the path of a file in the folder of tools, quoted for the shell. The path is relative
+    if the file is below the working directory.
     """
     path = os.path.join(TOP, "tools", *names)
     near = os.path.relpath(path)
@@ -28,8 +28,8 @@ def show(line: str) -> None:
 
 
 def status_of(line: str) -> int:
-    """Runs a line, and returns its status. If it is interrupted, its processes undo their changes
-    first.
+    """Runs a shell command, and returns its exit status. On an interrupt, ends its processes after
+    they have undone their changes.
     """
     step = subprocess.Popen([*SHELL, line], stdin=subprocess.DEVNULL)
     try:
@@ -40,11 +40,11 @@ def status_of(line: str) -> int:
 
 
 class Steps:
-    """The steps, in order. A step whose status isn't expected ends the incident."""
+    """Runs shell commands, and prints each before it runs."""
 
     def run(self, line: str, taken: tuple[int, ...] = (0,), what: str = "") -> int:
-        """Runs a line, and returns its status, which is one of `taken`. `what` it does is for the
-        message.
+        """Runs a shell command, and returns its exit status. Raises a Fault if the status isn't in
+        `taken`. `what` describes the command in the message.
         """
         show(line)
         try:
@@ -56,6 +56,6 @@ class Steps:
         return status
 
     def try_to(self, line: str) -> bool:
-        """Runs a line that may fail."""
+        """Runs a shell command, and returns whether it succeeded."""
         show(line)
         return status_of(line) == 0

@@ -1,4 +1,4 @@
-"""The command line of tools/openmetrics, and its output."""
+"""The command line of tools/openmetrics."""
 from __future__ import annotations
 
 import re
@@ -33,7 +33,7 @@ Label = tuple[str, str]
 
 
 def label(word: str) -> Label:
-    """Parses NAME=VALUE, a label of all metrics."""
+    """Parses an argument NAME=VALUE, which is a label for all metrics."""
     name, _, value = word.partition("=")
     if (
         not re.fullmatch("(?!__)[a-zA-Z_][a-zA-Z0-9_]*", name)
@@ -66,23 +66,23 @@ def parser() -> Parser:
 
 def work() -> int:
     """Prints the metrics, and returns the exit status."""
-    given = parser().parse_args()
-    names: list[Union[Label, str]] = [name for name, _ in given.label]
+    options = parser().parse_args()
+    names: list[Union[Label, str]] = [name for name, _ in options.label]
     if len(set(names)) < len(names):
         raise Fault("--label has a name twice: give each name once")
-    if NAME in names and given.containers is not None:
+    if NAME in names and options.containers is not None:
         raise Fault(f"--label has {NAME}, which is the label for the names of --containers")
-    rules = Rules(given.rules) if given.rules is not None else None
-    containers = GroupNames(containers_in(given.containers) if given.containers else {})
-    must_fit(vars(given))
+    rules = Rules(options.rules) if options.rules is not None else None
+    containers = GroupNames(containers_in(options.containers) if options.containers else {})
+    must_fit(vars(options))
     with open(0, "rb", closefd=False) as printed:
-        families = with_names(metrics_of(printed, rules, tuple(given.label)), containers)
-    wall = in_zone(given.wall, given.tz)
-    families = in_part(families, span_in(vars(given), wall, length_of(families), "replay"))
-    write("".join(f"{line}\n" for line in TEXTS[given.format](families, wall)).encode())
+        families = with_names(metrics_of(printed, rules, tuple(options.label)), containers)
+    wall = in_zone(options.wall, options.tz)
+    families = in_part(families, span_in(vars(options), wall, length_of(families), "replay"))
+    write("".join(f"{line}\n" for line in TEXTS[options.format](families, wall)).encode())
     return Status.DONE
 
 
 def main() -> int:
-    """Runs the command; returns the exit status."""
+    """Runs the command, and returns the exit status."""
     return run(work)

@@ -1,10 +1,11 @@
 """Converts the output of a replay to families of counters.
 
-Pressure has the names under which a machine's own is collected: those of node_exporter's collector
-`pressure` for the machine, and those of cAdvisor, with the label `id`, for each group including the
-root. node_exporter has no metric for the time in which all tasks waited for a processor, since the
-kernel has none for the machine. cAdvisor has none for interrupts: that name is formed like its
-others.
+Each metric of pressure has the name of the metric that a monitoring agent collects on a real
+machine. For the machine these are the names of node_exporter's collector `pressure`. For each group
+including the root they are cAdvisor's, with the label `id`. node_exporter has no metric for the
+time in which all tasks waited for a processor, since the kernel doesn't report it for the machine.
+cAdvisor has no metric for interrupts, so the metric for interrupts has a name of the same form as
+cAdvisor's other names.
 """
 from __future__ import annotations
 
@@ -32,10 +33,10 @@ def pressure_family(prefix: str, whose: str, resource: str, word: str) -> Counte
 
 
 class Metrics:
-    """The metrics of a replay, whose output is added line by line."""
+    """The metrics of a replay. The lines of its output are added one by one."""
 
     def __init__(self, rules: Optional[Rules], labels: Labels) -> None:
-        """`labels` are added to each metric's own labels."""
+        """`labels` are appended to each metric's own labels."""
         self.rules, self.labels = rules, labels
         self.families: Families = {}
         self.rounds = array("Q")
@@ -45,7 +46,7 @@ class Metrics:
         return self.families.setdefault(family, {}).setdefault((*labels, *self.labels), Points())
 
     def take_report(self, report: Report) -> None:
-        """Takes the totals of a pressure file, which are in us."""
+        """Adds the totals (us) of a report, which has the contents of one pressure file."""
         if not self.rounds or report.time_ns != self.rounds[-1]:
             self.rounds.append(report.time_ns)
         for level, pressure in (("some", report.some), ("full", report.full)):
@@ -59,8 +60,8 @@ class Metrics:
         family = pressure_family("container", "the group", report.resource, word)
         self.points(family, ("id", report.path)).add(report.time_ns, total)
 
-    def count(self, family: Counter, moment: int, *labels: tuple[str, str]) -> None:
-        self.happened[family].setdefault((*labels, *self.labels), []).append(moment)
+    def count(self, family: Counter, time_ns: int, *labels: tuple[str, str]) -> None:
+        self.happened[family].setdefault((*labels, *self.labels), []).append(time_ns)
 
     def take_kill(self, kill: Kill) -> None:
         numbers = (("ruleset", str(kill.ruleset)), ("action", str(kill.action)))
@@ -82,32 +83,34 @@ class Metrics:
         )
 
     def close(self) -> Families:
-        """Returns all families. Counts are 0 at the start, and have a point at the time of each
-        event and at each report.
+        """Returns all families. The counters of kills and of trigger events start at 0, and have a
+        point at each event and at each report.
         """
         for family, metrics in self.happened.items():
-            for labels, moments in metrics.items():
+            for labels, times in metrics.items():
                 points = self.families.setdefault(family, {}).setdefault(labels, Points())
-                for moment, value in counted(moments, self.rounds):
-                    points.add(moment, value)
+                for time_ns, value in counted(times, self.rounds):
+                    points.add(time_ns, value)
         return self.families
 
 
-def counted(moments: list[int], rounds: Iterable[int]) -> list[tuple[int, int]]:
-    """Returns points (time in ns, number of events up to then): at the start, at each event
-    (`moments`), and at each report (`rounds`).
+def counted(times: list[int], rounds: Iterable[int]) -> list[tuple[int, int]]:
+    """Returns the points of a counter at the start, at each event, and at each report (`rounds`). A
+    point is a time (ns) and the number of events so far. `times` are the times (ns) of the events.
     """
     value_at = {0: 0}
     done = 0
-    for moment in sorted({*moments, *rounds}):
-        while done < len(moments) and moments[done] <= moment:
+    for time_ns in sorted({*times, *rounds}):
+        while done < len(times) and times[done] <= time_ns:
             done += 1
-        value_at[moment] = done
+        value_at[time_ns] = done
     return list(value_at.items())
 
 
 def metrics_of(printed: Iterable[bytes], rules: Optional[Rules], labels: Labels) -> Families:
-    """Returns the families of a replay's output. Raises a Fault if the output has no report."""
+    """Returns the families of metrics for a replay's output. Raises a Fault if the output has no
+    report.
+    """
     metrics = Metrics(rules, labels)
     for line in read(printed):
         if isinstance(line, Report):

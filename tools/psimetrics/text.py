@@ -1,7 +1,7 @@
-"""Formats families of metrics as OpenMetrics, and in the older format of Prometheus.
+"""Formats families of metrics as OpenMetrics text, or as Prometheus's older text format.
 
-OpenMetrics 1.0 (https://prometheus.io/docs/specs/om/open_metrics_spec/) has timestamps in seconds;
-the older text of Prometheus (https://prometheus.io/docs/instrumenting/exposition_formats/) has them
+OpenMetrics 1.0 (https://prometheus.io/docs/specs/om/open_metrics_spec/) has timestamps in seconds.
+The older text of Prometheus (https://prometheus.io/docs/instrumenting/exposition_formats/) has them
 in whole ms.
 """
 from __future__ import annotations
@@ -12,30 +12,34 @@ from typing import Callable, Iterator, NamedTuple
 from psicli.times import SECOND, WallTime, seconds
 
 MILLISECOND = SECOND // 1000
-# The least distance (ns) of two points. Prometheus truncates times to whole ms, which may bring two
-# points closer by 1 ms, and rejects two points in one ms.
+# The smallest distance (ns) between two points. Prometheus truncates times to whole ms, which may
+# reduce the distance by 1 ms, and it rejects two points in the same ms.
 NEAREST = 2 * MILLISECOND
 Labels = tuple[tuple[str, str], ...]
 
 
 class Points:
-    """A counter over time: times in ns since the start of the trace, and the count at each."""
+    """The values of a counter: times (ns since the start of the trace), and the count at each time.
+    """
 
     def __init__(self) -> None:
-        self.moments, self.values = array("Q"), array("Q")
+        self.times, self.values = array("Q"), array("Q")
 
-    def add(self, moment: int, value: int) -> None:
-        """Adds the next point. If the last point is too near in time, the new one replaces it."""
-        if self.moments and moment - self.moments[-1] < NEAREST:
-            self.moments.pop()
+    def add(self, time_ns: int, value: int) -> None:
+        """Appends a point. If the new point follows the previous one by less than NEAREST (ns), it
+        replaces the previous point.
+        """
+        if self.times and time_ns - self.times[-1] < NEAREST:
+            self.times.pop()
             self.values.pop()
-        self.moments.append(moment)
+        self.times.append(time_ns)
         self.values.append(value)
 
 
 class Counter(NamedTuple):
-    """A family of counters: its name without `_total`, a description, and the number of counted
-    units (such as us) in its own unit (such as s).
+    """A family of counters. `name` is without `_total`, and `help` is a description. `per_unit` is
+    the number of counted units in one unit of the metric. For example, it is 1000000 if us are
+    counted and the metric is in s.
     """
 
     name: str
@@ -43,7 +47,7 @@ class Counter(NamedTuple):
     per_unit: int
 
     def text(self, value: int) -> str:
-        """Returns the text of a value in the family's unit, without rounding."""
+        """Formats a value in the unit of the metric, without rounding."""
         return seconds(value * (SECOND // self.per_unit))
 
 
@@ -51,7 +55,7 @@ Families = dict[Counter, dict[Labels, Points]]
 
 
 def escaped(value: str) -> str:
-    """Returns a label's value with escaped quotes, backslashes and newlines."""
+    """Escapes quotes, backslashes and newlines in the value of a label."""
     return value.replace("\\", "\\\\").replace('"', '\\"').replace("\n", "\\n")
 
 
@@ -66,18 +70,20 @@ def braced(labels: Labels) -> str:
 def lines_of(
     family: Counter, metrics: dict[Labels, Points], when: Callable[[int], str]
 ) -> Iterator[str]:
-    """Yields the points of a family: one metric after the other, each in order of time."""
+    """Yields the lines of a family: one metric after another, and the points of each in order of
+    time.
+    """
     for labels in sorted(metrics):
         points = metrics[labels]
         head = f"{family.name}_total{braced(labels)}"
         yield from (
             f"{head} {family.text(value)} {when(at)}"
-            for at, value in zip(points.moments, points.values)
+            for at, value in zip(points.times, points.values)
         )
 
 
 def openmetrics(families: Families, start: WallTime) -> Iterator[str]:
-    """Yields the lines of the OpenMetrics text."""
+    """Yields the lines of families in the OpenMetrics text format."""
     for family in sorted(families):
         yield f"# TYPE {family.name} counter"
         if family.name.endswith("_seconds"):
@@ -88,7 +94,7 @@ def openmetrics(families: Families, start: WallTime) -> Iterator[str]:
 
 
 def prometheus(families: Families, start: WallTime) -> Iterator[str]:
-    """Yields the lines of the older text format."""
+    """Yields the lines of families in Prometheus's older text format."""
     for family in sorted(families):
         yield f"# HELP {family.name}_total {family.help}"
         yield f"# TYPE {family.name}_total counter"

@@ -17,7 +17,9 @@ KIB = 1 << 10
 
 @dataclass(frozen=True)
 class Argument:
-    """The parser of an argument's text, and whether the plugin requires the argument."""
+    """An argument of a plugin: the parser of its text, and whether the plugin requires the
+    argument.
+    """
 
     read: Callable[[str, Host], Any]
     is_required: bool = False
@@ -43,12 +45,16 @@ def memory_size(text: str, host: Host) -> int:
 
 
 def swap_size(text: str, host: Host) -> int:
-    """Parses a size in bytes. A percentage refers to SwapTotal, which oomd stores in 32 bits."""
+    """Parses a size in bytes. A percentage refers to SwapTotal, which oomd stores as a 32-bit
+    number.
+    """
     return size(text, signed32(host.swap // KIB * KIB))
 
 
 def plain(read: Callable[[str], Any]) -> Callable[[str, Host], Any]:
-    """Converts a parser that takes only the text to a parser that also takes the host."""
+    """Adapts a parser that needs only the text to the signature of all parsers, which also take the
+    host.
+    """
     return lambda text, _: read(text)
 
 
@@ -85,7 +91,7 @@ ANON = "threshold_anon"
 
 
 def known(use: PluginUse) -> tuple[dict[str, Argument], dict[str, str]]:
-    """Returns the arguments that the plugin accepts, and the arguments in the configuration."""
+    """Returns the arguments that the plugin accepts, and those that the configuration contains."""
     table, args = dict(ARGUMENTS[use.name]), dict(use.args)
     if use.name in WITH_MEMINFO:
         args.pop("meminfo_location", None)
@@ -96,8 +102,8 @@ def known(use: PluginUse) -> tuple[dict[str, Argument], dict[str, str]]:
 
 
 def values(use: PluginUse, host: Host) -> dict[str, Any]:
-    """Parses the values of a plugin's arguments. `host` has the totals at oomd's start. Raises
-    Refused if oomd rejects an argument.
+    """Parses the values of a plugin's arguments. `host` contains the machine's totals at the start
+    of oomd. Raises Refused if oomd rejects an argument.
     """
     table, args = known(use)
     for name, argument in table.items():

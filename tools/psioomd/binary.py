@@ -1,5 +1,5 @@
-"""Runs oomd itself on a trace. The files that oomd reads show each time of the trace in turn, and
-all its kills are dry.
+"""Runs oomd itself on a trace. oomd reads files that show the state of the trace at each
+evaluation. All its kills are dry: oomd logs them, and kills no process.
 """
 from __future__ import annotations
 
@@ -43,8 +43,9 @@ MEMORY = "/dev/shm"
 
 @dataclass
 class BinaryRun:
-    """A run of oomd itself: its file and version, its sandbox, the number of its evaluations, and
-    its kills. `fault` says how oomd ended, if it ended early.
+    """A run of oomd itself. `path` and `version` identify the program, and `names` are the names of
+    the rulesets. `looks` is the number of evaluations. `plugins` contains the plugin of each kill
+    in `kills`. If oomd ended early, `fault` says how.
     """
 
     path: str
@@ -58,13 +59,13 @@ class BinaryRun:
     fault: str = ""
 
     def select(self, part: Span | None) -> None:
-        """Leaves only the kills and restarts in a part of the trace."""
+        """Removes the kills and restarts outside of a part of the trace."""
         pairs = [it for it in zip(self.kills, self.plugins) if within([it[0]], part)]
         self.kills, self.plugins = [kill for kill, _ in pairs], [plugin for _, plugin in pairs]
         self.restarts = within(self.restarts, part)
 
     def who(self, kill: Kill) -> str:
-        """Returns the text that names the ruleset and the action of a kill."""
+        """Returns a text that names the ruleset and the action of a kill."""
         plugin = quoted(self.plugins[self.kills.index(kill)])
         if kill.ruleset < 0:
             return plugin
@@ -72,7 +73,7 @@ class BinaryRun:
         return f"ruleset {kill.ruleset} {quoted(self.names[kill.ruleset])}, {action}"
 
     def line(self, kill: Kill) -> str:
-        """Returns the line for a kill."""
+        """Returns the output line for a kill."""
         when = time_text(kill.time_ns)
         return f"{when}  by {self.path}: would kill {kill.path}, {self.who(kill)}"
 
@@ -91,7 +92,7 @@ class BinaryRun:
 
 @contextlib.contextmanager
 def room() -> Iterator[str]:
-    """Yields a temporary folder, in memory if /dev/shm is writable."""
+    """Yields a temporary folder. It is in memory if /dev/shm is writable."""
     where = MEMORY if os.access(MEMORY, os.W_OK) else None
     with tempfile.TemporaryDirectory(
         prefix="psioomd-", dir=where, ignore_cleanup_errors=True
@@ -100,8 +101,8 @@ def room() -> Iterator[str]:
 
 
 def program_at(name: str) -> str:
-    """Returns the absolute path of a program, given by its path or by its name in PATH. Raises a
-    Fault if there is no such program.
+    """Returns the absolute path of a program. `name` is a path, or a name in PATH. Raises a Fault
+    if there is no such program.
     """
     found = shutil.which(name)
     if not found:
@@ -112,7 +113,7 @@ def program_at(name: str) -> str:
 
 @functools.lru_cache(maxsize=None)
 def version_of(kind: str, path: str) -> str:
-    """Returns the version of the program. Raises a Fault if it isn't oomd."""
+    """Returns the version of oomd. Raises a Fault if the program isn't oomd."""
     with room() as folder:
         shut = Sandbox(kind, folder, path)
         status, plugins = answer(shut, [path, "--list-plugins"])
@@ -133,7 +134,7 @@ def store(folder: str, name: str, data: bytes) -> str:
 
 
 def check_config(shut: Sandbox, path: str, name: str) -> None:
-    """Raises a Fault with oomd's own reason if it rejects a configuration."""
+    """Raises a Fault, with oomd's own reason, if oomd rejects a configuration."""
     kmsg = os.path.join(shut.folder, "machine/dev/kmsg")
     words = [shut.binary, "-f", MOUNT, "--kmsg-override", kmsg, "--check-config", path]
     status, said = answer(shut, words)
@@ -144,7 +145,9 @@ def check_config(shut: Sandbox, path: str, name: str) -> None:
 def prepare_words(
     shut: Sandbox, run: Run, base: Configuration, parts: list[Configuration]
 ) -> list[str]:
-    """Writes dry copies of the configurations, and returns the command that runs oomd on them."""
+    """Writes dry copies of the configuration and its drop-in files. Returns the command that runs
+    oomd on these copies.
+    """
     check_config(shut, store(shut.folder, "given.json", bytes_of(run.config)), run.config)
     copy = store(shut.folder, "oomd.json", dry.copy(base))
     check_config(shut, copy, f"{run.config} with `dry` in each kill")
@@ -160,7 +163,7 @@ def prepare_words(
 
 
 class Looks:
-    """Updates the files of a machine to the time of each evaluation by oomd."""
+    """Brings the files of a machine to the state of the trace at each evaluation by oomd."""
 
     def __init__(self, run: Run, files: Files, printed: Iterator[bytes]) -> None:
         self.run, self.files = run, files
@@ -173,15 +176,13 @@ class Looks:
                 files.machine.world.take(*event)
         files.update()
 
-    def take(self, moment: int) -> None:
-        """Applies the trace's events up to `moment` (ns)."""
-        for event in self.events.until(moment):
+    def take(self, time_ns: int) -> None:
+        """Applies the trace's events up to and including `time_ns`."""
+        for event in self.events.until(time_ns):
             self.files.machine.world.take(*event)
 
     def times(self) -> Iterator[int]:
-        """Yields the times (ns) of the evaluations. The files for a time are written before that
-        time is yielded.
-        """
+        """Yields the time (ns) of each evaluation. Updates the files to that time first."""
         for number in range(1, self.warm + 1):
             yield (number - self.warm) * self.run.interval * SECOND
         for tick in self.ticks:
@@ -193,26 +194,26 @@ class Looks:
 
 @dataclass
 class Follower:
-    """Lets oomd evaluate its rules at each time, and parses its log."""
+    """Runs oomd's evaluations one by one, and parses oomd's log."""
 
     daemon: Daemon
     found: BinaryRun
     reader: LogReader
     log: IO[str] | None
 
-    def has_looked(self, moment: int | None) -> bool:
-        """Waits until oomd sleeps again, after its start or an evaluation. Returns False if oomd
-        has ended.
+    def has_looked(self, time_ns: int | None) -> bool:
+        """Waits until oomd sleeps again, and parses its new log. `time_ns` is the time (ns) of the
+        evaluation, or None for oomd's start. Returns False if oomd has ended.
         """
         end = self.daemon.sleep_end()
         said = self.daemon.new_log()
-        when = "start" if moment is None else time_text(moment)
+        when = "start" if time_ns is None else time_text(time_ns)
         if self.log and said:
             self.log.write(f"== {when}\n{said}")
-        if moment is not None:
-            self.reader.take(moment, said)
+        if time_ns is not None:
+            self.reader.take(time_ns, said)
         if end is None:
-            at = "before its first look" if moment is None else f"at {when}"
+            at = "before its first look" if time_ns is None else f"at {when}"
             words = reason(said) or "no words"
             self.found.fault = f"{self.found.path}: oomd ended {at}, {self.daemon.end()}: {words}"
         return end is not None
@@ -226,10 +227,10 @@ class Follower:
             )
         if not self.has_looked(None):
             return
-        for moment in looks.times():
+        for time_ns in looks.times():
             self.found.looks += 1
-            self.daemon.wake(moment + shift)
-            if not self.has_looked(moment):
+            self.daemon.wake(time_ns + shift)
+            if not self.has_looked(time_ns):
                 return
         self.daemon.end()
 
@@ -273,6 +274,6 @@ def run_binary(
 
 
 def terminate(daemon: Daemon) -> None:
-    """Ends a daemon that still runs after a fault."""
+    """Ends the daemon if it still runs, for example after a Fault."""
     if daemon.process.poll() is None:
         daemon.end(0)

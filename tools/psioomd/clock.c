@@ -1,8 +1,9 @@
-/* Preloaded into oomd, which looks, sleeps and looks again. Its clock stands still while it works.
-   Each sleep of its main thread is handed to the driver, which writes the files of the time at which
-   the sleep ends, and answers with that time. /proc, /sys and /dev/kmsg lie below PSIOOMD_ROOT.
-   Nothing is killed, nothing but oomd's own socket is connected to, and no file outside the folder
-   of PSIOOMD_ROOT is opened for writing.
+/* A library that is preloaded into oomd. oomd evaluates its rules, sleeps, and evaluates them again.
+   The library stops the clock of oomd while oomd works, and reports each sleep of its main thread to
+   the driver. The driver writes the machine's files for the time at which the sleep ends, and
+   answers with that time. The library redirects /proc, /sys and /dev/kmsg to below PSIOOMD_ROOT. It
+   refuses to kill processes, to connect to any socket except oomd's own, and to open files outside
+   the folder of PSIOOMD_ROOT for writing.
 
    cc -O2 -shared -fPIC -o clock.so clock.c -ldl */
 #define _GNU_SOURCE
@@ -53,7 +54,7 @@ static int64_t receive_time(void) {
   for (size_t done = 0; done < 8;) {
     ssize_t n = read(from_driver, (char *)&value + done, 8 - done);
     if (n < 0 && errno == EINTR) continue;
-    if (n <= 0) _exit(0);                        /* the driver has closed its end */
+    if (n <= 0) _exit(0);                        /* the driver has closed the connection */
     done += n;
   }
   return value;
@@ -82,7 +83,7 @@ static int64_t ns(const struct timespec *t) { return t->tv_sec * NS + t->tv_nsec
 
 static struct timespec spec(int64_t n) { return (struct timespec){n / NS, n % NS}; }
 
-static int64_t start_of(clockid_t clock) {       /* -1 for clocks that go on */
+static int64_t start_of(clockid_t clock) {       /* -1 if the clock isn't controlled */
   switch (clock) {
     case CLOCK_MONOTONIC: case CLOCK_MONOTONIC_RAW: case CLOCK_MONOTONIC_COARSE: case CLOCK_BOOTTIME:
       return up;
@@ -144,14 +145,14 @@ int usleep(useconds_t us) {
   return nanosleep(&t, 0);
 }
 
-/* A deadline of the held clock, as one of the real clock. */
+/* Converts a deadline on the controlled clock to a deadline on the real clock. */
 static struct timespec real_deadline(clockid_t clock, const struct timespec *t) {
   struct timespec real;
   NEXT(clock_gettime)(clock, &real);
   return spec(ns(&real) + ns(t) - start_of(clock) - now);
 }
 
-/* The held clock passes a deadline that the main thread waited for; it would wait forever otherwise. */
+/* Advances the controlled clock to a deadline at which a wait of the main thread has ended. */
 static int after_wait(int status, clockid_t clock, const struct timespec *t) {
   int64_t end = ns(t) - start_of(clock);
   if (status == ETIMEDOUT && is_main() && now < end) now = end;
@@ -174,7 +175,7 @@ int pthread_cond_timedwait(pthread_cond_t *restrict c, pthread_mutex_t *restrict
 
 static int begins(const char *path, const char *prefix) { return !strncmp(path, prefix, strlen(prefix)); }
 
-/* The path below PSIOOMD_ROOT of what oomd knows as a file of the machine. */
+/* Returns the path below PSIOOMD_ROOT for a file of the machine, and other paths unchanged. */
 static const char *moved(const char *path, char *room) {
   if (!root[0] || !path || path[0] != '/' || begins(path, "/proc/self/")) return path;
   int is_machine = begins(path, "/proc/") || begins(path, "/sys/") || !strcmp(path, "/proc") || !strcmp(path, "/dev/kmsg");
@@ -183,7 +184,7 @@ static const char *moved(const char *path, char *room) {
   return strcat(room, path);
 }
 
-/* Whether a path is absolute, outside the folder, and would be written. */
+/* Returns whether to refuse access: if a file outside the folder would be written. */
 static int is_refused(const char *path, int is_write) {
   if (!is_write || to_driver < 0 || !path || path[0] != '/') return 0;
   if (begins(path, folder) && path[strlen(folder)] == '/' && !strstr(path, "/..")) return 0;
@@ -218,7 +219,7 @@ int access(const char *path, int mode) { MOVED; return NEXT(access)(path, mode);
 int stat(const char *restrict path, struct stat *restrict s) { MOVED; return NEXT(stat)(path, s); }
 int stat64(const char *restrict path, struct stat64 *restrict s) { MOVED; return NEXT(stat64)(path, s); }
 
-/* What was found below PSIOOMD_ROOT gets the names that oomd knows. */
+/* Removes PSIOOMD_ROOT from the paths that glob has found, so that oomd gets its own names. */
 static void rename_found(char **names, size_t count) {
   size_t length = strlen(root);
   for (size_t i = 0; i < count; i++)
@@ -237,7 +238,7 @@ int glob64(const char *restrict path, int flags, int (*f)(const char *, int), gl
   return status;
 }
 
-/* ---- attributes of a group: a file in its folder stands for each */
+/* ---- extended attributes of a group, each represented by a file in its folder */
 
 ssize_t fgetxattr(int fd, const char *name, void *value, size_t size) {
   if (to_driver < 0) return NEXT(fgetxattr)(fd, name, value, size);
@@ -255,7 +256,7 @@ ssize_t getxattr(const char *path, const char *name, void *value, size_t size) {
 }
 int setxattr(const char *path, const char *name, const void *value, size_t size, int flags) { return 0; }
 
-/* ---- nothing real is touched */
+/* ---- refused system calls */
 
 int kill(pid_t pid, int signal) {
   if (to_driver < 0) return NEXT(kill)(pid, signal);

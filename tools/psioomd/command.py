@@ -1,4 +1,4 @@
-"""The options and the output of tools/oomd."""
+"""Parses the command line of tools/oomd, and prints the results."""
 from __future__ import annotations
 
 import argparse
@@ -50,7 +50,9 @@ refuses, a trace that psi_oomd refuses, a program that isn't oomd, 12 a time out
 
 
 def given_number(word: str) -> tuple[tuple[str, str], int]:
-    """Parses a number for a group's file, such as /batch/memory.low=1073741824."""
+    """Parses a value of a group's file, such as /batch/memory.low=1073741824. Returns the group's
+    path with the file's name, and the number. `max` is 2^63 - 1.
+    """
     found = re.fullmatch(r"(/(?:\S*/)?)([a-z_.]+)=([0-9]{1,18}|max)", word)
     if not found or found[2] not in FILES:
         raise Malformed(f"{word}: write /GROUP/FILE=NUMBER, FILE one of {', '.join(FILES)}")
@@ -94,7 +96,8 @@ def parser() -> Parser:
 
 
 class Comparison:
-    """The kills by psi_oomd's own rules, for comparison."""
+    """The kills that psi_oomd computes with its own rules file, for a comparison with oomd's kills.
+    """
 
     def __init__(self, name: str, rules: RulesFile, kills: list[Kill]) -> None:
         self.name, self.rules, self.kills = name, rules, kills
@@ -105,7 +108,7 @@ class Comparison:
 
 
 def verdict(own: list[Kill], other: list[Kill], names: tuple[str, str]) -> str:
-    """Returns a sentence that says how the first kills by two programs differ."""
+    """Returns a sentence that compares the first kills by two programs."""
     if not own or not other:
         who = names[0] if own else names[1]
         return f"first kill: by {who} alone" if own or other else "no kill by either"
@@ -118,8 +121,8 @@ def verdict(own: list[Kill], other: list[Kill], names: tuple[str, str]) -> str:
 
 
 def compare(program: Program, name: str, trace: str, interval_s: int) -> Comparison:
-    """Replays the trace with a rules file, which is evaluated whenever oomd evaluates its own
-    rules.
+    """Replays the trace with a rules file, whose rules are evaluated at the times of oomd's
+    evaluations.
     """
     with contextlib.ExitStack() as files:
         rules, file = accepted(program, name, files)
@@ -129,8 +132,9 @@ def compare(program: Program, name: str, trace: str, interval_s: int) -> Compari
 
 @dataclass(frozen=True)
 class Answers:
-    """All results: of the emulation (None if the emulation rejects a configuration that oomd itself
-    accepts), of oomd itself, and of psi_oomd's rules.
+    """All results: `own` is the emulation, `ran` the run of oomd itself, and `other` the comparison
+    with psi_oomd's rules. `own` is also None if the emulation rejects a configuration that oomd
+    accepts.
     """
 
     run: Run
@@ -140,7 +144,7 @@ class Answers:
     part: Span | None
 
     def select(self) -> None:
-        """Leaves only the kills in the part that is shown."""
+        """Removes the kills outside of the requested part of the trace."""
         if self.own:
             self.own.decisions = within(self.own.decisions, self.part)
         if self.ran:
@@ -158,8 +162,8 @@ class Answers:
 
 
 def agreement(own: Engine, ran: binary.BinaryRun) -> str:
-    """Returns a sentence that says whether oomd itself makes the kills of the emulation, apart from
-    the choice among equal candidates.
+    """Returns a sentence that says whether oomd's own kills equal those of the emulation. A
+    different choice among equal candidates isn't a difference.
     """
     for decision, other in zip(own.decisions, ran.kills):
         found = decision.kill()
@@ -189,7 +193,7 @@ def binary_lines(answers: Answers, ran: binary.BinaryRun) -> list[str]:
 
 
 def kill_lines(answers: Answers, is_all: bool) -> list[str]:
-    """Returns the lines about the kills of all, in order of time."""
+    """Returns the lines about all kills by all programs, in order of time."""
     rows = [(it.time_ns, 0, it.lines(is_all)) for it in answers.decisions()]
     if answers.other:
         rows += [(it.time_ns, 1, [answers.other.line(it)]) for it in answers.other.kills]
@@ -199,8 +203,8 @@ def kill_lines(answers: Answers, is_all: bool) -> list[str]:
 
 
 def print_lines(answers: Answers, is_all: bool) -> None:
-    """Prints text for people: the kills in order of time, and how near each detector came to its
-    limit.
+    """Prints the results as text: the kills in order of time, and how near each detector came to
+    its limit.
     """
     own, other, ran = answers.own, answers.other, answers.ran
     lines = kill_lines(answers, is_all)
@@ -243,21 +247,22 @@ def print_json(answers: Answers, name: str) -> None:
     print()
 
 
-def run_of(given: argparse.Namespace, trace: str) -> Run:
+def run_of(options: argparse.Namespace, trace: str) -> Run:
     return Run(
         trace,
-        given.config,
-        tuple(given.drop_in),
-        given.interval_s or DEFAULT_INTERVAL,
-        Extras(dict(given.given)),
-        given.warm,
-        UPTIME if given.uptime_s is None else given.uptime_s * SECOND,
+        options.config,
+        tuple(options.drop_in),
+        options.interval_s or DEFAULT_INTERVAL,
+        Extras(dict(options.given)),
+        options.warm,
+        UPTIME if options.uptime_s is None else options.uptime_s * SECOND,
     )
 
 
 def try_emulation(program: Program, run: Run, has_binary: bool) -> Engine | None:
-    """Runs the emulation. If oomd itself runs too, oomd decides whether the configuration is valid,
-    so a rejection by the emulation is only reported.
+    """Runs the emulation. If the emulation rejects the configuration, raises Refused. If oomd
+    itself runs too, it decides whether the configuration is valid, so here the rejection is only
+    printed.
     """
     try:
         return emulate(program, run, processors())
@@ -268,44 +273,44 @@ def try_emulation(program: Program, run: Run, has_binary: bool) -> Engine | None
         return None
 
 
-def collect_answers(given: argparse.Namespace) -> Answers:
+def collect_answers(options: argparse.Namespace) -> Answers:
     program = Program()
     program.prepare()
-    with kept_trace(given.trace) as trace:
-        run = run_of(given, trace)
-        own = try_emulation(program, run, bool(given.binary))
+    with kept_trace(options.trace) as trace:
+        run = run_of(options, trace)
+        own = try_emulation(program, run, bool(options.binary))
         ran = (
-            binary.run_binary(program, run, given.binary, given.sandbox, given.log)
-            if given.binary
+            binary.run_binary(program, run, options.binary, options.sandbox, options.log)
+            if options.binary
             else None
         )
-        other = compare(program, given.compare, trace, run.interval) if given.compare else None
-        part = part_of(given.trace, vars(given), end_of(trace))
+        other = compare(program, options.compare, trace, run.interval) if options.compare else None
+        part = part_of(options.trace, vars(options), end_of(trace))
     answers = Answers(run, own, ran, other, part)
     answers.select()
     return answers
 
 
-def work(given: argparse.Namespace) -> int:
-    """Prints what oomd would have done, and returns the exit status."""
-    if not given.is_json:
-        show_containers([given.trace], vars(given))
-        show_clock(given.trace, vars(given))
-    if not given.binary and (given.sandbox or given.log):
+def work(options: argparse.Namespace) -> int:
+    """Emulates oomd, prints the results, and returns the exit status."""
+    if not options.is_json:
+        show_containers([options.trace], vars(options))
+        show_clock(options.trace, vars(options))
+    if not options.binary and (options.sandbox or options.log):
         raise Fault("--sandbox and --log are for --binary")
-    answers = collect_answers(given)
+    answers = collect_answers(options)
     if answers.own:
         for text in answers.own.notes.texts:
             complain(text)
         if answers.own.machine.world.host is None:
             complain("the trace has no `host` line: its memory and swap are 0 for percentages")
-    if given.is_json:
-        print_json(answers, given.trace)
+    if options.is_json:
+        print_json(answers, options.trace)
     else:
-        print_lines(answers, given.is_all)
+        print_lines(answers, options.is_all)
     return Status.DONE
 
 
 def main() -> int:
-    """Runs the command; returns the exit status."""
+    """Runs the command, and returns the exit status."""
     return run(lambda: work(parser().parse_args()))

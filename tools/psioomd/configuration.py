@@ -1,5 +1,5 @@
-"""Parses a configuration as oomd does: first as JSON with comments by JsonCpp's rules, then by
-oomd's own rules.
+"""Parses a configuration as oomd does. First the text is parsed as JSON with comments, according to
+the rules of JsonCpp. Then the contents are converted according to the rules of oomd.
 """
 from __future__ import annotations
 
@@ -15,7 +15,8 @@ from psirules.relaxed import Reading
 
 @dataclass
 class PluginUse:
-    """A plugin in a configuration: its name, its arguments as strings, and its place for messages.
+    """A plugin in a configuration: its name, its arguments as strings, and its position for
+    messages.
     """
 
     name: str
@@ -25,7 +26,7 @@ class PluginUse:
 
 @dataclass
 class GroupUse:
-    """A group of detectors in a ruleset."""
+    """A group of detectors in a ruleset: its name, its detectors, and its position for messages."""
 
     name: str
     detectors: list[PluginUse]
@@ -34,7 +35,7 @@ class GroupUse:
 
 @dataclass
 class RulesetUse:
-    """A ruleset. Delays are strings as in the file, empty if missing."""
+    """A ruleset in a configuration. Delays are strings as in the file, or empty if missing."""
 
     name: str
     place: str
@@ -50,8 +51,8 @@ class RulesetUse:
 
 @dataclass
 class Configuration:
-    """The contents of a configuration: its file name, its rulesets, the names of its prekill
-    hooks, and its JSON data.
+    """A configuration: its file name, its rulesets, the names of its prekill hooks, and its JSON
+    data.
     """
 
     name: str
@@ -68,7 +69,7 @@ class Configuration:
 
 
 def text_of(value: Any, place: str) -> str:
-    """Converts a JSON value like JsonCpp's asString."""
+    """Converts a JSON value to a string as JsonCpp's asString does."""
     if value is None:
         return ""
     if isinstance(value, bool):
@@ -82,15 +83,15 @@ def text_of(value: Any, place: str) -> str:
 
 
 def truth_of(value: Any, place: str) -> bool:
-    """Converts a JSON value like JsonCpp's asBool."""
+    """Converts a JSON value to a boolean as JsonCpp's asBool does."""
     if value is None or isinstance(value, (bool, int, float)):
         return bool(value)
     raise Refused(place, "Value is not convertible to bool. (it aborts)")
 
 
 def items(value: Any) -> Iterable[Any]:
-    """Returns the values over which oomd iterates: a list, or an object's values in order of
-    keys.
+    """Returns the values over which oomd iterates: the items of a list, or an object's values in
+    order of keys.
     """
     if isinstance(value, dict):
         return [value[key] for key in sorted(value)]
@@ -98,21 +99,23 @@ def items(value: Any) -> Iterable[Any]:
 
 
 def object_at(value: Any, place: str) -> dict[str, Any]:
-    """Returns an object, empty for null. oomd aborts at any other value."""
+    """Returns `value` if it is a JSON object, and an empty object if it is null. Raises Refused for
+    any other value, since oomd then aborts.
+    """
     if value is None or isinstance(value, dict):
         return value or {}
     raise Refused(place, "requires objectValue or nullValue (it aborts)")
 
 
 def plugin_use(value: Any, place: str) -> PluginUse:
-    """Converts a plugin. oomd stops reading arguments at the first one that isn't a string,
-    number or boolean.
+    """Converts a plugin. As in oomd, the first argument that isn't a string, number or boolean ends
+    the arguments: it and all later arguments are ignored.
     """
     if not isinstance(value, dict) or not isinstance(value.get("name"), str):
         return PluginUse("", {}, place)
     name, args = value["name"], {}
-    given = value.get("args")
-    found: dict[str, Any] = given if isinstance(given, dict) else {}
+    arguments = value.get("args")
+    found: dict[str, Any] = arguments if isinstance(arguments, dict) else {}
     for key in sorted(found):
         if not isinstance(found[key], (str, int, float, bool)):
             break
@@ -121,7 +124,7 @@ def plugin_use(value: Any, place: str) -> PluginUse:
 
 
 def group_use(value: Any, place: str) -> GroupUse:
-    """Converts a group of detectors. Its first item may be its name."""
+    """Converts a group of detectors. The first item of the list may be the group's name."""
     found = list(value) if isinstance(value, list) else []
     name = str(found.pop(0)) if found and isinstance(found[0], str) else ""
     here = f"{place} {quoted(name)}"
@@ -153,7 +156,7 @@ def ruleset_use(value: Any, number: int, file: str) -> RulesetUse:
 
 
 def configuration(name: str, data: bytes) -> Configuration:
-    """Parses a configuration. Arguments of plugins aren't checked yet."""
+    """Parses a configuration. Doesn't check the arguments of plugins."""
     try:
         read = Reading(data).data
     except Fault as fault:

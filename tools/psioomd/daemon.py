@@ -1,5 +1,5 @@
-"""Runs oomd as a process with a controlled clock: each sleep of the process lasts until this module
-ends it.
+"""Runs oomd as a process whose clock is controlled. Each time the process sleeps, this module
+decides when the sleep ends.
 """
 from __future__ import annotations
 
@@ -22,17 +22,16 @@ HELLO, SLEEPS, KILLS = "H", "S", "K"
 MESSAGE = struct.Struct("<cq")
 MOST_LOG = 1 << 26
 GRACE = 20
-"""The time (s) that a process may take to end after its driver has closed the connection."""
+"""The time (s) in which a process must end after the connection to it was closed."""
 
 
 @functools.lru_cache(maxsize=None)
 def clock_library() -> bytes:
-    """Returns the bytes of the preloaded clock library, which is compiled once per run of this
-    tool.
+    """Returns the bytes of the preloaded clock library. It is compiled once per run of this tool.
     """
     with tempfile.TemporaryDirectory(prefix="psioomd-") as folder:
-        made = os.path.join(folder, LIBRARY)
-        words = ["cc", "-O2", "-shared", "-fPIC", "-o", made, SOURCE, "-ldl"]
+        library = os.path.join(folder, LIBRARY)
+        words = ["cc", "-O2", "-shared", "-fPIC", "-o", library, SOURCE, "-ldl"]
         try:
             done = subprocess.run(words, capture_output=True, cwd=folder)
         except OSError as fault:
@@ -45,12 +44,12 @@ def clock_library() -> bytes:
             raise Fault(
                 f"cc doesn't compile {SOURCE}: install libc6-dev, or leave out --binary: {said}"
             )
-        with open(made, "rb") as file:
+        with open(library, "rb") as file:
             return file.read()
 
 
 class Daemon:
-    """A process in a sandbox with the clock library preloaded."""
+    """A process in a sandbox, with the clock library preloaded."""
 
     def __init__(self, sandbox: Sandbox, words: list[str], uptime: int, patience: float) -> None:
         self.sandbox, self.patience = sandbox, patience
@@ -85,7 +84,7 @@ class Daemon:
         os.close(hears)
 
     def message(self) -> tuple[str, int] | None:
-        """Returns the next message of the library, or None if the process has ended."""
+        """Returns the next message from the clock library, or None if the process has ended."""
         data, until = b"", time.monotonic() + self.patience
         while len(data) < MESSAGE.size:
             ready, _, _ = select.select([self.of], [], [], max(0, until - time.monotonic()))
@@ -103,14 +102,16 @@ class Daemon:
         return kind.decode("latin-1"), value
 
     def is_preloaded(self) -> bool:
-        """Returns whether the library was loaded, which is impossible in a statically linked
+        """Returns whether the clock library was loaded. It can't be loaded into a statically linked
         program.
         """
         found = self.message()
         return found is not None and found[0] == HELLO
 
     def sleep_end(self) -> int | None:
-        """Returns the time (ns) until which the process sleeps, or None if it has ended."""
+        """Waits until the process sleeps. Returns the time (ns) at which its sleep would end, or
+        None if the process has ended.
+        """
         while True:
             found = self.message()
             if found is None:
@@ -122,14 +123,14 @@ class Daemon:
                 raise Fault(f"{what}, which was refused, and it was terminated")
 
     def wake(self, now: int) -> None:
-        """Ends the process's sleep, at the time `now` (ns) of its clock."""
+        """Ends the sleep of the process. `now` is the new time (ns) of its clock."""
         try:
             os.write(self.to, struct.pack("<q", now))
         except BrokenPipeError:
             pass
 
     def new_log(self) -> str:
-        """Returns the text that was added to the log since the last call."""
+        """Returns the text that was appended to the log since the last call."""
         size = os.fstat(self.log.fileno()).st_size
         text = os.pread(self.log.fileno(), min(size, MOST_LOG), 0) if size else b""
         if size:
@@ -138,8 +139,8 @@ class Daemon:
         return text.decode(errors="replace")
 
     def end(self, grace: float = GRACE) -> str:
-        """Ends the process, by a signal if it doesn't end within `grace` seconds. Returns a text
-        that says how it ended.
+        """Ends the process. If it doesn't end by itself within `grace` seconds, sends a signal.
+        Returns a text that says how it ended.
         """
         for fd in (self.to, self.of):
             os.close(fd)
@@ -153,8 +154,8 @@ class Daemon:
 
 
 def status_text(status: int) -> str:
-    """Returns a text that says how a process ended. A sandbox returns 128 plus the number of a
-    signal.
+    """Returns a text that says how a process ended. After a signal, a sandbox returns the status
+    128 plus the signal's number.
     """
     number = -status if status < 0 else status - 128 if status > 128 else 0
     try:
@@ -164,7 +165,9 @@ def status_text(status: int) -> str:
 
 
 def answer(sandbox: Sandbox, words: list[str], patience: float = PATIENCE) -> tuple[int, str]:
-    """Returns the status and the output of a run of oomd without evaluations, such as --version."""
+    """Runs oomd without evaluations, for example with --version. Returns its exit status and its
+    output.
+    """
     daemon = Daemon(sandbox, words, 0, patience)
     ended = False
     try:

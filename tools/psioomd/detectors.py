@@ -17,20 +17,20 @@ BITS = 1 << 64
 
 
 def average(hundredths: int) -> float:
-    """Converts an average (hundredths of a percent) to the 32-bit float that oomd reads."""
+    """Converts an average (hundredths of a percent) to a percentage as oomd stores it, in a 32-bit
+    float.
+    """
     return float32(hundredths / HUNDREDTHS)
 
 
 def weight(averages: Averages) -> float:
-    """Returns the weight by which oomd picks a group: three times avg10, plus twice avg60, plus
-    avg300.
-    """
+    """Returns the weight by which oomd selects a group, `3 * avg10 + 2 * avg60 + avg300`."""
     short, middle, long = map(average, (averages.avg10, averages.avg60, averages.avg300))
     return float32(float32(float32(short * 3) + float32(middle * 2)) + long)
 
 
 class Nearest:
-    """The value that came nearest to a limit, and the time (ns) of it."""
+    """The value that came nearest to a limit so far, with its time (ns) and its group's path."""
 
     def __init__(self, is_least: bool = False) -> None:
         self.sign = -1 if is_least else 1
@@ -49,8 +49,8 @@ class Nearest:
 
 
 class Above(Plugin):
-    """The plugin `pressure_above`: avg10 of the group with the greatest weight is above the
-    threshold for the duration.
+    """The plugin `pressure_above`. It is true if avg10 of the group with the largest weight has
+    been above the threshold for the duration.
     """
 
     def __init__(self, use: PluginUse, args: dict[str, Any]) -> None:
@@ -61,7 +61,7 @@ class Above(Plugin):
         self.most = Nearest()
 
     def read(self, look: Look) -> None:
-        """Selects the one group whose pressure counts at this evaluation."""
+        """Selects the group whose pressure counts at this evaluation."""
         self.best, self.path = NO_PRESSURE, ""
         for path in look.machine.among(self.args["cgroup"]):
             pressure = look.machine.pressure(path, self.resource)
@@ -70,7 +70,7 @@ class Above(Plugin):
         self.most.take(look.now, self.watched(), self.path)
 
     def watched(self) -> int:
-        """Returns the average that must be above the threshold, in hundredths of a percent."""
+        """Returns the average, in hundredths of a percent, that is compared with the threshold."""
         return self.best.avg10
 
     def is_above(self, hundredths: int) -> bool:
@@ -93,8 +93,9 @@ class Above(Plugin):
 
 
 class Rising(Above):
-    """The plugin `pressure_rising_beyond`: avg60 is above the threshold for the duration, and avg10
-    is above the threshold now and has not fallen much since the previous evaluation.
+    """The plugin `pressure_rising_beyond`. It is true if avg60 has been above the threshold for the
+    duration and avg10 is above the threshold now. In addition, avg10 must be at least
+    `fast_fall_ratio` times its value at the previous evaluation.
     """
 
     def __init__(self, use: PluginUse, args: dict[str, Any]) -> None:
@@ -114,8 +115,8 @@ class Rising(Above):
 
 
 class MemoryAbove(Plugin):
-    """The plugin `memory_above`: the greatest memory use of a group is above the threshold for the
-    duration.
+    """The plugin `memory_above`. It is true if the largest memory use of a group has been above the
+    threshold for the duration.
     """
 
     def __init__(self, use: PluginUse, args: dict[str, Any]) -> None:
@@ -145,8 +146,8 @@ class MemoryAbove(Plugin):
 
 
 class Reclaim(Plugin):
-    """The plugin `memory_reclaim`: the sum of scanned pages rose within the duration. As in oomd,
-    the sum is 0 pages when the machine starts.
+    """The plugin `memory_reclaim`. It is true if the number of scanned pages, summed over groups,
+    has risen within the duration. As in oomd, the sum at the boot of the machine is 0.
     """
 
     def __init__(self, use: PluginUse, args: dict[str, Any], uptime: int) -> None:
@@ -168,8 +169,8 @@ class Reclaim(Plugin):
 
 
 class SwapFree(Plugin):
-    """The plugin `swap_free`: less than a percentage of the swap is free. oomd computes with
-    unsigned numbers.
+    """The plugin `swap_free`. It is true if less than the percentage `threshold_pct` of the swap is
+    free. oomd computes with unsigned numbers.
     """
 
     def __init__(self, use: PluginUse, args: dict[str, Any]) -> None:
@@ -193,7 +194,8 @@ class SwapFree(Plugin):
 
 
 class Exists(Plugin):
-    """The plugin `exists`: some group matches, or with `negate` no group does."""
+    """The plugin `exists`. It is true if some group matches or, with `negate`, if no group matches.
+    """
 
     def run(self, look: Look) -> Result:
         return result(
@@ -206,8 +208,9 @@ class Exists(Plugin):
 
 
 class Dying(Plugin):
-    """The plugin `nr_dying_descendants`: a group has at most a number of dying groups, or more than
-    that number.
+    """The plugin `nr_dying_descendants`. With `lte`, which is the default, it is true if some group
+    has at most `count` dying descendants. With `lte` false, it is true if some group has more than
+    `count`.
     """
 
     def run(self, look: Look) -> Result:
@@ -221,8 +224,8 @@ class Dying(Plugin):
 
 
 class Constant(Plugin):
-    """A plugin that always returns the same result: `continue`, `stop`, `dump_cgroup_overview`,
-    and the plugins that aren't emulated.
+    """A plugin that always returns the result `always`. These plugins are `continue`, `stop`,
+    `dump_cgroup_overview`, and the plugins that aren't emulated.
     """
 
     def __init__(self, use: PluginUse, args: dict[str, Any], always: Result) -> None:

@@ -1,4 +1,4 @@
-"""Copies a configuration so that each kill is dry, and the name of each ruleset contains the
+"""Makes a dry copy of a configuration: no action kills, and the name of each ruleset contains the
 ruleset's number.
 """
 from __future__ import annotations
@@ -12,7 +12,7 @@ HARMLESS = {
     "continue", "stop", "exists", "pressure_above", "pressure_rising_beyond", "memory_above",
     "memory_reclaim", "swap_free", "dump_cgroup_overview", "nr_dying_descendants", "senpai",
 }  # fmt: skip
-"""The plugins that act on nothing but files of the machine. Any other plugin gets `dry`."""
+"""The plugins that can't kill. Each other plugin gets the argument `dry`."""
 SILENCES = "silence-logs"
 
 
@@ -21,7 +21,7 @@ def numbered(number: int, name: object) -> str:
 
 
 def make_dry(plugin: Any) -> Any:
-    """Returns the plugin with the argument `dry`, unless it is harmless."""
+    """Returns the plugin, with the argument `dry` unless the plugin is in HARMLESS."""
     if not isinstance(plugin, dict) or plugin.get("name") in HARMLESS:
         return plugin
     args = plugin.get("args")
@@ -35,8 +35,8 @@ def dry_group(number: int, group: Any) -> Any:
 
 
 def dry_ruleset(ruleset: Any, name: str) -> Any:
-    """Returns the ruleset with this name. Its logs aren't silenced, since the kills are parsed from
-    the logs.
+    """Returns a copy of a ruleset with the name `name`. The copy doesn't silence logs, since the
+    kills are parsed from oomd's log.
     """
     if not isinstance(ruleset, dict):
         return ruleset
@@ -59,7 +59,7 @@ def copy(base: Configuration) -> bytes:
 
 
 def drop_in_copy(base: Configuration, part: Configuration) -> bytes:
-    """Returns the dry copy of a drop-in file, with the rulesets' new names."""
+    """Returns the dry copy of a drop-in file. It uses the new names of the rulesets."""
     names: dict[str, str] = {}
     for at, it in enumerate(base.rulesets):
         names.setdefault(it.name, numbered(at, it.name))

@@ -1,5 +1,5 @@
-"""Applies oomd's algorithm to a trace, with the pressure that a replay by psi_oomd prints for each
-of oomd's evaluations.
+"""Emulates oomd on a trace. A replay by psi_oomd provides the pressure at each of oomd's
+evaluations.
 """
 from __future__ import annotations
 
@@ -23,17 +23,19 @@ from psirules.rules_file import bytes_of
 from psirules.sampling import must_have_scans
 
 TICK_MS = 1000
-"""A tick (ms) that divides every interval, so that each look of oomd is a tick."""
+"""The tick of the replay (ms). It divides every interval, so that each evaluation by oomd is at a
+tick.
+"""
 RESOURCES = {b"io\n", b"memory\n"}
 UPTIME = 10**6 * SECOND
-"""The uptime of the machine at the start of the trace (ns), unless the user gives it."""
+"""The default uptime (ns) of the machine at the start of the trace."""
 
 
 @dataclass(frozen=True)
 class Run:
-    """The input of an emulation: the trace, the configuration and its drop-in files by name, the
-    interval between evaluations (s), values that no trace has, for how long (s) oomd runs before
-    the trace, and the uptime (ns).
+    """The input of an emulation: the trace, the configuration, the names of its drop-in files, and
+    the interval between evaluations (s). `extras` contains values that a trace lacks. `warm` is the
+    time (s) for which oomd runs before the trace, and `uptime` the machine's uptime (ns).
     """
 
     trace: str
@@ -45,14 +47,16 @@ class Run:
     uptime: int = UPTIME
 
     def configurations(self) -> tuple[Configuration, list[Configuration]]:
-        """Reads the configuration and the drop-in files, in the order in which oomd adds them."""
+        """Reads the configuration and its drop-in files. The drop-in files are sorted by name, the
+        order in which oomd adds them.
+        """
         parts = sorted(self.drop_ins, key=lambda it: it.rpartition("/")[2])
         return read_configuration(self.config), [read_configuration(it) for it in parts]
 
 
 @dataclass(frozen=True)
 class Tick:
-    """An evaluation by oomd: its time (ns), and the pressure of each group."""
+    """An evaluation by oomd: its time (ns), and the pressure of each group, keyed by path."""
 
     time_ns: int
     reports: dict[str, Pressure]
@@ -63,7 +67,7 @@ def read_configuration(name: str) -> Configuration:
 
 
 def needed_lines(printed: Iterable[bytes]) -> Iterator[bytes]:
-    """Yields the lines without the reports that oomd doesn't read."""
+    """Yields the lines of a replay, without the reports on resources that oomd doesn't read."""
     is_kept = True
     for line in printed:
         if line[:5] not in (b"some ", b"full "):
@@ -74,21 +78,19 @@ def needed_lines(printed: Iterable[bytes]) -> Iterator[bytes]:
 
 
 def ticks_of(printed: Iterable[bytes], interval: int) -> Iterator[Tick]:
-    """Yields the evaluations that correspond to the reports of a replay."""
+    """Yields an evaluation for each tick of a replay that is a multiple of the interval (s)."""
     reports = (it for it in read(needed_lines(printed)) if isinstance(it, Report))
-    for moment, of_moment in itertools.groupby(reports, key=lambda it: it.time_ns):
+    for time_ns, tick_reports in itertools.groupby(reports, key=lambda it: it.time_ns):
         found: dict[str, Pressure] = {}
-        for it in of_moment:
+        for it in tick_reports:
             averages = Averages(it.full.avg10, it.full.avg60, it.full.avg300)
             found.setdefault(it.path, {})[it.resource] = averages
-        if moment % (interval * SECOND) == 0:
-            yield Tick(moment, found)
+        if time_ns % (interval * SECOND) == 0:
+            yield Tick(time_ns, found)
 
 
 def first_host(trace: str) -> Host:
-    """Returns the trace's first sample of the host, which counts as the host's state from the
-    start.
-    """
+    """Returns the trace's first sample of the host, which is also used for earlier times."""
     groups = Groups()
     for event in events_of(trace):
         groups.take(*event)
@@ -98,10 +100,12 @@ def first_host(trace: str) -> Host:
 
 
 def first_samples(trace: str) -> Iterator[Event]:
-    """Yields the first `mem` event of each group that exists at the start."""
+    """Yields the first memory sample of each group that exists at the start, as a `mem` event at
+    time 0.
+    """
     live, seen = {"/"}, set()
-    for moment, verb, fields in events_of(trace):
-        if verb == "group" and moment == 0:
+    for time_ns, verb, fields in events_of(trace):
+        if verb == "group" and time_ns == 0:
             live.add(fields[0])
         elif verb == "mem" and fields[0] in live and fields[0] not in seen:
             seen.add(fields[0])
@@ -109,8 +113,8 @@ def first_samples(trace: str) -> Iterator[Event]:
 
 
 def warm_up(it: Engine, run: Run, world: World[Task]) -> None:
-    """Lets oomd evaluate its rules before the trace begins, on a machine with the trace's first
-    samples.
+    """Runs oomd's evaluations before the start of the trace. During these evaluations the machine
+    has the first samples of the trace.
     """
     for event in first_samples(run.trace):
         world.take(*event)
@@ -120,7 +124,7 @@ def warm_up(it: Engine, run: Run, world: World[Task]) -> None:
 
 
 def decide(it: Engine, run: Run, ticks: Iterator[Tick]) -> None:
-    """Passes the trace's events and the evaluations to the engine, in order of time."""
+    """Passes the trace's events, and the evaluations, to the engine in order of time."""
     world, events = it.machine.world, Events(run.trace)
     for event in events.until(0):
         world.take(*event)
@@ -135,7 +139,7 @@ def decide(it: Engine, run: Run, ticks: Iterator[Tick]) -> None:
 
 def prepare_engine(run: Run) -> Engine:
     """Returns the engine before its first evaluation. Raises a Fault if oomd rejects the
-    configuration, or if the trace lacks what a plugin needs.
+    configuration, or if the trace lacks data that a plugin needs.
     """
     base, parts = run.configurations()
     for it in (base, *parts):
@@ -150,7 +154,7 @@ def replay_words(run: Run, threads: int) -> list[str]:
 
 
 def check_trace(program: Program, trace: str) -> None:
-    """Raises psi_oomd's own error if it rejects the trace."""
+    """Raises a Fault with psi_oomd's own message if psi_oomd rejects the trace."""
     with tempfile.TemporaryFile() as said:
         with program.started(["check", f"--tick-ms={TICK_MS}", "--", trace], said) as child:
             assert child.stdout is not None
@@ -165,7 +169,7 @@ def raise_refusal(status: int | None, trace: str, said: IO[bytes]) -> None:
 
 
 def emulate(program: Program, run: Run, threads: int) -> Engine:
-    """Emulates oomd on a trace, and returns the engine, which has the kills."""
+    """Emulates oomd on a trace. Returns the engine, which contains the kills."""
     check_trace(program, run.trace)
     it = prepare_engine(run)
     with tempfile.TemporaryFile() as said:

@@ -1,4 +1,5 @@
-"""Emulates oomd's engine: rulesets with their detectors, chains of actions, and pauses."""
+"""Emulates oomd's engine: rulesets with their detectors, their chains of actions, and their pauses.
+"""
 from __future__ import annotations
 
 from collections.abc import Callable, Sequence
@@ -50,14 +51,14 @@ LEFT_OUT = {
     "senpai": "it changes memory.high, which no trace shows: the memory may be other than recorded",
     "systemd_restart": "what it restarts isn't followed, and neither is the end of its chain",
 }
-"""The plugins of oomd 0.5.0 that need data that no trace has. Here each does nothing and
-continues.
+"""The plugins of oomd 0.5.0 that need data which a trace lacks. In this emulation they do nothing
+and return CONTINUE.
 """
 
 
 @dataclass(frozen=True)
 class Start:
-    """The values that oomd reads once at its start: the totals of the machine, and its uptime
+    """The values that oomd reads only once, at its start: the machine's totals, and its uptime
     (ns).
     """
 
@@ -66,7 +67,9 @@ class Start:
 
 
 class Notes:
-    """Notes on the parts of a configuration that can't be emulated, and the consequences."""
+    """Notes for the operator about parts of a configuration that can't be emulated, and the
+    consequences.
+    """
 
     def __init__(self) -> None:
         self.texts: list[str] = []
@@ -78,7 +81,7 @@ class Notes:
 
 
 def plugin(use: PluginUse, start: Start, notes: Notes) -> Plugin:
-    """Returns the plugin for this part of a configuration. Raises Refused if oomd rejects it."""
+    """Creates the plugin that the configuration describes. Raises Refused if oomd rejects it."""
     if not use.name:
         raise Refused(use.place, "Plugin is missing name")
     if use.name in LEFT_OUT:
@@ -101,7 +104,9 @@ def plugin(use: PluginUse, start: Start, notes: Notes) -> Plugin:
 
 
 def delay_of(text: str, what: str, place: str, default: int) -> int:
-    """Parses a delay in seconds. oomd aborts if it isn't a number."""
+    """Parses a delay in seconds. Returns `default` if the text is empty. Raises Refused if oomd
+    rejects the delay, or aborts because the text isn't a number.
+    """
     if not text:
         return default
     try:
@@ -114,7 +119,7 @@ def delay_of(text: str, what: str, place: str, default: int) -> int:
 
 
 def check_head(use: RulesetUse, is_drop_in: bool) -> None:
-    """Checks the parts of a ruleset that oomd checks before the ruleset's plugins. Raises Refused
+    """Makes the checks of a ruleset that oomd makes before it creates the plugins. Raises Refused
     if oomd rejects the ruleset.
     """
     if not use.name:
@@ -127,7 +132,7 @@ def check_head(use: RulesetUse, is_drop_in: bool) -> None:
 
 
 def act_of(it: Plugin, number: int, result: Result, decisions: list[Decision]) -> Act:
-    """Returns a description of what an action did, with its kill if it made one."""
+    """Describes the outcome of an action, including its victim if it chose one."""
     victim = decisions[0].victim if decisions else None
     if victim:
         return Act(number, it.name, victim, "", victim.candidates)
@@ -139,7 +144,9 @@ def act_of(it: Plugin, number: int, result: Result, decisions: list[Decision]) -
 
 
 class Ruleset(Pauses):
-    """A ruleset, with the name of the drop-in file that defines it, empty if none does."""
+    """A ruleset, its pause and its kills. `drop_in` is the name of the drop-in file that defines
+    it, or empty.
+    """
 
     def __init__(
         self, use: RulesetUse, number: int, start: Start, notes: Notes, drop_in: str = ""
@@ -169,7 +176,7 @@ class Ruleset(Pauses):
         self.is_paused_by_action = True
 
     def run(self, look: Look) -> None:
-        """Evaluates all detectors, and runs the actions if a group of detectors is true and the
+        """Evaluates all detectors. Runs the actions if all detectors of some group are true and the
         ruleset isn't paused.
         """
         if not self.is_enabled:
@@ -193,7 +200,7 @@ class Ruleset(Pauses):
             self.chain(0, fired, look)
 
     def step(self, it: Plugin, action: int | None, why: list[str], look: Look) -> Result:
-        """Runs a plugin, and stores its kills."""
+        """Runs a plugin, stores its kills, and returns its result."""
         result = it.run(look)
         source = Source(self.number, self.name, action, it.name, self.drop_in)
         self.decisions += [Decision(look.now, source, victim, why) for victim in look.victims]
@@ -201,8 +208,8 @@ class Ruleset(Pauses):
         return result
 
     def chain(self, first: int, why: list[str], look: Look) -> None:
-        """Runs the actions from the index `first` on, until an action stops the chain or waits for
-        the next evaluation.
+        """Runs the actions, starting at the index `first`, until an action stops the chain or waits
+        for the next evaluation.
         """
         acts: list[Act] = []
         self.fired.append(Fired(look.now, why, None, acts))
@@ -222,7 +229,7 @@ class Ruleset(Pauses):
 
 @dataclass
 class Course:
-    """How near a detector came to its limit, in words."""
+    """A text that says how near a detector came to its limit, with the detector's position."""
 
     place: str
     text: str
@@ -230,8 +237,8 @@ class Course:
 
 @dataclass
 class Engine:
-    """All rulesets in the order in which they run, and what oomd remembers about groups between
-    evaluations.
+    """All rulesets in the order in which they run, and the values of groups that oomd stores
+    between evaluations.
     """
 
     machine: Machine
@@ -245,7 +252,7 @@ class Engine:
     scanned: dict[Group, int] = field(default_factory=dict)
 
     def look(self, now: int) -> None:
-        """Evaluates the rules at the time `now` (ns). After a crash nothing happens."""
+        """Evaluates the rules at the time `now` (ns). Has no effect after a crash of oomd."""
         if self.crash:
             return
         self.looks, self.last = self.looks + 1, now
@@ -268,7 +275,7 @@ class Engine:
         self.scanned = {group: self.machine.scanned(path) for path, group in groups}
 
     def courses(self) -> list[Course]:
-        """Returns for each detector with a limit how near it came to the limit."""
+        """Returns, for each detector with a limit, how near it came to that limit."""
         found = []
         for ruleset in self.rulesets:
             plugins = [it for _, detectors in ruleset.groups for it in detectors]
@@ -277,7 +284,9 @@ class Engine:
 
 
 def merge(base: RulesetUse, part: RulesetUse, place: str) -> RulesetUse:
-    """Returns a ruleset whose detectors or actions are replaced by a drop-in file's."""
+    """Returns the ruleset `base` with the detectors or actions of a drop-in file's ruleset `part`.
+    Raises Refused if `base` doesn't permit that.
+    """
     for is_given, may_replace, what in (
         (part.groups, base.may_replace_detectors, "DetectorGroup"),
         (part.actions, base.may_replace_actions, "Action"),
@@ -301,7 +310,9 @@ def check_hooks(configuration: Configuration, notes: Notes) -> None:
 def drop_in_rulesets(
     base: Configuration, part: Configuration, start: Start, notes: Notes
 ) -> list[Ruleset]:
-    """Returns the rulesets that a drop-in file adds. Raises Refused if oomd rejects it."""
+    """Returns the rulesets that a drop-in file adds. Raises Refused if oomd rejects the drop-in
+    file.
+    """
     found = []
     for use in part.rulesets:
         targets = [(at, it) for at, it in enumerate(base.rulesets) if it.name == use.name]
@@ -318,8 +329,9 @@ def drop_in_rulesets(
 def engine(
     base: Configuration, parts: Sequence[Configuration], machine: Machine, uptime: int
 ) -> Engine:
-    """Returns the engine for a configuration and drop-in files. Raises Refused if oomd rejects
-    the configuration. A rejected drop-in file is noted, since oomd continues without it.
+    """Creates the engine for a configuration and its drop-in files. Raises Refused if oomd rejects
+    the configuration. If oomd rejects a drop-in file, it continues without that file, so the
+    rejection only becomes a note.
     """
     notes, start = Notes(), Start(machine.totals, uptime)
     rulesets = [Ruleset(it, at, start, notes) for at, it in enumerate(base.rulesets)]

@@ -1,4 +1,4 @@
-"""Writes the files of a machine that oomd reads, below a temporary folder."""
+"""Writes the files of a machine that oomd reads, in a temporary folder."""
 from __future__ import annotations
 
 import os
@@ -9,7 +9,9 @@ from psioomd.patterns import ROOT
 from psireplay.groups import Group
 
 MOUNT = "/sys/fs/cgroup"
-"""The path at which oomd finds the groups. The order of groups of equal rank depends on it."""
+"""The path at which oomd finds the groups. oomd's order of groups with equal rank depends on this
+path.
+"""
 RESOURCES = ("io", "memory")
 FIXED = {
     "cgroup.controllers": "cpu io memory pids\n",
@@ -30,7 +32,7 @@ def text_of(hundredths: int) -> str:
 
 
 def pressure_text(averages: Averages) -> str:
-    """Formats a pressure file. oomd ignores the line `some`, so that line has the values of `full`.
+    """Formats a pressure file. oomd ignores the line `some`, so `some` gets the values of `full`.
     """
     shares = (averages.avg10, averages.avg60, averages.avg300)
     names = zip(("avg10", "avg60", "avg300"), map(text_of, shares))
@@ -39,7 +41,7 @@ def pressure_text(averages: Averages) -> str:
 
 
 class Files:
-    """The files of a machine. A file is written when its text changes."""
+    """The files of a machine. A file is only written if its text has changed."""
 
     def __init__(self, folder: str, machine: Machine) -> None:
         self.machine = machine
@@ -69,7 +71,7 @@ class Files:
         return self.tree if path == ROOT else self.tree + path
 
     def update(self) -> None:
-        """Writes the files that changed since the last call."""
+        """Writes the files whose text has changed since the last call."""
         live = self.machine.world.live
         gone = [path for path, it in self.groups.items() if live.get(path) is not it]
         for path in sorted(gone, key=len, reverse=True):
@@ -88,7 +90,7 @@ class Files:
             del self.written[name]
 
     def make(self, path: str) -> None:
-        """Creates the folder of a group, with the files that never change."""
+        """Creates the folder of a group, and the files in it that never change."""
         self.groups[path] = self.machine.group(path)
         folder = self.folder(path)
         if path != ROOT:
@@ -97,16 +99,18 @@ class Files:
             self.write(os.path.join(folder, name), text)
 
     def fixed(self, path: str) -> dict[str, str]:
-        """Returns the files of a group that never change. The list of processes is empty."""
-        given = self.machine.extras
-        dying = given.of(path, "nr_dying_descendants")
+        """Returns the text of each file of a group that never changes. The list of processes is
+        empty.
+        """
+        extras = self.machine.extras
+        dying = extras.of(path, "nr_dying_descendants")
         found = {"cgroup.stat": f"nr_descendants 0\nnr_dying_descendants {dying}\n"}
         if path == ROOT:
             return {**found, **{name: FIXED[name] for name in OF_ROOT}}
-        return {**found, **FIXED, **{name: f"{given.of(path, name)}\n" for name in NUMBERS}}
+        return {**found, **FIXED, **{name: f"{extras.of(path, name)}\n" for name in NUMBERS}}
 
     def update_group(self, path: str) -> None:
-        """Writes the files of a group that change."""
+        """Writes the files of a group whose text can change."""
         folder, sample = self.folder(path), self.machine.sample(path)
         stat = f"anon {sample.memory}\nfile 0\npgscan {sample.scanned}\npgsteal 0\n"
         self.write(os.path.join(folder, "memory.stat"), stat)

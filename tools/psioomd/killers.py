@@ -1,4 +1,4 @@
-"""Emulates oomd's kill actions, and how each chooses its victim."""
+"""Emulates oomd's kill actions, each of which ranks groups to choose a victim."""
 from __future__ import annotations
 
 import itertools
@@ -18,15 +18,15 @@ from psisystemd.values import percent
 
 DEFAULT_SIZE, DEFAULT_PERCENTILE, DEFAULT_RATIO = 50, 80, 1.25
 WHOLE = 100
-# The values by which candidates are compared. The candidate with the greatest key is ranked first.
+# A key by which candidates are compared. The candidate with the largest key is ranked first.
 Key = tuple[float, ...]
-# The candidates that an action may choose, by path: the key of each, and the text that explains its
-# rank.
+# The candidates of an action, keyed by path: the key of each candidate, and a text that explains
+# its rank.
 Ranked = dict[str, tuple[Key, str]]
 
 
 class Killer(Plugin):
-    """An action that kills the highest-ranked candidate that has a live task."""
+    """An action that kills the highest-ranked candidate with a live task."""
 
     def __init__(self, use: PluginUse, args: dict[str, Any]) -> None:
         super().__init__(use, args)
@@ -37,7 +37,7 @@ class Killer(Plugin):
 
     @abstractmethod
     def ranks(self, look: Look, paths: list[str]) -> Ranked:
-        """Ranks sibling candidates, given by their paths."""
+        """Ranks sibling groups. `paths` are their paths."""
 
     def run(self, look: Look) -> Result:
         self.paths = look.machine.among(self.args["cgroup"])
@@ -55,8 +55,8 @@ class Killer(Plugin):
         return Result.STOP
 
     def victims(self, look: Look, paths: list[str]) -> list[tuple[str, list[Candidate]]]:
-        """Returns the groups that may be killed, all equal in rank, each with its sibling
-        candidates. oomd doesn't define which of these groups it kills.
+        """Returns the groups that may be killed, each with its sibling candidates. All these groups
+        have the same rank, and oomd doesn't define which of them it kills.
         """
         order, candidates = self.ranked(look, paths)
         best = [it.path for it in candidates]
@@ -67,14 +67,14 @@ class Killer(Plugin):
         return []
 
     def ranked(self, look: Look, paths: list[str]) -> tuple[dict[str, Key], list[Candidate]]:
-        """Returns the keys of sibling candidates, and the candidates in order of rank."""
+        """Returns the key of each sibling candidate, and the candidates in order of rank."""
         ranked = self.ranks(look, paths)
         order = {path: (look.machine.rank(path), *ranked[path][0]) for path in sorted(ranked)}
         best = sorted(order, key=lambda it: order[it], reverse=True)
         return order, [self.candidate(look.machine, it, ranked[it][1]) for it in best]
 
     def nobody(self) -> str:
-        """Returns the reason why the last evaluation found no victim."""
+        """Returns why the last evaluation found no victim."""
         if not self.paths:
             return f"no live group matches {self.args['cgroup'].text}"
         if self.seen and all(it.passed_over for it in self.seen):
@@ -84,8 +84,9 @@ class Killer(Plugin):
     def at(
         self, look: Look, path: str, candidates: list[Candidate]
     ) -> list[tuple[str, list[Candidate]]]:
-        """Returns the groups that may be killed after the group at `path` was chosen: the group
-        itself, or some of its descendants. Returns nothing if none of them has a task.
+        """Returns the groups that may be killed if the group at `path` is chosen: the group itself
+        or, if the action is recursive, some of its descendants. Each is returned with its sibling
+        candidates. The list is empty if none of these groups has a task.
         """
         machine = look.machine
         if self.is_recursive and not machine.ends_as_a_whole(path):
@@ -100,7 +101,8 @@ class Killer(Plugin):
 
 
 class BySwap(Killer):
-    """The plugin `kill_by_swap_usage`: ranks groups by swap, if the swap is at least the threshold.
+    """The plugin `kill_by_swap_usage`. It ranks the groups whose swap is at least the threshold, by
+    their swap.
     """
 
     def ranks(self, look: Look, paths: list[str]) -> Ranked:
@@ -110,7 +112,9 @@ class BySwap(Killer):
 
 
 class ByPressure(Killer):
-    """The plugin `kill_by_pressure`: ranks groups by whole percents of pressure, including 0."""
+    """The plugin `kill_by_pressure`. It ranks groups by the mean of avg10 and avg60 in whole
+    percent, including 0.
+    """
 
     def ranks(self, look: Look, paths: list[str]) -> Ranked:
         ranked: Ranked = {}
@@ -123,8 +127,9 @@ class ByPressure(Killer):
 
 
 class ByScans(Killer):
-    """The plugin `kill_by_pg_scan`: ranks groups by the pages scanned since the previous
-    evaluation, even if no page was scanned. It waits for a second consecutive evaluation.
+    """The plugin `kill_by_pg_scan`. It ranks groups by the number of pages scanned since the
+    previous evaluation, even if that number is 0. It kills only if it also ran at the previous
+    evaluation, and otherwise returns PAUSED.
     """
 
     def __init__(self, use: PluginUse, args: dict[str, Any]) -> None:
@@ -145,8 +150,8 @@ class ByScans(Killer):
 
 
 class BySize(Killer):
-    """The plugin `kill_by_memory_size_or_growth`: ranks large groups by size, and other groups by
-    growth.
+    """The plugin `kill_by_memory_size_or_growth`. It ranks large groups first, by size. Groups that
+    have grown enough follow, ranked by growth, and then all other groups by size.
     """
 
     def __init__(self, use: PluginUse, args: dict[str, Any]) -> None:
@@ -156,7 +161,9 @@ class BySize(Killer):
         self.ratio = float32(args.get("min_growth_ratio", DEFAULT_RATIO))
 
     def least_to_grow(self, machine: Machine, paths: list[str]) -> int:
-        """Returns the effective memory use (bytes) from which on growth counts."""
+        """Returns the least memory use (bytes, without the protected part) with which a group may
+        be ranked by growth.
+        """
         place = math.ceil(len(paths) * (WHOLE - float(self.percentile)) / WHOLE) - 1
         if place < 0:
             raise Crash(

@@ -1,4 +1,4 @@
-"""Parses oomd's log: its kills, and the ruleset and action of each."""
+"""Parses oomd's log. Finds its kills, and the ruleset and action of each kill."""
 from __future__ import annotations
 
 import re
@@ -26,8 +26,8 @@ class Restart:
 
 
 class LogReader:
-    """Parses oomd's log, one evaluation at a time. `actions` has the number of actions of each
-    ruleset.
+    """Parses oomd's log, one evaluation at a time. `actions` contains the number of actions of each
+    ruleset. `waiting` contains, for each ruleset with a paused action, the action's number.
     """
 
     def __init__(self, actions: list[int]) -> None:
@@ -37,8 +37,8 @@ class LogReader:
         self.restarts: list[Restart] = []
         self.plugins: list[str] = []
 
-    def take(self, moment: int, text: str) -> None:
-        """Parses the part of the log that the evaluation at `moment` (ns) wrote."""
+    def take(self, time_ns: int, text: str) -> None:
+        """Parses the lines of the log from the evaluation at `time_ns`."""
         waiting, self.waiting = self.waiting, {}
         following: tuple[int, int] | None = None
         running: tuple[int, int] | None = None
@@ -55,13 +55,13 @@ class LogReader:
                 following = self.after(running, returned[1])
                 running = None
             elif kill:
-                self.add(moment, kill, running)
+                self.add(time_ns, kill, running)
             elif restart := RESTART.search(line):
-                self.restarts.append(Restart(moment, restart[1]))
+                self.restarts.append(Restart(time_ns, restart[1]))
 
     def after(self, running: tuple[int, int], returned: str) -> tuple[int, int] | None:
-        """Returns the next action of the chain after the action `running` returned the word
-        `returned`, or None if the chain has ended.
+        """Returns the next action of the chain, or None if the chain has ended. The action
+        `running` has returned the word `returned`.
         """
         ruleset, action = running
         if returned == "ASYNC":
@@ -69,20 +69,20 @@ class LogReader:
         is_more = action + 1 < self.actions[ruleset] if ruleset < len(self.actions) else False
         return (ruleset, action + 1) if returned == "CONTINUE" and is_more else None
 
-    def add(self, moment: int, kill: re.Match[str], running: tuple[int, int] | None) -> None:
+    def add(self, time_ns: int, kill: re.Match[str], running: tuple[int, int] | None) -> None:
         ruleset = UNKNOWN if kill[2] is None else int(kill[2])
-        self.kills.append(Kill(moment, ruleset, running[1] if running else UNKNOWN, f"/{kill[1]}"))
+        self.kills.append(Kill(time_ns, ruleset, running[1] if running else UNKNOWN, f"/{kill[1]}"))
         self.plugins.append(kill[4])
 
 
 def reason(log: str) -> str:
-    """Returns the last messages of oomd, without source locations and without oomd's copy of the
-    rules.
+    """Returns oomd's last messages, without source locations and without the rules that oomd prints
+    at its start.
     """
     said = [PLACE.sub("", it).strip() for it in log.splitlines()]
-    kept = [
+    messages = [
         line
         for line, raw in zip(said, log.splitlines())
         if line and "ConfigTypes.cpp" not in raw and "stats module" not in raw
     ]
-    return "; ".join(kept[-3:])
+    return "; ".join(messages[-3:])

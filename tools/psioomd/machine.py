@@ -1,5 +1,5 @@
-"""The machine as oomd sees it at an evaluation: the trace's last samples, and the pressure at the
-last tick.
+"""Models the machine as oomd sees it at an evaluation: the trace's last samples, and the pressure
+at the last tick.
 """
 from __future__ import annotations
 
@@ -17,7 +17,7 @@ RANKS = {"prefer": 1, "none": 0, "avoid": -1}
 
 @dataclass(frozen=True)
 class Averages:
-    """Full pressure over 10, 60 and 300 s, in hundredths of a percent."""
+    """Averages of full pressure over 10, 60 and 300 s, in hundredths of a percent."""
 
     avg10: int = 0
     avg60: int = 0
@@ -25,14 +25,14 @@ class Averages:
 
 
 NO_PRESSURE = Averages()
-# The averages of a group, by resource.
+# The averages of a group, keyed by resource.
 Pressure = dict[str, Averages]
 
 
 @dataclass(eq=False)
 class Extras:
-    """Values that no trace has: numbers, by a group's path and the name of a file such as
-    memory.low.
+    """Values that a trace lacks. Each is a number, keyed by a group's path and by the name of a
+    file, such as memory.low. An absent value is 0.
     """
 
     numbers: dict[tuple[str, str], int] = field(default_factory=dict)
@@ -42,8 +42,8 @@ class Extras:
 
 
 class Machine:
-    """The groups and the memory at one time. `totals` are the host's memory and swap sizes at
-    oomd's start.
+    """The groups and their memory at one time. `totals` contains the sizes of the host's memory and
+    swap at the start of oomd.
     """
 
     def __init__(self, extras: Extras, totals: Host) -> None:
@@ -54,15 +54,14 @@ class Machine:
         self.paths: list[str] = []
 
     def refresh(self) -> None:
-        """Updates the list of groups. If the list has changed, the cached matches of patterns are
-        discarded.
+        """Updates the list of groups. If it has changed, discards the cached matches of patterns.
         """
         paths = sorted(self.world.live)
         if paths != self.paths:
             self.paths, self.matched = paths, {}
 
     def take_pressure(self, reports: dict[str, Pressure]) -> None:
-        """Stores the pressure at a tick, for live groups."""
+        """Stores the pressure of live groups at a tick."""
         for path, pressure in reports.items():
             group = self.world.live.get(path)
             if group:
@@ -72,7 +71,7 @@ class Machine:
         return self.world.host or self.totals
 
     def among(self, patterns: Patterns) -> list[str]:
-        """Returns the live groups that match the patterns, in order of paths."""
+        """Returns the live groups that match the patterns, sorted by path."""
         if patterns not in self.matched:
             self.matched[patterns] = patterns.among(self.paths)
         return self.matched[patterns]
@@ -84,8 +83,8 @@ class Machine:
         return self.group(path).sample or NO_SAMPLE
 
     def pressure(self, path: str, resource: str) -> Averages:
-        """Returns the group's averages. They are 0 if the group's accounting is off, since it has
-        no pressure files then.
+        """Returns the group's averages. They are 0 if the group's accounting is off, since the
+        group has no pressure files then.
         """
         group = self.group(path)
         if not group.is_accounted:
@@ -93,8 +92,8 @@ class Machine:
         return self.pressures.get(group, {}).get(resource, NO_PRESSURE)
 
     def current(self, path: str) -> int:
-        """Returns the memory in use (bytes). For the root this is MemTotal less MemFree, both in
-        KiB.
+        """Returns the memory in use (bytes). For the root this is MemTotal minus MemFree, both in
+        whole KiB.
         """
         used = self.sample(path).memory
         if path != ROOT:
@@ -103,18 +102,21 @@ class Machine:
         return (total - max(0, total - used // KIB)) * KIB
 
     def swap(self, path: str) -> int:
-        """Returns the swap in use (bytes); 0 for the root, which has no file for that."""
+        """Returns the swap in use (bytes). It is 0 for the root, which has no file with this value.
+        """
         return 0 if path == ROOT else self.sample(path).swap
 
     def scanned(self, path: str) -> int:
-        """Returns the pages scanned up to the last sample."""
+        """Returns the number of pages scanned up to the last sample."""
         return self.sample(path).scanned
 
     def preference(self, path: str) -> str:
         return self.group(path).preference
 
     def rank(self, path: str) -> int:
-        """Returns the rank of the group's preference: prefer before none before avoid."""
+        """Returns the rank of the group's preference. `prefer` ranks first, then `none`, then
+        `avoid`.
+        """
         return RANKS[self.preference(path)]
 
     def is_populated(self, path: str) -> bool:
@@ -124,7 +126,7 @@ class Machine:
         return self.extras.of(path, "memory.oom.group") == 1
 
     def children(self, path: str) -> list[str]:
-        """Returns the paths of the group's children, without names that begin with a dot."""
+        """Returns the paths of the group's children, except those whose name begins with a dot."""
         front = "" if path == ROOT else path
         names = sorted(it.rpartition("/")[2] for it in self.group(path).children)
         return [f"{front}/{it}" for it in names if it[0] != "."]
@@ -134,8 +136,8 @@ class Machine:
         return min(self.current(path), max(low, least))
 
     def protection(self, path: str) -> int:
-        """Returns the number of bytes that memory.low and memory.min protect, with protection
-        shared among siblings.
+        """Returns the number of bytes that memory.low and memory.min protect. Siblings share the
+        protection of their parent.
         """
         if path == ROOT:
             return self.current(path)
@@ -149,5 +151,5 @@ class Machine:
         return int(raw * min(1.0, self.protection(above) / total)) if total else 0
 
     def effective(self, path: str) -> int:
-        """Returns the memory in use (bytes) of a group, without the protected part."""
+        """Returns a group's memory in use (bytes) minus its protected memory."""
         return self.current(path) - self.protection(path)

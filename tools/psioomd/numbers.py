@@ -1,4 +1,4 @@
-"""Parses numbers and computes as oomd does: C++'s stoi and stof, sizes, and 32-bit floats."""
+"""Parses numbers and computes like oomd: C++'s stoi and stof, sizes, and 32-bit floats."""
 from __future__ import annotations
 
 import math
@@ -20,7 +20,7 @@ UNITS = {"": 1, "k": 1 << 10, "m": 1 << 20, "g": 1 << 30, "t": 1 << 40}
 
 
 class BadNumber(ValueError):
-    """The error that oomd doesn't accept a text as this kind of number."""
+    """Raised if oomd doesn't accept a text as a number of the expected kind."""
 
 
 def float32(value: float) -> float:
@@ -32,7 +32,7 @@ def float32(value: float) -> float:
 
 
 def stoi(text: str) -> int:
-    """Parses the integer at the start of a text like C++'s stoi, which ignores the rest."""
+    """Parses the integer at the start of a text. Like C++'s stoi, ignores the rest of the text."""
     found = WHOLE.match(text)
     if not found or not INT_MIN <= int(found[1]) <= INT_MAX:
         raise BadNumber("stoi")
@@ -51,7 +51,9 @@ def real(word: str) -> float:
 
 
 def stof(text: str) -> float:
-    """Parses the 32-bit float at the start of a text like C++'s stof."""
+    """Parses the 32-bit float at the start of a text. Like C++'s stof, ignores the rest of the
+    text.
+    """
     found = FLOAT.match(text)
     if not found:
         raise BadNumber("stof")
@@ -64,13 +66,13 @@ def stof(text: str) -> float:
 
 
 def quotient(number: int, divisor: int) -> int:
-    """Divides like C, rounding towards 0."""
+    """Divides integers like C, rounding towards 0."""
     whole = abs(number) // divisor
     return whole if number >= 0 else -whole
 
 
 def parts_sum(text: str) -> int | None:
-    """Parses a sum of sizes such as `1.5M 32K 512`, and returns bytes, or None if the text is
+    """Parses a sum of sizes such as `1.5M 32K 512`. Returns bytes, or None if the text is
     malformed.
     """
     joined = "".join(it for it in text if it not in SPACES).lower()
@@ -89,7 +91,7 @@ def parts_sum(text: str) -> int | None:
 
 
 def size(text: str, total: int) -> int:
-    """Parses a size, or a percentage of `total` bytes, and returns bytes. A bare number is in
+    """Parses a size, or a percentage of `total` bytes. Returns bytes. A number without a unit is in
     MiB.
     """
     fault = BadNumber(f"Failed to parse threshold: {text}")

@@ -1,4 +1,4 @@
-"""The results of oomd's evaluations: kills, each with its reason and the other candidates."""
+"""The results of oomd's evaluations: the kills, with their reasons and all candidates."""
 from __future__ import annotations
 
 from dataclasses import dataclass, field
@@ -12,8 +12,8 @@ MOST_CANDIDATES = 4
 
 @dataclass(frozen=True)
 class Candidate:
-    """A group that an action could choose: the text that explains its rank, and its preference.
-    `passed_over` says why the group was skipped, and is empty if it wasn't skipped.
+    """A group that an action could choose: a text that explains its rank, and its preference.
+    `passed_over` says why the group was skipped. It is empty if the group wasn't skipped.
     """
 
     path: str
@@ -28,8 +28,7 @@ class Candidate:
 
 @dataclass(frozen=True)
 class Victim:
-    """The victim of an action, the groups that were equal in rank, and all candidates in order
-    of rank.
+    """The victim of an action, the other groups of equal rank, and all candidates in order of rank.
     """
 
     path: str
@@ -40,8 +39,8 @@ class Victim:
 
 @dataclass(frozen=True)
 class Act:
-    """The outcome of an action at an evaluation: its number and plugin, its victim or why it found
-    none, and its candidates.
+    """The outcome of an action at an evaluation: the action's number and plugin, its victim, and
+    its candidates. If `victim` is None, `nobody` says why.
     """
 
     action: int
@@ -53,8 +52,9 @@ class Act:
 
 @dataclass(frozen=True)
 class Fired:
-    """An evaluation (its time in ns) at which a ruleset fired: what the detectors of the group that
-    fired found, and what the actions did, or the time (ns) until which the ruleset was paused.
+    """An evaluation at `time_ns` at which a ruleset fired. `why` contains the findings of the
+    detectors in the group that fired, and `acts` the outcomes of the actions. If the ruleset was
+    paused, `paused_until` is the end (ns) of its pause.
     """
 
     time_ns: int
@@ -65,8 +65,9 @@ class Fired:
 
 @dataclass(frozen=True)
 class Source:
-    """The cause of a kill: the number and the name of a ruleset, its action (None for a plugin
-    among the detectors), the plugin, and the ruleset's drop-in file.
+    """The source of a kill: its ruleset and its plugin. `action` is the number of the action, or
+    None for a plugin among the detectors. `drop_in` is the name of the drop-in file that defines
+    the ruleset, or empty.
     """
 
     ruleset: int
@@ -83,8 +84,8 @@ class Source:
 
 @dataclass(frozen=True)
 class Decision:
-    """A kill at a time (ns): its source, its victim, and what the detectors of the group that fired
-    found.
+    """A kill: its time (ns), its source, its victim, and the findings of the detectors in the group
+    that fired.
     """
 
     time_ns: int
@@ -93,18 +94,18 @@ class Decision:
     why: list[str] = field(default_factory=list)
 
     def kill(self) -> Kill:
-        """Returns the kill in the form of a replay's kills."""
+        """Converts the kill to the type of a replay's kills."""
         action = -1 if self.source.action is None else self.source.action
         return Kill(self.time_ns, self.source.ruleset, action, self.victim.path)
 
     def may_kill(self, path: str) -> bool:
-        """Returns whether oomd may choose the group at `path`: the group is the victim, or equal to
-        it in rank.
+        """Returns whether oomd may choose the group at `path`. It may if the group is the victim,
+        or if it is equal to the victim in rank.
         """
         return path == self.victim.path or path in self.victim.equals
 
     def lines(self, is_all: bool) -> list[str]:
-        """Returns the kill as lines of text."""
+        """Formats the kill as lines of text."""
         when = time_text(self.time_ns)
         gap = " " * (len(when) + 2)
         path = self.victim.path

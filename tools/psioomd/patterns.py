@@ -1,5 +1,5 @@
-"""Matches patterns of control groups, which oomd passes to glob(3) with GLOB_BRACE below its
-mount point.
+"""Matches patterns of control groups. oomd passes them to glob(3) with GLOB_BRACE, below its mount
+point.
 """
 from __future__ import annotations
 
@@ -12,13 +12,13 @@ NOTHING = re.compile("(?!)")
 
 
 def split(text: str, mark: str) -> list[str]:
-    """Splits a text at `mark`, and returns the non-empty parts."""
+    """Splits a text at `mark`. Returns the parts that aren't empty."""
     return [it for it in text.split(mark) if it]
 
 
 def closing_brace(text: str, start: int) -> int | None:
-    """Returns the index of the brace that closes the brace before `start`, or None if no brace
-    does.
+    """Returns the index of the brace that closes the opening brace right before `start`. Returns
+    None if no brace closes it.
     """
     depth, at = 0, start
     while at < len(text):
@@ -36,8 +36,8 @@ def closing_brace(text: str, start: int) -> int | None:
 
 
 def without_braces(text: str) -> str:
-    """Returns the pattern without braces. Since oomd splits at commas first, each pair of braces
-    has one alternative.
+    """Returns the pattern without its braces. oomd splits the patterns at commas first, so each
+    pair of braces contains a single alternative.
     """
     found = re.match(r"(?:[^\\{]|\\.)*", text, re.DOTALL)
     start = found.end() if found else 0
@@ -50,8 +50,8 @@ def without_braces(text: str) -> str:
 
 
 def bracket(text: str, at: int) -> tuple[str, int] | None:
-    """Returns the regular expression of the bracket expression that begins at `at`, and the index
-    after it. None if it isn't closed.
+    """Converts the bracket expression at the index `at` to a regular expression. Returns it with
+    the index after the expression, or None if the bracket isn't closed.
     """
     start = at + 1
     is_negated = text[start : start + 1] in ("!", "^")
@@ -65,8 +65,8 @@ def bracket(text: str, at: int) -> tuple[str, int] | None:
 
 
 def component(text: str) -> re.Pattern[str]:
-    """Returns the regular expression of a path component. A leading dot of a name is matched only
-    by a dot in the pattern.
+    """Converts a path component to a regular expression. Only a literal dot matches a dot at the
+    start of a name.
     """
     at, parts = 0, []
     while at < len(text):
@@ -90,7 +90,7 @@ def component(text: str) -> re.Pattern[str]:
 
 
 class Patterns:
-    """The patterns of the argument `cgroup`."""
+    """The patterns in the argument `cgroup` of a plugin."""
 
     def __init__(self, text: str) -> None:
         self.text = text
@@ -98,7 +98,7 @@ class Patterns:
         self.ways = [[component(part) for part in split(without_braces(it), "/")] for it in joined]
 
     def matches(self, path: str) -> bool:
-        """Returns whether one of the patterns matches a group's path."""
+        """Returns whether a group's path matches one of the patterns."""
         names = split(path, "/")
         return any(
             len(way) == len(names) and all(part.fullmatch(name) for part, name in zip(way, names))
@@ -106,5 +106,5 @@ class Patterns:
         )
 
     def among(self, paths: Iterable[str]) -> list[str]:
-        """Returns the paths that match, in the given order."""
+        """Returns the matching paths, in the order of `paths`."""
         return [it for it in paths if self.matches(it)]

@@ -1,5 +1,5 @@
-"""The common parts of oomd's plugins: their results, their state during an evaluation, and
-durations.
+"""Defines the common parts of oomd's plugins: their results, their state during an evaluation, and
+their durations.
 """
 from __future__ import annotations
 
@@ -18,7 +18,9 @@ if TYPE_CHECKING:
 
 
 class Result(Enum):
-    """The result of a plugin. A detector is true if it returns CONTINUE or PAUSED."""
+    """The result of a plugin. A detector is true if it returns CONTINUE or PAUSED. A chain of
+    actions stops after an action that returns STOP or PAUSED.
+    """
 
     CONTINUE = "CONTINUE"
     STOP = "STOP"
@@ -30,30 +32,32 @@ class Pauses(ABC):
 
     @abstractmethod
     def pause(self, seconds: int) -> None:
-        """Sets the pause (s) after this chain, in place of the ruleset's own."""
+        """Sets the length (s) of the pause after the current chain of actions. It replaces the
+        ruleset's own length.
+        """
 
 
 @dataclass
 class Look:
-    """An evaluation of the rules: its time (ns), its number from 1, the machine, and what oomd
-    remembers from earlier evaluations.
+    """An evaluation of the rules: its time (ns), its number from 1, the machine, and values from
+    earlier evaluations.
     """
 
     now: int
     number: int
     machine: Machine
     scanned: dict[Group, int] = field(default_factory=dict)
-    """The pages scanned up to the previous look."""
+    """The number of pages scanned for each group up to the previous evaluation."""
     average: dict[Group, int] = field(default_factory=dict)
-    """The decaying average of memory (bytes), including this look."""
+    """The decaying average of each group's memory (bytes), including this evaluation."""
     ruleset: Pauses | None = None
-    """The ruleset whose detectors fired at this look, None before that."""
+    """The ruleset whose detectors fired at this evaluation. None until they fire."""
     victims: list["Victim"] = field(default_factory=list)
-    """The victims of plugins, until the ruleset takes them."""
+    """The victims that plugins have chosen, until the ruleset stores them."""
 
 
 class Plugin(ABC):
-    """A plugin with the values of its arguments."""
+    """A detector or an action, with the values of its arguments."""
 
     def __init__(self, use: PluginUse, args: dict[str, Any]) -> None:
         self.name, self.place, self.args = use.name, use.place, args
@@ -67,8 +71,8 @@ class Plugin(ABC):
         return self.name
 
     def nearest(self) -> str:
-        """Returns a text that says how near the plugin came to its limit in all evaluations. Empty
-        if it has no limit.
+        """Returns a text that says how near the plugin came to its limit, over all evaluations. The
+        text is empty if the plugin has no limit.
         """
         return ""
 
@@ -78,16 +82,16 @@ def result(is_true: bool) -> Result:
 
 
 class Duration:
-    """A condition that must hold for a number of whole seconds before it counts."""
+    """A condition that counts only if it has been true for a number of whole seconds."""
 
     def __init__(self, seconds: int) -> None:
         self.seconds = seconds
         self.since: int | None = None
-        # The longest time (ns) for which the condition held.
+        # The longest time (ns) for which the condition was true.
         self.longest = 0
 
     def holds(self, now: int, is_true: bool) -> bool:
-        """Updates the condition at the time `now` (ns), and returns whether it has held for the
+        """Updates the condition at the time `now` (ns). Returns whether it has been true for the
         required time.
         """
         if not is_true:

@@ -1,4 +1,4 @@
-"""The sandboxes in which oomd can run: bwrap, unshare with a new root, or none."""
+"""Defines the sandboxes in which oomd can run: bwrap, unshare with a new root, or none."""
 from __future__ import annotations
 
 import functools
@@ -19,8 +19,9 @@ NAMES = {
     "unshare": "unshare (no network, nothing of the machine but /usr, read-only)",
     "none": "no sandbox (the preloaded clock alone refuses kills, sockets and writes)",
 }
-# A script that runs in its own mount namespace. It makes a new root with only /usr (read-only) and
-# the folder, and then removes the old root and all capabilities.
+# A shell script that runs in its own mount namespace. It creates a new root, which contains only
+# /usr (read-only) and the folder that oomd may write. Then it drops the old root and all
+# capabilities.
 ENTER = """set -e
 new=$1 folder=$2 binary=$3; shift 3
 mount -t tmpfs tmpfs "$new"
@@ -49,8 +50,7 @@ exec setpriv --no-new-privs --inh-caps=-all --bounding-set=-all -- "$@"
 
 @dataclass(frozen=True)
 class Sandbox:
-    """A way to run oomd: the kind of sandbox, the folder that oomd may write, and oomd's
-    program.
+    """A sandbox for oomd: its kind, the folder that oomd may write, and the path of oomd's program.
     """
 
     kind: str
@@ -61,7 +61,7 @@ class Sandbox:
         return NAMES[self.kind]
 
     def words(self, inside: list[str]) -> list[str]:
-        """Returns the command that runs the command `inside` in the sandbox."""
+        """Returns the command that runs `inside` in the sandbox."""
         if self.kind == "bwrap":
             return [*self.bwrap(), *inside]
         if self.kind == "unshare":
@@ -92,7 +92,7 @@ class Sandbox:
         return [*words, "--bind", self.folder, self.folder, "--"]
 
     def fault(self) -> str:
-        """Returns the reason why the sandbox doesn't work on this machine. Empty if it works."""
+        """Returns why the sandbox doesn't work on this machine, or an empty string if it works."""
         try:
             done = subprocess.run(
                 self.words(["/usr/bin/env", "true"]),
@@ -109,15 +109,17 @@ class Sandbox:
 
 @functools.lru_cache(maxsize=None)
 def fault_of(kind: str, binary: str) -> str:
-    """Returns the reason why a kind of sandbox doesn't work on this machine for a program. Empty if
-    it works.
+    """Returns why this kind of sandbox doesn't work for a program on this machine, or an empty
+    string if it works.
     """
     with tempfile.TemporaryDirectory(prefix="psioomd-") as folder:
         return Sandbox(kind, os.path.realpath(folder), binary).fault()
 
 
 def sandbox(kind: str | None, folder: str, binary: str) -> Sandbox:
-    """Returns the requested sandbox, or the first one that works."""
+    """Returns the sandbox of the requested kind. If no kind is requested, returns the first sandbox
+    that works.
+    """
     faults = []
     for it in (kind,) if kind else SANDBOXES[:-1]:
         if it != "none" and not shutil.which(it):

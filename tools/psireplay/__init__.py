@@ -1,3 +1,3 @@
-"""Code that the tools share for replays: running psi_oomd, parsing the lines that `replay`
-prints, and reading traces, rules files and memory samples.
+"""Runs psi_oomd, parses the lines that `psi_oomd replay` prints, and reads traces, rules files and
+memory samples. Several tools share this code.
 """

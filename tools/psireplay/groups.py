@@ -1,4 +1,4 @@
-"""Follows the groups of a trace through its events, with their last memory samples."""
+"""Tracks the groups of a trace, and their last memory samples, event by event."""
 from __future__ import annotations
 
 from collections.abc import Callable, Iterator
@@ -11,8 +11,8 @@ from psiworld.groups import ROOT, parent_of
 
 
 class Sample(NamedTuple):
-    """A `mem` line: the memory and the swap in use (bytes), and the number of pages that the kernel
-    has scanned since the group's creation.
+    """A `mem` line: a group's memory and swap in use (bytes), and the number of pages that the
+    kernel has scanned since the group's creation.
     """
 
     memory: int
@@ -29,10 +29,10 @@ class Host(NamedTuple):
 
 
 class Group:
-    """A group from its creation to its removal (`made` and `removed`, ns). Groups are numbered
-    in the order of their creation, and the root is 0. `life` numbers the groups with the same
-    path, from 1. `counted` has the numbers of those groups, among this group and its ancestors,
-    whose accounting is on: a task of this group counts in all of them.
+    """A group from its creation to its removal (`made` and `removed`, ns). Groups are numbered in
+    the order of their creation, and the root is 0. `life` numbers the groups with the same path,
+    from 1. `counted` contains the numbers of this group and of its ancestors, except those whose
+    accounting is off. A task of this group counts in all of them.
     """
 
     __slots__ = (
@@ -49,7 +49,7 @@ class Group:
         self.tasks = 0
         self.preference = "none"
         self.sample: Sample | None = None
-        # The pages scanned by removed children, which remain in this group's count.
+        # The pages scanned for removed children. They remain part of this group's count.
         self.scanned_by_removed = 0
         self.find_counted()
 
@@ -71,8 +71,8 @@ class Group:
 
     def whole_sample(self) -> Sample | None:
         """Returns the group's last sample. Without one, returns the sum of its children's samples,
-        since the kernel charges a child's memory to its parent too. None if neither the group nor
-        a descendant has a sample.
+        since the kernel also charges a child's memory to its parent. Returns None if neither the
+        group nor a descendant has a sample.
         """
         if self.sample or self.path == ROOT:
             return self.sample
@@ -88,11 +88,11 @@ class Group:
 
 
 class Groups:
-    """The groups of a trace up to the current event. `all` has every group by number, `live` the
-    existing groups by path, and `counts` the number of groups created with each path. `host` is
-    the last sample of the host, and `samples` the number of memory samples. Events must be in order
-    of time: `now` is the time (ns) of the last event. Tools override `pass_to`, `made` and
-    `removed`.
+    """The groups of a trace up to the current event. `all` contains every group by number, `live`
+    the existing groups by path, and `counts` the number of groups that were created with each path.
+    `host` is the last sample of the host, and `samples` the number of memory samples. Events must
+    be in order of time: `now` is the time (ns) of the last event. Tools override `pass_to`, `made`
+    and `removed`.
     """
 
     def __init__(self) -> None:
@@ -108,7 +108,7 @@ class Groups:
         }  # fmt: skip
 
     def take(self, time_ns: int, verb: str, fields: list[str]) -> None:
-        """Applies an event at `time_ns`. Verbs that change nothing here are skipped."""
+        """Applies an event at `time_ns`. Ignores verbs that don't concern groups."""
         if time_ns != self.now:
             if time_ns < self.now:
                 raise ValueError("time goes back")
@@ -119,7 +119,8 @@ class Groups:
             play(*fields)
 
     def pass_to(self, time_ns: int) -> None:
-        """Called before time advances from `now` to `time_ns`, the time of the next event."""
+        """Called before time advances from `now` to `time_ns`, which is the time of the next event.
+        """
 
     def made(self, group: Group) -> None:
         """Called after `group` was created."""
@@ -127,7 +128,7 @@ class Groups:
     def removed(self, group: Group) -> None:
         """Called after `group` was removed."""
 
-    # ------------------------------------------------------------ verbs
+    # ------------------------------------------------------------ the verbs of events
 
     def play_group(self, path: str) -> None:
         life = self.counts[path] = self.counts.get(path, 0) + 1
@@ -161,22 +162,23 @@ class Groups:
     def play_pressure(self, path: str, word: str) -> None:
         group = self.live[path]
         group.is_accounted = word == "on"
-        # A group is created after its parent, so this order updates parents first.
+        # A group's number is larger than its parent's, so each parent is updated before its
+        # children.
         for other in self.all[group.number :]:
             if other.is_below(group):
                 other.find_counted()
 
-    # ------------------------------------------------------------ names
+    # ------------------------------------------------------------ names of groups
 
     def name(self, group: Group) -> str:
-        """Returns the group's path. If several groups had this path, `#` and the group's number
-        among them follow. No path contains a `#`.
+        """Returns the group's path. If several groups had this path, appends `#` and the group's
+        number among them. No path contains a `#`.
         """
         return group.path if self.counts[group.path] == 1 else f"{group.path}#{group.life}"
 
     def named(self, word: str) -> list[Group]:
-        """Returns the groups with the path `word`, or the single group that a word PATH#N names.
-        Raises a Fault if there never was such a group.
+        """Returns the groups with the path `word`, or the single group that `word` names in the
+        form PATH#N. Raises a Fault if there never was such a group.
         """
         path, _, life = word.partition("#")
         found = [it for it in self.all if it.path == path and (not life or str(it.life) == life)]

@@ -1,5 +1,5 @@
-"""Recognises files of an unexpected kind, so that a message can say what a file is and what to
-do.
+"""Recognises what kind of file an operator passed, so that a message can name the kind and give
+advice.
 """
 from __future__ import annotations
 
@@ -9,7 +9,7 @@ from typing import Callable, NamedTuple, Optional
 
 from psirec.meta import is_recording
 
-# The kind of a file is recognised by its first bytes, at most this number of them.
+# The number of bytes, from the start of a file, by which its kind is recognised.
 HEAD = 4096
 TRACE, RULES, REPLAY, JSON = (
     "a trace",
@@ -20,8 +20,8 @@ TRACE, RULES, REPLAY, JSON = (
 
 
 class Kind(NamedTuple):
-    """A kind of file, and advice on how to use such a file. `{name}` in the advice is replaced
-    by its name.
+    """A kind of file, and advice on how to use such a file. In the advice, `{name}` is a
+    placeholder for the file's name.
     """
 
     what: str
@@ -36,7 +36,8 @@ def has(pattern: bytes) -> Callable[[bytes], bool]:
     return lambda head: re.match(pattern, head) is not None
 
 
-# Tests of a file's first bytes, each with the kind that it recognises. The first match counts.
+# Each test of a file's first bytes, with the kind of file that it recognises. The first successful
+# test counts.
 KINDS: tuple[tuple[Callable[[bytes], bool], Kind], ...] = (
     (lambda head: not head, Kind("empty")),
     (starts(b"\x1f\x8b"), Kind("compressed by gzip", "`gunzip -c {name}` prints its content")),
@@ -58,13 +59,13 @@ KINDS: tuple[tuple[Callable[[bytes], bool], Kind], ...] = (
 
 
 def kind_of(head: bytes) -> Optional[Kind]:
-    """Returns the kind of a file that begins with `head`, or None if it isn't known."""
+    """Returns the kind of a file that begins with `head`. Returns None if the kind isn't known."""
     return next((kind for test, kind in KINDS if test(head)), None)
 
 
 def file_kind(path: str) -> Optional[Kind]:
-    """Returns the kind of a regular file, or None if it isn't known. Other files aren't opened,
-    since a pipe can't be read twice.
+    """Returns the kind of a regular file. Returns None if the kind isn't known, or if the file
+    isn't regular: a pipe, for example, can't be read twice.
     """
     if not os.path.isfile(path):
         return None
@@ -76,8 +77,8 @@ def file_kind(path: str) -> Optional[Kind]:
 
 
 def kind_message(kind: Optional[Kind], expected: str, name: str) -> str:
-    """Returns the part of a message that says what a file is instead of `expected`. Empty if the
-    kind isn't known, or if it is the expected one.
+    """Returns the part of a message that says what a file is, in contrast to `expected`. The text
+    is empty if the file's kind isn't known or is the expected one.
     """
     if not kind or (kind.what, expected) in ((expected, expected), (JSON, RULES)):
         return ""
@@ -90,15 +91,16 @@ def kind_message(kind: Optional[Kind], expected: str, name: str) -> str:
 
 
 def what_it_is(path: str, expected: str, name: Optional[str] = None) -> str:
-    """Returns the part of a message that says what the file at `path` is instead of `expected`.
-    Empty if its kind isn't known. `name` is the name that messages use, if it isn't the path.
+    """Returns the part of a message that says what the file at `path` is, in contrast to
+    `expected`. The text is empty if the file's kind isn't known. `name` is the file's name in
+    messages, if that differs from the path.
     """
     return kind_message(file_kind(path), expected, path if name is None else name)
 
 
 def why_refused(said: str, path: str, name: Optional[str] = None) -> str:
-    """Returns the program's message `said` about a trace or rules. If the program rejected the very
-    beginning of the file, the result also says what the file is instead.
+    """Returns the message `said`, in which the program rejected a trace or rules. If it rejected a
+    trace's first line, or rules that aren't JSON, appends what kind of file it is.
     """
     expected = (
         TRACE if said.startswith("trace line 1: ") else RULES if said.endswith("BadJson") else ""
@@ -108,7 +110,7 @@ def why_refused(said: str, path: str, name: Optional[str] = None) -> str:
 
 
 def folder_message(name: str) -> str:
-    """Returns the message about a folder that was given in place of a trace."""
+    """Returns the message for a folder in place of a trace."""
     if is_recording(name):
         return f"{name} is a recording: `tools/psitrace {name}` makes a trace of it"
     return f"{name} is a folder"

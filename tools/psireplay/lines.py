@@ -1,4 +1,4 @@
-"""Parses the lines that `psi_oomd replay` prints. docs/COMMANDS.md says what each means."""
+"""Parses the lines that `psi_oomd replay` prints. docs/COMMANDS.md describes them."""
 from __future__ import annotations
 
 import re
@@ -23,7 +23,9 @@ class Pressure(NamedTuple):
 
 
 class Report(NamedTuple):
-    """A pressure file at a time (ns). The file for interrupts has no line `some`."""
+    """The pressure of a group for one resource at `time_ns`, as in a pressure file. `some` is None
+    for interrupts.
+    """
 
     time_ns: int
     path: str
@@ -33,7 +35,7 @@ class Report(NamedTuple):
 
 
 class Event(NamedTuple):
-    """A signal of a trigger at a time (ns). The threshold and the window are in us."""
+    """A signal of a trigger at `time_ns`. The trigger's threshold and window are in us."""
 
     time_ns: int
     trigger: int
@@ -45,7 +47,9 @@ class Event(NamedTuple):
 
 
 class Kill(NamedTuple):
-    """A kill that an action of a ruleset would have made at a time (ns). Numbers count from 0."""
+    """A kill that an action of a ruleset would have made at `time_ns`. Rulesets and actions are
+    numbered from 0.
+    """
 
     time_ns: int
     ruleset: int
@@ -64,7 +68,7 @@ class End(NamedTuple):
 
 Line = Union[Report, Event, Kill, End]
 
-# The most bytes of a line that are shown in a message.
+# The largest number of bytes of a line that a message shows.
 SHOWN = 60
 ADVICE = ": give all that `psi_oomd replay` prints, and see what it says on standard error"
 # A number that replay prints, which has at most 19 digits.
@@ -92,8 +96,8 @@ def pressure_of(fields: tuple[str, ...]) -> Pressure:
 
 
 class Reader:
-    """Parses one line after another. A report consists of several lines, so its head and its line
-    `some` are stored until the line `full`.
+    """Parses lines one by one. A report consists of several lines, so its first lines are stored
+    until its last line, `full`.
     """
 
     def __init__(self) -> None:
@@ -102,8 +106,8 @@ class Reader:
         self.is_ended = False
 
     def due(self) -> Optional[str]:
-        """Returns the word with which the next line must begin within a report, and None outside
-        of a report.
+        """Returns the word with which the next line of a report must begin, or None outside of a
+        report.
         """
         if not self.head:
             return None
@@ -114,8 +118,8 @@ class Reader:
         return not self.is_ended and (verb == due if due else verb not in LEVELS)
 
     def take(self, line: str) -> Optional[Line]:
-        """Parses a line. Returns the report, signal, kill or end that the line completes, or None
-        if it completes none. Raises ValueError if replay can't print the line at this point.
+        """Parses a line. Returns the report, signal, kill or end that it completes, or None if it
+        completes none of these. Raises ValueError if `replay` can't print the line at this point.
         """
         verb = line.partition(" ")[0]
         found = FORMS[verb].fullmatch(line) if verb in FORMS and self.is_in_place(verb) else None
@@ -149,8 +153,8 @@ class Reader:
 
 
 def refused(number: int, text: bytes) -> Fault:
-    """Returns the error for a line that replay can't print at this point. For the first line the
-    message says what the input is instead.
+    """Returns the error for a line that `replay` can't print at this point. If it is the first
+    line, the message says what kind of file the input is.
     """
     found = kind_message(kind_of(text), REPLAY, "FILE") if number == 1 else ""
     if found:
@@ -160,9 +164,9 @@ def refused(number: int, text: bytes) -> Fault:
 
 
 def read(printed: Iterable[bytes]) -> Iterator[Line]:
-    """Yields the reports, signals and kills of a replay's output and its end, without the lines
-    `live`. Raises a Fault at a line that replay can't print at this point, or if the last line is
-    missing.
+    """Yields the reports, signals and kills of a replay's output, and its end. Lines `live` are
+    ignored. Raises a Fault at a line that `replay` can't print at this point, and if the last line
+    is missing.
     """
     reader = Reader()
     number = 0

@@ -1,4 +1,6 @@
-"""The part of a trace whose kills a tool shows, and the clock by which it prints their times."""
+"""Selects the part of a trace whose kills a tool shows, and the clock by which their times are
+printed.
+"""
 from __future__ import annotations
 
 import contextlib
@@ -15,7 +17,7 @@ SELECTING = ("start", "end", "at", "window")
 
 
 class Timed(Protocol):
-    """What happens at a time of a trace (ns)."""
+    """Anything that has a time in a trace (ns)."""
 
     @property
     def time_ns(self) -> int: ...
@@ -28,7 +30,7 @@ def part_of(
     trace: str, values: Mapping[str, Any], length: Optional[int] = None
 ) -> Optional[Span]:
     """Returns the part that the options of `add_times` select, or None if they select none.
-    `length` (ns) is that of the trace, if its file doesn't say it.
+    `length` is the trace's length (ns), if it can't be read from the trace's file.
     """
     must_fit(values)
     if all(values[name] is None for name in SELECTING):
@@ -38,23 +40,29 @@ def part_of(
 
 
 def within(found: Iterable[Event], part: Optional[Span]) -> list[Event]:
-    """Returns those that happen in a part, its ends included; all if it is None."""
+    """Returns the events in a part, including those at its ends. Returns all events if the part is
+    None.
+    """
     return [it for it in found if part is None or part.start <= it.time_ns <= part.end]
 
 
 def part_text(part: Optional[Span]) -> str:
-    """Says which part it is, to follow other words. Empty for all of a trace."""
+    """Returns a text, to be appended to a sentence, that says which part is shown. The text is
+    empty for the whole trace.
+    """
     return f" from {time_text(part.start)} to {time_text(part.end)}" if part else ""
 
 
 def show_clock(trace: str, values: Mapping[str, Any]) -> None:
-    """Makes times of a trace be printed as times of day too, if it is known when it began."""
+    """Makes tools print times of a trace also as times of day, if the time of day at its start is
+    known.
+    """
     Shown.wall = known_of(trace, values).wall
 
 
 @contextlib.contextmanager
 def clock_of(trace: str, values: Mapping[str, Any]) -> Iterator[None]:
-    """Does so until the end of the context."""
+    """A context in which times of a trace are also printed as times of day."""
     before = Shown.wall
     show_clock(trace, values)
     try:

@@ -1,6 +1,6 @@
-"""Runs psi_oomd for tools and tests: the program that the variable PSI_OOMD names, or else the
-launcher in the folder above the tools. In a checkout the launcher builds the program; in an
-installation it is next to the program.
+"""Runs psi_oomd for tools and tests: the program that the variable PSI_OOMD names, or the launcher
+in the folder above the tools if that isn't set. In a checkout the launcher builds the program. In
+an installed package the program lies next to the launcher.
 """
 from __future__ import annotations
 
@@ -19,25 +19,25 @@ from .kinds import why_refused
 TOP = os.path.dirname(os.path.dirname(os.path.dirname(os.path.abspath(__file__))))
 LAUNCHER = os.path.join(TOP, "psi_oomd")
 VARIABLE = "PSI_OOMD"
-# A trace without events, for a run that only reads rules.
+# A trace without events, for a run that only needs rules.
 NO_EVENTS = b"psitrace 1 cpus=1\n0 end\n"
-# A longer tick permits a longer trace. So a trace that `replay` accepts with any tick is accepted
-# with the longest tick.
+# The longest tick permits the longest trace. So each trace that `replay` accepts with any tick is
+# also accepted with this one.
 LONGEST_TICK = "--tick-ms=60000"
 # The statuses of a run that rejected its trace or its rules file.
 REFUSALS = (ProgramStatus.TRACE_REFUSED, ProgramStatus.RULES_REFUSED)
 ADVICE = "build ./psi_oomd, or let the variable PSI_OOMD name the program"
 
 
-# The suffix of a program that `--try` built. A tool sets the variable NOTED once it has warned of
-# such a program, so that the tools that it runs don't repeat the warning.
+# The suffix of a program that was built without a proof, and the variable that is set after the
+# first warning about such a program. It prevents repeated warnings by the tools that a tool runs.
 UNPROVED = "-unproved"
 NOTED = "PSI_OOMD_IS_NOTED"
 
 
 def named_program() -> str:
-    """Returns the program that PSI_OOMD names, or else the launcher. Warns once per run if that
-    program isn't proved.
+    """Returns the program that PSI_OOMD names, or the launcher if PSI_OOMD isn't set. Warns once
+    per run if that program isn't proved.
     """
     name = os.environ.get(VARIABLE) or LAUNCHER
     if name.endswith(UNPROVED) and not os.environ.get(NOTED):
@@ -61,8 +61,8 @@ def built_program(launcher: str = LAUNCHER) -> str:
     """Builds the launcher's program if it is older than its sources, and returns its path. The
     launcher reports a build on standard error.
 
-    The launcher checks all sources at each start, so a program that is run more than once is run
-    without the launcher.
+    The launcher checks all sources at each start, so tools run the program directly if they run it
+    more than once.
     """
     done = subprocess.run([launcher, "--build"], stdout=subprocess.PIPE, encoding="utf-8")
     if done.returncode:
@@ -71,7 +71,7 @@ def built_program(launcher: str = LAUNCHER) -> str:
 
 
 def start(words: list[str], notes: IO[bytes]) -> subprocess.Popen[bytes]:
-    """Starts the program with pipes as standard input and output. Standard error goes into the
+    """Starts the program. Its standard input and output are pipes, and its standard error is the
     file `notes`.
     """
     path = program_path()
@@ -85,9 +85,9 @@ def start(words: list[str], notes: IO[bytes]) -> subprocess.Popen[bytes]:
 
 
 def finish(run: subprocess.Popen[bytes], notes: IO[bytes], what: str, name: str) -> str:
-    """Waits for a run, and returns its output. Raises a Fault if its status isn't 0, with the
-    program's own message from `notes`. `what` says in that message what the file `name` is, such as
-    "the trace".
+    """Waits for a run, and returns its output. If its status isn't 0, raises a Fault with the
+    program's own message from `notes`. `what` describes the file `name` in that message, for
+    example as "the trace".
     """
     assert run.stdin and run.stdout
     try:
@@ -108,8 +108,8 @@ def finish(run: subprocess.Popen[bytes], notes: IO[bytes], what: str, name: str)
 
 
 def opened(name: str) -> IO[bytes]:
-    """Opens a file for reading. Raises a Fault if it can't be opened. The message about a missing
-    file is the one that psi_oomd prints.
+    """Opens a file for reading. Raises a Fault if that fails. For a missing file, the message
+    equals that of psi_oomd.
     """
     try:
         return open(name, "rb")
@@ -137,8 +137,8 @@ def accepted_rules(name: str) -> bytes:
 
 
 class CheckedTrace:
-    """Reads the lines of a trace, and passes each on to `psi_oomd check`. If the program rejects
-    the trace, a Fault follows the last line.
+    """Reads the lines of a trace, and also passes them to `psi_oomd check`. If the program rejects
+    the trace, a Fault is raised after the last line.
     """
 
     def __init__(self, name: str) -> None:
@@ -146,7 +146,7 @@ class CheckedTrace:
         self.end = 0
 
     def lines(self) -> Iterator[bytes]:
-        """Yields all lines. Afterwards `end` is the trace's end (ns)."""
+        """Yields all lines of the trace, and then sets `end` to the trace's end (ns)."""
         with opened(self.name) as file, tempfile.TemporaryFile() as notes:
             run = start(["check", "-", LONGEST_TICK], notes)
             assert run.stdin

@@ -1,5 +1,5 @@
-"""Provides the output of a replay to tools that accept either a trace or what `psi_oomd replay`
-printed.
+"""Provides the output of a replay to tools that accept either a trace or the output of `psi_oomd
+replay`.
 """
 from __future__ import annotations
 
@@ -22,10 +22,10 @@ TRACE_HELP = (
     "a trace, which is replayed; without it the output of psi_oomd replay or whatif is read from"
     " standard input"
 )
-# The options of a replay that tools also have, by the names of their values.
+# The options of `psi_oomd replay` that tools also have, keyed by the names of their values.
 OPTIONS = {"tick_ms": "--tick-ms", "report_s": "--report-s", "interval_s": "--interval-s"}
 REFUSED = (ProgramStatus.TRACE_REFUSED, ProgramStatus.RULES_REFUSED)
-# The statuses of a replay that succeeded, or whose output pipe the tool closed early.
+# The exit statuses of a replay that succeeded, or that a tool stopped by closing its output pipe.
 UNREAD = (0, ProgramStatus.WRITE_FAULT)
 
 
@@ -36,7 +36,7 @@ def add_report(parser: Parser) -> None:
 
 
 def words_of(trace: str, values: Mapping[str, Any], report_s: int) -> list[str]:
-    """Returns the arguments of `psi_oomd` for a replay with a tool's options."""
+    """Returns the arguments of `psi_oomd` for a replay, according to a tool's options."""
     chosen = {name: values[name] for name in OPTIONS if values.get(name) is not None}
     options = {"report_s": report_s, **chosen}
     words = [f"{OPTIONS[name]}={value}" for name, value in options.items()]
@@ -45,7 +45,7 @@ def words_of(trace: str, values: Mapping[str, Any], report_s: int) -> list[str]:
 
 
 def must_have_trace(trace: Optional[str], values: Mapping[str, Any]) -> None:
-    """Rejects options of a replay if there is no trace to replay."""
+    """Raises a Fault if there are options of a replay, but no trace to replay."""
     for name, option in OPTIONS.items():
         if trace is None and values.get(name) is not None:
             raise Fault(f"{option} is for the replay of a TRACE: give one")
@@ -53,9 +53,9 @@ def must_have_trace(trace: Optional[str], values: Mapping[str, Any]) -> None:
 
 @contextlib.contextmanager
 def replayed(trace: Optional[str], values: Mapping[str, Any], report_s: int) -> Iterator[IO[bytes]]:
-    """Yields the output of a replay: of `trace` with reports every `report_s` seconds, or
-    without a trace the standard input. Raises a Fault at the end if the program rejects the
-    trace or the rules.
+    """Yields the output of a replay: of `trace`, with reports every `report_s` seconds, or of the
+    replay on standard input if `trace` is None. At the end, raises a Fault if the program rejected
+    the trace or the rules.
     """
     must_have_trace(trace, values)
     if trace is None:
@@ -85,7 +85,7 @@ def replayed(trace: Optional[str], values: Mapping[str, Any], report_s: int) -> 
 def must_have_ended(
     run: subprocess.Popen[bytes], notes: IO[bytes], trace: str, rules: Optional[str]
 ) -> None:
-    """Waits for the program, and raises a Fault if it rejected the trace or the rules."""
+    """Waits for the program. Raises a Fault if it rejected the trace or the rules."""
     status = run.wait()
     if status in UNREAD:
         return

@@ -1,8 +1,7 @@
-"""Reads the names of rulesets and plugins from a rules file, and the thresholds that a chart can
+"""Reads a rules file: the names of its rulesets and plugins, and the thresholds that a chart can
 show.
 
-The program validates a file first, so a file that is read here has the form that docs/RULES.md
-describes.
+The program validates the file first, so the file has the form that docs/RULES.md describes.
 """
 from __future__ import annotations
 
@@ -30,8 +29,8 @@ class Plugin(NamedTuple):
         return any(does_match(pattern, path) for pattern in self.args["cgroup"].split(","))
 
     def may_kill(self, path: str) -> bool:
-        """Returns whether this action can choose `path`: one of its patterns matches the path, or
-        the action is recursive and a pattern matches an ancestor.
+        """Returns whether this action can choose the group `path`. This requires that one of its
+        patterns matches the path or, if the action is recursive, the path of an ancestor.
         """
         above = [path[:place] for place, letter in enumerate(path) if letter == "/" and place]
         goes_down = self.args.get("recursive", "false") in TRUTHS
@@ -47,22 +46,22 @@ class Ruleset(NamedTuple):
 
 
 class Killer(NamedTuple):
-    """The names of the ruleset and of the action's plugin that made a kill."""
+    """The source of a kill: the name of the ruleset, and the name of the action's plugin."""
 
     ruleset: str
     plugin: str
 
 
 def printable(text: str) -> str:
-    """Replaces each character that isn't printable by U+FFFD."""
+    """Replaces each unprintable character by U+FFFD."""
     return "".join(it if it.isprintable() else "\N{REPLACEMENT CHARACTER}" for it in text)
 
 
 def does_match(pattern: str, path: str) -> bool:
-    """Returns whether `pattern` matches `path`: both have the same number of components, and `*`
-    matches any string within a component.
+    """Returns whether `pattern` matches `path`. Both must have the same number of components, and
+    `*` matches any text within a component.
 
-    `?` and `[` are special for fnmatch too, but no pattern that the program accepts contains them.
+    fnmatch also interprets `?` and `[`, but a pattern that the program accepts contains neither.
     """
     if pattern == "/" or path == "/":
         return pattern == path
@@ -86,8 +85,8 @@ def ruleset_of(value: Any) -> Ruleset:
 
 
 def unmatched(rulesets: list[Ruleset], paths: set[str]) -> list[str]:
-    """Returns the patterns that match none of `paths`, each with the name of its ruleset. A
-    detector or action with only such patterns has no effect.
+    """Returns each pattern that matches none of `paths`, with the name of its ruleset. A detector
+    or action has no effect if all its patterns are in this list.
     """
     found = []
     for ruleset in rulesets:
@@ -104,16 +103,18 @@ def unmatched(rulesets: list[Ruleset], paths: set[str]) -> list[str]:
 
 
 class Rules:
-    """The rulesets of a file, by number."""
+    """The rulesets of a rules file, in order of their numbers."""
 
     def __init__(self, name: str) -> None:
-        """Reads a rules file. Raises a Fault if it can't be read or the program rejects it."""
+        """Reads a rules file. Raises a Fault if the file can't be read, or if the program rejects
+        it.
+        """
         self.name = name
         self.rulesets = [ruleset_of(it) for it in json.loads(accepted_rules(name))["rulesets"]]
 
     def killer(self, kill: Kill) -> Killer:
-        """Returns the ruleset and plugin that made a kill. Raises a Fault if no action of these
-        rules can have made it, because the replay was by other rules.
+        """Returns the ruleset and the plugin that made a kill. Raises a Fault if these rules have
+        no such action, because the replay used other rules.
         """
         ruleset = self.rulesets[kill.ruleset] if kill.ruleset < len(self.rulesets) else None
         which = f"ruleset {kill.ruleset}, action {kill.action}"
@@ -133,8 +134,8 @@ class Rules:
 
 
 def size(text: str, host: Optional[int]) -> Optional[int]:
-    """Parses a size, and returns bytes. A percentage refers to the host's memory, `host` (bytes);
-    the result is None if that is None.
+    """Parses a size, and returns bytes. A percentage refers to `host`, the host's memory (bytes).
+    Returns None for a percentage if `host` is None.
     """
     if text.endswith("%"):
         return None if host is None else host * int(text[:-1]) // 100

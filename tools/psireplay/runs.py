@@ -1,6 +1,4 @@
-"""Runs the commands from whose output a report's page is made. The page lists each command with its
-number.
-"""
+"""Runs the commands whose output a report shows. The report lists each command with its number."""
 from __future__ import annotations
 
 import os
@@ -21,9 +19,9 @@ PROGRAM = "psi_oomd"
 
 
 class Done(NamedTuple):
-    """A command that was run: its number on the page, its words, its exit status, its standard
-    error `said`, its standard output, and the contents of the rules file that was written for it;
-    empty if there was none.
+    """A finished command: its number in the report, its words, its exit status, its standard error
+    `said`, and its standard output. `rules_text` is the contents of the rules file that was written
+    for the command, or empty if none was written.
     """
 
     number: int
@@ -43,16 +41,16 @@ class Done(NamedTuple):
 
 
 def refused_file(words: list[str], said: str) -> str:
-    """Returns the name of the file that the program rejected: its rules file if the message `said`
-    is about rules, and otherwise the trace, which is the last of the words.
+    """Returns the name of the file that the program rejected. It is the rules file if the message
+    `said` is about rules. If not, it is the trace, which is the last word of the command.
     """
     rules = [word.partition("=")[2] for word in words if word.startswith("--rules=")]
     return rules[0] if rules and said.startswith("rules") else words[-1]
 
 
 class Runs:
-    """Runs psi_oomd and the tools. The standard output of each goes into a temporary file, since
-    the output of a replay can be long.
+    """Runs psi_oomd and the tools. The standard output of each command goes into a temporary file,
+    since the output of a replay can be long.
     """
 
     def __init__(self) -> None:
@@ -71,7 +69,7 @@ class Runs:
         return self.run([self.path, *words], [PROGRAM, *words], (0,))
 
     def tool(self, name: str, *words: str, taken: tuple[int, ...] = (0,)) -> Done:
-        """Runs a tool. `taken` are the exit statuses that mean success."""
+        """Runs a tool. `taken` contains the exit statuses that mean success."""
         path = os.path.join(TOP, "tools", name)
         return self.run([sys.executable, path, *words], [f"tools/{name}", *words], taken)
 
@@ -95,7 +93,8 @@ class Runs:
         return found
 
     def commit(self) -> str:
-        """Returns the commit of the sources next to this tool, as the launcher prints it."""
+        """Returns the commit of the sources to which this tool belongs, as the launcher prints it.
+        """
         try:
             said = subprocess.run([LAUNCHER, "--version"], capture_output=True, text=True).stdout
         except OSError:  # there is no launcher, and PSI_OOMD names the program

@@ -1,9 +1,9 @@
-"""The mark of a trace that was made from samples: its first event creates a group whose name has
-the details, and its second event removes that group.
+"""Reads and writes the mark of a trace that was made from samples. The mark is the trace's first
+two events: the first creates a group whose name contains the details, and the second removes that
+group.
 
-Such a trace has the pressure of groups, but its tasks, its processors and its context switches
-are synthetic. Every tool that needs real tasks or switches calls this module, and rejects such a
-trace.
+Such a trace has the pressure of groups, but its tasks, its processors and its context switches are
+synthetic. Every tool that needs real tasks or switches calls this module, and rejects such a trace.
 """
 from __future__ import annotations
 
@@ -20,16 +20,17 @@ FIELDS = ("every-ms", "gap-ms", "scans", "set", "part", "start-ms", "skip-ms")
 MARK = re.compile(
     rb"psitrace [12] cpus=\d+\n0 group (/psi-samples(?::[a-z-]+:[0-9a-f]+){7})\n0 rmgroup \1\n"
 )
-# The bytes at the start of a trace that contain its mark.
+# The number of bytes, from the start of a trace, that contain the mark.
 MOST_BYTES = 512
 
 
 class Sampled(NamedTuple):
     """The contents of a mark: the interval between samples and the longest gap (ns), and whether
-    scanned pages were sampled. Long samples become a set of several traces, each of which is a
-    part: `whole` is the number of the set, `part` the number of the part from 1, `start` the time
-    (ns) in the set at which the part begins, and `skip` the time (ns) in the part up to which the
-    previous part has the kills.
+    scanned pages were sampled.
+
+    Long samples become a set of several traces, called parts. `whole` is the number of the set, and
+    `part` the number of the part from 1. `start` is the time (ns) in the set at which the part
+    begins. `skip` is the time (ns) in the part up to which kills belong to the previous part.
     """
 
     every: int
@@ -63,19 +64,21 @@ class Sampled(NamedTuple):
         return [f"0 group {name}\n", f"0 rmgroup {name}\n"]
 
     def interval(self) -> str:
-        """Describes the interval between samples in words."""
+        """Describes the interval between samples as text."""
         longest = f", with gaps of up to {seconds(self.gap)} s" if self.gap > 2 * self.every else ""
         return f"samples each {seconds(self.every)} s{longest}"
 
 
 def mark_in(data: bytes) -> bytes:
-    """Returns the lines of a trace up to the end of its mark; empty if it has none."""
+    """Returns the first lines of a trace, up to the end of its mark. Returns no bytes if it has no
+    mark.
+    """
     found = MARK.match(data)
     return found[0] if found else b""
 
 
 def sampled_in(data: bytes) -> Optional[Sampled]:
-    """Returns the mark at the start of a trace, or None if it has none."""
+    """Returns the mark in the first bytes of a trace, or None if it has no mark."""
     found = MARK.match(data[:MOST_BYTES])
     if not found:
         return None
@@ -90,8 +93,8 @@ def sampled_in(data: bytes) -> Optional[Sampled]:
 
 
 def sampled(name: str) -> Optional[Sampled]:
-    """Returns the mark of a trace. None if it has no mark, or if it can't be read; whoever reads
-    the trace next reports why. `-` is the standard input, if that is a file.
+    """Returns the mark of a trace, or None if it has no mark or can't be read. If the trace can't
+    be read, the next reader reports why. The name `-` is the standard input, if that is a file.
     """
     try:
         if name == "-":
@@ -103,15 +106,15 @@ def sampled(name: str) -> Optional[Sampled]:
 
 
 def refusal(name: str, found: Sampled, what: str) -> str:
-    """Returns the message that rejects a trace of samples. `what` is what the tool needs and
-    such a trace doesn't have.
+    """Returns the message that rejects a trace of samples. `what` names what the tool needs, which
+    such a trace doesn't contain.
     """
     return f"{name} was made of {found.interval()}: it doesn't say {what} (docs/SAMPLES.md)"
 
 
 def refuse_sampled(file: str, name: str, what: str) -> None:
-    """Raises a Fault if the trace was made from samples. `what` is what the tool needs and such
-    a trace doesn't have.
+    """Raises a Fault if the trace was made from samples. `what` names what the tool needs, which
+    such a trace doesn't contain.
     """
     found = sampled(file)
     if found:
@@ -119,8 +122,8 @@ def refuse_sampled(file: str, name: str, what: str) -> None:
 
 
 class Whole(NamedTuple):
-    """A single trace, or a set of traces that were made together from long samples. Its name is
-    that of its first trace, and each trace has its mark.
+    """A single trace, or a set of traces that were made together from long samples. A set has the
+    name of its first trace. Each trace is listed with its mark.
     """
 
     name: str
@@ -128,7 +131,8 @@ class Whole(NamedTuple):
 
 
 def wholes(names: list[str]) -> list[Whole]:
-    """Groups the traces `names`, so that traces that were made together from samples are one set.
+    """Groups the traces `names` into sets. Traces that were made together from samples form one
+    set.
     """
     found: dict[str, Whole] = {}
     for place, name in enumerate(names):
@@ -142,8 +146,8 @@ def wholes(names: list[str]) -> list[Whole]:
 
 
 def time_in_whole(time: int, mark: Optional[Sampled]) -> Optional[int]:
-    """Converts a time (ns) in a part to the time (ns) in the whole set. None if the previous part
-    contains that time too.
+    """Converts `time` (ns) in a part to the time (ns) in the whole set. Returns None for a time
+    that the previous part covers too.
     """
     if mark is None:
         return time

@@ -1,4 +1,4 @@
-"""Reads the memory samples of some groups from a trace."""
+"""Reads the memory samples of certain groups from a trace."""
 from __future__ import annotations
 
 import contextlib
@@ -12,7 +12,7 @@ from .trace import event_in
 
 
 class Sample(NamedTuple):
-    """A `mem` line: its time (ns), and the memory and swap in use (bytes)."""
+    """A `mem` line of a group: its time (ns), and the memory and swap in use (bytes)."""
 
     time_ns: int
     memory: int
@@ -21,7 +21,7 @@ class Sample(NamedTuple):
 
 class Life:
     """The samples of a group from its creation to its removal. `end` is the time of the removal
-    (ns); None if the group was never removed.
+    (ns), or None if the group was never removed.
     """
 
     def __init__(self) -> None:
@@ -30,16 +30,18 @@ class Life:
 
 
 class Samples(Groups):
-    """The samples of some groups. A path has several lives if its group was created again."""
+    """The memory samples of certain groups. `lives` has a path's groups in order of time, since a
+    group can be removed and created again.
+    """
 
     def __init__(self, name: str, groups: list[str], end: int) -> None:
-        """Reads a trace. Raises a Fault if it doesn't end at `end` (ns)."""
+        """Reads a trace. Raises a Fault if its end isn't `end` (ns)."""
         super().__init__()
         self.lives: dict[str, list[Life]] = {path: [Life()] for path in groups}
         trace = CheckedTrace(name)
         for line in trace.lines():
-            # A malformed line is skipped here. The program rejects it, which is an error at the
-            # end of the trace.
+            # A malformed line is ignored here. The program rejects the line, which raises a Fault
+            # at the end of the trace.
             with contextlib.suppress(LookupError, TypeError, ValueError):
                 self.take(*event_in(line.decode("latin-1")))
         if trace.end != end:

@@ -1,6 +1,7 @@
-"""Ranks groups by how long they stalled, from the totals that a replay printed. Apart from the
-root, only groups without children have tasks. An ancestor's stalls come from these groups, so
-only they are ranked.
+"""Ranks groups by how long they stalled, according to the totals that a replay printed.
+
+Apart from the root, only groups without children contain tasks. The stalls of an ancestor come from
+these groups, so only they are ranked.
 """
 from __future__ import annotations
 
@@ -9,21 +10,22 @@ from typing import Iterable, NamedTuple, Optional
 from .lines import LEVELS, Pressure, Report, read
 
 ROOT = "/"
-# The resources by which groups are ranked, in the order of columns. Time spent on interrupts isn't
-# a stall of tasks.
+# The resources by which groups are ranked, in the order of columns. Interrupts don't count, since
+# time spent on them isn't a stall of tasks.
 RANKED = ("io", "memory", "cpu")
 
 
 class Stalls(NamedTuple):
-    """A group, and how long (us) its tasks were stalled, by resource and level (`some` or `full`).
+    """A group, and how long (us) its tasks were stalled, keyed by resource and level (`some` or
+    `full`).
     """
 
     path: str
     totals: dict[tuple[str, str], int]
 
     def rank(self) -> tuple[int, int]:
-        """Returns the sort key: the longest time (us) in which all tasks waited for one
-        resource, and the longest in which some did.
+        """Returns the sort key: the longest `full` stall (us) for a single resource, and then the
+        longest `some` stall.
         """
         full, some = (
             max(self.totals.get((it, level), 0) for it in RANKED) for level in ("full", "some")
@@ -32,8 +34,8 @@ class Stalls(NamedTuple):
 
 
 class Lives:
-    """Adds up how much the totals of each group grew in the reports after `start` and up to `end`
-    (ns). A group that is created again counts with the earlier group of the same path.
+    """Adds up the growth of each group's totals in the reports after `start` and up to `end` (ns).
+    Groups that had the same path at different times count as one group.
     """
 
     def __init__(self, start: int, end: float) -> None:
@@ -42,7 +44,7 @@ class Lives:
         self.found: dict[str, Stalls] = {}
 
     def take(self, report: Report) -> None:
-        """Adds a report."""
+        """Adds the totals of a report."""
         lines: tuple[Optional[Pressure], ...] = (report.some, report.full)
         for level, pressure in zip(LEVELS, lines):
             if pressure:
@@ -57,8 +59,8 @@ class Lives:
 
 def ranked(printed: Iterable[bytes], start: int = -1, end: float = float("inf")) -> list[Stalls]:
     """Returns the groups without children in the output of a replay, sorted by how long they
-    stalled after `start` and up to `end` (ns), the longest first. Returns the root if there are no
-    other groups.
+    stalled after `start` and up to `end` (ns). The longest stall comes first. Returns only the root
+    if there are no other groups.
     """
     lives = Lives(start, end)
     for line in read(printed):

@@ -1,4 +1,4 @@
-"""The command tools/top: its arguments, and the table that it prints."""
+"""Implements the command tools/top: parses its arguments, and prints its table."""
 from __future__ import annotations
 
 import os
@@ -33,14 +33,15 @@ COUNT, NUMBER = re.compile("[1-9][0-9]{0,5}"), re.compile("-?[0-9]+")
 
 
 def row_of(stalls: Stalls, known: Known, span: Span) -> list[str]:
-    """Returns the cells of a group's row."""
+    """Returns the table cells for a group."""
     times = (stalls.totals.get((resource, level), 0) for resource in RANKED for level in LEVELS)
     cells = [f"{time // MICROSECONDS}.{time % MICROSECONDS // 1000:03}" for time in times]
     return [*cells, known.groups.shown(stalls.path), processes_of(stalls.path, known, span)]
 
 
 def processes_of(path: str, known: Known, span: Span) -> str:
-    """Formats the processes that ran most in a group. Empty if the trace doesn't have their names.
+    """Formats the processes that ran most in a group. The text is empty if their names aren't
+    known.
     """
     if not known.companion or not known.companion.busy:
         return ""
@@ -49,7 +50,7 @@ def processes_of(path: str, known: Known, span: Span) -> str:
 
 
 def table(rows: list[list[str]]) -> str:
-    """Formats rows of cells: numbers are right-aligned, and the texts after them left-aligned."""
+    """Formats a table. The numbers are right-aligned, and the texts after them left-aligned."""
     count = len(RANKED) * len(LEVELS)
     widths = [max(len(row[place]) for row in rows) for place in range(count + 1)]
     lines = []
@@ -72,8 +73,8 @@ def parser() -> Parser:
 
 
 def words_in(words: list[str]) -> tuple[Optional[str], int]:
-    """Returns the trace, or None, and the number of groups from the arguments, which may be in any
-    order.
+    """Parses the arguments, which may be in any order. Returns the trace, or None without one, and
+    the number of groups to print.
     """
     for it in words:
         if NUMBER.fullmatch(it) and not COUNT.fullmatch(it) and not os.path.exists(it):

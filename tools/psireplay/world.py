@@ -1,11 +1,12 @@
-"""Follows the state of a trace's tasks and groups, event by event. Tools that need this state use
-this interpreter of the verbs of docs/TRACES.md.
+"""Tracks the state of a trace's tasks and groups, event by event.
 
-The trace must be valid, as `psi_oomd check` says. Tools override `leave` and `enter`, which are
-called before and after each change of a task, and add up what they need. Two other modules
-interpret verbs too, both on purpose: psifold/world.py must reject events that it can't fold, and
-psifold/check.py checks folded traces independently, so that an error here can't hide an error
-there.
+This module interprets the verbs of docs/TRACES.md for all tools that need this state. The trace
+must be valid, as `psi_oomd check` says. A tool overrides `leave` and `enter`, which are called
+before and after each change of a task, to add up what it needs.
+
+Two other modules interpret verbs too, both on purpose. psifold/world.py must reject events that it
+can't fold. psifold/check.py checks folded traces independently, so that an error here can't hide an
+error there.
 """
 from __future__ import annotations
 
@@ -16,7 +17,7 @@ from psireplay.groups import Group, Groups
 
 # The states of a task: ready, running, sleeping, and waiting for IO.
 READY, RUNNING, ASLEEP, IOWAIT = range(4)
-# The state of a task after it left its processor, by the word in the trace.
+# The state of a task after it left the processor, keyed by the word in the trace.
 AFTER = {"preempt": READY, "sleep": ASLEEP, "iowait": IOWAIT}
 NO_TASK = "0"
 
@@ -37,8 +38,8 @@ T = TypeVar("T", bound=Task)
 
 
 class World(Groups, Generic[T]):
-    """The groups and the tasks of a trace, and the task that runs on each processor. `create`
-    makes a task from its pid, its group and its processor.
+    """The groups and the tasks of a trace, and the running task of each processor. `create` creates
+    a task from its pid, its group and its processor.
     """
 
     def __init__(self, create: Callable[[str, Group, int], T]) -> None:
@@ -53,12 +54,12 @@ class World(Groups, Generic[T]):
         }  # fmt: skip
 
     def leave(self, task: T) -> None:
-        """Called before the task changes or exits, when it still has its old state."""
+        """Called before the task changes or exits, while it still has its old state."""
 
     def enter(self, task: T) -> None:
-        """Called after the task was created or has changed, when it has its new state."""
+        """Called after the task was created or changed, when it has its new state."""
 
-    # ------------------------------------------------------------ verbs
+    # ------------------------------------------------------------ the verbs of events
 
     def play_fork(self, pid: str, path: str, cpu: str) -> None:
         task = self.tasks[pid] = self.create(pid, self.live[path], int(cpu))
@@ -111,7 +112,7 @@ class World(Groups, Generic[T]):
         self.enter(task)
 
     def play_pressure(self, path: str, word: str) -> None:
-        """Turns a group's accounting on or off, which changes how all tasks of the group and its
+        """Turns a group's accounting on or off. This changes how the tasks of the group and of its
         descendants count.
         """
         group = self.live[path]

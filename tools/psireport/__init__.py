@@ -1,1 +1,3 @@
-"""Writes a report on an incident: one HTML file that needs no other file and no network."""
+"""Writes a report on an incident as a single HTML file. The file needs no other file and no
+network.
+"""

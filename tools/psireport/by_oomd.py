@@ -1,4 +1,4 @@
-"""The section of the page on oomd 0.5.0: the kills that it would have made with a given
+"""The section of the report on oomd 0.5.0: the kills that it would have made with a certain
 configuration.
 """
 from __future__ import annotations
@@ -18,24 +18,27 @@ SHOWN = 8
 
 
 def section(page: Element, facts: Facts, runs: Runs) -> None:
-    """Adds the section with the kills that tools/oomd computes, if a configuration is given."""
-    given = facts.given
-    if given.oomd is None:
+    """Adds the section with the kills that tools/oomd computes, if the command line names a
+    configuration.
+    """
+    options = facts.options
+    if options.oomd is None:
         return
-    interval = [f"--interval-s={given.interval_s}"] if given.interval_s is not None else []
-    run = runs.tool("oomd", f"--config={given.oomd}", *interval, "--json", "--", given.trace)
-    told: dict[str, Any] = json.loads(run.text())
+    interval = [f"--interval-s={options.interval_s}"] if options.interval_s is not None else []
+    run = runs.tool("oomd", f"--config={options.oomd}", *interval, "--json", "--", options.trace)
+    result: dict[str, Any] = json.loads(run.text())
     part = add(page, "section")
     say(part, "h2", "What oomd would have done")
     say(
-        part, "p", f"By the algorithm of oomd {told['oomd']}, which looked {told['looks']} times ",
+        part, "p",
+        f"By the algorithm of oomd {result['oomd']}, which looked {result['looks']} times ",
         source(run), ".",
     )
-    kills = told["decisions"]
+    kills = result["decisions"]
     if not kills:
         say(part, "p", "It would have killed nobody.")
-    if told["crash"]:
-        say(part, "p", told["crash"])
+    if result["crash"]:
+        say(part, "p", result["crash"])
     rows = [
         [
             f"{seconds(it['moment_ns'])} s", it["victim"], it["ruleset_name"], it["plugin"],
@@ -49,5 +52,5 @@ def section(page: Element, facts: Facts, runs: Runs) -> None:
             ["at", "victim", "ruleset", "by", "because"], rows, 5,
         )
         rest(part, len(kills), "kills")
-    for note in told["notes"]:
+    for note in result["notes"]:
         say(part, "p", note, class_="soft")

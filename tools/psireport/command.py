@@ -1,4 +1,4 @@
-"""The command line of tools/report, and the page that it writes."""
+"""Parses the command line of tools/report, and writes the report."""
 from __future__ import annotations
 
 import os
@@ -12,7 +12,7 @@ from psicli.status import Status
 from psinames.known import add_clock, add_names
 from psireplay.runs import Runs
 
-from .facts import Given, collect
+from .facts import Options, collect
 from .page import html
 
 ABOUT = "Writes an incident on one page: an HTML file that needs no network and nothing beside it."
@@ -61,7 +61,7 @@ def parser() -> Parser:
     return words
 
 
-def read_words() -> Given:
+def read_words() -> Options:
     it = parser().parse_args()
     if it.trace == "-":
         raise Fault("the trace is read several times: give a file, not standard input")
@@ -69,7 +69,7 @@ def read_words() -> Given:
         raise Fault("--drop-in changes rules: give them by --rules")
     if it.start is not None and it.recording is None:
         raise Fault("--from is a time of the recording: give it by --recording")
-    return Given(
+    return Options(
         it.trace, it.rules, it.drop_in, it.recording, it.start, it.group, it.wall, it.tick_ms,
         it.interval_s, it.output, it.oomd,
         vars(it),
@@ -77,7 +77,8 @@ def read_words() -> Given:
 
 
 def write_page(page: bytes, name: str | None) -> None:
-    """Writes the page to standard output or to a file. After an error the file is unchanged."""
+    """Writes the page to standard output or to a file. If an error occurs, the file isn't changed.
+    """
     if name is None:
         write(page)
         return
@@ -93,16 +94,16 @@ def write_page(page: bytes, name: str | None) -> None:
 
 
 def report() -> int:
-    """Parses the command line, and writes the page."""
-    given = read_words()
-    if given.output is not None:
-        must_be_writable(given.output)
+    """Parses the command line, runs all commands, and writes the page."""
+    options = read_words()
+    if options.output is not None:
+        must_be_writable(options.output)
     runs = Runs()
-    facts = collect(runs, given)
+    facts = collect(runs, options)
     page = html(facts, runs)
     for what in facts.unmatched:
         complain(f"note: no group of the trace matches {what}")
-    write_page(page, given.output)
+    write_page(page, options.output)
     return Status.DONE
 
 

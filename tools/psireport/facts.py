@@ -1,4 +1,4 @@
-"""Collects everything that the page shows, from the output of psi_oomd and the other tools."""
+"""Collects the contents of the report from the output of psi_oomd and of the other tools."""
 from __future__ import annotations
 
 import hashlib
@@ -31,12 +31,12 @@ from .reading import Peaks, read_peaks, thin
 from .story import After, Stretch, Subject, after, greater_than, stretch_of, subject_of
 
 BEGAN = re.compile(r"psitrace: 0 is (\d{4}-\d\d-\d\d \d\d:\d\d:\d\d)\.(\d{3}) UTC")
-# The exit status of tools/compare if a total exceeds its limit, and of tools/psitrace if events
-# were lost.
+# The exit status of tools/compare if a total exceeds its limit, and the exit status of
+# tools/psitrace if events were lost.
 BEYOND, LOST = 1, 3
 
 
-class Given(NamedTuple):
+class Options(NamedTuple):
     """The parsed command line. Times are in ms or s, as in the names of the options."""
 
     trace: str
@@ -57,7 +57,7 @@ class Given(NamedTuple):
         return words + ([f"--drop-in={self.drop_in}"] if self.drop_in is not None else [])
 
     def names_words(self) -> list[str]:
-        """Returns the options about names, for blame."""
+        """Returns the command line's options about names, for tools/blame."""
         words = (
             [f"--containers={self.values['containers']}"]
             if self.values["containers"] is not None
@@ -71,8 +71,8 @@ class Given(NamedTuple):
 
 
 class Recorded(NamedTuple):
-    """What is known about the recording from which the trace was made: the results of tools/compare
-    and tools/psitrace. `is_same` says whether psitrace makes exactly this trace.
+    """The results of tools/compare and tools/psitrace on the recording from which the trace was
+    made. `is_same` says whether psitrace makes exactly this trace.
     """
 
     compared: Done
@@ -81,8 +81,8 @@ class Recorded(NamedTuple):
 
 
 class Supposed(NamedTuple):
-    """The output of `whatif`, and what tools/blame says about the groups that waited while the
-    first victim ran.
+    """A replay without the killed groups, by `psi_oomd whatif`, and the output of tools/blame on
+    the groups that waited while the first victim ran.
     """
 
     run: Done
@@ -93,7 +93,7 @@ class Supposed(NamedTuple):
 
 
 class Blamed(NamedTuple):
-    """What tools/blame says about the whole trace, and about the subject in its worst stretch of
+    """The output of tools/blame on the whole trace, and on the subject in its worst stretch of
     time.
     """
 
@@ -104,12 +104,13 @@ class Blamed(NamedTuple):
 
 
 class Facts(NamedTuple):
-    """Everything that the page shows. The replay has the series of the drawn groups. `greatest` is
-    what stalled more than the subject, which the rules check. `unmatched` are patterns that match
-    no group.
+    """The contents of the report. The replay contains the series of the drawn groups. `subject` is
+    the group and the resource that the page is about. `greatest` is the worst stall on the machine
+    if that is worse than the subject's, and None if not. `unmatched` contains the patterns that
+    match no group.
     """
 
-    given: Given
+    options: Options
     replay_run: Done
     replay: Replay
     peaks: Peaks
@@ -120,10 +121,10 @@ class Facts(NamedTuple):
     drawn: list[tuple[str, str]]
     samples: Optional[Samples]
     wall: Optional[WallTime]
-    # None for a trace that was made from samples, which don't show which tasks ran.
+    # None for a trace that was made from samples, since samples don't show which tasks ran.
     blamed: Optional[Blamed]
     judged: Optional[Judged]
-    # The explanation of why each ruleset fired or didn't.
+    # For each ruleset, the explanation of why it fired or didn't.
     parts: list[Part]
     supposed: Optional[Supposed]
     recorded: Optional[Recorded]
@@ -140,8 +141,8 @@ def sum_of(path: str) -> str:
     return found.hexdigest()
 
 
-def sums(facts_of: Given) -> Iterator[tuple[str, str]]:
-    """Yields the name and the SHA-256 of each file that was read."""
+def sums(facts_of: Options) -> Iterator[tuple[str, str]]:
+    """Yields the name and the SHA-256 of each input file."""
     for name in (facts_of.trace, facts_of.rules, facts_of.drop_in):
         if name is not None:
             yield name, sum_of(name)
@@ -152,8 +153,8 @@ def sums(facts_of: Given) -> Iterator[tuple[str, str]]:
 
 
 def began(summary: str) -> Optional[WallTime]:
-    """Returns the time of day at which the trace began, from the summary of psitrace, or None if
-    the summary doesn't have it.
+    """Returns the time of day at the start of the trace, as in the summary of psitrace. Returns
+    None if the summary doesn't contain it.
     """
     found = BEGAN.search(summary)
     if not found:
@@ -165,54 +166,64 @@ def began(summary: str) -> Optional[WallTime]:
     return WallTime(int(whole.timestamp()) * SECOND + int(found[2]) * 10**6, 0)
 
 
-def recorded(runs: Runs, given: Given) -> Optional[Recorded]:
-    if given.recording is None:
+def recorded(runs: Runs, options: Options) -> Optional[Recorded]:
+    if options.recording is None:
         return None
-    words = [f"--from={given.start}"] if given.start is not None else []
-    summary = runs.tool("psitrace", *words, "--", given.recording, taken=(0, LOST))
+    words = [f"--from={options.start}"] if options.start is not None else []
+    summary = runs.tool("psitrace", *words, "--", options.recording, taken=(0, LOST))
     found = hashlib.sha256()
     for line in summary.lines():
         found.update(line)
-    compared = runs.tool("compare", *words, "--", given.recording, given.trace, taken=(0, BEYOND))
-    return Recorded(compared, summary, found.hexdigest() == sum_of(given.trace))
+    compared = runs.tool(
+        "compare", *words, "--", options.recording, options.trace, taken=(0, BEYOND)
+    )
+    return Recorded(compared, summary, found.hexdigest() == sum_of(options.trace))
 
 
-def judge(runs: Runs, given: Given, run: Done) -> Optional[Judged]:
-    """Returns the evaluations of the rules, or None if no rules are given."""
-    if given.rules is None:
+def judge(runs: Runs, options: Options, run: Done) -> Optional[Judged]:
+    """Returns the evaluations of the rules. Returns None if the command line names no rules."""
+    if options.rules is None:
         return None
     return judged_of(
-        runs, Asked(given.trace, given.rules, given.drop_in, given.tick_ms, given.interval_s), run
+        runs,
+        Asked(
+            options.trace, options.rules, options.drop_in, options.tick_ms, options.interval_s
+        ),
+        run,
     )
 
 
-def suppose(runs: Runs, given: Given, replay: Replay, subject: Subject) -> Optional[Supposed]:
-    """Returns the results of a replay without the killed groups, or None if no group is killed."""
+def suppose(runs: Runs, options: Options, replay: Replay, subject: Subject) -> Optional[Supposed]:
+    """Replays the trace without the killed groups. Returns the results, or None if no group is
+    killed.
+    """
     if not replay.kills:
         return None
     run = runs.program(
-        "whatif", "--report-s=1", *given.rules_words(), *given.pace(), "--", given.trace
+        "whatif", "--report-s=1", *options.rules_words(), *options.pace(), "--", options.trace
     )
     supposed = read_replay(run.lines(), replay.groups)
     kills = [(kill, after(subject, kill, replay, supposed)) for kill in supposed.kills]
     first = replay.kills[0]
     words = [f"--from={seconds(first.time_ns)}"] if first.time_ns < replay.end.time_ns else []
     blamed = runs.tool(
-        "blame", *words, f"--victim={first.path}", *given.names_words(), "--json", "--", given.trace
+        "blame", *words, f"--victim={first.path}", *options.names_words(), "--json", "--",
+        options.trace,
     )
     groups = [it for it in json.loads(blamed.text())["groups"] if it["while_victim_ran_ns"]]
     return Supposed(run, supposed, kills, blamed, groups)
 
 
 def drawn_of(
-    peaks: Peaks, subject: Subject, greatest: Optional[Subject], given: Given
+    peaks: Peaks, subject: Subject, greatest: Optional[Subject], options: Options
 ) -> list[tuple[str, str]]:
-    """Returns the groups and resources that are drawn, the subject's first. Each resource has the
-    subject's group, and the groups of the command line or else those that stalled most.
+    """Returns the groups and resources to draw, the subject's first. For each resource these are
+    the subject's group, and the groups that the command line names, or those that stalled most if
+    it names none.
     """
     resources = [it for it in RESOURCES if it in peaks.resources]
     resources.sort(key=lambda it: it != subject.resource)
-    named = given.groups
+    named = options.groups
     found = [
         (path, resource)
         for resource in resources
@@ -225,7 +236,7 @@ def drawn_of(
 
 
 def stretch_in(replay: Replay, subject: Subject) -> Stretch:
-    """Returns the stretch of time in which the subject's pressure was highest."""
+    """Returns the worst stretch of time of the subject's pressure."""
     return (
         stretch_of(replay.series[subject], subject.level)
         if subject in replay.series
@@ -233,91 +244,92 @@ def stretch_in(replay: Replay, subject: Subject) -> Stretch:
     )
 
 
-def blamed(runs: Runs, given: Given, *words: str) -> tuple[Done, dict[str, Any]]:
-    done = runs.tool("blame", *words, *given.names_words(), "--json", "--", given.trace)
+def blamed(runs: Runs, options: Options, *words: str) -> tuple[Done, dict[str, Any]]:
+    done = runs.tool("blame", *words, *options.names_words(), "--json", "--", options.trace)
     return done, json.loads(done.text())
 
 
-def blamed_of(runs: Runs, given: Given, subject: Subject, stretch: Stretch) -> Blamed:
-    """Returns the output of tools/blame for the whole trace, and for the subject in its worst
-    stretch of time.
+def blamed_of(runs: Runs, options: Options, subject: Subject, stretch: Stretch) -> Blamed:
+    """Runs tools/blame on the whole trace, and on the subject in its worst stretch of time. Returns
+    both results.
     """
-    whole = blamed(runs, given)
+    whole = blamed(runs, options)
     words = [f"--group={subject.path}"]
     if stretch.end > stretch.start:
         words += [f"--from={seconds(stretch.start)}", f"--to={seconds(stretch.end)}"]
-    return Blamed(*whole, *blamed(runs, given, *words))
+    return Blamed(*whole, *blamed(runs, options, *words))
 
 
-def samples_of(given: Given, groups: list[str], end: int) -> Optional[Samples]:
-    """Returns the memory samples of the drawn groups, or None if the trace has none."""
-    samples = Samples(given.trace, groups, end)
+def samples_of(options: Options, groups: list[str], end: int) -> Optional[Samples]:
+    """Returns the memory samples of the drawn groups. Returns None if the trace contains none."""
+    samples = Samples(options.trace, groups, end)
     return (
         samples if any(life.samples for lives in samples.lives.values() for life in lives) else None
     )
 
 
-def must_be_files(given: Given) -> None:
-    """Checks that each input exists and isn't a folder. Otherwise raises a fault that names the
-    input.
+def must_be_files(options: Options) -> None:
+    """Checks that each input exists and isn't a folder. Raises a Fault that names the first input
+    for which this isn't true.
     """
     for what, name in (
-        ("trace", given.trace),
-        ("rules file", given.rules),
-        ("drop-in file", given.drop_in),
+        ("trace", options.trace),
+        ("rules file", options.rules),
+        ("drop-in file", options.drop_in),
     ):
         if name is None:
             continue
         if not os.path.exists(name):
             raise Fault(f"there is no {what} {name}", ProgramStatus.NO_FILE)
         if os.path.isdir(name):
-            said = folder_message(name) if name == given.trace else f"the {what} {name} is a folder"
+            is_trace = name == options.trace
+            said = folder_message(name) if is_trace else f"the {what} {name} is a folder"
             raise Fault(said, ProgramStatus.READ_FAULT)
-    if given.recording is not None and not os.path.isdir(given.recording):
-        raise Fault(f"the recording {given.recording} isn't a folder", ProgramStatus.NO_FILE)
+    if options.recording is not None and not os.path.isdir(options.recording):
+        raise Fault(f"the recording {options.recording} isn't a folder", ProgramStatus.NO_FILE)
 
 
-def zoned(wall: Optional[WallTime], given: Given) -> Optional[WallTime]:
-    """Returns the time in the time zone of the command line."""
-    return in_zone(wall, given.values["tz"]) if wall else None
+def zoned(wall: Optional[WallTime], options: Options) -> Optional[WallTime]:
+    """Converts a time to the time zone that the command line names."""
+    return in_zone(wall, options.values["tz"]) if wall else None
 
 
 def with_paths(words: list[str], peaks: Peaks, names: GroupNames) -> list[str]:
-    """Returns the paths of the groups that the command line names."""
+    """Returns the group paths for the groups that the command line names."""
     paths = sorted({path for path, _, _ in peaks.found})
     return list(dict.fromkeys(names.find(word, paths, "in the replay") for word in words))
 
 
-def collect(runs: Runs, given: Given) -> Facts:
-    """Runs all commands, and returns what the page shows."""
-    must_be_files(given)
-    known = recorded(runs, given)
+def collect(runs: Runs, options: Options) -> Facts:
+    """Runs all commands, and returns the contents of the report."""
+    must_be_files(options)
+    known = recorded(runs, options)
     run = runs.program(
-        "replay", "--report-s=1", *given.rules_words(), *given.pace(), "--", given.trace
+        "replay", "--report-s=1", *options.rules_words(), *options.pace(), "--", options.trace
     )
     peaks = read_peaks(run.lines())
-    around = known_of(given.trace, given.values)
-    given = given._replace(groups=with_paths(given.groups, peaks, around.groups))
-    judged = judge(runs, given, run)
+    around = known_of(options.trace, options.values)
+    options = options._replace(groups=with_paths(options.groups, peaks, around.groups))
+    judged = judge(runs, options, run)
     subject = subject_of(peaks, judged.rules if judged else None, peaks.kills)
     greatest = greater_than(subject, peaks)
-    drawn = drawn_of(peaks, subject, greatest, given)
+    drawn = drawn_of(peaks, subject, greatest, options)
     groups = list(dict.fromkeys(path for path, _ in drawn))
     replay = read_replay(run.lines(), groups)
-    mark = sampled(given.trace)
-    supposed = suppose(runs, given, replay, subject) if mark is None else None
+    mark = sampled(options.trace)
+    supposed = suppose(runs, options, replay, subject) if mark is None else None
     stretch = stretch_in(replay, subject)
     more = (greatest, stretch_in(replay, greatest)) if greatest else None
     missing = unmatched(judged.rules.rulesets, replay.rounds.paths | {"/"}) if judged else []
     thin(replay)
     if supposed:
         thin(supposed.replay)
-    found = blamed_of(runs, given, subject, stretch) if mark is None else None
-    wall = around.wall or (zoned(began(known.summary.said), given) if known else None)
-    samples = samples_of(given, groups, replay.end.time_ns)
+    found = blamed_of(runs, options, subject, stretch) if mark is None else None
+    wall = around.wall or (zoned(began(known.summary.said), options) if known else None)
+    samples = samples_of(options, groups, replay.end.time_ns)
     why = parts(judged, peaks.kills) if judged else []
     return Facts(
-        given, run, replay, peaks, subject, stretch, more, missing, drawn, samples, wall, found,
+        options, run, replay, peaks, subject, stretch, more, missing, drawn, samples, wall, found,
         judged, why, supposed, known, mark,
         around.groups,
     )  # fmt: skip

@@ -1,4 +1,5 @@
-"""Makes HTML elements. All text goes through these functions, so that no text is taken for markup.
+"""Creates HTML elements. All text passes through these functions, so that no text is interpreted as
+markup.
 """
 from __future__ import annotations
 
@@ -15,7 +16,7 @@ Words = Union[str, Element]
 
 
 def say(parent: Element, tag: str, *words: Words, **attributes: str) -> Element:
-    """Adds an element that contains these words and elements, in this order, and returns it."""
+    """Adds an element that contains these texts and elements in this order, and returns it."""
     element = add(parent, tag, None, **attributes)
     for word in words:
         if isinstance(word, ElementTree.Element):
@@ -43,8 +44,8 @@ def table(
     rows: Iterable[Iterable[str]],
     named: int = 1,
 ) -> Element:
-    """Adds a table in a scrollable box, and returns it. The first cells of each row are text, the
-    others are numbers.
+    """Adds a table in a scrollable box, and returns it. The first cells of each row are texts, and
+    the others are numbers.
     """
     box = add(parent, "div", class_="wide", tabindex="0", role="region", aria_label=caption)
     found = add(box, "table")
@@ -63,14 +64,14 @@ def table(
 
 
 def folded(parent: Element, summary: str) -> Element:
-    """Adds a collapsed block with this summary, and returns the block."""
+    """Adds a collapsed block with a visible summary, and returns the block."""
     found = add(parent, "details")
     say(found, "summary", summary)
     return found
 
 
 def name_groups(page: Element, names: GroupNames) -> None:
-    """Replaces the identifiers of containers by their names in all text except commands."""
+    """Replaces container ids by names in all texts of the page, except in commands."""
     for element in page.iter():
         if element.tag != "code":
             element.text = element.text and names.in_text(element.text)
@@ -83,8 +84,8 @@ CONTROLS = re.compile(r"[\x00-\x08\x0b-\x1f\x7f-\x9f]")
 
 
 def escape_controls(page: Element) -> None:
-    """Replaces each control character by an escape such as `\x1b`, since HTML can't contain control
-    characters.
+    """Replaces each control character by an escape such as `\\x1b`, since HTML can't contain
+    control characters.
     """
 
     def escaped(text: str) -> str:
@@ -97,6 +98,7 @@ def escape_controls(page: Element) -> None:
 
 
 def data_of(value: Any) -> str:
-    """Returns a value as JSON for a script element. No character of the JSON can end the element.
+    """Formats a value as JSON for a script element. The JSON contains no text that would end the
+    element.
     """
     return json.dumps(value, separators=(",", ":")).replace("<", "\\u003c")

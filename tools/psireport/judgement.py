@@ -1,4 +1,4 @@
-"""The section of the page on rules: when the detectors were true, and what the kills would have
+"""The section of the report on rules: when detectors were true, and what the kills would have
 changed.
 """
 from __future__ import annotations
@@ -13,9 +13,9 @@ from psiwhy.explanation import MOST_FIRINGS, firing_lines
 from psiwhy.judged import Judged
 from psiwhy.truths import Place, longest, spans
 
-from .facts import Facts
+from .facts import Facts, Supposed
 from .html import Element, Words, folded, say, table, word
-from .pictures import Album, Picture, strip, told_spans
+from .pictures import Album, Picture, spans_text, strip
 from .sections import RESOURCES, SHOWN, in_seconds, killer, nearness, rest, source
 from .story import percent
 
@@ -29,9 +29,14 @@ def rules(page: Element, facts: Facts) -> Optional[Picture]:
     asked: list[Words] = []
     for run in judged.asked:
         asked += [" ", source(run)]
-    say(section, "p", f"At {len(judged.evaluations)} evaluations", *asked, "; kills ", source(judged.run), ".", class_="soft")
+    kills: list[Words] = ["; kills ", source(judged.run), "."]
+    say(section, "p", f"At {len(judged.evaluations)} evaluations", *asked, *kills, class_="soft")
     key = add(section, "p", class_="soft key")
-    for look, text in (("held", "its condition held"), ("true", "true, for its duration"), ("killed", "kill")):
+    for look, text in (
+        ("held", "its condition held"),
+        ("true", "true, for its duration"),
+        ("killed", "kill"),
+    ):
         add(key, "span", "\N{NO-BREAK SPACE}", class_=look).tail = text
     for number_ in range(len(judged.json)):
         ruleset(section, facts, judged, number_)
@@ -41,8 +46,8 @@ def rules(page: Element, facts: Facts) -> Optional[Picture]:
 
 
 def ruleset(section: Element, facts: Facts, judged: Judged, number_: int) -> None:
-    """Adds the part on one ruleset: when its detectors were true, and how near each came to its
-    threshold.
+    """Adds the part on one ruleset: when its detectors were true, and how near each detector came
+    to its threshold.
     """
     axis = time_axis(0, facts.replay.end.time_ns, None)
     name = judged.rules.rulesets[number_].name
@@ -50,7 +55,8 @@ def ruleset(section: Element, facts: Facts, judged: Judged, number_: int) -> Non
     fired = judged.truths[Place(number_)]
     say(section, "h3", f"Ruleset {number_} ‘{name}’")
     say(section, "p", fired_text(judged, number_, fired, kills))
-    section.append(strip("it fires", axis, judged.evaluations, {"true": fired}, [it.time_ns for it in kills]))
+    marks = [it.time_ns for it in kills]
+    section.append(strip("it fires", axis, judged.evaluations, {"true": fired}, marks))
     if facts.parts[number_].firings:
         lines = firing_lines(facts.parts[number_].firings, is_all=False)[:MOST_FIRINGS]
         say(folded(section, "Why it killed, and whom not"), "pre", "\n".join(lines))
@@ -58,11 +64,12 @@ def ruleset(section: Element, facts: Facts, judged: Judged, number_: int) -> Non
         for which, detector in enumerate(detectors):
             one = Place(number_, place, which)
             watch = judged.watches[number_, place, which]
-            held = judged.truths.get(one._replace(held=True), [])
-            rest_ = held_text(judged, held, detector) + truth_text(judged, one)
-            what, came = f" in ‘{group}’: {watch.wanted()}. ", word("strong", watch.came(judged.host))
-            say(section, "p", word("code", detector["name"]), what, came, rest_)
-            kinds = {"held": held, "true": judged.truths[one]} if held else {"true": judged.truths[one]}
+            condition_times = judged.truths.get(one._replace(held=True), [])
+            rest_ = condition_text(judged, condition_times, detector) + truth_text(judged, one)
+            what, came = f" in ‘{group}’: {watch.wanted()}. ", watch.came(judged.host)
+            say(section, "p", word("code", detector["name"]), what, word("strong", came), rest_)
+            kinds = {"held": condition_times} if condition_times else {}
+            kinds["true"] = judged.truths[one]
             section.append(strip(watch.wanted(), axis, judged.evaluations, kinds, []))
 
 
@@ -74,24 +81,27 @@ def fired_text(judged: Judged, number_: int, fired: list[int], kills: list[Kill]
         return f"It never fired: {what}."
     killed = ", ".join(f"{it.path} at {seconds(it.time_ns)} s" for it in kills[:SHOWN])
     killed += f" and {len(kills) - SHOWN} more" if len(kills) > SHOWN else ""
-    when = told_spans(spans(fired, judged.evaluations))
-    return f"It fired {when}. " + (f"It would have killed {killed}." if kills else "It would have killed nobody, since it found no victim.")
+    when = spans_text(spans(fired, judged.evaluations))
+    nobody = "It would have killed nobody, since it found no victim."
+    return f"It fired {when}. " + (f"It would have killed {killed}." if kills else nobody)
 
 
-def held_text(judged: Judged, held: list[int], detector: dict[str, Any]) -> str:
-    if not held:
+def condition_text(judged: Judged, condition_times: list[int], detector: dict[str, Any]) -> str:
+    if not condition_times:
         return "; "
-    most = seconds(longest(held, judged.evaluations))
-    return f"; its condition held for {most} s at most, where {detector['args']['duration']} s are asked; "
+    most = seconds(longest(condition_times, judged.evaluations))
+    duration = detector["args"]["duration"]
+    return f"; its condition held for {most} s at most, where {duration} s are asked; "
 
 
 def truth_text(judged: Judged, place: Place) -> str:
     found = spans(judged.truths[place], judged.evaluations)
-    return f"true {told_spans(found)}." if found else "never true."
+    return f"true {spans_text(found)}." if found else "never true."
 
 
 def supposed_kills(section: Element, facts: Facts) -> Picture:
-    """Adds the part on the time after the kills, from the output of `whatif`. Returns its picture.
+    """Adds the part on the time after the kills, from the output of `psi_oomd whatif`. Returns its
+    picture.
     """
     supposed = facts.supposed
     assert supposed
@@ -113,12 +123,24 @@ def supposed_kills(section: Element, facts: Facts) -> Picture:
     box = add(section, "figure", class_="whatif")
     add(box, "div", class_="scroll").append(album.legend(facts.subject.path, facts.replay))
     add(box, "div", class_="scroll").append(found.svg)
-    say(box, "figcaption", "Thick what would have been at most: others do what they did, when they did it; thin what was.")
+    caption = (
+        "Thick what would have been at most: others do what they did, when they did it; thin what"
+        " was."
+    )
+    say(box, "figcaption", caption)
     if supposed.blame:
-        keys = ("waited_ns", "while_victim_ran_ns", "less_at_least_ns")
-        rows = [[it["group"], *(in_seconds(it[key]) for key in keys)] for it in supposed.blame]
-        victim = facts.replay.kills[0]
-        say(section, "p", f"Of waits for a processor from {seconds(victim.time_ns)} s on, this much less at least without {victim.path} ",
-            source(supposed.blame_run), ":")  # fmt: skip
-        table(section, "In s", ["group", "waited", f"while {victim.path} ran", "at least less"], rows[:SHOWN])
+        shorter_waits(section, supposed, facts.replay.kills[0])
     return found
+
+
+def shorter_waits(section: Element, supposed: Supposed, victim: Kill) -> None:
+    """Adds a table of the waits for a processor that would have been shorter without the victim."""
+    keys = ("waited_ns", "while_victim_ran_ns", "less_at_least_ns")
+    rows = [[it["group"], *(in_seconds(it[key]) for key in keys)] for it in supposed.blame]
+    text = (
+        f"Of waits for a processor from {seconds(victim.time_ns)} s on, this much less at least"
+        f" without {victim.path} "
+    )
+    say(section, "p", text, source(supposed.blame_run), ":")
+    heads = ["group", "waited", f"while {victim.path} ran", "at least less"]
+    table(section, "In s", heads, rows[:SHOWN])

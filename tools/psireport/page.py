@@ -1,4 +1,4 @@
-"""The whole page in one file: its sections, its style and its script."""
+"""Assembles the page in one file: its sections, its style and its script."""
 from __future__ import annotations
 
 import os
@@ -11,7 +11,7 @@ from psichart.svg import STYLE, STYLE_BESIDE, add
 from psicli.times import SECOND, clock_time, rounded, zone
 from psireplay.runs import Runs
 
-from . import by_oomd, judgement, sections, trust
+from . import by_oomd, judgement, sections, trust, waits
 from .facts import Facts, sum_of, sums
 from .html import Element, data_of, escape_controls, folded, name_groups, say, table, word
 from .pictures import MS, Picture
@@ -20,24 +20,24 @@ FOLDER = os.path.dirname(os.path.abspath(__file__))
 
 
 def file_of(name: str) -> str:
-    """Returns the text of a file in the folder of this package."""
+    """Returns the text of a file in this package's folder."""
     with open(os.path.join(FOLDER, name), encoding="utf-8") as file:
         return file.read()
 
 
 def when(facts: Facts) -> str:
-    """Returns the line with the trace's name, its length, and the time of day of its start if
-    known.
+    """Returns the line below the title: the trace's name, its length, and the time of day at its
+    start if known.
     """
-    length = f"{os.path.basename(facts.given.trace)}, {rounded(facts.replay.end.time_ns)}"
+    length = f"{os.path.basename(facts.options.trace)}, {rounded(facts.replay.end.time_ns)}"
     if not facts.wall:
         return length
     at = clock_time((facts.wall.epoch + facts.wall.ahead) // SECOND * SECOND)
     return f"{length} from {at.clock} on {at.day} {at.date.tm_year} ({zone(facts.wall.ahead)})"
 
 
-def made(page: Element, facts: Facts, runs: Runs) -> None:
-    """Adds the section on the commands, the program and the sums of the files."""
+def provenance(page: Element, facts: Facts, runs: Runs) -> None:
+    """Adds the section on the commands, the program and the checksums of the files."""
     section = add(page, "section", id="made")
     say(section, "h2", "How it was made")
     words = shlex.join(["tools/report", *sys.argv[1:]])
@@ -74,12 +74,12 @@ def made(page: Element, facts: Facts, runs: Runs) -> None:
     say(section, "p", "Sources: commit ", word("code", runs.commit(), class_="commit"),
         "; the program’s SHA-256: ",
         word("code", sum_of(runs.path), class_="program"))  # fmt: skip
-    table(section, "SHA-256 of the files", ["file", "sum"], sums(facts.given), 2)
+    table(section, "SHA-256 of the files", ["file", "sum"], sums(facts.options), 2)
 
 
 def report_line(facts: Facts) -> str:
-    """Returns a grep command that finds the quoted report in the output of its command: the report
-    with the highest share.
+    """Returns the grep command that finds a quoted report in the output of `psi_oomd replay`. This
+    is the report with the highest share.
     """
     head = f"report {facts.stretch.at} {facts.subject.path} {facts.subject.resource}"
     return f"grep -A2 '^{head}$'"
@@ -105,11 +105,11 @@ def body(page: Element, facts: Facts, runs: Runs) -> None:
     sections.notes(main, facts)
     pictures = sections.time_lines(main, facts)
     if facts.blamed:
-        sections.blame(main, facts, facts.blamed)
+        waits.blame(main, facts, facts.blamed)
     judgement.rules(main, facts)
     by_oomd.section(main, facts, runs)
     trust.recording(main, facts)
-    made(main, facts, runs)
+    provenance(main, facts, runs)
     add(page, "script", data(facts, pictures), type="application/json", id="data")
     if pictures:
         add(page, "script", file_of("page.js"))

@@ -1,5 +1,5 @@
-"""The pictures of the page: a time line for each group and resource, and a strip for each detector.
-The time lines are drawn by psichart.
+"""Draws the pictures of the report: a time line for each group and resource, and a strip for each
+detector. psichart draws the time lines.
 """
 from __future__ import annotations
 
@@ -21,22 +21,24 @@ from psiwhy.truths import spans
 MS = 10**6
 USE = "use"
 HEIGHT = 132
-# The whole time, in hundredths of a percent.
+# A share of 100 percent, in hundredths of a percent.
 WHOLE = 10_000
-# The room (pixels) above a picture's name for the labels of kills, and below the panel for the
+# The space (pixels) above a picture's name, for the labels of kills, and below its panel, for the
 # times.
 TOP, BOTTOM = 8, 22
-# The largest number of characters in a picture's name, so that it fits on a phone, whose letters
-# are twice as large. A memory picture has a legend to the right of its name.
+# The largest number of characters in a picture's name. It fits on a phone, whose letters are twice
+# as large. The name of a memory picture is shorter, since a legend follows it.
 LONGEST, LONGEST_OF_MEMORY = 60, 42
-# The height (pixels) of the ticks for events, below the curves of a picture.
+# The height (pixels) of the space for events of triggers, below the curves of a picture.
 EVENTS = 16
-# The width and the height of a strip in its own units. The page stretches the strip.
+# The width and the height of a strip, in units of its own. The page stretches a strip to its width.
 STRIP, STRIP_HEIGHT = 1000, 12
 
 
 class Picture(NamedTuple):
-    """A picture, the group and resource that it shows, and the values for the script."""
+    """A picture with the group and resource that it shows, and with the values for the page's
+    script.
+    """
 
     path: str
     resource: str
@@ -49,7 +51,7 @@ class Figure(Chart):
     """A chart of one group and one resource, without a title and without a legend."""
 
     def __init__(self, wanted: Wanted, has_labels: bool = True) -> None:
-        """Makes the chart. Without labels, the vertical lines have only tooltips."""
+        """Creates the chart. Without labels, the vertical lines have only tooltips."""
         super().__init__(wanted)
         for mark in [] if has_labels else self.marks:
             mark.row = None
@@ -89,15 +91,16 @@ class Figure(Chart):
         return self.svg
 
     def scale_remark(self, panel: Panel) -> str:
-        """Returns a note if the scale ends below 100 percent, since other pictures may have another
-        scale.
+        """Returns a note if the scale ends below 100 percent, since scales differ between pictures.
         """
         if panel.kind == USE or panel.is_flat() or self.most() >= WHOLE:
             return ""
         return f"scale to {decimal(self.most() / 100)} %"
 
     def has_events(self) -> bool:
-        """Returns whether any picture has events, since all pictures share one legend."""
+        """Returns whether some picture shows events of triggers. The question concerns all
+        pictures, since they share one legend.
+        """
         return any(self.replay.events.values())
 
     def legend(self) -> Element:
@@ -123,21 +126,21 @@ def pressure_data(replay: Replay, path: str, resource: str) -> dict[str, Any]:
         for average in AVERAGES
     }
     shares = {look: values for look, values in shares.items() if values}
-    moments: list[Optional[int]] = []
+    times_ms: list[Optional[int]] = []
     lines: dict[str, list[Optional[int]]] = {look: [] for look in shares}
-    for place, moment in enumerate(series.times_ns):
+    for place, time_ns in enumerate(series.times_ns):
         if place and series.rounds[place] > series.rounds[place - 1] + 1:
-            moments.append(None)
+            times_ms.append(None)
             for values in lines.values():
                 values.append(None)
-        moments.append(moment // MS)
+        times_ms.append(time_ns // MS)
         for look, values in lines.items():
             values.append(shares[look][place])
     events = {
         level: [it // MS for it in replay.events.get((path, resource, level), [])]
         for level in LEVELS
     }
-    return {"t": moments, "s": lines, "e": {level: at for level, at in events.items() if at}}
+    return {"t": times_ms, "s": lines, "e": {level: at for level, at in events.items() if at}}
 
 
 def memory_data(panel: MemoryPanel) -> dict[str, Any]:
@@ -146,16 +149,16 @@ def memory_data(panel: MemoryPanel) -> dict[str, Any]:
     for life in panel.lives:
         rows += [(None, None, None)] if rows else []
         rows += [(it.time_ns // MS, it.memory, it.swap) for it in life]
-    moments, memory, swap = (list(column) for column in zip(*rows)) if rows else ([], [], [])
+    times_ms, memory, swap = (list(column) for column in zip(*rows)) if rows else ([], [], [])
     return {
-        "t": moments,
+        "t": times_ms,
         "s": {"memory-use": memory, **({"swap-use": swap} if panel.has_swap else {})},
         "e": {},
     }
 
 
 def picture(wanted: Wanted, has_labels: bool) -> Picture:
-    """Returns the picture of a group's pressure, or of its memory, as `wanted` describes."""
+    """Draws the picture of a group's pressure, or of its memory, as `wanted` requests."""
     figure = Figure(wanted, has_labels)
     panel, path = figure.panels[0], wanted.replay.groups[0]
     if isinstance(panel, PressurePanel):
@@ -173,7 +176,7 @@ def picture(wanted: Wanted, has_labels: bool) -> Picture:
 
 
 def of_group(replay: Replay, path: str) -> Replay:
-    """Returns a replay with the same data, in which only the group `path` is drawn."""
+    """Returns a copy of a replay in which only the group `path` is drawn."""
     found = Replay([path])
     found.series, found.events, found.kills, found.rounds, found.end = (
         replay.series, replay.events, replay.kills, replay.rounds, replay.end,
@@ -182,8 +185,8 @@ def of_group(replay: Replay, path: str) -> Replay:
 
 
 class Album:
-    """Draws the pictures of one replay with one time axis. Only the first picture has labels at its
-    vertical lines, which go through all pictures.
+    """Draws the pictures of one replay. All have the same time axis. Vertical lines go through all
+    pictures, but only the first picture has labels for them.
     """
 
     def __init__(
@@ -214,18 +217,18 @@ class Album:
         ).legend()
 
 
-# ---------------------------------------------------------------- strips
+# ---------------------------------------------------------------- strips for detectors
 
 
 def strip(
     what: str, axis: TimeAxis, evaluations: list[int], kinds: dict[str, list[int]], marks: list[int]
 ) -> Element:
-    """Returns a strip that shows when conditions were true. Each kind has rectangles from the first
-    evaluation at which it was true to the one after the last. `marks` are times (ns) of vertical
-    lines.
+    """Draws a strip that shows when conditions were true. `kinds` contains the times of the
+    evaluations at which each kind of condition was true. Each rectangle extends from the first such
+    evaluation to the evaluation after the last. `marks` are the times (ns) of vertical lines.
     """
     said = "; ".join(
-        told_spans(spans(moments, evaluations)) for moments in list(kinds.values())[-1:]
+        spans_text(spans(times_ns, evaluations)) for times_ns in list(kinds.values())[-1:]
     )
     view = f"0 0 {STRIP} {STRIP_HEIGHT}"
     svg = ElementTree.Element(
@@ -234,21 +237,22 @@ def strip(
     svg.set("aria-label", f"{what}: {said or 'never'}")
     add(svg, "rect", class_="never", width=STRIP, height=STRIP_HEIGHT)
     after = dict(zip(evaluations, [*evaluations[1:], axis.end]))
-    for look, moments in kinds.items():
-        for start, end in spans(moments, evaluations):
-            left, right = (
+    for look, times_ns in kinds.items():
+        for start, end in spans(times_ns, evaluations):
+            start_x, end_x = (
                 STRIP * (it - axis.start) / (axis.end - axis.start) for it in (start, after[end])
             )
-            add(svg, "rect", class_=look, x=left, width=max(right - left, 2), height=STRIP_HEIGHT)
-    for moment in marks:
+            width = max(end_x - start_x, 2)
+            add(svg, "rect", class_=look, x=start_x, width=width, height=STRIP_HEIGHT)
+    for time_ns in marks:
         add(svg, "rect", class_="killed",
-        x=STRIP * (moment - axis.start) / (axis.end - axis.start) - 1.5, width=3,
+        x=STRIP * (time_ns - axis.start) / (axis.end - axis.start) - 1.5, width=3,
         height=STRIP_HEIGHT)  # fmt: skip
     return svg
 
 
-def told_spans(found: list[tuple[int, int]]) -> str:
-    """Returns the periods (ns) as text, at most the first six of them."""
+def spans_text(found: list[tuple[int, int]]) -> str:
+    """Formats periods of time (ns). Only the first six are listed."""
     texts = [
         f"from {seconds(start)} to {seconds(end)} s" if end > start else f"at {seconds(start)} s"
         for start, end in found

@@ -1,5 +1,5 @@
-"""Reads the pressure of all groups from a replay in one pass, and reduces series to what a picture
-can show.
+"""Reads the pressure of all groups from a replay in one pass. Reduces each series to the reports
+that a picture can show.
 """
 from __future__ import annotations
 
@@ -9,17 +9,17 @@ from typing import Iterable, NamedTuple
 from psichart.replay import Replay, Series
 from psireplay.lines import AVERAGES, LEVELS, Kill, Report, read
 
-# A share below this value, in hundredths of a percent, counts as no stall.
+# The share, in hundredths of a percent, below which a group doesn't count as stalled.
 LEAST = 100
-# The number of groups that are drawn for each resource, and the number of parts into which the time
-# is divided. Each part keeps its highest values.
+# The number of groups that are drawn for each resource, and the number of equal parts of the time.
+# A reduced series contains the highest values of each part.
 DRAWN = 3
 STRETCHES = 300
 
 
 class Peak(NamedTuple):
     """The highest share over 10 s, in hundredths of a percent, and the first time (ns) at which it
-    was reached.
+    occurred.
     """
 
     share: int
@@ -27,7 +27,7 @@ class Peak(NamedTuple):
 
 
 class Peaks:
-    """The highest `some` and `full` shares of each group and resource, and all kills."""
+    """The highest `some` and `full` shares for each group and resource, and all kills."""
 
     def __init__(self) -> None:
         self.found: dict[tuple[str, str, str], Peak] = {}
@@ -45,8 +45,8 @@ class Peaks:
         return self.found.get((path, resource, level), Peak(0, 0))
 
     def worst(self, resource: str) -> list[str]:
-        """Returns the groups that stalled most for a resource, the worst first. Groups that hardly
-        stalled are included only if all hardly stalled.
+        """Returns the groups that stalled most for a resource, the worst first. If all groups
+        hardly stalled, returns only the worst of them.
         """
         level = "full" if resource == "irq" else "some"
         peaks = {
@@ -69,22 +69,23 @@ def read_peaks(printed: Iterable[bytes]) -> Peaks:
 
 
 def kept_rows(series: Series, start: int, end: int) -> list[int]:
-    """Returns the places of the reports that are kept: in each part of the time the first report
-    and, for each average, the one with the highest value. So no peak is lost.
+    """Returns the indices of the reports that a reduced series contains. From each part of the time
+    these are the first report and, for each average, the report with the highest value. So the
+    series contains every peak.
     """
     stretches: dict[int, list[int]] = collections.defaultdict(list)
-    for place, moment in enumerate(series.times_ns):
-        stretches[(moment - start) * STRETCHES // max(1, end - start)].append(place)
-    kept = {0, len(series.times_ns) - 1} if series.times_ns else set[int]()
+    for place, time_ns in enumerate(series.times_ns):
+        stretches[(time_ns - start) * STRETCHES // max(1, end - start)].append(place)
+    indices = {0, len(series.times_ns) - 1} if series.times_ns else set[int]()
     for places in stretches.values():
-        kept.add(places[0])
+        indices.add(places[0])
         for shares in filter(None, series.shares.values()):
-            kept.add(max(places, key=lambda place: shares[place]))
-    return sorted(kept)
+            indices.add(max(places, key=lambda place: shares[place]))
+    return sorted(indices)
 
 
 def thinned(series: Series, start: int, end: int) -> Series:
-    """Returns the series with only the kept reports. Rounds are numbered anew: a number is skipped
+    """Returns the series with only the selected reports. Rounds are renumbered. A number is skipped
     only if the group didn't exist in between.
     """
     found, last, number = Series(), -1, 0

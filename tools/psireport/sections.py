@@ -1,13 +1,11 @@
-"""The sections of the page. Each is made from the output of one or several commands."""
+"""The title, the first sentences and the time lines of the report, and what all sections share."""
 from __future__ import annotations
 
-from operator import itemgetter
-from typing import Any, NamedTuple, Optional
+from typing import NamedTuple
 
 from psichart.axes import time_axis
 from psichart.svg import add
 from psicli.times import seconds
-from psinames.tasks import Share, shares_text
 from psireplay.lines import Kill
 from psireplay.runs import Done
 from psireplay.sampled import Sampled
@@ -16,7 +14,7 @@ from psiwhy.judged import Judged
 from psiwhy.nearness import share
 from psiwhy.truths import Place
 
-from .facts import Blamed, Facts
+from .facts import Facts
 from .html import Element, Words, folded, say, table, word
 from .pictures import Album, Picture
 from .story import After, caveat, early, machine_sentence, percent
@@ -24,71 +22,75 @@ from .story import After, caveat, early, machine_sentence, percent
 SHOWN = 8
 # The number of pictures of each resource that are printed on paper.
 PRINTED = 2
-# The number of rows in the table of a picture.
+# The number of rows in a picture's table.
 ROWS = 12
-NOBODY = "no task"
-NO_TASK = (
-    "“No task” is the time in which a task was ready on a processor and none ran there: the processor was just waking up, or ran what "
-    "a trace doesn’t have, as interrupts and a hypervisor’s other guests."
-)
-# The tables of a group's times. Each row has the keys of the parts and of the whole in blame's
-# JSON, and the caption.
-MEANWHILE = (
-    ("while_ran", "waited_ns", "{group} waited {time} s for a processor: while there ran"),
-    ("io_at_the_same_time", "io_ns", "{group} waited {time} s for IO: tasks of these groups did at the same time"),
-    ("memory_at_the_same_time", "memory_ns", "{group} was in a memory stall for {time} s: tasks of these groups were at the same time"),
-)
-RESOURCES = {"io": "IO", "memory": "memory", "cpu": "CPU", "irq": "interrupts", "use": "memory in use"}
-PRESSURES = {"io": "IO pressure", "memory": "memory pressure", "cpu": "CPU pressure", "irq": "interrupt pressure"}
+RESOURCES = {
+    "io": "IO", "memory": "memory", "cpu": "CPU", "irq": "interrupts", "use": "memory in use"
+}  # fmt: skip
+PRESSURES = {
+    "io": "IO pressure", "memory": "memory pressure", "cpu": "CPU pressure",
+    "irq": "interrupt pressure",
+}  # fmt: skip
 
 
 def source(run: Done) -> Element:
     """Returns a link to the command whose output supports a statement."""
     number_ = run.number
-    return word("a", f"[{number_}]", href=f"#command-{number_}", class_="from", aria_label=f"by command {number_}")
+    label = f"by command {number_}"
+    return word("a", f"[{number_}]", href=f"#command-{number_}", class_="from", aria_label=label)
 
 
 def in_seconds(ns: int) -> str:
     return f"{(ns + 500_000) // 10**6 / 1000:.3f}"
 
 
+def rest(section: Element, many: int, what: str) -> None:
+    if many > SHOWN:
+        say(section, "p", f"and {many - SHOWN} more {what}", class_="soft")
+
+
 def killer(facts: Facts, kill: Kill) -> str:
-    """Returns the ruleset that made a kill, as text."""
+    """Returns a text that names the ruleset which made a kill."""
     name = f" ‘{facts.judged.rules.killer(kill).ruleset}’" if facts.judged else ""
     return f"Ruleset {kill.ruleset}{name}"
 
 
-# ---------------------------------------------------------------- 1. on top
+# ---------------------------------------------------------------- 1. the first sentences
 
 
 def sampling(mark: Sampled) -> str:
-    """Returns the start of the first sentence for a trace that was made from samples, with what
+    """Returns the start of the first sentence for a trace that was made from samples. It says what
     such a trace can't show.
     """
-    return f"By {mark.interval()}, so that short stalls may be missed and nobody knows who ran when: "
+    what = "so that short stalls may be missed and nobody knows who ran when: "
+    return f"By {mark.interval()}, {what}"
 
 
 def lead(facts: Facts) -> list[Words]:
     """Returns the first sentences of the page: what happened on the machine, and what the rules
-    would have done.
+    would have done about it.
     """
-    end = facts.replay.end.time_ns
+    end, run = facts.replay.end.time_ns, facts.replay_run
     found: list[Words] = [sampling(facts.sampled)] if facts.sampled else []
     if facts.greatest:
-        found += [machine_sentence(*facts.greatest, end, caveat(end)) + " ", source(facts.replay_run), " "]
-        found += [machine_sentence(facts.subject, facts.stretch, end, "", ", which the rules watch,") + " ", source(facts.replay_run)]
+        found += [machine_sentence(*facts.greatest, end, caveat(end)) + " ", source(run), " "]
+        aside = ", which the rules watch,"
+        said = machine_sentence(facts.subject, facts.stretch, end, "", aside)
     else:
-        found += [machine_sentence(facts.subject, facts.stretch, end, caveat(end)) + " ", source(facts.replay_run)]
+        said = machine_sentence(facts.subject, facts.stretch, end, caveat(end))
+    found += [said + " ", source(run)]
     kills = facts.replay.kills
     if not facts.judged:
         return found
     if not kills:
         nobody = f" The rules would have killed nobody{early(end)} "
-        return [*found, nobody, source(facts.judged.run), "; " + verdict(facts.judged, facts.parts) + "."]
+        why = f"; {verdict(facts.judged, facts.parts)}."
+        return [*found, nobody, source(facts.judged.run), why]
     first = kills[0]
     more = f" (the first of {len(kills)} kills)" if len(kills) > 1 else ""
     at = f"{seconds(first.time_ns)} s{more}{early(first.time_ns)}"
-    found += [f" {killer(facts, first)} would have killed {first.path} at {at} ", source(facts.judged.run)]
+    who = killer(facts, first)
+    found += [f" {who} would have killed {first.path} at {at} ", source(facts.judged.run)]
     later = facts.supposed.after[0][1] if facts.supposed and facts.supposed.after else None
     if not later or not facts.supposed:
         return [*found, "."]
@@ -96,18 +98,19 @@ def lead(facts: Facts) -> list[Words]:
 
 
 def outcome(path: str, later: After) -> str:
-    """Returns a sentence on how the first kill would have changed a group's pressure."""
+    """Returns a sentence that says how the first kill would have changed a group's pressure."""
     was, most, at = percent(later.was), percent(later.most), f"at {seconds(later.time_ns)} s"
     if was != most:
         return f"without it {path} would have had at most {most} percent in place of {was} {at}"
     if later.was_over:
         return "the kill would have changed nothing: the stall was over"
-    return f"the kill would have changed nothing: {path} would have had {was} percent {at} all the same"
+    same = f"{path} would have had {was} percent {at} all the same"
+    return f"the kill would have changed nothing: {same}"
 
 
 def title(facts: Facts) -> str:
-    """Returns the title of the page: the group that stalled most, and the group that the rules
-    check.
+    """Returns the title of the page. It names the group that stalled most, and the group that the
+    rules check.
     """
     subjects = [facts.greatest[0], facts.subject] if facts.greatest else [facts.subject]
     kinds = [PRESSURES[it.resource] for it in subjects]
@@ -117,14 +120,15 @@ def title(facts: Facts) -> str:
 
 
 def notes(page: Element, facts: Facts) -> None:
-    """Adds a warning for each pattern of the rules that matches no group of the trace."""
+    """Adds a warning for each pattern in the rules that matches no group of the trace."""
     for what in facts.unmatched:
-        say(page, "p", f"No group of the trace matches {what}: there the rules can do nothing.", class_="note")
+        text = f"No group of the trace matches {what}: there the rules can do nothing."
+        say(page, "p", text, class_="note")
 
 
 class Near(NamedTuple):
-    """How near a ruleset came to firing: the largest number of a group's detectors that were true
-    at once, the number of its detectors, and the first time (ns) at which this happened.
+    """How near a ruleset came to firing: the largest number of detectors in a group that were true
+    at once, the number of detectors in that group, and the first time (ns) at which this happened.
     """
 
     true: int
@@ -137,33 +141,39 @@ class Near(NamedTuple):
 
 
 def nearness(judged: Judged, number_: int) -> Near:
-    """Returns how near a ruleset came to firing. If the ruleset never fired, each of its groups has
-    detectors, since a group without detectors always holds.
+    """Returns how near a ruleset came to firing. A group without detectors is always true, so each
+    group of a ruleset that never fired has detectors.
     """
     best = Near(0, 0, 0)
     for place, (_, *detectors) in enumerate(judged.json[number_]["detectors"]):
         true = [set(judged.truths[Place(number_, place, which)]) for which in range(len(detectors))]
-        found = [Near(sum(moment in it for it in true), len(detectors), moment) for moment in judged.evaluations]
+        found = [
+            Near(sum(time_ns in it for it in true), len(detectors), time_ns)
+            for time_ns in judged.evaluations
+        ]
         best = max([best, *found], key=lambda it: (it.part, it.many > 0))
     return best
 
 
-# ---------------------------------------------------------------- 2. time lines
+# ---------------------------------------------------------------- 2. the time lines
 
 
 def stretches_of(picture: Picture) -> list[list[str]]:
-    """Returns the rows of a picture's table: the highest values in equal parts of the time."""
-    moments = [it for it in picture.data["t"] if it is not None]
-    if not moments:
+    """Returns the rows of a picture's table. Each row contains the highest values in one of several
+    equal parts of the time.
+    """
+    times_ms = [(place, it) for place, it in enumerate(picture.data["t"]) if it is not None]
+    if not times_ms:
         return []
-    start, end = moments[0], moments[-1] + 1
+    start, end = times_ms[0][1], times_ms[-1][1] + 1
     rows = []
     for row in range(ROWS):
         low, high = (start + (end - start) * it // ROWS for it in (row, row + 1))
-        places = [place for place, at in enumerate(picture.data["t"]) if at is not None and low <= at < high]
+        places = [place for place, time_ms in times_ms if low <= time_ms < high]
         if places:
-            cells = [max(values[place] for place in places) for values in picture.data["s"].values()]
-            rows.append([f"{low / 1000:g} to {high / 1000:g}", *(number(cell, picture) for cell in cells)])
+            series = picture.data["s"].values()
+            cells = [number(max(values[it] for it in places), picture) for values in series]
+            rows.append([f"{low / 1000:g} to {high / 1000:g}", *cells])
     return rows
 
 
@@ -172,7 +182,9 @@ def number(value: int, picture: Picture) -> str:
 
 
 def figure(parent: Element, picture: Picture, number_: int, is_printed: bool) -> None:
-    """Adds a picture, a line for the values at a time that the script shows, and a table."""
+    """Adds a picture and a table of its values. Between them is a line in which the script shows
+    the values at a certain time.
+    """
     found = add(parent, "figure", class_="" if is_printed else "more", data_panel=str(number_))
     found.attrib.update({"data-group": picture.path, "data-resource": picture.resource})
     box = add(found, "div", class_="scroll")
@@ -180,12 +192,13 @@ def figure(parent: Element, picture: Picture, number_: int, is_printed: bool) ->
     add(found, "p", "", class_="values", aria_live="polite")
     unit = "MiB" if picture.resource == "use" else "percent"
     heads = ["seconds", *(look.replace("-use", "") for look in picture.data["s"])]
-    table(folded(found, f"Table: {picture.name}"), f"{picture.name}: highest of each stretch, in {unit}", heads, stretches_of(picture))
+    caption = f"{picture.name}: highest of each stretch, in {unit}"
+    table(folded(found, f"Table: {picture.name}"), caption, heads, stretches_of(picture))
 
 
 def controls(parent: Element, pictures: list[Picture], first: set[str]) -> None:
-    """Adds the controls that select the groups and resources of the pictures. The script shows
-    them.
+    """Adds the controls that select the groups and resources of the pictures. The controls are
+    hidden until the script shows them.
     """
     box = add(parent, "div", class_="controls")
     for legend, name, values in (
@@ -202,17 +215,20 @@ def controls(parent: Element, pictures: list[Picture], first: set[str]) -> None:
                 box_.set("checked", "")
     line = say(box, "span", "Time: ", word("output", "", id="time"), " ")
     add(line, "button", "all of it", type="button", id="whole")
-    hint = " Drag to zoom. On a picture: arrow keys move to a moment, + and − zoom, Escape shows all."
+    hint = (
+        " Drag to zoom. On a picture: arrow keys move to a moment, + and − zoom, Escape shows all."
+    )
     say(line, "span", hint, class_="hint")
 
 
 def time_lines(page: Element, facts: Facts) -> list[Picture]:
-    """Returns the pictures: one for each group that stalled most, resource by resource, and one for
-    its memory.
+    """Adds the section with the time lines, and returns its pictures. For each resource there is a
+    picture for each group that stalled most. For each of these groups there is a picture of its
+    memory.
     """
     axis = time_axis(0, facts.replay.end.time_ns, facts.wall)
     album = Album(facts.replay, axis, facts.judged.rules if facts.judged else None, facts.samples)
-    pictures = [album.pressure(path, resource) for path, resource in facts.drawn if (path, resource) in facts.replay.series]
+    pictures = [album.pressure(*which) for which in facts.drawn if which in facts.replay.series]
     for path in dict.fromkeys(path for path, _ in facts.drawn):
         if facts.samples and any(life.samples for life in facts.samples.lives[path]):
             pictures.append(album.memory(path))
@@ -232,114 +248,3 @@ def time_lines(page: Element, facts: Facts) -> list[Picture]:
         seen[picture.resource] = seen.get(picture.resource, 0) + 1
         figure(box, picture, place, seen[picture.resource] <= PRINTED)
     return pictures
-
-
-# ---------------------------------------------------------------- 3. blame
-
-
-# The keys of a group's values in blame's JSON. If a group's only child has equal values, the
-# group's row is omitted.
-MEASURED = ("ran_ns", "waited_ns", "io_ns", "memory_ns", "memory_grown_bytes", "scanned_pages", "while_ran")
-
-
-def without_same(rows: list[dict[str, Any]], keys: tuple[str, ...]) -> list[dict[str, Any]]:
-    """Returns the rows without those of groups that have a child with equal values, since all of
-    their values come from this child.
-    """
-    found = []
-    for it in rows:
-        below = [other for other in rows if other is not it and (other["path"].rpartition("/")[0] or "/") == it["path"]]
-        if not any(all(other[key] == it[key] for key in keys) for other in below):
-            found.append(it)
-    return found
-
-
-def longest_wait(group: dict[str, Any]) -> int:
-    """Returns the longest time (ns) that a group waited for a processor, for IO or in memory
-    stalls.
-    """
-    return max(int(group[key]) for key in ("waited_ns", "io_ns", "memory_ns"))
-
-
-def groups_table(section: Element, blamed: Blamed) -> None:
-    rows = sorted(without_same(blamed.all["groups"], MEASURED), key=longest_wait, reverse=True)
-    heads = ["group", "ran", "waited for a processor", "for IO", "in memory stalls", "memory grown, MiB", "pages scanned"]
-    cells = [
-        [
-            with_processes(it["group"], it), in_seconds(it["ran_ns"]), in_seconds(it["waited_ns"]),
-            in_seconds(it["io_ns"]), in_seconds(it["memory_ns"]),
-            "-" if it["memory_grown_bytes"] is None else f"{it['memory_grown_bytes'] / 2**20:.1f}",
-            "-" if it["scanned_pages"] is None else str(it["scanned_pages"]),
-        ]
-        for it in rows if it["ran_ns"] or it["waited_ns"] or it["io_ns"] or it["memory_ns"]
-    ]  # fmt: skip
-    table(section, f"All of the trace, in s, summed over {blamed.all['processors']} processors", heads, cells[:SHOWN])
-    rest(section, len(cells), "groups")
-
-
-def rest(section: Element, many: int, what: str) -> None:
-    if many > SHOWN:
-        say(section, "p", f"and {many - SHOWN} more {what}", class_="soft")
-
-
-def part_name(group: Optional[str], of: str) -> str:
-    return NOBODY if group is None else f"{group} itself" if group == of else group
-
-
-def with_processes(name: str, it: dict[str, Any]) -> str:
-    """Returns a group's name, followed by the processes of the group that ran, if they have names.
-    """
-    shares = [Share(part["name"], tuple(part["pids"]), part["ns"]) for part in it.get("processes", [])]
-    return f"{name}: {shares_text(shares)}" if shares else name
-
-
-def parts_table(section: Element, it: dict[str, Any], parts: list[dict[str, Any]], whole: int, caption: str) -> None:
-    """Adds a table of the parts of a group's time, if there are any."""
-    rows = [
-        [with_processes(part_name(part["group"], it["group"]), part), in_seconds(part["ns"]), f"{100 * part['ns'] / whole:.1f} %"]
-        for part in parts[:SHOWN]
-    ]
-    if rows:
-        table(section, caption.format(group=it["group"], time=in_seconds(whole)), ["group", "s", "of it"], rows)
-
-
-def matrix(section: Element, blamed: Blamed) -> None:
-    """Adds the section on which groups waited while other groups ran."""
-    waiting = [it for it in without_same(blamed.all["groups"], ("while_ran",)) if it["waited_ns"]]
-    waiting.sort(key=itemgetter("waited_ns"), reverse=True)
-    totals: dict[Optional[str], int] = {}
-    for it in waiting:
-        for part in it["while_ran"]:
-            totals[part["group"]] = totals.get(part["group"], 0) + part["ns"]
-    runners = sorted(totals, key=lambda it: -totals[it])
-    if not waiting:
-        say(section, "p", "No group waited for a processor.")
-        return
-    heads = ["waited", "s", *(NOBODY if it is None else it for it in runners[:SHOWN])] + (["others"] if len(runners) > SHOWN else [])
-    rows = []
-    for it in waiting[:SHOWN]:
-        times = {part["group"]: part["ns"] for part in it["while_ran"]}
-        cells = [times.get(runner, 0) for runner in runners]
-        cells = cells[:SHOWN] + ([sum(cells[SHOWN:])] if len(runners) > SHOWN else [])
-        rows.append([it["group"], in_seconds(it["waited_ns"]), *(in_seconds(cell) if cell else "·" for cell in cells)])
-    table(section, "Who waited for a processor (rows), and who ran there meanwhile (columns), in s", heads, rows)
-    rest(section, len(waiting), "groups waited")
-
-
-def blame(page: Element, facts: Facts, blamed: Blamed) -> None:
-    section = add(page, "section", id="blame")
-    say(section, "h2", "Who waited for whom")
-    say(section, "p", "What ran on a processor is what a group waited for there ", source(blamed.run), ".", class_="soft")
-    row = add(section, "div", class_="row")
-    groups_table(add(row, "div"), blamed)
-    matrix(add(row, "div"), blamed)
-    start, to = blamed.worst["from_ns"], blamed.worst["to_ns"]
-    say(section, "h3", f"{facts.subject.path} in the worst stretch, {seconds(start)} to {seconds(to)} s ", source(blamed.worst_run))
-    row = add(section, "div", class_="row")
-    for it in blamed.worst["groups"]:
-        for key, whole, caption in MEANWHILE:
-            parts_table(row, it, it[key], it[whole], caption)
-    if any(part["group"] is None for it in blamed.all["groups"] for part in it["while_ran"]):
-        say(section, "p", NO_TASK, class_="soft")
-    text = "“At the same time” is no cause: a trace doesn’t say who kept the disk busy or used up the memory."
-    say(section, "p", text, class_="soft")

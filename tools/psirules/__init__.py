@@ -1,3 +1,3 @@
-"""The parts of tools/rules and tools/fleet. No module of this package computes pressure or kills:
+"""Implements tools/rules and tools/fleet. This package computes neither pressure nor kills itself:
 psi_oomd and the packages psioomd and psisystemd do.
 """

@@ -1,4 +1,4 @@
-"""Finds the kills that oomd 0.5.0 would make with a configuration, for commands that usually ask
+"""Finds the kills that oomd 0.5.0 would make with a configuration. Commands use it in place of
 psi_oomd.
 """
 import functools
@@ -18,7 +18,9 @@ INTERVAL = 5
 
 
 def names_of(read: Configuration) -> bytes:
-    """Returns the names of a configuration's rulesets and actions in the form of a rules file."""
+    """Returns the names of a configuration's rulesets and actions as JSON, in the form of a rules
+    file.
+    """
     rulesets = [
         {
             "name": it.name,
@@ -31,8 +33,8 @@ def names_of(read: Configuration) -> bytes:
 
 
 class ByOomd(RulesFile):
-    """A configuration of oomd with the interface of a rules file: the names of its rulesets and
-    actions.
+    """A configuration of oomd with the interface of a rules file. It has only the names of rulesets
+    and actions.
     """
 
     def __init__(self, name: str) -> None:
@@ -40,7 +42,7 @@ class ByOomd(RulesFile):
 
 
 def replay(program: Program, run: Run, trace: str, threads: int) -> list[Kill]:
-    """Returns the kills in a trace by oomd's algorithm."""
+    """Returns the kills that oomd's algorithm makes in a trace."""
     with kept_trace(trace) as file:
         found = emulate(program, Run(file, run.config, interval=run.interval), threads)
     for text in found.notes.texts:
@@ -51,6 +53,6 @@ def replay(program: Program, run: Run, trace: str, threads: int) -> list[Kill]:
 def replays(
     program: Program, name: str, interval: int | None, traces: Traces
 ) -> list[list[Kill] | Fault]:
-    """Returns the kills in each trace, or a Fault if the trace couldn't be replayed."""
+    """Returns, for each trace, its kills, or a Fault if it couldn't be replayed."""
     run = Run("", name, interval=interval or INTERVAL)
     return traces.each(functools.partial(replay, program, run))

@@ -1,5 +1,5 @@
-"""Finds the kills that systemd-oomd would make with some settings, for commands that usually ask
-psi_oomd.
+"""Finds the kills that systemd-oomd would make with a machine's settings. Commands use it in place
+of psi_oomd.
 """
 import functools
 import json
@@ -17,8 +17,8 @@ RULESETS = {"rulesets": [{"name": it, "actions": [{"name": NAME}]} for it in BY]
 
 
 class BySystemd(RulesFile):
-    """The rules of systemd-oomd with the interface of a rules file: a ruleset for memory pressure
-    and one for swap.
+    """The rules of systemd-oomd with the interface of a rules file: one ruleset for memory
+    pressure, and one for swap.
     """
 
     def __init__(self, folder: str) -> None:
@@ -31,7 +31,7 @@ class BySystemd(RulesFile):
 def replay(
     program: Program, folder: str, version: int | None, trace: str, threads: int
 ) -> list[Kill]:
-    """Returns the kills in a trace by the settings in `folder`."""
+    """Returns the kills in a trace according to the settings in `folder`."""
     settings = Settings(folder, version)
     with kept_trace(trace) as file:
         engine = replayed(program, file, settings, threads)
@@ -43,8 +43,8 @@ def replay(
 def replays(
     program: Program, folder: str, version: int | None, traces: Traces
 ) -> list[list[Kill] | Fault]:
-    """Returns the kills in each trace, or a Fault if the trace couldn't be replayed. Raises a Fault
-    at a bad setting.
+    """Returns, for each trace, its kills, or a Fault if it couldn't be replayed. Raises a Fault if
+    a setting is malformed.
     """
     for note in Settings(folder, version).notes:
         complain(note)

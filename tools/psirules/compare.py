@@ -33,20 +33,22 @@ STATUS = (
 
 @dataclass(frozen=True)
 class Difference:
-    """How the kills of a trace differ between OLD and NEW: a word for the kind of difference, the
-    first kill of each that differs, and a sentence.
+    """The first difference between the kills by OLD and by NEW in a trace: a word for its kind, the
+    two kills (None if there is none), and a sentence.
     """
 
     word: str
     old: Kill | None
     new: Kill | None
-    told: str
+    text: str
 
 
 def difference(
     old: list[Kill], new: list[Kill], old_rules: RulesFile, new_rules: RulesFile
 ) -> Difference:
-    """Describes the first difference between two lists of kills, compared by position."""
+    """Returns the first difference between two lists of kills, which are compared position by
+    position.
+    """
     for number, (one, other) in enumerate(itertools.zip_longest(old, new)):
         earlier = f", after {victims(new[:number])} by both" if number else ""
         if one is None:
@@ -75,7 +77,9 @@ def difference(
 
 
 def told_old(old: Kill, new: Kill, old_rules: RulesFile, new_rules: RulesFile) -> str:
-    """Describes the kill by OLD, without the values that it shares with the kill by NEW."""
+    """Describes the kill by OLD. Omits the victim if the kill by NEW has the same victim, and the
+    killer if it has the same killer.
+    """
     path = "" if old.path == new.path else f"{old.path} "
     killer = "" if old_rules.killer(old) == new_rules.killer(new) else f", {old_rules.killer(old)}"
     return f"{path}at {time_text(old.time_ns)}{killer}"
@@ -83,7 +87,7 @@ def told_old(old: Kill, new: Kill, old_rules: RulesFile, new_rules: RulesFile) -
 
 @dataclass(frozen=True)
 class Compared:
-    """A trace, and how its kills differ, or why it couldn't be replayed."""
+    """A trace with the difference of its kills, or a Fault if it couldn't be replayed."""
 
     trace: str
     found: Difference | Fault
@@ -91,7 +95,7 @@ class Compared:
     def outcome(self) -> Outcome:
         if isinstance(self.found, Fault):
             return Outcome(self.trace, None, str(self.found))
-        return Outcome(self.trace, self.found.word == "same", self.found.told + note(self.trace))
+        return Outcome(self.trace, self.found.word == "same", self.found.text + note(self.trace))
 
     def record(self, old: RulesFile, new: RulesFile) -> dict[str, object]:
         if isinstance(self.found, Fault):
@@ -104,19 +108,19 @@ class Compared:
             "trace": self.trace,
             "fault": None,
             "word": self.found.word,
-            "told": self.found.told,
+            "told": self.found.text,
             **kills,
         }
 
 
-def run(given: argparse.Namespace) -> int:
-    no_input(given.traces)
+def run(options: argparse.Namespace) -> int:
+    no_input(options.traces)
     program = Program()
     program.prepare()
     with contextlib.ExitStack() as files:
-        old, old_file = accepted(program, given.old, files, ORDER)
-        new, new_file = accepted(program, given.new, files, ORDER)
-        traces = Traces.of(given.traces, given.pace, given.jobs, vars(given))
+        old, old_file = accepted(program, options.old, files, ORDER)
+        new, new_file = accepted(program, options.new, files, ORDER)
+        traces = Traces.of(options.traces, options.pace, options.jobs, vars(options))
         replays = traces.replays(program, [old_file, new_file])
     whole = [
         trace
@@ -128,15 +132,15 @@ def run(given: argparse.Namespace) -> int:
     compared = []
     for trace, one, other in zip(traces.names, *replays):
         fault = next((it for it in (one, other) if isinstance(it, Fault)), None)
-        with clock_of(trace, vars(given)):
+        with clock_of(trace, vars(options)):
             compared.append(Compared(trace, fault or difference(one, other, old, new)))
     outcomes = [it.outcome() for it in compared]
 
     def record(status: int) -> object:
         records = [it.record(old, new) for it in compared]
-        return {"old": given.old, "new": given.new, "status": status, "traces": records}
+        return {"old": options.old, "new": options.new, "status": status, "traces": records}
 
-    return telling.tell(given.form, outcomes, record, lambda: tell_lines(outcomes))
+    return telling.tell(options.form, outcomes, record, lambda: tell_lines(outcomes))
 
 
 def tell_lines(outcomes: list[Outcome]) -> None:
@@ -145,6 +149,6 @@ def tell_lines(outcomes: list[Outcome]) -> None:
     """
     for outcome in outcomes:
         if outcome.is_ok is None:
-            complain(outcome.told)
+            complain(outcome.message)
         else:
-            print(f"{outcome.name}: {outcome.told}")
+            print(f"{outcome.name}: {outcome.message}")

@@ -44,7 +44,9 @@ STATUS = (
 
 
 class Judged:
-    """A trace with its kills, or the Fault if it has none, and the outcome of each expectation."""
+    """A trace with its kills, or a Fault if it couldn't be replayed, and the outcome of each
+    expectation.
+    """
 
     def __init__(
         self,
@@ -65,7 +67,7 @@ class Judged:
         if missing:
             return Outcome(wanted.text, None, missing)
         verdict = wanted.verdict(self.found, self.rules)
-        return Outcome(wanted.text, verdict.holds, verdict.told + note(self.trace))
+        return Outcome(wanted.text, verdict.holds, verdict.text + note(self.trace))
 
     def record(self) -> dict[str, object]:
         is_fault = isinstance(self.found, Fault)
@@ -75,7 +77,7 @@ class Judged:
             else [self.rules.record(kill) for kill in self.found]
         )
         judged = [
-            {"line": wanted.line, "text": wanted.text, "ok": outcome.is_ok, "told": outcome.told}
+            {"line": wanted.line, "text": wanted.text, "ok": outcome.is_ok, "told": outcome.message}
             for wanted, outcome in zip(self.wanted, self.outcomes)
         ]
         fault = str(self.found) if is_fault else None
@@ -91,30 +93,32 @@ def tell_lines(judged: Iterable[Judged], is_named: bool) -> None:
         for outcome in trace.outcomes:
             name = f"{trace.trace}: {outcome.name}" if is_named else outcome.name
             if outcome.is_ok is None:
-                complain(f"{trace.trace}: {outcome.name}: {outcome.told}")
+                complain(f"{trace.trace}: {outcome.name}: {outcome.message}")
                 continue
-            print(f"{'ok' if outcome.is_ok else 'FAIL':<6}{name}: {outcome.told}")
+            print(f"{'ok' if outcome.is_ok else 'FAIL':<6}{name}: {outcome.message}")
 
 
-def check_words(given: argparse.Namespace) -> None:
-    """Raises a Fault if the arguments contradict each other."""
-    if given.traces.count(STANDARD_INPUT) > 1:
+def check_words(options: argparse.Namespace) -> None:
+    """Raises a Fault if the options contradict each other."""
+    if options.traces.count(STANDARD_INPUT) > 1:
         raise Fault("- is given twice, and the standard input is read once")
-    if given.by == by_systemd.NAME:
-        if given.settings is None:
-            raise Fault(f"--by {given.by} wants the settings of a machine: give --settings FOLDER")
-        if given.rules or given.tick_ms or given.interval_s:
+    if options.by == by_systemd.NAME:
+        if options.settings is None:
             raise Fault(
-                f"--rules, --tick-ms and --interval-s aren't for --by {given.by}, which looks each"
-                " second by its settings"
+                f"--by {options.by} wants the settings of a machine: give --settings FOLDER"
             )
-    elif given.settings is not None or given.systemd:
+        if options.rules or options.tick_ms or options.interval_s:
+            raise Fault(
+                f"--rules, --tick-ms and --interval-s aren't for --by {options.by}, which looks"
+                " each second by its settings"
+            )
+    elif options.settings is not None or options.systemd:
         raise Fault(f"--settings and --systemd are for --by {by_systemd.NAME}")
-    elif given.by == by_oomd.NAME and given.tick_ms:
+    elif options.by == by_oomd.NAME and options.tick_ms:
         raise Fault(
-            f"--tick-ms isn't for --by {given.by}, which looks at multiples of --interval-s"
+            f"--tick-ms isn't for --by {options.by}, which looks at multiples of --interval-s"
         )
-    elif given.rules is None:
+    elif options.rules is None:
         raise Fault(
             f"the following arguments are required: --rules, or --by {by_systemd.NAME} and"
             " --settings"
@@ -130,27 +134,27 @@ def check(wanted: list[Expectation], name: str, rules: RulesFile) -> None:
             raise Fault(f"{name} line {it.line}: {fault}") from fault
 
 
-def judge(given: argparse.Namespace, program: Program) -> list[Judged]:
-    check_words(given)
-    wanted = expectations.read(given.want, bytes_of(given.want))
+def judge(options: argparse.Namespace, program: Program) -> list[Judged]:
+    check_words(options)
+    wanted = expectations.read(options.want, bytes_of(options.want))
     program.prepare()
-    if STANDARD_INPUT in given.traces:
+    if STANDARD_INPUT in options.traces:
         read_again()
-    traces = Traces.of(given.traces, given.pace, given.jobs, vars(given))
+    traces = Traces.of(options.traces, options.pace, options.jobs, vars(options))
     with contextlib.ExitStack() as files:
-        if given.by == by_systemd.NAME:
-            rules: RulesFile = by_systemd.BySystemd(given.settings)
-            check(wanted, given.want, rules)
-            replays = by_systemd.replays(program, given.settings, given.systemd, traces)
-        elif given.by == by_oomd.NAME:
-            rules = by_oomd.ByOomd(given.rules)
-            check(wanted, given.want, rules)
-            replays = by_oomd.replays(program, given.rules, given.interval_s, traces)
+        if options.by == by_systemd.NAME:
+            rules: RulesFile = by_systemd.BySystemd(options.settings)
+            check(wanted, options.want, rules)
+            replays = by_systemd.replays(program, options.settings, options.systemd, traces)
+        elif options.by == by_oomd.NAME:
+            rules = by_oomd.ByOomd(options.rules)
+            check(wanted, options.want, rules)
+            replays = by_oomd.replays(program, options.rules, options.interval_s, traces)
         else:
-            rules, file = accepted(program, given.rules, files)
-            check(wanted, given.want, rules)
+            rules, file = accepted(program, options.rules, files)
+            check(wanted, options.want, rules)
             (replays,) = traces.replays(program, [file])
-    if given.by not in (by_oomd.NAME, by_systemd.NAME):
+    if options.by not in (by_oomd.NAME, by_systemd.NAME):
         judged = [
             trace for trace, found in zip(traces.names, replays) if not isinstance(found, Fault)
         ]
@@ -158,25 +162,25 @@ def judge(given: argparse.Namespace, program: Program) -> list[Judged]:
         note_samples(judged, [rules])
     all_judged = []
     for trace, found in zip(traces.names, replays):
-        with clock_of(trace, vars(given)):
+        with clock_of(trace, vars(options)):
             all_judged.append(Judged(traces, trace, found, wanted, rules))
     return all_judged
 
 
-def run(given: argparse.Namespace) -> int:
-    judged = judge(given, Program())
+def run(options: argparse.Namespace) -> int:
+    judged = judge(options, Program())
     named = [
-        Outcome(f"{it.trace}: {outcome.name}", outcome.is_ok, outcome.told)
+        Outcome(f"{it.trace}: {outcome.name}", outcome.is_ok, outcome.message)
         for it in judged
         for outcome in it.outcomes
     ]
 
     def record(status: int) -> object:
         return {
-            "rules": given.rules or given.settings,
-            "want": given.want,
+            "rules": options.rules or options.settings,
+            "want": options.want,
             "status": status,
             "traces": [it.record() for it in judged],
         }
 
-    return telling.tell(given.form, named, record, lambda: tell_lines(judged, len(judged) > 1))
+    return telling.tell(options.form, named, record, lambda: tell_lines(judged, len(judged) > 1))

@@ -1,5 +1,5 @@
-"""Parses the lines of a WANT file, each an expectation about the kills in a replay, and checks
-them.
+"""Parses the WANT file of `tools/rules expect`, and checks its expectations against the kills of a
+replay.
 """
 import difflib
 import re
@@ -22,62 +22,65 @@ FORMS = (
     "no kill before S",
 )
 ABSENT = " if present"
-"""The end of a `no kill of PATTERN` that may be checked on a trace without a matching group."""
+"""The end of a line `no kill of PATTERN` that also passes on a trace without a matching group."""
 MOST_MOMENTS = 10
 
 
 @dataclass(frozen=True)
 class Verdict:
-    """Whether an expectation holds, and the kills that decide this."""
+    """Whether an expectation holds, and a description of the kills that decide it."""
 
     holds: bool
-    told: str
+    text: str
 
 
 def victims(kills: list[Kill]) -> str:
-    """Returns the number of kills, and each victim with the times of its kills."""
+    """Describes kills for people: their number, and each victim with the times of its kills."""
     if not kills:
         return "no kill"
-    moments: dict[str, list[str]] = {}
+    times: dict[str, list[str]] = {}
     for kill in kills:
-        moments.setdefault(kill.path, []).append(time_text(kill.time_ns))
-    told = [
+        times.setdefault(kill.path, []).append(time_text(kill.time_ns))
+    parts = [
         f"{path} at {', '.join(it[:MOST_MOMENTS])}{' and later' * bool(it[MOST_MOMENTS:])}"
-        for path, it in moments.items()
+        for path, it in times.items()
     ]
-    return "; ".join([", ".join([counted(len(kills), "kill"), *told[:1]]), *told[1:]])
+    return "; ".join([", ".join([counted(len(kills), "kill"), *parts[:1]]), *parts[1:]])
 
 
 def killed(kills: list[Kill], rules: RulesFile) -> str:
-    """Describes the first of these kills, and states the number of the others."""
+    """Describes the first of these kills, and says how many others there are."""
     return rules.killed(kills[0]) + (f", and {len(kills) - 1} more" if kills[1:] else "")
 
 
 @dataclass(frozen=True)
 class Expectation(ABC):
-    """A line of a WANT file: its number, and its text without the comment."""
+    """An expectation: the number of its line in the WANT file, and the line's text without a
+    comment.
+    """
 
     line: int
     text: str
 
     @abstractmethod
     def verdict(self, kills: list[Kill], rules: RulesFile) -> Verdict:
-        """Decides whether the kills, in the order in which they were printed, meet the
-        expectation.
+        """Returns whether the kills meet the expectation. The kills are in the order in which they
+        were printed.
         """
 
     def check(self, rules: RulesFile) -> None:
         """Raises a Fault if the expectation can't be checked with these rules."""
 
     def pattern_needed(self) -> str | None:
-        """Returns the path or pattern that some group of each trace must match, or None if the
-        expectation has none. If no group matches, the expectation can't be checked on that trace.
+        """Returns the path or pattern that must match a group of each trace, or None if the
+        expectation has none. If no group matches it, the expectation can't be checked on that
+        trace.
         """
         return None
 
     def missing(self, groups: set[str]) -> str | None:
-        """Returns a message if no group of a trace matches the pattern, with the groups that were
-        probably meant. None if a group matches.
+        """Returns an error message if no group of a trace matches the expectation's pattern, and
+        None if one matches. The message suggests similar groups.
         """
         pattern = self.pattern_needed()
         if pattern is None or any(matches(pattern, path) for path in groups):
@@ -87,8 +90,8 @@ class Expectation(ABC):
 
 @dataclass(frozen=True)
 class First(Expectation):
-    """The expectation that the first kill, or another at the same time, is of this path, and
-    between two times (ns), both inclusive.
+    """The expectation that the first kill, or another kill at the same time, is of this path and at
+    a time from `start` to `end` (ns), both inclusive.
     """
 
     path: str
@@ -116,7 +119,7 @@ class First(Expectation):
 
 @dataclass(frozen=True)
 class KilledBy(Expectation):
-    """The expectation that some kill of the path is by a ruleset of this name."""
+    """The expectation that a ruleset with this name killed the path at least once."""
 
     path: str
     ruleset: str
@@ -144,8 +147,8 @@ class KilledBy(Expectation):
 
 @dataclass(frozen=True)
 class NoKillOf(Expectation):
-    """The expectation that no killed group matches the pattern. `may_be_absent` says that a trace
-    may have no matching group.
+    """The expectation that no killed group matches the pattern. With `may_be_absent`, it also holds
+    on a trace without a matching group.
     """
 
     pattern: str
@@ -193,8 +196,8 @@ class NoKillBefore(Expectation):
 
 
 def nearest(word: str, names: list[str]) -> str:
-    """Returns the end of a message that suggests the name that was probably meant, or lists all
-    names.
+    """Returns the end of an error message: the name most similar to `word`, or all names if none is
+    similar.
     """
     found = difflib.get_close_matches(word, names, 1)
     if found:
@@ -209,7 +212,7 @@ def pattern(word: str) -> str:
 
 
 def read_line(line: int, text: str) -> Expectation:
-    """Parses a line, which must not be empty, and must have no comment."""
+    """Parses a line of a WANT file, which must be neither empty nor contain a comment."""
     if found := re.fullmatch(r"first (\S+) from (\S+) to (\S+)", text):
         start, end = nanoseconds(found[2]), nanoseconds(found[3])
         if start > end:
@@ -229,8 +232,8 @@ def read_line(line: int, text: str) -> Expectation:
 
 
 def read(name: str, data: bytes) -> list[Expectation]:
-    """Parses a WANT file. A comment begins with a `#` at the start of a line or after a space,
-    and ends with the line.
+    """Parses a WANT file. A comment starts with a `#` at the start of a line or after a space, and
+    extends to the end of the line.
     """
     wanted = []
     for number, line in enumerate(data.decode("utf-8", "replace").splitlines(), 1):

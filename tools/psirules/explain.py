@@ -1,4 +1,6 @@
-"""tools/rules explain: prints why rules fired on a trace or not, and which groups they chose."""
+"""tools/rules explain: prints why the rules fired on a trace or didn't, and which groups they
+chose.
+"""
 import argparse
 import contextlib
 
@@ -38,56 +40,56 @@ PSI_OOMD = "psi_oomd"
 KILLERS = (PSI_OOMD, by_oomd.NAME, by_systemd.NAME)
 
 
-def check_words(given: argparse.Namespace) -> None:
-    """Raises a Fault if the arguments contradict each other."""
-    no_input([given.trace])
-    if given.by == by_systemd.NAME and (given.tick_ms or given.interval_s):
+def check_words(options: argparse.Namespace) -> None:
+    """Raises a Fault if the options contradict each other."""
+    no_input([options.trace])
+    if options.by == by_systemd.NAME and (options.tick_ms or options.interval_s):
         raise Fault(
-            f"--tick-ms and --interval-s aren't for --by {given.by}, which evaluates each second"
+            f"--tick-ms and --interval-s aren't for --by {options.by}, which evaluates each second"
         )
-    if given.by == by_oomd.NAME and given.tick_ms:
+    if options.by == by_oomd.NAME and options.tick_ms:
         raise Fault(
-            f"--tick-ms isn't for --by {given.by}, which evaluates at multiples of --interval-s"
+            f"--tick-ms isn't for --by {options.by}, which evaluates at multiples of --interval-s"
         )
-    if given.systemd and given.by != by_systemd.NAME:
+    if options.systemd and options.by != by_systemd.NAME:
         raise Fault(f"--systemd is for --by {by_systemd.NAME}")
 
 
-def by_rules(given: argparse.Namespace) -> list[Part]:
-    """Returns explanations of rulesets that psi_oomd evaluates."""
+def by_rules(options: argparse.Namespace) -> list[Part]:
+    """Returns explanations of the rulesets that psi_oomd evaluates."""
     program = Program()
     program.prepare()
     with contextlib.ExitStack() as files:
         rules, file = accepted(
-            program, given.file, files, "RULES TRACE, with a rules file for RULES"
+            program, options.file, files, "RULES TRACE, with a rules file for RULES"
         )
-        must_judge(given.trace, rules.data, given.file)
-        found = program.replay(given.trace, file, given.pace, processors())
-        traces = Traces.of([given.trace], given.pace, None, vars(given))
+        must_judge(options.trace, rules.data, options.file)
+        found = program.replay(options.trace, file, options.pace, processors())
+        traces = Traces.of([options.trace], options.pace, None, vars(options))
         note_unmatched(traces, traces.names, [rules])
         note_samples(traces.names, [rules])
         runs = Runs()
-        asked = Asked(given.trace, file.path, None, given.tick_ms, given.interval_s)
+        asked = Asked(options.trace, file.path, None, options.tick_ms, options.interval_s)
         words = ["--report-s=1", f"--rules={file.path}", *asked.pace]
-        judged = judge(runs, asked, runs.program("replay", *words, "--", given.trace))
+        judged = judge(runs, asked, runs.program("replay", *words, "--", options.trace))
     return rules_parts.parts(
         judged, [Kill(it.time_ns, it.ruleset, it.action, it.path) for it in found]
     )
 
 
-def parts_of(given: argparse.Namespace) -> list[Part]:
-    """Returns explanations of the rulesets, for the program that the arguments name."""
-    if given.by == PSI_OOMD:
-        return by_rules(given)
+def parts_of(options: argparse.Namespace) -> list[Part]:
+    """Returns explanations of the rulesets, as evaluated by the program that --by names."""
+    if options.by == PSI_OOMD:
+        return by_rules(options)
     program = Program()
     program.prepare()
-    if given.by == by_oomd.NAME:
-        run = Run(given.trace, given.file, interval=given.interval_s or by_oomd.INTERVAL)
+    if options.by == by_oomd.NAME:
+        run = Run(options.trace, options.file, interval=options.interval_s or by_oomd.INTERVAL)
         engine = emulate(program, run, processors())
         said, found = oomd_parts.notes(engine), oomd_parts.parts(engine)
     else:
-        settings = Settings(given.file, given.systemd)
-        watched = replayed(program, given.trace, settings, processors())
+        settings = Settings(options.file, options.systemd)
+        watched = replayed(program, options.trace, settings, processors())
         said = [*settings.notes, *warnings(watched, settings)]
         found = systemd_parts.parts(watched, settings)
     for text in said:
@@ -95,19 +97,19 @@ def parts_of(given: argparse.Namespace) -> list[Part]:
     return found
 
 
-def run(given: argparse.Namespace) -> int:
-    check_words(given)
-    part = part_of(given.trace, vars(given))
-    show_clock(given.trace, vars(given))
-    found = [it.within(part) for it in parts_of(given)]
-    if given.form is Form.JSON:
+def run(options: argparse.Namespace) -> int:
+    check_words(options)
+    part = part_of(options.trace, vars(options))
+    show_clock(options.trace, vars(options))
+    found = [it.within(part) for it in parts_of(options)]
+    if options.form is Form.JSON:
         telling.tell_json(
-            {"rules": given.file, "trace": given.trace, "by": given.by, **record_of(found)}
+            {"rules": options.file, "trace": options.trace, "by": options.by, **record_of(found)}
         )
         return Status.DONE
-    mark = note(given.trace)
-    head = [f"{given.trace}{mark}:"] if mark else []
+    mark = note(options.trace)
+    head = [f"{options.trace}{mark}:"] if mark else []
     if part:
         head.append(f"firings{part_text(part)}; values and holds are those of the whole trace")
-    print("\n".join([*head, *lines_of(found, given.is_all)]))
+    print("\n".join([*head, *lines_of(found, options.is_all)]))
     return Status.DONE

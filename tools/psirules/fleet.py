@@ -1,5 +1,5 @@
-"""Replays many traces with one rules file on one or many machines, using GNU parallel. See
-`tools/fleet --help`.
+"""Replays many traces with a rules file, on one machine or on several. GNU parallel distributes the
+replays. See `tools/fleet --help`.
 """
 import argparse
 import collections
@@ -27,7 +27,7 @@ from psireplay.sampled import Whole, time_in_whole, wholes
 from psirules.command import add_form, add_pace
 from psirules.program import Kill, Pace, Program, read_kills
 from psirules.replays import length_of
-from psirules.rules_file import RulesFile, bytes_of, kept
+from psirules.rules_file import RulesFile, bytes_of, temporary_rules
 from psirules.telling import Form, tell_json
 
 ABOUT = """Replays each TRACE with the rules of RULES, and sums up: kills by ruleset and by path,
@@ -37,10 +37,10 @@ STATUS = """The status is 0 if each trace was replayed, and 2 if something could
 host needs psi_oomd at the same path as here (or at the path in PSI_OOMD), and reads
 traces and rules by their paths, except with --copy."""
 
-# A line that parallel writes for a job to standard output or standard error: the job's number, a
-# tab, and the job's own line, which ends at a \n or \r.
+# A line that parallel prints for a job on standard output or standard error: the job's number, a
+# tab, and the job's own line up to a \n or \r.
 TAGGED = re.compile(r"([0-9]+)\t([^\r\n]*)(?s:.*)")
-# A line of parallel's log: the job's number, its host, two times, two byte counts, and the exit
+# A line in parallel's job log: the job's number, its host, two times, two byte counts, and the exit
 # status.
 LOGGED = re.compile(r"^([0-9]+)\t([^\t]*)(?:\t[0-9. ]*){4}\t(-?[0-9]+)\t", re.MULTILINE)
 
@@ -57,26 +57,26 @@ class Answer:
 
     def fault(self) -> str:
         """Returns the error message for a trace that wasn't replayed."""
-        told = "; ".join(filter(None, self.lines + self.said))
-        return told if self.lines else ": ".join(filter(None, [f"its host {self.end}", told]))
+        message = "; ".join(filter(None, self.lines + self.said))
+        return message if self.lines else ": ".join(filter(None, [f"its host {self.end}", message]))
 
 
-def command(given: argparse.Namespace, options: list[str]) -> list[str]:
-    """Returns the command line of parallel. Each line of its output has a job's number, a tab,
-    and a line with a kill, the end, or an error.
+def command(options: argparse.Namespace, parallel_options: list[str]) -> list[str]:
+    """Returns the command line of parallel. It makes parallel print, for each job, lines with the
+    job's number, a tab, and a kill, the end of the replay, or an error.
     """
-    rules = os.path.abspath(given.rules)
+    rules = os.path.abspath(options.rules)
     replay = [
         program_path(),
         "replay",
-        f"--rules={os.path.basename(rules) if given.copy else rules}",
+        f"--rules={os.path.basename(rules) if options.copy else rules}",
         "--report-s=0",
     ]
-    replay += ["--workers=1", *Pace(given.tick_ms, given.interval_s).words(), "--"]
+    replay += ["--workers=1", *Pace(options.tick_ms, options.interval_s).words(), "--"]
     if "{" in "".join(replay):
         raise Fault("parallel would take the { in a path for a word of its own: use another path")
-    hosts = ["--sshloginfile", given.sshloginfile] if given.sshloginfile else []
-    if given.copy:
+    hosts = ["--sshloginfile", options.sshloginfile] if options.sshloginfile else []
+    if options.copy:
         hosts += [
             "--workdir",
             "...",
@@ -86,45 +86,45 @@ def command(given: argparse.Namespace, options: list[str]) -> list[str]:
             "--transferfile",
             parted(rules),
         ]
-    hosts += ["--dry-run"] if given.dry_run else []
+    hosts += ["--dry-run"] if options.dry_run else []
     line = (
-        f"{shlex.join(replay)} {'{/}' if given.copy else '{}'} 2>&1 | grep -vE"
+        f"{shlex.join(replay)} {'{/}' if options.copy else '{}'} 2>&1 | grep -vE"
         " '^(report|some|full|event) '"
     )
-    return ["parallel", "--null", "--tagstring", "{#}", *hosts, *options, line]
+    return ["parallel", "--null", "--tagstring", "{#}", *hosts, *parallel_options, line]
 
 
 def parted(path: str) -> str:
-    """Returns the path in parallel's notation for a file that is copied into the folder of its
-    job, under the last component of its path.
+    """Returns a path in the notation of parallel's --transferfile. The file is copied into the
+    job's folder, and its name there is the last component of the path.
     """
     return os.path.join(os.path.dirname(path), ".", os.path.basename(path))
 
 
-def names_of(given: argparse.Namespace, traces: list[str]) -> bytes:
-    """Returns the paths of the traces in the format that parallel reads."""
+def names_of(options: argparse.Namespace, traces: list[str]) -> bytes:
+    """Returns the paths of the traces, separated by NUL bytes as parallel reads them."""
     paths = [os.path.abspath(name) for name in traces]
-    return b"\0".join(os.fsencode(parted(path) if given.copy else path) for path in paths)
+    return b"\0".join(os.fsencode(parted(path) if options.copy else path) for path in paths)
 
 
 def overhear(end: int, found: list[Answer]) -> None:
     """Reads parallel's standard error from the file descriptor `end`, and stores the lines about
-    jobs. Other text is printed at once, even without a newline, since `--eta` writes no newlines.
+    jobs. Prints all other text at once, even without a newline, since `--eta` prints no newlines.
     """
-    held = ""
+    rest = ""
     with os.fdopen(end, "rb", 0) as pipe:
         while piece := pipe.read(65536).decode("utf-8", "replace"):
-            *lines, held = (held + piece).split("\n")
+            *lines, rest = (rest + piece).split("\n")
             for line in lines:
                 keep_or_tell(line + "\n", found)
-            if not held[:1].isdigit():
-                keep_or_tell(held, found)
-                held = ""
-    keep_or_tell(held, found)
+            if not rest[:1].isdigit():
+                keep_or_tell(rest, found)
+                rest = ""
+    keep_or_tell(rest, found)
 
 
 def keep_or_tell(text: str, found: list[Answer]) -> None:
-    """Stores a line about a job, or prints other text on standard error."""
+    """Stores a line about a job. Prints any other text on standard error."""
     tagged = TAGGED.fullmatch(text)
     if tagged and 0 < int(tagged[1]) <= len(found):
         found[int(tagged[1]) - 1].said.append(tagged[2])
@@ -133,47 +133,51 @@ def keep_or_tell(text: str, found: list[Answer]) -> None:
 
 
 def note_ends(log: IO[bytes], found: list[Answer]) -> None:
-    """Reads from parallel's log on which host each job ran, and how it ended."""
+    """Stores, for each job in parallel's log, its host and how it ended."""
     for number, host, status in LOGGED.findall(log.read().decode("utf-8", "replace")):
         found[int(number) - 1].end = (
             f"{'' if host == ':' else host + ' '}gave no answer, status {status}"
         )
 
 
-def answers(given: argparse.Namespace, options: list[str], traces: list[str]) -> list[Answer]:
+def answers(
+    options: argparse.Namespace, parallel_options: list[str], traces: list[str]
+) -> list[Answer]:
     """Runs parallel, and returns the result for each trace."""
     found = [Answer() for _ in traces]
     end, other = os.pipe()
     ear = threading.Thread(target=overhear, args=(end, found))
     ear.start()
     with tempfile.NamedTemporaryFile(prefix="fleet-jobs-") as log:
-        words = command(given, ["--joblog", log.name, *options])
+        words = command(options, ["--joblog", log.name, *parallel_options])
         with os.fdopen(other, "wb") as errors:
             parallel = subprocess.Popen(
                 words, stdin=subprocess.PIPE, stdout=subprocess.PIPE, stderr=errors
             )
-        output = parallel.communicate(names_of(given, traces))[0].decode("utf-8", "replace")
+        output = parallel.communicate(names_of(options, traces))[0].decode("utf-8", "replace")
         ear.join()
         note_ends(log, found)
     for line in output.split("\n")[:-1]:
         number, _, text = line.partition("\t")
         if not number.isdigit():
-            raise Fault(f"parallel didn't take its words: {shlex.join(options)}")
+            raise Fault(f"parallel didn't take its words: {shlex.join(parallel_options)}")
         found[int(number) - 1].lines.append(text)
     return found
 
 
-def selected(given: argparse.Namespace, whole: Whole) -> Span | None | Fault:
-    """Returns the part of a trace whose kills count: None for all of it, or why there is none."""
+def selected(options: argparse.Namespace, whole: Whole) -> Span | None | Fault:
+    """Returns the selected part of a trace, or None for the whole trace. Returns a Fault if the
+    trace doesn't contain the selected part.
+    """
     try:
-        return part_of(whole.name, vars(given), length_of(whole))
+        return part_of(whole.name, vars(options), length_of(whole))
     except Fault as fault:
         return fault
 
 
 def kills_in(whole: Whole, all_kills: dict[str, list[Kill] | None]) -> list[Kill]:
-    """Returns the kills in a trace, or in traces that were made together from the same samples. A
-    kill in the time that two of them share counts once.
+    """Returns the kills in a trace, or in all traces that were made together from the same samples.
+    A kill in the overlap of two traces counts once.
     """
     return [
         replace(kill, time_ns=time)
@@ -183,9 +187,11 @@ def kills_in(whole: Whole, all_kills: dict[str, list[Kill] | None]) -> list[Kill
     ]
 
 
-def summary(given: argparse.Namespace, traces: list[str], found: list[Answer]) -> dict[str, object]:
-    """Counts the results. Traces made together from the same samples count as one."""
-    rules = RulesFile(given.rules, bytes_of(given.rules))
+def summary(
+    options: argparse.Namespace, traces: list[str], found: list[Answer]
+) -> dict[str, object]:
+    """Summarizes the results. Traces that were made together from the same samples count as one."""
+    rules = RulesFile(options.rules, bytes_of(options.rules))
     rulesets: collections.Counter[str] = collections.Counter()
     paths: collections.Counter[str] = collections.Counter()
     without = []
@@ -198,7 +204,7 @@ def summary(given: argparse.Namespace, traces: list[str], found: list[Answer]) -
     }
     together = wholes(traces)
     for whole in together:
-        part = selected(given, whole)
+        part = selected(options, whole)
         if isinstance(part, Fault):
             faults.setdefault(whole.name, str(part))
             continue
@@ -214,7 +220,7 @@ def summary(given: argparse.Namespace, traces: list[str], found: list[Answer]) -
         "kills_by_path": dict(paths.most_common()),
     }
     return {
-        "rules": given.rules,
+        "rules": options.rules,
         "traces": len(together),
         **counts,
         "without_any": without,
@@ -223,7 +229,7 @@ def summary(given: argparse.Namespace, traces: list[str], found: list[Answer]) -
 
 
 def tell(summed: dict[str, object]) -> None:
-    """Prints the summary for people."""
+    """Prints the summary as text."""
     without, faults = summed["without_any"], summed["not_run"]
     assert isinstance(without, list) and isinstance(faults, dict)
     print(
@@ -243,8 +249,8 @@ def tell(summed: dict[str, object]) -> None:
 def fleet() -> int:
     """Replays the traces, prints the summary, and returns the exit status."""
     at = sys.argv.index("--") if "--" in sys.argv else len(sys.argv)
-    given, options = parser().parse_args(sys.argv[1:at]), sys.argv[at + 1 :]
-    traces = given.traces or [
+    options, parallel_options = parser().parse_args(sys.argv[1:at]), sys.argv[at + 1 :]
+    traces = options.traces or [
         os.fsdecode(name) for name in sys.stdin.buffer.read().split(b"\n") if name
     ]
     if (
@@ -256,18 +262,19 @@ def fleet() -> int:
         raise Fault(
             "no trace is given: name them, or write their names to standard input, one a line"
         )
-    if given.dry_run:
-        return subprocess.run(command(given, options), input=names_of(given, traces)).returncode
+    if options.dry_run:
+        words = command(options, parallel_options)
+        return subprocess.run(words, input=names_of(options, traces)).returncode
     program = Program()
     program.prepare()
-    with kept(bytes_of(given.rules), given.rules) as rules:
+    with temporary_rules(bytes_of(options.rules), options.rules) as rules:
         program.judge(rules)
-    must_fit(vars(given))
-    summed = summary(given, traces, answers(given, options, traces))
-    if given.form is Form.JSON:
+    must_fit(vars(options))
+    summed = summary(options, traces, answers(options, parallel_options, traces))
+    if options.form is Form.JSON:
         tell_json(summed)
     else:
-        show_containers(traces, vars(given))
+        show_containers(traces, vars(options))
         tell(summed)
     return Status.FAILED if summed["not_run"] else Status.DONE
 

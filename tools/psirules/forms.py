@@ -1,5 +1,5 @@
-"""The forms of argument values: which values psi_oomd accepts, and how oomd 0.5.0 reads values that
-only it accepts.
+"""Checks the values of arguments: which values psi_oomd accepts, and how oomd 0.5.0 reads values
+that only oomd accepts.
 """
 import re
 from dataclasses import dataclass
@@ -11,18 +11,18 @@ from psirules.plugins import Form
 
 WHOLE = r"(0|[1-9][0-9]{0,19})"
 UNITS = {"": 1, "K": 1 << 10, "M": 1 << 20, "G": 1 << 30, "T": 1 << 40}
-"""The bytes that each letter stands for."""
+"""The number of bytes of each unit letter."""
 MOST_BYTES = 1 << 60
 MOST_PATTERNS = 16
 MOST = {Form.PERCENT: 100, Form.SECONDS: 1000000}
 LEADING = re.compile(r"\s*\+?([0-9]+)")
-"""The digits at the start of a text, which is all that oomd reads of a whole number."""
+"""The digits at the start of a text. oomd reads only these of a whole number."""
 
 
 @dataclass(frozen=True)
 class Repair:
-    """A text that psi_oomd accepts in place of a text that only oomd accepts, the reason, and
-    whether the meaning changes.
+    """A replacement for a text that only oomd accepts: a text that psi_oomd accepts, the reason,
+    and whether the meaning changes.
     """
 
     text: str
@@ -31,8 +31,8 @@ class Repair:
 
 
 def spelled(value: object) -> str | None:
-    """Returns an argument's value as a string, as both programs read it. None if it is neither a
-    string, a number nor a boolean.
+    """Returns an argument's value as a string, as both programs read it. Returns None if the value
+    is not a string, a number or a boolean.
     """
     if isinstance(value, bool):
         return "true" if value else "false"
@@ -42,12 +42,12 @@ def spelled(value: object) -> str | None:
 
 
 def is_text(value: object) -> bool:
-    """Returns whether psi_oomd accepts this JSON value as an argument's text."""
+    """Whether psi_oomd accepts this JSON value as the text of an argument."""
     return isinstance(value, (str, bool)) or isinstance(value, int) and 0 <= value < 1 << 64
 
 
 def is_valid(form: Form, text: str) -> bool:
-    """Returns whether psi_oomd accepts `text` as an argument of this form."""
+    """Whether psi_oomd accepts `text` as an argument of this form."""
     if form in MOST:
         return bool(re.fullmatch(WHOLE, text)) and int(text) <= MOST[form]
     if form is Form.RATIO:
@@ -68,7 +68,7 @@ def is_valid(form: Form, text: str) -> bool:
 
 
 def size(text: str) -> int | None:
-    """Parses a size that isn't a percentage, and returns bytes. None if it is malformed or too
+    """Parses a size that isn't a percentage. Returns bytes, or None if the size is malformed or too
     large.
     """
     found = re.fullmatch(WHOLE + r"(?:(\.[0-9]{1,3})?([KMGTkmgt]))?", text)
@@ -79,8 +79,8 @@ def size(text: str) -> int | None:
 
 
 def size_text(count: int) -> str:
-    """Formats a number of bytes with a letter, since oomd reads a number without a letter as
-    megabytes. The result is rounded up to a thousandth of a KiB, about a byte.
+    """Formats a number of bytes with a unit letter, since oomd reads a number without one as
+    megabytes. Rounds up to a thousandth of a KiB.
     """
     for letter, unit in reversed(UNITS.items()):
         if letter and count % unit == 0:
@@ -90,8 +90,8 @@ def size_text(count: int) -> str:
 
 
 def oomd_size(text: str) -> int | None:
-    """Parses a size as oomd does, with several parts, spaces or more decimals, such as `1.5M 32K
-    512`. Returns bytes, or None if it is malformed.
+    """Parses a size as oomd does: it may have several parts, spaces, or many decimals, such as
+    `1.5M 32K 512`. Returns bytes, or None if the size is malformed.
     """
     joined = "".join(text.split()).lower().removeprefix("+")
     parts = re.findall(r"([0-9]+\.?[0-9]*|\.[0-9]+)([kmgt]?)", joined)
@@ -104,7 +104,7 @@ def oomd_size(text: str) -> int | None:
 
 def repair(form: Form, text: str) -> Repair | None:
     """Returns the replacement for a text that psi_oomd rejects, or reads differently from oomd.
-    None if no replacement is needed or possible.
+    Returns None if no replacement is needed or possible.
     """
     if form is Form.SIZE:
         return repair_size(text)
@@ -120,8 +120,8 @@ def repair(form: Form, text: str) -> Repair | None:
 
 
 def repair_size(text: str) -> Repair | None:
-    """Returns the replacement for a size: oomd reads a bare number as megabytes, and only the
-    whole part of a percentage.
+    """Returns the replacement for a size, or None. oomd reads a bare number as megabytes, and only
+    the integer part of a percentage.
     """
     found = LEADING.match(text)
     if text.endswith("%"):
@@ -142,7 +142,9 @@ def repair_size(text: str) -> Repair | None:
 
 
 def repair_ratio(text: str) -> Repair | None:
-    """Returns the replacement for a ratio: oomd accepts any spelling of a float."""
+    """Returns the replacement for a ratio, or None. oomd accepts any notation of a floating-point
+    number.
+    """
     rounded = f"{Decimal(text.strip()):.3f}".rstrip("0").rstrip(".")
     is_lost = Decimal(rounded) != Decimal(text.strip())
     return (
@@ -153,8 +155,8 @@ def repair_ratio(text: str) -> Repair | None:
 
 
 def repair_patterns(text: str) -> Repair | None:
-    """Returns the replacement for patterns: oomd ignores empty patterns and empty components, and
-    accepts the wildcards of a shell.
+    """Returns the replacement for a list of patterns, or None. oomd ignores empty patterns and
+    empty components, and accepts a shell's wildcards.
     """
     patterns = []
     for pattern in text.split(","):

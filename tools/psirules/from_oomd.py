@@ -31,8 +31,8 @@ STATUS = (
     " FILE."
 )
 MOST_SECONDS, MOST_PERCENT, MOST_RATIO = 1000000, 100, 1000
-# The host for parsing a percentage. Its sizes don't matter, since the result is written as a
-# percentage again.
+# The machine for which percentages are parsed. Its sizes don't matter, since the result is written
+# as a percentage again.
 TOTALS = Host(0, 0, 0)
 NOTHING = ("continue", "dump_cgroup_overview")
 SECONDS = ("duration", "post_action_delay")
@@ -41,51 +41,51 @@ TRUTHS = ("negate", "recursive", "always_continue")
 
 
 class Gone(Exception):
-    """The error that psi_oomd's rules can't express a plugin."""
+    """Raised if psi_oomd's rules have no equivalent of a plugin."""
 
 
 class Nearest:
-    """The rules nearest to a configuration of oomd, and notes on what is lost."""
+    """Converts a configuration of oomd to the nearest rules. Collects notes on what is lost."""
 
     def __init__(self, read: Configuration) -> None:
-        self.told: list[tuple[str, bool]] = []
+        self.notes: list[tuple[str, bool]] = []
         self.data = {"rulesets": [self.ruleset(it) for it in read.rulesets]}
         for hook in read.hooks:
             self.tell(read.name, f"the prekill hook {quoted(hook)} is left out")
 
     def tell(self, place: str, what: str, is_lost: bool = True) -> None:
-        self.told.append((f"{place}: {what}", is_lost))
+        self.notes.append((f"{place}: {what}", is_lost))
 
     def ruleset(self, use: RulesetUse) -> dict[str, Any]:
-        made: dict[str, Any] = {"name": use.name}
+        result: dict[str, Any] = {"name": use.name}
         if use.delay:
-            made["post_action_delay"] = str(min(stoi(use.delay), MOST_SECONDS))
+            result["post_action_delay"] = str(min(stoi(use.delay), MOST_SECONDS))
         groups = [self.group(it) for it in use.groups]
         return {
-            **made,
+            **result,
             "detectors": [it for it in groups if it],
             "actions": self.actions(use.actions),
         }
 
     def group(self, use: GroupUse) -> list[Any] | None:
-        """Converts a group of detectors. Returns None if rules can't express one of them, so that
-        the group never fires.
+        """Converts a group of detectors. Returns None if a detector has no equivalent; the group
+        would then never fire.
         """
-        made: list[Any] = [use.name]
+        result: list[Any] = [use.name]
         for it in use.detectors:
             if it.name in NOTHING:
                 self.tell(it.place, "it always holds: it is left out", False)
                 continue
             try:
-                made.append(self.plugin(it, DETECTORS))
+                result.append(self.plugin(it, DETECTORS))
             except Gone:
                 what = "rules have no such detector: its group is left out, and never fires"
                 self.tell(it.place, what, it.name != "stop")
                 return None
-        return made
+        return result
 
     def actions(self, uses: list[PluginUse]) -> list[Any]:
-        made = []
+        result = []
         for it in uses:
             if it.name in NOTHING:
                 self.tell(it.place, "it does nothing: it is left out", False)
@@ -97,17 +97,17 @@ class Nearest:
                 )
                 break
             try:
-                made.append(self.plugin(it, ACTIONS))
+                result.append(self.plugin(it, ACTIONS))
             except Gone:
                 self.tell(it.place, "rules have no such action: it is left out")
-        return made
+        return result
 
     def plugin(self, use: PluginUse, table: dict[str, Any]) -> dict[str, Any]:
         if use.name not in table:
             raise Gone
         _, args = known(use)
         read = values(use, TOTALS)
-        made: dict[str, str] = {}
+        result: dict[str, str] = {}
         for name, text in args.items():
             at = f"{use.place}: {name}"
             if name == ANON:
@@ -124,12 +124,13 @@ class Nearest:
                 read[ANON if ANON in read and name == "threshold" else name],
             )
             if found is not None:
-                made[name] = found
-        self.losses(use, made)
-        return {"name": use.name, "args": made}
+                result[name] = found
+        self.losses(use, result)
+        return {"name": use.name, "args": result}
 
     def argument(self, place: str, plugin: str, name: str, text: str, value: Any) -> str | None:
-        """Returns an argument's text for psi_oomd, or None if the argument has no meaning there."""
+        """Returns the text of an argument for psi_oomd, or None if psi_oomd has no such argument.
+        """
         is_size = name == "threshold" and plugin in ("memory_above", "kill_by_swap_usage")
         for is_it, write in self.writers(name, is_size):
             if is_it:
@@ -168,7 +169,7 @@ class Nearest:
         return self.exact(nearest)
 
     def exact(self, count: int) -> str:
-        """Formats a number of bytes with a unit letter if that is exact, otherwise without."""
+        """Formats a number of bytes. Uses a unit letter only if the result is exact."""
         found = size_text(count)
         return str(count) if "." in found else found
 
@@ -180,8 +181,8 @@ class Nearest:
         return found
 
     def patterns(self, place: str, text: str) -> str:
-        """Returns patterns whose only wildcard is `*`. A pattern with other wildcards becomes a
-        wider pattern; a pattern that can't match any group of a trace is omitted.
+        """Returns patterns with `*` as the only wildcard. A pattern with other wildcards is
+        replaced by one that matches more. A pattern that can't match a group of a trace is omitted.
         """
         found = []
         for pattern in split(text, ","):
@@ -210,15 +211,15 @@ class Nearest:
             )
         return ",".join(dict.fromkeys(found[:MOST_PATTERNS])) or "no-such-group"
 
-    def losses(self, use: PluginUse, made: dict[str, str]) -> None:
-        """Adds notes on differences between psi_oomd and oomd for the same arguments."""
-        if use.name == "kill_by_swap_usage" and made.get("threshold", "").endswith("%"):
+    def losses(self, use: PluginUse, args: dict[str, str]) -> None:
+        """Adds notes on differences between psi_oomd and oomd with the same arguments."""
+        if use.name == "kill_by_swap_usage" and args.get("threshold", "").endswith("%"):
             self.tell(use.place, f"rules take the exact percentage, but {SWAP}")
         if use.name == "kill_by_pg_scan":
             self.tell(use.place, f"rules kill at once, and only a group that scanned, but {WAITS}")
         if use.name == "kill_by_pressure":
             self.tell(use.place, f"rules kill by the exact sum above 0, but {AT_ZERO}")
-        if made.get("recursive") == "true":
+        if args.get("recursive") == "true":
             self.tell(
                 use.place, f"recursive: rules kill the last group that is chosen, but {RECURSES}"
             )
@@ -226,8 +227,8 @@ class Nearest:
             self.tell(use.place, "dry: oomd would log this kill and not do it", False)
 
 
-def run(given: argparse.Namespace) -> int:
-    read = read_configuration(given.file)
+def run(options: argparse.Namespace) -> int:
+    read = read_configuration(options.file)
     engine(read, [], Machine(Extras(), TOTALS), 0)
     nearest = Nearest(read)
-    return print_made(nearest.data, nearest.told)
+    return print_made(nearest.data, nearest.notes)

@@ -1,5 +1,5 @@
-"""The thresholds and durations of detectors that `suggest` varies, and the kills with other values
-of them.
+"""Defines which thresholds and durations of detectors `suggest` varies, and finds the kills for
+each set of values.
 """
 from __future__ import annotations
 
@@ -19,15 +19,15 @@ from psirules.by_systemd import BySystemd
 from psirules.program import Kill, Program
 from psirules.relaxed import Reading
 from psirules.replays import Traces, accepted
-from psirules.rules_file import RulesFile, bytes_of, kept
+from psirules.rules_file import RulesFile, bytes_of, temporary_rules
 from psisystemd.replayed import kills_of, replayed
 from psisystemd.settings import Settings
 
 PRESSURE = ("pressure_above", "pressure_rising_beyond")
 MOST_PERCENT = 100
-# The largest number of rulesets in a rules file.
+# The largest number of rulesets in a rules file of psi_oomd.
 MOST_RULESETS = 64
-# An action of oomd that waits for a second evaluation. With it, an earlier firing may lead to a
+# An action of oomd that kills only after a second evaluation, so an earlier firing may lead to a
 # later kill.
 WAITS = "kill_by_pg_scan"
 Found = list[list[Kill] | Fault]
@@ -35,8 +35,8 @@ Found = list[list[Kill] | Fault]
 
 @dataclass(frozen=True)
 class Knob:
-    """A number of a detector that may be varied: its place as text, its argument, the greatest
-    sensible value, its value in the file, and its unit. `way` is the path of keys and indices to
+    """A number of a detector that is varied: a description of its place, its argument, the largest
+    sensible value, the value in the file, and the unit. `way` is the path of keys and indices to
     the number.
     """
 
@@ -55,7 +55,7 @@ Values = Mapping[Knob, int]
 
 
 class Subject(ABC):
-    """Rules whose numbers are varied, and the program that evaluates them."""
+    """Rules whose numbers are varied, together with the program that evaluates them."""
 
     rules: RulesFile
     # The number of sets of values that one replay can evaluate.
@@ -63,31 +63,29 @@ class Subject(ABC):
 
     @abstractmethod
     def knobs(self, longest: int) -> Iterator[Knob]:
-        """Yields the numbers that can be varied. `longest` is the length (s) of the longest
-        trace, up to which durations make sense.
+        """Yields the numbers that can be varied. `longest` is the length (s) of the longest trace,
+        and the largest sensible duration.
         """
 
     @abstractmethod
     def kills(self, values: Values, traces: Traces) -> Found:
-        """Returns the kills in each trace with these values."""
+        """Returns the kills in each trace if the numbers have these values."""
 
     def kills_of_each(self, many: list[Values], traces: Traces) -> list[Found]:
-        """Returns the kills with each of several sets of values."""
+        """Returns the kills in each trace, for each set of values."""
         return [self.kills(values, traces) for values in many]
 
     @abstractmethod
     def text(self, values: Values) -> bytes:
-        """Returns the contents of the file with these values."""
+        """Returns the bytes of the rules file with these values."""
 
     def is_monotone(self) -> bool:
-        """Returns whether a lower threshold or duration never makes a first kill later."""
+        """Whether a lower threshold or duration never delays the first kill."""
         return True
 
 
 def detector_knobs(rulesets: Any, longest: int) -> Iterator[Knob]:
-    """Yields the thresholds in percent, and the durations, of the detectors of pressure and
-    memory.
-    """
+    """Yields the percentage thresholds and the durations of detectors for pressure and memory."""
     for number, ruleset in enumerate(rulesets):
         for group, items in enumerate(ruleset["detectors"]):
             for item, plugin in enumerate(items):
@@ -110,7 +108,7 @@ def detector_knobs(rulesets: Any, longest: int) -> Iterator[Knob]:
 
 
 def changed(data: Any, values: Values) -> bytes:
-    """Returns a rules file with other values."""
+    """Returns a rules file in which some numbers have new values."""
     data = copy.deepcopy(data)
     for knob, value in values.items():
         at = data["rulesets"]
@@ -136,18 +134,20 @@ class OwnRules(Subject):
         return found
 
     def kills_of_each(self, many: list[Values], traces: Traces) -> list[Found]:
-        """Evaluates the rulesets of many sets of values in one replay, since in a replay neither
-        rulesets nor kills affect other rulesets.
+        """Returns the kills in each trace, for each set of values. One replay evaluates many sets,
+        since neither rulesets nor kills affect other rulesets in a replay.
         """
         step = self.at_once
         parts = [many[start : start + step] for start in range(0, len(many), step)]
         return [found for part in parts for found in self.kills_side_by_side(part, traces)]
 
     def kills_side_by_side(self, many: list[Values], traces: Traces) -> list[Found]:
-        """Returns the kills with each set of values. All sets must fit into one rules file."""
+        """Returns the kills in each trace, for each set of values, from a single replay. The
+        rulesets of all sets must fit into one rules file.
+        """
         rulesets = [it for values in many for it in json.loads(self.text(values))["rulesets"]]
         data = {**self.rules.data, "rulesets": rulesets}
-        with kept(json.dumps(data).encode(), self.rules.name) as file:
+        with temporary_rules(json.dumps(data).encode(), self.rules.name) as file:
             (found,) = traces.replays(self.program, [file])
         return [
             [own_kills(of_trace, number, len(self.rules.rulesets)) for of_trace in found]
@@ -159,8 +159,8 @@ class OwnRules(Subject):
 
 
 def own_kills(found: list[Kill] | Fault, number: int, count: int) -> list[Kill] | Fault:
-    """Selects the kills by copy `number` of several copies of `count` rulesets each, with the
-    rulesets' numbers in the original file.
+    """Selects the kills of copy `number` from a replay with several copies of `count` rulesets.
+    Restores the rulesets' numbers in the original file.
     """
     if isinstance(found, Fault):
         return found
@@ -170,7 +170,7 @@ def own_kills(found: list[Kill] | Fault, number: int, count: int) -> list[Kill] 
 
 
 class OomdRules(Subject):
-    """A configuration of oomd, which oomd's algorithm evaluates."""
+    """A configuration of oomd, evaluated by oomd's algorithm."""
 
     def __init__(self, program: Program, name: str, interval: int | None) -> None:
         self.program, self.interval = program, interval
@@ -181,7 +181,7 @@ class OomdRules(Subject):
         return detector_knobs(self.data["rulesets"], longest)
 
     def kills(self, values: Values, traces: Traces) -> Found:
-        with kept(self.text(values), self.rules.name) as file:
+        with temporary_rules(self.text(values), self.rules.name) as file:
             return by_oomd.replays(self.program, file.path, self.interval, traces)
 
     def text(self, values: Values) -> bytes:
@@ -193,7 +193,9 @@ class OomdRules(Subject):
 
 
 class SystemdSettings(Subject):
-    """The limits of systemd-oomd in each watched group of some traces."""
+    """The memory pressure limits and durations of systemd-oomd for each watched group of some
+    traces.
+    """
 
     def __init__(
         self, program: Program, folder: str, version: int | None, groups: set[str]
@@ -228,7 +230,7 @@ class SystemdSettings(Subject):
             )
 
     def settings(self, values: Values) -> Settings:
-        """Returns the settings with other limits."""
+        """Returns the settings with these limits and durations."""
         found = Settings(self.folder, self.version)
         for knob, value in values.items():
             path, field = str(knob.way[0]), str(knob.way[1])
@@ -258,7 +260,9 @@ def subject(
     groups: set[str],
     files: Any,
 ) -> Subject:
-    """Returns the rules in the file or folder `name`, for `by`, the program that evaluates them."""
+    """Returns the rules in the file or folder `name`. `by` is the name of the program that
+    evaluates them.
+    """
     if by == by_systemd.NAME:
         return SystemdSettings(program, name, version, groups)
     if by == by_oomd.NAME:

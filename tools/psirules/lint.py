@@ -1,4 +1,4 @@
-"""tools/rules lint: reports what is wrong in a rules file, and prints a corrected one."""
+"""tools/rules lint: reports errors in a rules file, or prints a corrected file."""
 import argparse
 import json
 import re
@@ -15,7 +15,7 @@ from psirules import oomd_notes, telling
 from psirules.mending import Finding, Kind, Mender
 from psirules.program import Program, Refusal
 from psirules.relaxed import Reading
-from psirules.rules_file import bytes_of, kept
+from psirules.rules_file import bytes_of, temporary_rules
 from psirules.shapes import first_fault
 from psirules.telling import Form
 
@@ -32,7 +32,7 @@ read. With --fix it is 0 where the printed file means what FILE does, 1 where so
 that is lost, and 2 where nothing could be printed."""
 WHOLE_FILE = "the file"
 MOST_BYTES = 1048576
-"""The greatest length of a rules file (bytes)."""
+"""The largest size of a rules file (bytes)."""
 CAUSES = {
     "TooLong": "it has more than 1048576 bytes",
     "BadJson": "it is no JSON text in UTF-8",
@@ -45,27 +45,27 @@ CAUSES = {
 
 
 def place_told(said: str, data: Any) -> str:
-    """Returns the place of an error, from the program's message, with the names of the ruleset, the
-    group or the plugin.
+    """Returns the place of an error in a rules file, from the program's message. Adds the names of
+    the ruleset, the group or the plugin.
     """
     lists = {"ruleset": "rulesets", "group": "detectors", "action": "actions"}
-    told, at = [], data
+    parts, at = [], data
     for kind, number in re.findall(r"(ruleset|group|item|action) ([0-9]+)", said):
         try:
             at = (at[1:] if kind == "item" else at[lists[kind]])[int(number)]
             name = at[0] if kind == "group" else at["name"]
-            told.append(f"{kind} {number} {quoted(str(name))}")
+            parts.append(f"{kind} {number} {quoted(str(name))}")
         except (KeyError, IndexError, TypeError):
-            told.append(f"{kind} {number}")
+            parts.append(f"{kind} {number}")
             at = None
-    return ", ".join(told) or WHOLE_FILE
+    return ", ".join(parts) or WHOLE_FILE
 
 
 def verdict(data: bytes, read: Any) -> Finding | None:
-    """Returns the first error that psi_oomd itself finds in these bytes, or None if psi_oomd
-    accepts them.
+    """Returns the first error that psi_oomd finds in a rules file with these bytes, or None if
+    psi_oomd accepts it.
     """
-    with kept(data, "") as file:
+    with temporary_rules(data, "") as file:
         try:
             Program().judge(file)
         except Refusal as refusal:
@@ -79,14 +79,16 @@ def verdict(data: bytes, read: Any) -> Finding | None:
 
 
 def written(data: Any) -> bytes:
-    """Formats data as a rules file, on several lines unless that makes the file too long."""
+    """Formats data as a rules file. Uses several lines, unless the file would then be too large."""
     lines = (json.dumps(data, indent=1, ensure_ascii=False) + "\n").encode("utf-8", "replace")
     close = json.dumps(data, separators=(",", ":"), ensure_ascii=False).encode("utf-8", "replace")
     return lines if len(lines) <= MOST_BYTES else close
 
 
 class Linted:
-    """A rules file with its findings, and its corrected bytes, or None if it can't be corrected."""
+    """A rules file with its findings. `fixed` has the bytes of the corrected file, or is None if
+    the file can't be corrected.
+    """
 
     def __init__(self, data: bytes) -> None:
         self.findings: list[Finding] = []
@@ -110,17 +112,17 @@ class Linted:
         if was and not any(it.kind is Kind.REFUSED for it in self.findings):
             self.findings.append(was)
         self.fixed = written(mender.data)
-        left = verdict(self.fixed, mender.data)
-        if left:
+        error = verdict(self.fixed, mender.data)
+        if error:
             self.fixed = None
-            if left not in self.findings:
-                self.findings.append(left)
+            if error not in self.findings:
+                self.findings.append(error)
 
 
 def told_fix(linted: Linted, name: str) -> int:
     """Prints the corrected file, reports the changes, and returns the exit status."""
     for finding in linted.findings:
-        complain(finding.told_change() if linted.fixed else finding.told())
+        complain(finding.told_change() if linted.fixed else finding.text())
     if linted.fixed is None:
         complain(
             f"{name} can't be corrected: mend by hand what is reported above, and look at"
@@ -133,22 +135,22 @@ def told_fix(linted: Linted, name: str) -> int:
     return Status.FOUND if any(finding.is_lost for finding in linted.findings) else Status.DONE
 
 
-def run(given: argparse.Namespace) -> int:
-    if given.fix and given.form is Form.JSON:
+def run(options: argparse.Namespace) -> int:
+    if options.fix and options.form is Form.JSON:
         raise Fault("--fix prints a corrected file, and --json what is wrong: give one of them")
-    data = sys.stdin.buffer.read() if given.file == "-" else bytes_of(given.file)
+    data = sys.stdin.buffer.read() if options.file == "-" else bytes_of(options.file)
     Program().prepare()
     linted = Linted(data)
-    if given.fix:
-        return told_fix(linted, given.file)
-    linted.findings += [*linted.notes, *oomd_notes.of_pace(given.tick_ms, given.interval_s)]
+    if options.fix:
+        return told_fix(linted, options.file)
+    linted.findings += [*linted.notes, *oomd_notes.of_pace(options.tick_ms, options.interval_s)]
     status = (
         Status.FOUND if any(it.kind is not Kind.NOTE for it in linted.findings) else Status.DONE
     )
-    if given.form is Form.JSON:
+    if options.form is Form.JSON:
         records = [{**asdict(it), "kind": it.kind.value} for it in linted.findings]
-        telling.tell_json({"file": given.file, "status": status, "findings": records})
+        telling.tell_json({"file": options.file, "status": status, "findings": records})
     else:
         for it in linted.findings:
-            print(f"{given.file}: {it.told()}")
+            print(f"{options.file}: {it.text()}")
     return status

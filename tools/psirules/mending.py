@@ -1,5 +1,5 @@
-"""Finds what psi_oomd rejects, ignores or reads differently from oomd in the data of a rules
-file, and corrects the data.
+"""Finds what psi_oomd rejects, ignores or reads differently from oomd in a rules file, and corrects
+it.
 """
 import difflib
 from dataclasses import dataclass
@@ -13,7 +13,7 @@ from psirules.plugins import ACTIONS, DETECTORS, OF_OOMD, Effect, Form, Plugin
 
 
 class Kind(Enum):
-    """How psi_oomd treats the uncorrected text of a finding."""
+    """How psi_oomd treats the text that a finding is about."""
 
     REFUSED = "refused"
     IGNORED = "passed over"
@@ -23,8 +23,8 @@ class Kind(Enum):
 
 @dataclass(frozen=True)
 class Finding:
-    """A finding: its place, its kind, a description, its correction (None if there is none), and
-    whether the correction loses a part of what oomd would do.
+    """Something to report in a rules file: its place, its kind, a description, the correction (None
+    if there is none), and whether the correction loses a part of what oomd would do.
     """
 
     place: str
@@ -33,7 +33,7 @@ class Finding:
     change: str | None = None
     is_lost: bool = False
 
-    def told(self) -> str:
+    def text(self) -> str:
         return f"{self.place}: {self.kind.value}: {self.what}"
 
     def told_change(self) -> str:
@@ -44,13 +44,13 @@ class Finding:
 
 
 def alike(word: str, names: list[str]) -> str | None:
-    """Returns the name that was probably meant, None if no name is similar."""
+    """Returns the known name that is most similar to a misspelt one, or None if none is similar."""
     found = difflib.get_close_matches(word, names, 1, 0.75)
     return found[0] if found else None
 
 
 class Mender:
-    """Finds faults in a file's data, and corrects the data in place."""
+    """Finds errors in the data of a rules file, and corrects the data in place."""
 
     def __init__(self, data: Any) -> None:
         self.data = data
@@ -71,7 +71,7 @@ class Mender:
     def keys(
         self, place: str, at: dict[str, Any], known: tuple[str, ...], of_oomd: tuple[str, ...] = ()
     ) -> None:
-        """Finds unknown keys that resemble a missing key, and renames them."""
+        """Renames unknown keys that resemble a missing known key. Adds a finding for each."""
         for key in [key for key in at if key not in known + of_oomd]:
             meant = alike(key, [it for it in known if it not in at])
             if meant:
@@ -87,30 +87,30 @@ class Mender:
         self.keys(place, ruleset, plugins.RULESET_KEYS, plugins.RULESET_KEYS_OF_OOMD)
         if "post_action_delay" in ruleset:
             self.value(place, ruleset, "post_action_delay", Form.SECONDS)
-        kept = []
+        result = []
         for number, group in enumerate(items(ruleset, "detectors")):
             name = str(group[0]) if isinstance(group, list) and group else ""
             if not isinstance(group, list) or self.group(
                 f"{place}, group {number} {quoted(name)}", group
             ):
-                kept.append(group)
+                result.append(group)
         if isinstance(ruleset.get("detectors"), list):
-            ruleset["detectors"] = kept
+            ruleset["detectors"] = result
         if isinstance(ruleset.get("actions"), list):
             ruleset["actions"] = self.actions(place, ruleset["actions"])
 
     def group(self, place: str, group: list[Any]) -> bool:
-        """Corrects a group of detectors in place, keeping the detectors that psi_oomd knows, and
-        returns whether the group is kept.
+        """Corrects a group of detectors in place, and removes detectors that psi_oomd doesn't know.
+        Returns False if the whole group must be removed.
         """
         if len(group) == 1:
             self.find(place, Kind.NOTE, "it has no detector, so it always holds; oomd refuses it")
-        kept = group[:1]
+        result = group[:1]
         for number, detector in enumerate(group[1:]):
             here = f"{place}, item {number}"
             effect = self.plugin(here, detector, DETECTORS, ACTIONS)
             if effect is None:
-                kept.append(detector)
+                result.append(detector)
                 continue
             what = missing("detector", detector["name"], effect)
             if effect is not Effect.CONTINUES:
@@ -124,17 +124,17 @@ class Mender:
                 )
                 return False
             self.find(here, Kind.REFUSED, what, "it is taken out")
-        group[:] = kept
+        group[:] = result
         return True
 
     def actions(self, place: str, actions: list[Any]) -> list[Any]:
-        """Corrects a list of actions, and returns the actions that are kept."""
-        kept = []
+        """Corrects a list of actions. Returns the remaining actions."""
+        result = []
         for number, action in enumerate(actions):
             here = f"{place}, action {number}"
             effect = self.plugin(here, action, ACTIONS, DETECTORS)
             if effect is None:
-                kept.append(action)
+                result.append(action)
                 continue
             what = missing("action", action["name"], effect)
             if effect is Effect.STOPS:
@@ -147,15 +147,15 @@ class Mender:
                 )
                 break
             self.find(here, Kind.REFUSED, what, "it is taken out", effect is not Effect.CONTINUES)
-        if actions and not kept:
+        if actions and not result:
             self.find(place, Kind.NOTE, "no action of it is left", "it stays, and kills nobody")
-        return kept
+        return result
 
     def plugin(
         self, place: str, plugin: Any, known: dict[str, Plugin], others: dict[str, Plugin]
     ) -> Effect | None:
-        """Corrects a plugin's arguments. If psi_oomd has no such plugin, returns the effect of
-        oomd's plugin, otherwise None.
+        """Corrects a plugin's arguments, and returns None. If psi_oomd has no such plugin, returns
+        the effect of oomd's plugin.
         """
         if not isinstance(plugin, dict) or not isinstance(plugin.get("name"), str):
             return None
@@ -180,8 +180,8 @@ class Mender:
         return None
 
     def arguments(self, place: str, args: dict[str, Any], plugin: Plugin) -> Effect | None:
-        """Corrects arguments. Returns an effect if an argument makes the plugin one that psi_oomd
-        can't express, otherwise None.
+        """Corrects arguments, and returns None. Returns an effect if an argument makes it
+        impossible to express the plugin in psi_oomd's rules.
         """
         for name in list(args):
             if name in plugin.of_oomd or plugin.form_of(name):
@@ -205,7 +205,7 @@ class Mender:
         return None
 
     def of_oomd(self, place: str, args: dict[str, Any], plugin: Plugin) -> None:
-        """Reports arguments that have a meaning only in oomd."""
+        """Adds findings for arguments that only oomd knows."""
         if spelled(args.get("dry")) in ("true", "True", "1") and "dry" in plugin.of_oomd:
             self.find(
                 place,
@@ -224,7 +224,7 @@ class Mender:
             args["threshold"] = args.pop("threshold_anon")
 
     def value(self, place: str, args: dict[str, Any], name: str, form: Form) -> None:
-        """Corrects the value of one argument."""
+        """Corrects the value of an argument."""
         text = spelled(args[name])
         if text is None:
             self.find(
@@ -257,20 +257,21 @@ class Mender:
 
 
 def missing(kind: str, name: str, effect: Effect) -> str:
-    """Returns the message that psi_oomd has no such plugin, and what oomd's plugin does."""
+    """Returns the message that psi_oomd has no such plugin. It says what the plugin does in oomd.
+    """
     if effect is Effect.WAITS_FOR_CPU:
         return f"{quoted(name)} of resource 'cpu': it has to be {Form.RESOURCE.value}"
     return f"no {kind} {quoted(name)}: in oomd it {effect.value}"
 
 
 def items(at: dict[str, Any], key: str) -> list[Any]:
-    """Returns the list at `key`, empty if there is none."""
+    """Returns the list at `key`, or an empty list if there is none."""
     found = at.get(key)
     return found if isinstance(found, list) else []
 
 
 def rename(at: dict[str, Any], old: str, new: str) -> None:
-    """Renames a key without changing the order of keys."""
+    """Renames a key, and preserves the order of the keys."""
     pairs = [(new if key == old else key, value) for key, value in at.items()]
     at.clear()
     at.update(pairs)

@@ -1,5 +1,5 @@
-"""Notes for tools/rules lint on differences between oomd 0.5.0 and psi_oomd with the same rules, as
-far as the rules file shows them.
+"""Notes for tools/rules lint: differences between oomd 0.5.0 and psi_oomd that a rules file itself
+shows.
 """
 from __future__ import annotations
 
@@ -27,7 +27,7 @@ SWAP = (
 
 
 def plugins_of(data: Any) -> Iterator[tuple[str, str, dict[str, Any]]]:
-    """Yields the place, the name and the arguments of each plugin in a file."""
+    """Yields the place, the name and the arguments of each plugin in a rules file."""
     for number, ruleset in enumerate(items(data, "rulesets") if isinstance(data, dict) else []):
         if not isinstance(ruleset, dict):
             continue
@@ -50,7 +50,7 @@ def named(place: str, plugin: Any) -> Iterator[tuple[str, str, dict[str, Any]]]:
 
 
 def texts_of(name: str, args: dict[str, Any]) -> Iterator[str]:
-    """Yields the notes on one plugin."""
+    """Yields notes on a plugin, from its name and arguments."""
     found = {key: spelled(value) or "" for key, value in args.items()}
     ratio = found.get("min_growth_ratio", "")
     if re.fullmatch(r"[0-9]+\.[0-9]+", ratio):
@@ -72,7 +72,9 @@ def texts_of(name: str, args: dict[str, Any]) -> Iterator[str]:
 
 
 def of_pace(tick_ms: int | None, interval_s: int | None) -> Iterator[Finding]:
-    """Yields a note if a tick or an interval is given and ticks don't divide the interval."""
+    """Yields a note if the options set a tick or an interval, and the interval isn't a multiple of
+    the tick.
+    """
     if tick_ms is None and interval_s is None:
         return
     tick, interval = tick_ms or DEFAULT_TICK_MS, (interval_s or DEFAULT_INTERVAL_S) * SECOND_MS
@@ -88,7 +90,7 @@ def of_pace(tick_ms: int | None, interval_s: int | None) -> Iterator[Finding]:
 
 
 def notes(data: Any) -> list[Finding]:
-    """Returns all notes on a file, in the order of the file."""
+    """Returns all notes on a rules file, in the order of the file."""
     return [
         Finding(place, Kind.NOTE, text)
         for place, name, args in plugins_of(data)

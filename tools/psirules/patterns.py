@@ -1,5 +1,5 @@
-"""Patterns of groups' paths in rules files: components with `/` between them, in which `*`
-matches any string.
+"""Matches patterns of groups' paths in rules files. A pattern has components separated by `/`, in
+which `*` matches any string.
 """
 import re
 
@@ -8,15 +8,15 @@ PATTERN = re.compile(rf"/|/?{COMPONENT}(?:/{COMPONENT})*")
 
 
 def is_pattern(text: str) -> bool:
-    """Returns whether `text` is a pattern that can match a path: its components have only the
-    characters of paths and `*`, and none is `.` or `..`.
+    """Whether `text` is a pattern that can match a path: its components contain only the characters
+    of paths and `*`, and no component is `.` or `..`.
     """
     return bool(PATTERN.fullmatch(text)) and not {".", ".."} & set(text.split("/"))
 
 
 def matches(pattern: str, path: str) -> bool:
-    """Returns whether `pattern` matches `path`: both have the same number of components, and each
-    component matches.
+    """Whether `pattern` matches `path`: they have the same number of components, and each component
+    matches.
     """
     wanted, found = ([it for it in text.split("/") if it] for text in (pattern, path))
     return len(wanted) == len(found) and all(

@@ -1,4 +1,6 @@
-"""Finds an argument in a rules file by names or numbers, such as `ruleset/plugin.argument`."""
+"""Finds an argument in a rules file, by a text such as `ruleset/plugin.argument` with names or
+numbers.
+"""
 import copy
 import json
 import re
@@ -17,8 +19,9 @@ DELAY = "post_action_delay"
 
 @dataclass(frozen=True)
 class Place:
-    """A plugin or a ruleset in the file: the path of keys and indices to it, and the number and the
-    name of its ruleset, its group and its plugin. `plugin` is None for a ruleset.
+    """A plugin or a ruleset in a rules file. `way` is the path of keys and indices to it. `numbers`
+    and `names` identify it: by its ruleset and, for a plugin, also by its detector group or
+    `actions` and by the plugin itself. `plugin` is None for a ruleset.
     """
 
     way: tuple[str | int, ...]
@@ -29,12 +32,12 @@ class Place:
     def spelled(self) -> str:
         return "/".join(self.numbers)
 
-    def told(self) -> str:
+    def text(self) -> str:
         return f"{self.spelled()} ({' / '.join(map(quoted, self.names))})"
 
     def is_meant(self, parts: list[str]) -> bool:
-        """Returns whether `parts` name this place: the ruleset, the detector's group or `actions`
-        (optional), and the plugin, each by name or number.
+        """Whether `parts` identify this place. They are the ruleset, the detector's group or
+        `actions` (which may be left out), and the plugin, each by name or number.
         """
         own = list(zip(self.names, self.numbers))
         ways = [own] if len(own) != 3 else [own, [own[0], own[2]]]
@@ -55,7 +58,7 @@ class Place:
 
 
 def places(rules: RulesFile) -> Iterator[Place]:
-    """Yields the places of all rulesets and plugins of the file."""
+    """Yields the places of all rulesets and plugins in the file."""
     for number, ruleset in enumerate(rules.rulesets):
         way: tuple[str | int, ...] = ("rulesets", number)
         yield Place(way, (str(number),), (ruleset["name"],), None)
@@ -73,8 +76,7 @@ def places(rules: RulesFile) -> Iterator[Place]:
 
 
 def splits(text: str) -> Iterator[list[str]]:
-    """Yields the parts of `text` if split at none, one or two of its slashes, since names may
-    contain slashes.
+    """Yields all ways to split `text` at up to two of its slashes, since names may contain slashes.
     """
     pieces = text.split("/")
     yield [text]
@@ -85,7 +87,7 @@ def splits(text: str) -> Iterator[list[str]]:
 
 
 def find(rules: RulesFile, text: str) -> tuple[Place, str]:
-    """Finds the place and the argument that `ruleset/plugin.argument` names. Raises a Fault
+    """Finds the place and the argument that a text `ruleset/plugin.argument` names. Raises a Fault
     unless exactly one place matches.
     """
     name, _, argument = text.rpartition(".")
@@ -95,19 +97,19 @@ def find(rules: RulesFile, text: str) -> tuple[Place, str]:
     found = [place for place in places(rules) if place.spelled() == name]
     found = found or [place for place in places(rules) if any(place.is_meant(it) for it in parts)]
     if len(found) > 1:
-        told = "; ".join(f"{place.spelled()}.{argument} for {place.told()}" for place in found)
-        raise Fault(f"{quoted(name)} is ambiguous in {rules.name}: write {told}")
+        choices = "; ".join(f"{place.spelled()}.{argument} for {place.text()}" for place in found)
+        raise Fault(f"{quoted(name)} is ambiguous in {rules.name}: write {choices}")
     if not found:
-        told = "; ".join(place.told() for place in places(rules) if place.plugin)
-        raise Fault(f"{rules.name} has no {quoted(name)}: it has {told or 'no plugin'}")
+        choices = "; ".join(place.text() for place in places(rules) if place.plugin)
+        raise Fault(f"{rules.name} has no {quoted(name)}: it has {choices or 'no plugin'}")
     if argument not in found[0].arguments():
         known = listed(found[0].arguments())
-        raise Fault(f"{found[0].told()} has no argument {quoted(argument)}: it has {known}")
+        raise Fault(f"{found[0].text()} has no argument {quoted(argument)}: it has {known}")
     return found[0], argument
 
 
 def changed(rules: RulesFile, values: list[tuple[Place, str, str]]) -> bytes:
-    """Returns the file with other values of arguments."""
+    """Returns the bytes of the rules file with new values of some arguments."""
     data = copy.deepcopy(rules.data)
     for place, argument, value in values:
         place.put(data, argument, value)

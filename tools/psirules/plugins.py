@@ -1,12 +1,12 @@
-"""The plugins that psi_oomd knows, as in the tables of docs/RULES.md, and the plugins that only
-oomd 0.5.0 knows.
+"""Tables of the plugins that psi_oomd knows, as in docs/RULES.md, and of the plugins that only oomd
+0.5.0 knows.
 """
 from dataclasses import dataclass, field
 from enum import Enum
 
 
 class Form(Enum):
-    """The forms of arguments, each with its description for messages."""
+    """The forms of arguments. The values are descriptions for messages."""
 
     PATTERNS = "1 to 16 patterns of groups' paths, with commas between"
     RESOURCE = "io or memory"
@@ -19,8 +19,8 @@ class Form(Enum):
 
 @dataclass(frozen=True)
 class Plugin:
-    """The arguments of a plugin, each with its form, and the arguments that only oomd knows,
-    which psi_oomd ignores.
+    """A plugin's arguments, each with its form. `of_oomd` has the arguments that only oomd knows,
+    and that psi_oomd ignores.
     """
 
     required: dict[str, Form]
@@ -37,7 +37,7 @@ class Plugin:
 def _action(
     required: dict[str, Form], optional: dict[str, Form] | None = None, *of_oomd: str
 ) -> Plugin:
-    """Returns an action's arguments, including those that all actions share."""
+    """Returns the arguments of an action, including those that all actions have."""
     every = {
         "recursive": Form.TRUTH,
         "always_continue": Form.TRUTH,
@@ -82,7 +82,7 @@ ACTIONS = {
 
 
 class Effect(Enum):
-    """The effect of a plugin that only oomd has on the list of plugins that contains it."""
+    """What a plugin that only oomd knows does to the list of plugins that contains it."""
 
     CONTINUES = "lets what follows it go on, and does nothing that a replay shows"
     STOPS = "ends its list"
@@ -100,7 +100,7 @@ OF_OOMD = {
     "senpai": Effect.ACTS,
     "systemd_restart": Effect.ACTS,
 }
-"""The plugins of oomd 0.5.0 that psi_oomd doesn't know, by the names that oomd registers."""
+"""The plugins of oomd 0.5.0 that psi_oomd doesn't know, by their names in oomd."""
 
 TOP_KEYS = ("rulesets",)
 TOP_KEYS_OF_OOMD = ("prekill_hooks", "version")

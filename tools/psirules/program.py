@@ -37,15 +37,15 @@ ADVICE: dict[int, str] = {
         "the program isn't built, and couldn't be: run `psi_oomd --build`, and read what it says"
     ),
 }
-"""Advice for the user, by the program's exit status."""
+"""Advice for the user, by psi_oomd's exit status."""
 
 Answer = TypeVar("Answer")
 
 
 @dataclass(frozen=True)
 class Kill:
-    """A kill that a replay printed: its time (ns), the numbers of its ruleset and its action (from
-    0), and the victim's path.
+    """A kill that a replay printed: its time (ns), the numbers of its ruleset and its action (both
+    from 0), and the victim's path.
     """
 
     time_ns: int
@@ -56,7 +56,9 @@ class Kill:
 
 @dataclass(frozen=True)
 class Pace:
-    """The lengths of ticks (ms) and of evaluation intervals (s), None for the program's default."""
+    """The length of ticks (ms) and the interval of evaluations (s). None selects the program's
+    default.
+    """
 
     tick_ms: int | None = None
     interval_s: int | None = None
@@ -68,31 +70,31 @@ class Pace:
 
 @dataclass(frozen=True)
 class RulesAt:
-    """A rules file: the path of a copy of its bytes, and its own name for messages."""
+    """A rules file: the path of a temporary copy, and the original name for messages."""
 
     path: str
     name: str
 
 
 class Refusal(Fault):
-    """The error that the program ended without its output: the rejected file, the program's message
-    and its status.
+    """Raised if psi_oomd failed. The message names the rejected file, and has the program's own
+    message and advice.
     """
 
     def __init__(self, file: str, said: str, status: int, path: str | None = None) -> None:
-        """`path` is the file whose kind the message names, if it isn't `file`."""
+        """`path` is the file that is inspected to explain the error, if it isn't `file`."""
         advice = ADVICE.get(status, f"the program ended by status {status}").format(
             file=shlex.quote(file)
         )
-        told = why_refused(said, file if path is None else path, file)
+        message = why_refused(said, file if path is None else path, file)
         name = file
         if status == ProgramStatus.NO_FILE:
             name = ""  # the program's message has the file's name
         elif status == ProgramStatus.READ_FAULT and os.path.isdir(file):
-            name, told, advice = "", "", folder_message(file)
-        elif told != said:
+            name, message, advice = "", "", folder_message(file)
+        elif message != said:
             advice = ""
-        super().__init__(": ".join(filter(None, [name, told, advice])))
+        super().__init__(": ".join(filter(None, [name, message, advice])))
         self.said, self.program_status = said, status
 
 
@@ -102,14 +104,15 @@ def processors() -> int:
 
 
 class Program:
-    """The psi_oomd next to the tools, or the program in the variable PSI_OOMD."""
+    """Runs the psi_oomd next to the tools, or the program that the variable PSI_OOMD names."""
 
     def __init__(self) -> None:
         self.path = named_program()
 
     def replay(self, trace: str, rules: RulesAt, pace: Pace, threads: int) -> list[Kill]:
-        """Returns the kills in a trace by these rules. Raises a Refusal if the program rejects
-        one of them. With `--report-s=0` it prints only the last report, which is ignored.
+        """Returns the kills that a rules file makes in a trace. Raises a Refusal if the program
+        rejects the trace or the rules. The option `--report-s=0` suppresses all reports except the
+        last.
         """
         words = [
             "replay",
@@ -141,7 +144,7 @@ class Program:
         return kills
 
     def started(self, words: list[str], said: IO[bytes] | None) -> subprocess.Popen[bytes]:
-        """Starts the program. Its standard error goes into the file `said`, or isn't redirected if
+        """Starts the program. Its standard error is written to the file `said`, or is inherited if
         `said` is None.
         """
         try:
@@ -153,8 +156,8 @@ class Program:
             ) from fault
 
     def prepare(self) -> None:
-        """Builds the program next to the tools if it isn't up to date, once and before several
-        processes would build it at the same time. From then on the program is run without the
+        """Builds the program next to the tools if it isn't up to date, so that parallel processes
+        don't build it at the same time. From then on the program is run directly, without the
         launcher, which checks for newer sources at each start.
         """
         if not os.environ.get(VARIABLE):
@@ -174,7 +177,7 @@ class Program:
 
 
 def read_kills(lines: Iterable[str]) -> list[Kill] | None:
-    """Parses the kills in a replay's lines. Returns None if the lines don't end like a replay."""
+    """Parses the kills in the output of a replay. Returns None if the output is incomplete."""
     kills: list[Kill] = []
     end: re.Match[str] | None = None
     for line in lines:
@@ -185,8 +188,8 @@ def read_kills(lines: Iterable[str]) -> list[Kill] | None:
 
 
 def side_by_side(calls: Sequence[Callable[[int], Answer]], jobs: int) -> list[Answer | Fault]:
-    """Runs `jobs` calls at a time, and returns the answer or the Fault of each, in order. Each
-    call gets the number of threads that it may use.
+    """Runs the calls, up to `jobs` at a time. Returns the result or the Fault of each, in order.
+    Each call gets the number of threads that it may use.
     """
     lanes = max(1, min(jobs, len(calls)))
     threads = max(1, processors() // lanes)

@@ -1,20 +1,20 @@
-"""Finds the ranges of a number's values that meet expectations, by bisection if the answer is
-monotone, otherwise on a grid.
+"""Finds the ranges of a number's values that meet expectations. Uses bisection if the kills depend
+monotonically on the value, and a grid if not.
 """
 from __future__ import annotations
 
 from collections.abc import Callable
 from dataclasses import dataclass
 
-# The largest number of values in a grid, apart from the present value.
+# The largest number of values in a grid, without the value in the file.
 GRID = 21
 EARLY, LATE, OTHER = "early", "late", "other"
 
 
 @dataclass(frozen=True)
 class Outcome:
-    """The result of a value: the first fault of each kind (EARLY, LATE and OTHER), and the first
-    kills of each trace.
+    """The result of a value: the first fault of each kind (EARLY, LATE or OTHER), and the first
+    kills in each trace.
 
     In a monotone search a lower value never makes a first kill later. So an EARLY fault remains
     if the value is lowered, and a LATE fault if it is raised.
@@ -33,8 +33,9 @@ class Outcome:
 
 @dataclass(frozen=True)
 class Range:
-    """Consecutive values that hold, both ends included, and why the next value that was tried on
-    each side doesn't; None and empty if there is no next value.
+    """A range of values that meet the expectations, from `low` to `high` (inclusive). `lower` and
+    `higher` are the next values that were tried outside (None if there are none), and `below` and
+    `above` say why they fail.
     """
 
     low: int
@@ -47,8 +48,8 @@ class Range:
 
 @dataclass(frozen=True)
 class Search:
-    """The ranges of a number, how they were found, and how many values were tried. `step` is the
-    distance between the values of a grid, or 1.
+    """The ranges of a number, the method by which they were found, and the number of values that
+    were tried. `step` is the distance between the values of a grid, or 1.
     """
 
     ranges: list[Range]
@@ -61,28 +62,29 @@ class Search:
         return next((it for it in self.ranges if it.low <= value <= it.high), None)
 
     def widest(self) -> Range | None:
-        """Returns the range with the most values, the first if there are several, or None without
-        ranges.
+        """Returns the range with the most values, or the first of several such ranges. Returns None
+        if there are no ranges.
         """
         order = sorted(self.ranges, key=lambda it: (it.low - it.high, it.low))
         return order[0] if order else None
 
 
-# A function that returns the outcomes of values. It gets many values at once, since one replay can
-# evaluate many.
+# A function that evaluates several values at once, since one replay can evaluate many, and returns
+# the outcome of each.
 Look = Callable[[list[int]], list[Outcome]]
 
 
 def is_settled(low: Outcome, high: Outcome) -> bool:
-    """Returns whether the values between two tried values need not be tried: all have the same
-    first kills, all are too early, or all are too late.
+    """Whether no value between two evaluated values needs to be evaluated: all have the same first
+    kills, or all kill too early, or all kill too late.
     """
     return low.first == high.first or EARLY in high.faults or LATE in low.faults
 
 
 def bisect(low: int, high: int, at_once: int, look: Look) -> dict[int, Outcome]:
-    """Returns the outcomes of enough values in a range to know those of all others. The first round
-    tries about `at_once` values, and each further round halves all intervals that aren't settled.
+    """Evaluates as many values in a range as determine the outcome of every value. The first round
+    evaluates about `at_once` values. Each further round halves all intervals that are still
+    undecided.
     """
     step = max(1, -(-(high - low) // max(1, at_once - 1)))
     values = sorted({*range(low, high, step), high})
@@ -101,8 +103,8 @@ def bisect(low: int, high: int, at_once: int, look: Look) -> dict[int, Outcome]:
 
 
 def on_grid(low: int, high: int, present: int, look: Look) -> tuple[dict[int, Outcome], int]:
-    """Returns the outcomes of evenly spaced values and of the present value, and the distance
-    between the values.
+    """Evaluates evenly spaced values and `present`, the value in the file. Returns the outcomes by
+    value, and the distance between the values.
     """
     step = max(1, -(-(high - low) // (GRID - 1)))
     values = sorted({*range(low, high + 1, step), high, min(max(present, low), high)})
@@ -110,8 +112,8 @@ def on_grid(low: int, high: int, present: int, look: Look) -> tuple[dict[int, Ou
 
 
 def joined(found: dict[int, Outcome], is_exact: bool) -> list[Range]:
-    """Joins values that hold to ranges. On a grid, the values between two neighbours that hold
-    count as holding.
+    """Joins consecutive values that meet the expectations into ranges. On a grid, the values
+    between two such neighbours are assumed to meet them too.
     """
     values = sorted(found)
     ranges: list[Range] = []
@@ -137,8 +139,8 @@ def joined(found: dict[int, Outcome], is_exact: bool) -> list[Range]:
 def search(
     span: tuple[int, int], present: int, at_once: int, is_monotone: bool, look: Look
 ) -> Search:
-    """Finds the ranges in a span, both ends included. `at_once` is the number of values that one
-    replay can evaluate.
+    """Finds the ranges within a span, which includes both ends. `at_once` is the number of values
+    that one replay can evaluate.
     """
     low, high = span
     if is_monotone:

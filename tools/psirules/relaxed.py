@@ -1,4 +1,4 @@
-"""Parses JSON as oomd's parser JsonCpp accepts it, with comments and trailing commas."""
+"""Parses JSON with comments and trailing commas, which oomd's parser JsonCpp accepts."""
 import json
 import re
 from typing import Any
@@ -13,8 +13,8 @@ TAKEN_OUT = "it is taken out"
 
 
 class Reading:
-    """The data of a rules file. `changes` lists the places that aren't JSON by RFC 8259, and how
-    they were changed; `doubles` lists keys that occur twice in an object.
+    """The parsed data of a rules file. `changes` lists the places that aren't JSON according to RFC
+    8259, and how they were corrected. `doubles` lists keys that occur twice in an object.
     """
 
     def __init__(self, data: bytes) -> None:
@@ -34,21 +34,21 @@ class Reading:
         return text.removeprefix(BYTE_ORDER_MARK)
 
     def strict(self, text: str) -> str:
-        """Returns the text without comments, and without commas after the last item of a list or
+        """Returns the text without comments, and without a comma after the last item of a list or
         an object.
         """
-        kept, line = [], 1
+        parts, line = [], 1
         for found in TOKEN.finditer(text):
             token = found[0]
             if token.startswith(("//", "/*")):
                 self.changes.append((f"line {line}: a comment", TAKEN_OUT))
-                kept.append(" ")
+                parts.append(" ")
             elif token == "," and BEHIND_A_COMMA.match(text, found.end()):
                 self.changes.append((f"line {line}: a comma after the last item", TAKEN_OUT))
             else:
-                kept.append(token)
+                parts.append(token)
             line += token.count("\n")
-        return "".join(kept)
+        return "".join(parts)
 
     def parsed(self, text: str) -> Any:
         text = text.lstrip(" \t\r\n")
@@ -67,8 +67,8 @@ class Reading:
         return data
 
     def decoded(self, text: str, is_strict: bool) -> tuple[Any, int]:
-        """Parses the data at the start of the text, and returns it and the offset of its end.
-        With `is_strict`, strings must not contain control characters.
+        """Parses the JSON value at the start of the text. Returns the value, and the offset of its
+        end. With `is_strict`, control characters in strings are errors.
         """
         self.doubles = []
         words: dict[str, Any] = {
@@ -92,8 +92,8 @@ def place_of(fault: json.JSONDecodeError) -> str:
 
 
 def whole(digits: str) -> int | float:
-    """Parses a whole number. -0 becomes a float, since psi_oomd doesn't accept it as a whole
-    number.
+    """Converts the digits of a whole number. -0 becomes a float, since psi_oomd doesn't accept it
+    as a whole number.
     """
     return -0.0 if digits == "-0" else int(digits)
 

@@ -1,4 +1,4 @@
-"""Replays several traces in parallel."""
+"""Replays several traces at the same time."""
 import contextlib
 import functools
 import json
@@ -23,7 +23,7 @@ from psireplay.sampled import MOST_BYTES, Sampled, Whole, mark_in, time_in_whole
 from psireplay.trace import UNKNOWN, end_of
 from psirules.patterns import matches
 from psirules.program import Kill, Pace, Program, Refusal, RulesAt, processors, side_by_side
-from psirules.rules_file import RulesFile, bytes_of, kept
+from psirules.rules_file import RulesFile, bytes_of, temporary_rules
 from psirules.sampling import must_judge, promise
 
 STANDARD_INPUT = "-"
@@ -32,10 +32,10 @@ GROUP = re.compile(rb"^[0-9]+ group (\S+)$", re.MULTILINE)
 
 @dataclass(frozen=True)
 class Traces:
-    """Traces by name, the lengths of ticks and intervals, and how many are replayed at a time
-    (None for the number of processors). Traces that were made together from samples are one,
-    named after the first; `parts` has all of them. `spans` has the time of each trace whose kills
-    count, if not all do.
+    """The traces to replay, the lengths of ticks and intervals, and the number of simultaneous
+    replays (None for the number of processors). Traces that were made together from the same
+    samples count as one, with the name of the first; `parts` has all of them. `spans` has the part
+    of each trace whose kills count, if a part is selected.
     """
 
     names: list[str]
@@ -48,8 +48,8 @@ class Traces:
     def of(
         names: list[str], pace: Pace, jobs: int | None, values: Mapping[str, Any]
     ) -> "Traces":
-        """Returns the traces `names`, in which those that were made together are one. The
-        options of `add_times` are among `values`.
+        """Returns the traces `names`. Traces that were made together from the same samples become
+        one. `values` has the options that `add_times` added.
         """
         found = wholes(names)
         spans = {it.name: part_of(it.name, values, length_of(it)) for it in found}
@@ -62,12 +62,12 @@ class Traces:
         )
 
     def joined(self, trace: str, replay: Callable[[str], list[Kill]]) -> list[Kill]:
-        """Returns the kills in a trace, or in all its parts, that count."""
+        """Returns the kills in a trace that are within its selected part."""
         return within(self.all_kills(trace, replay), self.spans.get(trace))
 
     def all_kills(self, trace: str, replay: Callable[[str], list[Kill]]) -> list[Kill]:
-        """Returns the kills in a trace, or in all its parts. A kill in the time that two parts
-        share is returned once.
+        """Returns the kills in a trace, or in all traces that were made together with it. A kill in
+        the overlap of two of them is returned once.
         """
         if trace not in self.parts:
             return replay(trace)
@@ -78,7 +78,10 @@ class Traces:
         return kills
 
     def groups(self, trace: str) -> set[str] | None:
-        """Returns all groups of a trace or of its parts. None if some part can't be read twice."""
+        """Returns the paths of all groups of a trace. If several traces were made from the same
+        samples, returns the paths of the groups of all of them. Returns None if a file, such as a
+        pipe, can be read only once.
+        """
         found: set[str] = set()
         for name, _ in self.parts.get(trace, [(trace, None)]):
             groups = all_groups(name)
@@ -88,12 +91,12 @@ class Traces:
         return found
 
     def replay(self, program: Program, trace: str, file: RulesAt, threads: int) -> list[Kill]:
-        """Returns the kills in one trace by a rules file."""
+        """Returns the kills that a rules file makes in a trace."""
         must_judge(trace, json.loads(bytes_of(file.path)), file.name)
         return self.joined(trace, lambda name: program.replay(name, file, self.pace, threads))
 
     def replays(self, program: Program, rules: list[RulesAt]) -> list[list[list[Kill] | Fault]]:
-        """Returns for each rules file the kills in each trace, or the Fault if the trace couldn't
+        """Returns, for each rules file and each trace, the kills, or a Fault if the trace couldn't
         be replayed.
         """
         pairs = [(file, trace) for file in rules for trace in self.names]
@@ -104,8 +107,8 @@ class Traces:
         ]
 
     def each(self, replay: Callable[[str, int], list[Kill]]) -> list[list[Kill] | Fault]:
-        """Replays each trace by the function `replay`, which gets the number of threads that it may
-        use. Returns the kills in each trace, or the Fault if the trace couldn't be replayed.
+        """Returns, for each trace, the kills, or a Fault if the trace couldn't be replayed. Calls
+        `replay` with the trace's name and the number of threads that it may use.
         """
 
         def call(trace: str, threads: int) -> list[Kill]:
@@ -117,13 +120,14 @@ class Traces:
 
 
 def length_of(whole: Whole) -> int:
-    """Returns the length (ns) of a trace, or of traces that were made together."""
+    """Returns the length (ns) of a trace, or of all traces that were made together."""
     ends = [time_in_whole(end_of(name), mark) for name, mark in whole.parts]
     return max((it for it in ends if it is not None), default=UNKNOWN)
 
 
 def read_again() -> None:
-    """Replaces the standard input by a temporary file with its contents, which can be read again.
+    """Copies standard input to a temporary file, which replaces it, so that it can be read several
+    times.
     """
     file = tempfile.TemporaryFile()
     shutil.copyfileobj(sys.stdin.buffer, file)
@@ -132,8 +136,8 @@ def read_again() -> None:
 
 
 def all_groups(trace: str) -> set[str] | None:
-    """Returns all groups of a trace, with the root, and without the group that marks a trace of
-    samples. None if the trace can't be read twice, such as a pipe.
+    """Returns the paths of all groups of a trace, including the root, but not the group that marks
+    a trace of samples. Returns None if the trace can't be read twice, for example if it is a pipe.
     """
     with contextlib.ExitStack() as files:
         number = 0 if trace == STANDARD_INPUT else None
@@ -151,8 +155,8 @@ def all_groups(trace: str) -> set[str] | None:
 
 
 def note_unmatched(traces: Traces, names: list[str], rules: list[RulesFile]) -> None:
-    """Prints a note for each pattern of the rules that matches no group of a trace: such a rule
-    never has an effect there. A trace with only the root needs no note.
+    """Prints a note for each pattern of the rules that matches no group of a trace, and so has no
+    effect there. Prints no note for a trace whose only group is the root.
     """
     for trace in names:
         groups = traces.groups(trace) or set()
@@ -167,15 +171,15 @@ def note_unmatched(traces: Traces, names: list[str], rules: list[RulesFile]) -> 
 
 
 def note_samples(traces: list[str], rules: list[RulesFile]) -> None:
-    """Prints notes on what rules can detect in traces that were made from samples."""
+    """Prints notes on the stalls that the rules can detect in traces that were made from samples.
+    """
     for said in dict.fromkeys(promise(trace, file.data) for trace in traces for file in rules):
         if said:
             complain(f"note: {said}")
 
 
 def no_input(names: list[str]) -> None:
-    """Raises a Fault if the standard input is given as a trace, since it would be read more than
-    once.
+    """Raises a Fault if standard input is one of the traces, since it would be read several times.
     """
     if STANDARD_INPUT in names:
         raise Fault("- is no trace here, since it is read more than once: write it to a file first")
@@ -184,11 +188,12 @@ def no_input(names: list[str]) -> None:
 def accepted(
     program: Program, name: str, files: contextlib.ExitStack, order: str = ""
 ) -> tuple[RulesFile, RulesAt]:
-    """Returns a rules file that the program accepts, and a copy that exists until `files` is
-    closed. If a trace is given in the file's place, the Fault states the `order` of the arguments.
+    """Returns a rules file that the program accepts, and a temporary copy that exists until `files`
+    is closed. Raises a Refusal if the program rejects the rules. If the file is a trace, raises a
+    Fault that states the `order` of the arguments.
     """
     data = bytes_of(name)
-    rules = files.enter_context(kept(data, name))
+    rules = files.enter_context(temporary_rules(data, name))
     try:
         program.judge(rules)
     except Refusal as refusal:

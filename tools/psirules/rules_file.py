@@ -1,4 +1,4 @@
-"""A rules file that the program accepted: its bytes, and the names in it."""
+"""Reads rules files that psi_oomd accepts, and looks up the names in them."""
 import json
 import tempfile
 from collections.abc import Iterator
@@ -12,7 +12,7 @@ from psirules.program import Kill, RulesAt
 
 
 def bytes_of(name: str) -> bytes:
-    """Reads a file. Here `-` isn't the standard input."""
+    """Returns the bytes of a file. The name `-` has no special meaning."""
     try:
         with open(name, "rb") as file:
             return file.read()
@@ -23,9 +23,9 @@ def bytes_of(name: str) -> bytes:
 
 
 @contextmanager
-def kept(data: bytes, name: str) -> Iterator[RulesAt]:
-    """Yields a temporary rules file with these bytes. Thus the replayed rules are those whose names
-    are printed, even if the original file changes meanwhile or is a pipe.
+def temporary_rules(data: bytes, name: str) -> Iterator[RulesAt]:
+    """Yields a temporary rules file with these bytes. The replay then uses the rules whose names
+    are printed, even if the original file is a pipe or is changed.
     """
     with tempfile.NamedTemporaryFile(prefix="psirules-", suffix=".json") as file:
         file.write(data)
@@ -34,7 +34,7 @@ def kept(data: bytes, name: str) -> Iterator[RulesAt]:
 
 
 class RulesFile:
-    """A rules file that the program accepted, so that all required keys exist."""
+    """A rules file that psi_oomd accepted, so all required keys exist."""
 
     def __init__(self, name: str, data: bytes) -> None:
         self.name = name
@@ -52,11 +52,11 @@ class RulesFile:
         return f"{ruleset}, action {kill.action} {quoted(self.plugin_name(kill))}"
 
     def killed(self, kill: Kill) -> str:
-        """Says when and by what a group was killed, to follow the group's path."""
+        """Describes a kill after the group's path: `killed at TIME by KILLER`."""
         return f"killed at {time_text(kill.time_ns)} by {self.killer(kill)}"
 
     def record(self, kill: Kill) -> dict[str, object]:
-        """Returns the kill as a JSON object."""
+        """Returns a kill as a JSON object."""
         return {
             "moment_ns": kill.time_ns,
             "path": kill.path,
@@ -67,8 +67,8 @@ class RulesFile:
         }
 
     def numbers_of(self, ruleset: str) -> list[int]:
-        """Returns the numbers of the rulesets with the name `ruleset`; if no ruleset has it, the
-        ruleset with this number.
+        """Returns the numbers of the rulesets with the name `ruleset`. If there are none, `ruleset`
+        may be the number of a ruleset.
         """
         named = [number for number, it in enumerate(self.rulesets) if it["name"] == ruleset]
         if (
@@ -81,8 +81,8 @@ class RulesFile:
         return named
 
     def patterns(self) -> list[tuple[int, str]]:
-        """Returns the patterns of groups in each ruleset, without repetitions, each with the
-        ruleset's number.
+        """Returns the patterns of groups that the rulesets use, as pairs of a ruleset's number and
+        a pattern, without duplicates.
         """
         found = []
         for number, ruleset in enumerate(self.rulesets):

@@ -1,5 +1,5 @@
-"""Determines which rules can be evaluated on traces made from samples, and how reliable the answers
-are.
+"""Determines which rules can be evaluated on traces that were made from samples, and how reliable
+the results are.
 """
 from __future__ import annotations
 
@@ -11,17 +11,17 @@ from psicli.fault import Fault
 from psicli.times import SECOND
 from psireplay.sampled import Sampled, sampled
 
-# The plugins that need counts of scanned pages.
+# The plugins that need counts of scanned pages in a trace.
 OF_SCANS = ("memory_reclaim", "kill_by_pg_scan")
-# The time constant (s) of the average over 10 s: after a full stall of this length the average is
-# 63 percent. `ABOVE` are the plugins with a threshold of pressure.
+# The time constant (s) of the 10 s average: after a full stall of PERIOD seconds the average is 63
+# percent. `ABOVE` has the plugins with a pressure threshold.
 PERIOD = 10.0
 ABOVE = ("pressure_above", "pressure_rising_beyond")
 
 
 def must_have_scans(trace: str, plugins: Iterable[str], name: str) -> None:
-    """Raises a Fault if a plugin needs counts of scanned pages and the trace was made from samples
-    without such counts. `plugins` are the plugins of the rules file `name`.
+    """Raises a Fault if one of the plugins needs counts of scanned pages, and the trace was made
+    from samples without them. `name` is the rules file of the plugins.
     """
     found = next((it for it in plugins if it in OF_SCANS), None)
     mark = sampled(trace) if found else None
@@ -33,8 +33,8 @@ def must_have_scans(trace: str, plugins: Iterable[str], name: str) -> None:
 
 
 def must_judge(trace: str, rules: Any, name: str) -> None:
-    """Raises a Fault if rules need counts of scanned pages and the trace was made from samples
-    without such counts. `rules` is the data of a rules file.
+    """Raises a Fault if a rule needs counts of scanned pages, and the trace was made from samples
+    without them. `rules` is the parsed data of the rules file `name`.
     """
     for ruleset in rules["rulesets"]:
         plugins = [it for group in ruleset["detectors"] for it in group[1:]] + ruleset["actions"]
@@ -42,16 +42,16 @@ def must_judge(trace: str, rules: Any, name: str) -> None:
 
 
 def note(trace: str) -> str:
-    """Returns the text that follows an answer on a trace: the interval of its samples. Empty if the
-    trace wasn't made from samples.
+    """Returns the text that follows a result: the interval of the trace's samples. Returns an empty
+    string if the trace wasn't made from samples.
     """
     mark = sampled(trace)
     return f" ({mark.interval()})" if mark else ""
 
 
 def least_stall(mark: Sampled, threshold: float, duration: float) -> float:
-    """Returns the length of the shortest full stall (s) that surely exceeds a threshold (percent)
-    for a duration (s): the time until the average over 10 s exceeds the threshold, plus the
+    """Returns the length (s) of the shortest full stall that surely exceeds a threshold (percent)
+    for a duration (s). It is the time until the 10 s average exceeds the threshold, plus the
     duration, plus two intervals between samples.
     """
     rise = PERIOD * math.log(100 / (100 - min(threshold, 99.0)))
@@ -59,7 +59,9 @@ def least_stall(mark: Sampled, threshold: float, duration: float) -> float:
 
 
 def thresholds(rules: Any) -> Iterator[tuple[float, float]]:
-    """Yields the threshold (percent) and duration (s) of each pressure detector in a rules file."""
+    """Yields the threshold (percent) and the duration (s) of each pressure detector in a rules
+    file.
+    """
     for ruleset in rules["rulesets"]:
         for group in ruleset["detectors"]:
             for detector in group[1:]:
@@ -68,8 +70,8 @@ def thresholds(rules: Any) -> Iterator[tuple[float, float]]:
 
 
 def promise(trace: str, rules: Any) -> str | None:
-    """Returns a sentence with the length from which on stalls are surely detected by these rules in
-    a trace of samples. None for other traces, or without pressure detectors.
+    """Returns a sentence that states the shortest stall that these rules surely detect in a trace
+    of samples. Returns None for other traces, and for rules without pressure detectors.
     """
     mark, found = sampled(trace), list(thresholds(rules))
     if not mark or not found:

@@ -1,5 +1,5 @@
-"""Finds a missing key of a rules file, or a value that has the wrong JSON kind. psi_oomd itself
-reports only the place and the cause.
+"""Finds missing keys in a rules file, and values of a wrong JSON type. psi_oomd itself reports only
+the place and the cause of an error.
 """
 from collections.abc import Iterator
 from typing import Any
@@ -18,19 +18,19 @@ KINDS = {
 
 
 def kind_of(value: object) -> str:
-    """Returns the name of a value's JSON kind."""
+    """Returns the name of a value's JSON type."""
     return KINDS.get(type(value), "null")
 
 
 def first_fault(data: Any) -> str | None:
-    """Returns a description of the first missing key or value of a wrong kind, in the order in
-    which psi_oomd reads. None if there is none.
+    """Describes the first missing key or value of a wrong type, in the order in which psi_oomd
+    reads the file. Returns None if there is no such error.
     """
     return next(faults(data), None)
 
 
 def faults(data: Any) -> Iterator[str]:
-    """Yields descriptions of all missing keys and values of a wrong kind."""
+    """Yields a description of each missing key, and of each value of a wrong type."""
     if not isinstance(data, dict):
         yield f"the file is {kind_of(data)}, and has to be an object with the key 'rulesets'"
         return
@@ -85,8 +85,8 @@ def plugin_faults(place: str, plugin: Any) -> Iterator[str]:
 
 
 def key_faults(place: str, at: dict[str, Any], wanted: dict[str, type]) -> Iterator[str]:
-    """Yields descriptions of the keys of `wanted` that an object lacks, or whose value has another
-    kind.
+    """Yields a description of each key of `wanted` that is missing in an object, or has a value of
+    another type.
     """
     for key, kind in wanted.items():
         if key not in at:
@@ -99,6 +99,6 @@ def key_faults(place: str, at: dict[str, Any], wanted: dict[str, type]) -> Itera
 
 
 def items(at: dict[str, Any], key: str) -> list[Any]:
-    """Returns the list at `key`, empty if there is none."""
+    """Returns the list at `key`, or an empty list if there is none."""
     found = at.get(key)
     return found if isinstance(found, list) else []

@@ -1,5 +1,5 @@
-"""tools/rules suggest: finds thresholds and durations with which rules kill in incidents and not in
-quiet traces.
+"""tools/rules suggest: finds thresholds and durations with which rules kill during incidents, but
+not in quiet traces.
 """
 import argparse
 import contextlib
@@ -40,7 +40,9 @@ STATUS = "The status is 0 if there are such values, 1 if not, and 2 if something
 
 @dataclass(frozen=True)
 class Task:
-    """The incidents with their expectations, the quiet traces, and the options about clocks."""
+    """The input of a search: incidents with their expectations, quiet traces, and the options that
+    select parts of traces.
+    """
 
     incidents: list[str]
     wanted: list[Expectation]
@@ -49,20 +51,20 @@ class Task:
     values: Mapping[str, Any]
 
     def is_monotone(self) -> bool:
-        """Returns whether a lower value can't make a first kill later. If only the kills of some
-        time count, it can: by an earlier kill, after which the ruleset rests.
+        """Whether a lower value never delays the first kill. If only a part of a trace counts, it
+        can: an earlier kill before that part may begin a pause of the ruleset.
         """
         is_first = all(isinstance(it, (First, NoKillBefore)) for it in self.wanted)
         return is_first and not self.traces.spans
 
 
 def first_of(kills: list[Kill]) -> tuple[Kill, ...]:
-    """Returns the kills at the time of the first kill."""
+    """Returns all kills at the time of the first kill."""
     return tuple(it for it in kills if it.time_ns == kills[0].time_ns)
 
 
 def kind_of(wanted: Expectation, kills: list[Kill]) -> str:
-    """Returns the kind of fault of an expectation that doesn't hold."""
+    """Returns the kind of fault of an expectation that doesn't hold: EARLY, LATE or OTHER."""
     if isinstance(wanted, NoKillBefore):
         return EARLY
     if not isinstance(wanted, First):
@@ -73,15 +75,15 @@ def kind_of(wanted: Expectation, kills: list[Kill]) -> str:
 
 
 class Judge:
-    """Evaluates sets of values, and caches their outcomes."""
+    """Evaluates sets of values, and caches the outcomes."""
 
     def __init__(self, it: Subject, task: Task) -> None:
         self.subject, self.task = it, task
         self.known: dict[tuple[tuple[Knob, int], ...], Outcome] = {}
 
     def look(self, many: list[Values]) -> list[Outcome]:
-        """Returns the outcomes of sets of values. A number that isn't in a set keeps its value in
-        the file.
+        """Returns the outcome of each set of values. A number that a set doesn't contain has its
+        value in the file.
         """
         keys = [tuple(sorted(values.items(), key=lambda it: it[0].spelled())) for values in many]
         unknown = {key: values for key, values in zip(keys, many) if key not in self.known}
@@ -90,7 +92,7 @@ class Judge:
         return [self.known[key] for key in keys]
 
     def judged(self, found: Found) -> Outcome:
-        """Returns the outcome of the kills in all traces."""
+        """Returns the outcome for the kills in all traces."""
         faults: dict[str, str] = {}
         kills: list[list[Kill]] = []
         for it in found:
@@ -104,19 +106,19 @@ class Judge:
         return Outcome(faults, tuple(map(first_of, kills)))
 
     def faults(self, trace: str, kills: list[Kill]) -> Iterator[tuple[str, str]]:
-        """Yields the faults of the kills in a trace, each with its kind."""
+        """Yields the kind and the description of each fault of the kills in a trace."""
         if trace in self.task.quiet and kills:
             yield EARLY, f"kills {kills[0].path} at {time_text(kills[0].time_ns)}"
         for wanted in self.task.wanted if trace in self.task.incidents else ():
             verdict = wanted.verdict(kills, self.subject.rules)
             if not verdict.holds:
-                yield kind_of(wanted, kills), f"{wanted.text}: {verdict.told}"
+                yield kind_of(wanted, kills), f"{wanted.text}: {verdict.text}"
 
 
 @dataclass(frozen=True)
 class Answer:
-    """The ranges of a number, and the sampling intervals of those traces that were made from
-    samples.
+    """The ranges of a number. `samples` is a text with the sampling intervals of the traces that
+    were made from samples.
     """
 
     knob: Knob
@@ -154,7 +156,9 @@ class Answer:
 
 
 def searched(judge: Judge, knob: Knob, others: Values) -> Search:
-    """Finds the ranges of a number while other numbers have the values `others`."""
+    """Finds the ranges of a number, while the numbers in `others` have other values than in the
+    file.
+    """
     is_monotone = judge.subject.is_monotone() and judge.task.is_monotone()
 
     def look(values: list[int]) -> list[Outcome]:
@@ -170,8 +174,8 @@ def middle(found: Range) -> int:
 
 def widest(judge: Judge, knobs: list[Knob]) -> dict[Knob, int]:
     """Returns values with wide margins. Each number in turn is set to the middle of its widest
-    range, given the values set before. All numbers except the last are set a second time, since the
-    ranges depend on the other numbers.
+    range, which depends on the numbers that were set before. Therefore all numbers except the last
+    are set a second time.
     """
     chosen: dict[Knob, int] = {}
     for knob in [*knobs, *knobs[:-1]]:
@@ -182,35 +186,36 @@ def widest(judge: Judge, knobs: list[Knob]) -> dict[Knob, int]:
     return chosen
 
 
-def check_words(given: argparse.Namespace) -> None:
-    """Raises a Fault if the arguments contradict each other."""
-    no_input([*given.incidents, *given.quiet])
-    both = sorted(set(given.incidents) & set(given.quiet))
+def check_words(options: argparse.Namespace) -> None:
+    """Raises a Fault if the options contradict each other."""
+    no_input([*options.incidents, *options.quiet])
+    both = sorted(set(options.incidents) & set(options.quiet))
     if both:
         raise Fault(f"{both[0]} is given as an incident and as a quiet trace")
-    if given.by != PSI_OOMD and given.tick_ms:
-        raise Fault(f"--tick-ms isn't for --by {given.by}")
-    if given.by == by_systemd.NAME and given.interval_s:
-        raise Fault(f"--interval-s isn't for --by {given.by}, which evaluates each second")
-    if given.systemd and given.by != by_systemd.NAME:
+    if options.by != PSI_OOMD and options.tick_ms:
+        raise Fault(f"--tick-ms isn't for --by {options.by}")
+    if options.by == by_systemd.NAME and options.interval_s:
+        raise Fault(f"--interval-s isn't for --by {options.by}, which evaluates each second")
+    if options.systemd and options.by != by_systemd.NAME:
         raise Fault(f"--systemd is for --by {by_systemd.NAME}")
 
 
-def task_of(given: argparse.Namespace) -> Task:
-    """Reads the expectations and traces. Raises a Fault if a line of WANT has a pattern that
-    matches no group of an incident.
+def task_of(options: argparse.Namespace) -> Task:
+    """Reads the expectations and the traces. Raises a Fault if a pattern in the WANT file matches
+    no group of an incident.
     """
-    wanted = expectations.read(given.want, bytes_of(given.want))
-    traces = Traces.of([*given.incidents, *given.quiet], given.pace, given.jobs, vars(given))
-    for trace in given.incidents:
+    wanted = expectations.read(options.want, bytes_of(options.want))
+    names = [*options.incidents, *options.quiet]
+    traces = Traces.of(names, options.pace, options.jobs, vars(options))
+    for trace in options.incidents:
         groups = traces.groups(trace)
         for it in wanted if groups else ():
             missing = it.missing(groups or set())
             if missing:
-                raise Fault(f"{given.want} line {it.line}: {trace}: {missing}")
-    incidents = [it for it in traces.names if it in given.incidents]
+                raise Fault(f"{options.want} line {it.line}: {trace}: {missing}")
+    incidents = [it for it in traces.names if it in options.incidents]
     quiet = [it for it in traces.names if it not in incidents]
-    return Task(incidents, wanted, quiet, traces, vars(given))
+    return Task(incidents, wanted, quiet, traces, vars(options))
 
 
 def check_wanted(task: Task, it: Subject, name: str) -> None:
@@ -223,8 +228,8 @@ def check_wanted(task: Task, it: Subject, name: str) -> None:
 
 @dataclass(frozen=True)
 class Suggestion:
-    """The ranges of each number, the values with the widest margins, and the ranges around these
-    values.
+    """The result: the ranges of each number, the values with the widest margins, and the ranges
+    around these values.
     """
 
     answers: list[Answer]
@@ -233,17 +238,17 @@ class Suggestion:
     holds: bool
 
 
-def suggest(given: argparse.Namespace, judge: Judge, knobs: list[Knob]) -> Suggestion:
-    """Finds all ranges and the values with the widest margins, and writes these values to a file if
-    requested.
+def suggest(options: argparse.Namespace, judge: Judge, knobs: list[Knob]) -> Suggestion:
+    """Finds all ranges and the values with the widest margins. Writes the values to a file if an
+    option names one.
     """
     marks = {mark.interval() for trace in judge.task.traces.names if (mark := sampled(trace))}
     samples = ", ".join(sorted(marks))
     answers = [Answer(knob, searched(judge, knob, {}), samples) for knob in knobs]
     chosen = widest(judge, knobs)
     holds = bool(chosen) and judge.look([chosen])[0].holds
-    if given.output and holds:
-        with open(given.output, "wb") as file:
+    if options.output and holds:
+        with open(options.output, "wb") as file:
             file.write(judge.subject.text(chosen))
     around = [
         Answer(
@@ -257,7 +262,7 @@ def suggest(given: argparse.Namespace, judge: Judge, knobs: list[Knob]) -> Sugge
 
 
 def suggested_lines(found: Suggestion) -> Iterator[str]:
-    """Yields the lines for all ranges, and for the values with the widest margins."""
+    """Yields the lines of the report: all ranges, and the values with the widest margins."""
     for it in found.answers:
         yield from it.lines()
     if not found.holds:
@@ -272,50 +277,51 @@ def suggested_lines(found: Suggestion) -> Iterator[str]:
             yield f"  {it.knob.spelled()} {value} {it.knob.unit}: margin {margin} ({way})"
 
 
-def record_of(given: argparse.Namespace, found: Suggestion) -> dict[str, object]:
+def record_of(options: argparse.Namespace, found: Suggestion) -> dict[str, object]:
     values = [
         {"place": it.place, "argument": it.argument, "value": value}
         for it, value in found.chosen.items()
     ]
     samples = {
         trace: mark.interval()
-        for trace in [*given.incidents, *given.quiet]
+        for trace in [*options.incidents, *options.quiet]
         if (mark := sampled(trace))
     }
     return {
-        "rules": given.file, "by": given.by, "want": given.want,
-        "incidents": given.incidents, "quiet": given.quiet,
+        "rules": options.file, "by": options.by, "want": options.want,
+        "incidents": options.incidents, "quiet": options.quiet,
         "samples": samples, "ranges": [it.record() for it in found.answers],
         "widest": values if found.holds else None, "around": [it.record() for it in found.around],
     }  # fmt: skip
 
 
-def run(given: argparse.Namespace) -> int:
-    check_words(given)
+def run(options: argparse.Namespace) -> int:
+    check_words(options)
     program = Program()
     program.prepare()
-    task = task_of(given)
+    task = task_of(options)
     groups = set().union(*(task.traces.groups(it) or set() for it in task.traces.names))
     with contextlib.ExitStack() as files:
         judged = subject(
-            program, given.by, given.file, given.interval_s, given.systemd, groups, files
+            program, options.by, options.file, options.interval_s, options.systemd, groups, files
         )
-        check_wanted(task, judged, given.want)
+        check_wanted(task, judged, options.want)
         longest = max(end_of(it, 0) // SECOND + 1 for it in task.traces.names)
         knobs = list(judged.knobs(longest))
         if not knobs:
             raise Fault(
-                f"{given.file} has no threshold in percent and no duration of a detector that"
+                f"{options.file} has no threshold in percent and no duration of a detector that"
                 " could be varied"
             )
-        found = suggest(given, Judge(judged, task), knobs)
-    if given.by not in (by_oomd.NAME, by_systemd.NAME):
+        found = suggest(options, Judge(judged, task), knobs)
+    if options.by not in (by_oomd.NAME, by_systemd.NAME):
         note_unmatched(task.traces, task.incidents, [judged.rules])
         note_samples(task.traces.names, [judged.rules])
-    if given.form is Form.JSON:
-        telling.tell_json(record_of(given, found))
+    if options.form is Form.JSON:
+        telling.tell_json(record_of(options, found))
     else:
         print("\n".join(suggested_lines(found)))
-    if given.output and not found.holds:
-        complain(f"{quoted(given.output)} wasn't written: no values were found that hold together")
+    if options.output and not found.holds:
+        name = quoted(options.output)
+        complain(f"{name} wasn't written: no values were found that hold together")
     return Status.DONE if found.holds else Status.FOUND

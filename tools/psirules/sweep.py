@@ -18,7 +18,7 @@ from psirules import places, telling
 from psirules.places import Place
 from psirules.program import Kill, Pace, Program, Refusal, processors, side_by_side
 from psirules.replays import accepted, no_input, note_samples
-from psirules.rules_file import RulesFile, kept
+from psirules.rules_file import RulesFile, temporary_rules
 from psirules.sampling import must_judge
 from psirules.telling import Outcome
 
@@ -37,7 +37,7 @@ MOST_RUNS = 10000
 
 @dataclass(frozen=True)
 class Axis:
-    """An argument and its values."""
+    """An argument of a rules file, and the values that are tried."""
 
     place: Place
     argument: str
@@ -45,7 +45,9 @@ class Axis:
 
 
 def values_of(text: str) -> list[str]:
-    """Returns the values of FROM:TO:STEP, both ends inclusive, or those separated by commas."""
+    """Parses values for an argument: FROM:TO:STEP with both ends inclusive, or values separated by
+    commas.
+    """
     if ":" not in text:
         return [value for value in text.split(",") if value]
     found = re.fullmatch(r"([0-9.]+)([KMGTkmgt%]?):([0-9.]+)\2:([0-9.]+)\2", text)
@@ -79,8 +81,8 @@ def axis(rules: RulesFile, text: str) -> Axis:
 
 @dataclass(frozen=True)
 class Row:
-    """A trace, a value of each argument, and the kills with these values, or why there was no
-    replay. `first` is the time of the first kill for people.
+    """A trace, a value for each argument, and the kills with these values, or a Fault if the replay
+    failed. `first` is the time of the first kill as text.
     """
 
     trace: str
@@ -117,17 +119,19 @@ def replay(
     choice: Choice,
     axes: list[Axis],
     rules: RulesFile,
-    given: argparse.Namespace,
+    options: argparse.Namespace,
     part: Span | None,
     threads: int,
 ) -> list[Kill]:
-    """Returns the kills in a trace, or in a part of it, with these values of the axes."""
+    """Returns the kills in a trace if the arguments have these values. `part` selects a part of the
+    trace.
+    """
     trace, values = choice
     data = places.changed(
         rules, [(one.place, one.argument, value) for one, value in zip(axes, values)]
     )
-    pace: Pace = given.pace
-    with kept(data, rules.name) as file:
+    pace: Pace = options.pace
+    with temporary_rules(data, rules.name) as file:
         try:
             return within(Program().replay(trace, file, pace, threads), part)
         except Refusal as refusal:
@@ -138,12 +142,12 @@ def replay(
 
 
 def named(axes: list[Axis], values: tuple[str, ...]) -> str:
-    """Lists the values with their arguments."""
+    """Lists the arguments with their values, for messages."""
     return ", ".join(f"{one.argument} {value}" for one, value in zip(axes, values))
 
 
 def tell_table(axes: list[Axis], rows: list[Row]) -> None:
-    """Prints the rows as a table with a head row."""
+    """Prints the rows as a table with a header."""
     heads = ["value"] if len(axes) == 1 else [one.argument for one in axes]
     table = [["trace", *heads, "kills", "first kill", "victim"], *(row.cells() for row in rows)]
     if len({row.trace for row in rows}) == 1:
@@ -155,51 +159,51 @@ def tell_table(axes: list[Axis], rows: list[Row]) -> None:
         complain(fault)
 
 
-def first_time(trace: str, found: list[Kill] | Fault, given: argparse.Namespace) -> str:
-    """Returns the time of the first kill in a trace for people, or `-` without a kill."""
+def first_time(trace: str, found: list[Kill] | Fault, options: argparse.Namespace) -> str:
+    """Returns the time of the first kill in a trace as text, or `-` if there is no kill."""
     if isinstance(found, Fault) or not found:
         return "-"
-    with clock_of(trace, vars(given)):
+    with clock_of(trace, vars(options)):
         return time_text(found[0].time_ns)
 
 
-def rows_of(axes: list[Axis], rules: RulesFile, given: argparse.Namespace) -> list[Row]:
-    """Replays each combination of a trace and values, and returns their rows."""
-    pairs = itertools.product(given.traces, itertools.product(*(one.values for one in axes)))
+def rows_of(axes: list[Axis], rules: RulesFile, options: argparse.Namespace) -> list[Row]:
+    """Replays each trace with each combination of values. Returns a row for each replay."""
+    pairs = itertools.product(options.traces, itertools.product(*(one.values for one in axes)))
     choices = list(itertools.islice(pairs, MOST_RUNS + 1))
     if len(choices) > MOST_RUNS:
         raise Fault(f"more than {MOST_RUNS} replays are asked for: take greater steps")
-    parts = {trace: part_of(trace, vars(given)) for trace in given.traces}
+    parts = {trace: part_of(trace, vars(options)) for trace in options.traces}
     calls = [
-        functools.partial(replay, choice, axes, rules, given, parts[choice[0]])
+        functools.partial(replay, choice, axes, rules, options, parts[choice[0]])
         for choice in choices
     ]
-    results = side_by_side(calls, given.jobs or processors())
+    results = side_by_side(calls, options.jobs or processors())
     return [
-        Row(trace, values, found, first_time(trace, found, given))
+        Row(trace, values, found, first_time(trace, found, options))
         for (trace, values), found in zip(choices, results)
     ]
 
 
-def run(given: argparse.Namespace) -> int:
-    no_input(given.traces)
+def run(options: argparse.Namespace) -> int:
+    no_input(options.traces)
     program = Program()
     program.prepare()
     with contextlib.ExitStack() as files:
-        rules, _ = accepted(program, given.file, files, "FILE TRACE, with a rules file for FILE")
-    axes = [axis(rules, text) for text in given.vary]
-    for trace in given.traces:
+        rules, _ = accepted(program, options.file, files, "FILE TRACE, with a rules file for FILE")
+    axes = [axis(rules, text) for text in options.vary]
+    for trace in options.traces:
         must_judge(trace, rules.data, rules.name)
-    note_samples(given.traces, [rules])
-    rows = rows_of(axes, rules, given)
+    note_samples(options.traces, [rules])
+    rows = rows_of(axes, rules, options)
 
     def record(status: int) -> object:
         records = [row.record(axes, rules) for row in rows]
-        return {"rules": given.file, "traces": given.traces, "status": status, "rows": records}
+        return {"rules": options.file, "traces": options.traces, "status": status, "rows": records}
 
     return telling.tell(
-        given.form,
-        [row.outcome(axes, len(given.traces) > 1) for row in rows],
+        options.form,
+        [row.outcome(axes, len(options.traces) > 1) for row in rows],
         record,
         lambda: tell_table(axes, rows),
     )

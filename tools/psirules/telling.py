@@ -1,4 +1,6 @@
-"""Prints outcomes as lines for people, as TAP (version 13) for test harnesses, or as JSON."""
+"""Prints the outcomes of checks as lines for people, as TAP (version 13) for test harnesses, or as
+JSON.
+"""
 import json
 import sys
 from collections.abc import Callable
@@ -16,17 +18,18 @@ class Form(Enum):
 
 @dataclass(frozen=True)
 class Outcome:
-    """The outcome of a check: its name, whether it is as expected (None if it couldn't be run), and
-    the reason.
+    """The outcome of a check: its name, whether it passed (None if it couldn't be run), and the
+    reason.
     """
 
     name: str
     is_ok: bool | None
-    told: str
+    message: str
 
 
 def status_of(outcomes: list[Outcome]) -> int:
-    """Returns the exit status. A check that couldn't be run has priority over a check that failed.
+    """Returns the exit status. FAILED, for a check that couldn't be run, has priority over FOUND,
+    for a check that failed.
     """
     if any(outcome.is_ok is None for outcome in outcomes):
         return Status.FAILED
@@ -39,12 +42,13 @@ def tell_json(value: object) -> None:
 
 
 def tell_tap(outcomes: list[Outcome]) -> None:
-    """Prints outcomes as TAP: a plan, a line for each outcome, and below it the message in YAML."""
+    """Prints outcomes as TAP: a plan, and a line for each outcome, followed by its message in YAML.
+    """
     print(f"TAP version 13\n1..{len(outcomes)}")
     for number, outcome in enumerate(outcomes, 1):
         name = outcome.name.replace("\\", "\\\\").replace("#", "\\#")
         print(f"{'ok' if outcome.is_ok else 'not ok'} {number} - {name}")
-        print(f"  ---\n  message: {json.dumps(outcome.told)}\n  ...")
+        print(f"  ---\n  message: {json.dumps(outcome.message)}\n  ...")
 
 
 def tell(
@@ -53,8 +57,8 @@ def tell(
     record: Callable[[int], object],
     tell_lines: Callable[[], None],
 ) -> int:
-    """Prints outcomes in one of the forms, and returns the exit status. `record` makes the JSON
-    value from the status, and `tell_lines` prints lines for people.
+    """Prints outcomes in the requested form, and returns the exit status. `record` returns the JSON
+    value for a status, and `tell_lines` prints lines for people.
     """
     status = status_of(outcomes)
     if form is Form.JSON:

@@ -30,8 +30,8 @@ CONTINUE = {"name": "continue", "args": {}}
 
 
 def oomd_size(text: str) -> str:
-    """Returns a size in oomd's notation, with a letter or as a sum, since oomd counts a bare number
-    in MiB.
+    """Converts a size to oomd's notation, with a unit letter or as a sum, since oomd reads a bare
+    number as MiB.
     """
     if text.endswith("%"):
         return text
@@ -43,15 +43,15 @@ def oomd_size(text: str) -> str:
 
 
 class Converter:
-    """The configuration of oomd, and notes on what is lost."""
+    """Converts psi_oomd's rules to a configuration of oomd. Collects notes on what is lost."""
 
     def __init__(self, data: Any) -> None:
-        self.told: list[tuple[str, bool]] = []
-        made = [self.ruleset(number, it) for number, it in enumerate(data["rulesets"])]
-        self.data = {"rulesets": [it for it in made if it]}
+        self.notes: list[tuple[str, bool]] = []
+        rulesets = [self.ruleset(number, it) for number, it in enumerate(data["rulesets"])]
+        self.data = {"rulesets": [it for it in rulesets if it]}
 
     def tell(self, place: str, what: str, is_lost: bool = True) -> None:
-        self.told.append((f"{place}: {what}", is_lost))
+        self.notes.append((f"{place}: {what}", is_lost))
 
     def ruleset(self, number: int, ruleset: dict[str, Any]) -> dict[str, Any] | None:
         name = ruleset["name"] or f"ruleset {number}"
@@ -69,12 +69,12 @@ class Converter:
         return {"name": name, "detectors": groups, "actions": actions}
 
     def group(self, place: str, number: int, group: list[Any]) -> list[Any]:
-        """Converts a group of detectors. A group without detectors always holds, like oomd's
-        `continue`.
+        """Converts a group of detectors. A group without detectors always holds, so it gets oomd's
+        detector `continue`.
         """
         name, *detectors = group
-        made = [self.plugin(f"{place}, item {at}", it) for at, it in enumerate(detectors)]
-        return [name or f"group {number}", *(made or [CONTINUE])]
+        plugins = [self.plugin(f"{place}, item {at}", it) for at, it in enumerate(detectors)]
+        return [name or f"group {number}", *(plugins or [CONTINUE])]
 
     def plugin(self, place: str, plugin: dict[str, Any]) -> dict[str, Any]:
         name, args = plugin["name"], dict(plugin["args"])
@@ -88,7 +88,9 @@ class Converter:
         return {"name": name, "args": args}
 
     def ratio(self, place: str, args: dict[str, Any]) -> None:
-        """Converts `min_growth_ratio`: oomd reads only its whole part, and its default is 1.25."""
+        """Converts `min_growth_ratio`. oomd reads only the integer part of the text, and its
+        default is 1.25.
+        """
         text = args.pop("min_growth_ratio", None)
         if text is None or text == DEFAULT_RATIO:
             return
@@ -101,7 +103,7 @@ class Converter:
             )
 
     def losses(self, place: str, name: str, args: dict[str, Any]) -> None:
-        """Adds notes on differences between oomd and psi_oomd for the same arguments."""
+        """Adds notes on differences between oomd and psi_oomd with the same arguments."""
         if args.get("growing_size_percentile") == "100":
             args["growing_size_percentile"] = MOST_PERCENTILE
             self.tell(
@@ -123,7 +125,7 @@ class Converter:
 
 
 def canonical(program: Program, name: str) -> Any:
-    """Returns the rules of a file with all arguments, as psi_oomd prints them."""
+    """Returns the rules of a file as psi_oomd prints them, with all arguments."""
     with program.started(["rules", "--", name], None) as child:
         assert child.stdout is not None
         said = child.stdout.read()
@@ -132,18 +134,20 @@ def canonical(program: Program, name: str) -> Any:
     return json.loads(said)
 
 
-def print_made(data: Any, told: list[tuple[str, bool]]) -> int:
-    """Prints the result, and the notes on standard error. Returns the exit status."""
-    for what, is_lost in told:
+def print_made(data: Any, notes: list[tuple[str, bool]]) -> int:
+    """Prints the converted data on standard output, and the notes on standard error. Returns the
+    exit status.
+    """
+    for what, is_lost in notes:
         complain(f"{what}{' (LOST)' if is_lost else ''}")
     sys.stdout.flush()
     sys.stdout.buffer.write(written(data))
     sys.stdout.buffer.flush()
-    return Status.FOUND if any(is_lost for _, is_lost in told) else Status.DONE
+    return Status.FOUND if any(is_lost for _, is_lost in notes) else Status.DONE
 
 
-def run(given: argparse.Namespace) -> int:
+def run(options: argparse.Namespace) -> int:
     program = Program()
     program.prepare()
-    converter = Converter(canonical(program, given.file))
-    return print_made(converter.data, converter.told)
+    converter = Converter(canonical(program, options.file))
+    return print_made(converter.data, converter.notes)

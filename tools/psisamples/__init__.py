@@ -1,3 +1,3 @@
-"""Makes a trace from samples of pressure: artificial scheduler events that cause the pressure that
-the machine reported.
+"""Converts samples of pressure to a trace: artificial scheduler events that cause the pressure that
+a machine reported.
 """

@@ -1,9 +1,10 @@
-"""A block is a period on a processor in which tasks of a group cause six wanted stall times.
+"""Computes blocks. A block is a period on a processor in which tasks of a group cause six given
+stall times: some and full of IO, memory and CPU.
 
-The times (ns) are in the order of LEVELS. A block needs at most four tasks, which are called by
-their kinds: `w` waits for IO, `s` sleeps in a memory stall, `o` is ready, and `r` runs. A block has
-three parts. In the first no task is ready. In the second `o` is ready and no task runs. In the
-third `r` runs until the end of the block, so that the weight of the block is a whole number of ms.
+The times (ns) are in the order of LEVELS. A block needs at most four tasks, one of each kind: `w`
+waits for IO, `s` sleeps in a memory stall, `o` is ready, and `r` runs. A block has three parts. In
+the first no task is ready. In the second `o` is ready and no task runs. In the third `r` runs until
+the end of the block, so that the weight of the block is a whole number of ms.
 
 A letter is the state of a task: `w` waits for IO, `s` sleeps in a memory stall, `r` and `R` are
 ready, `x` and `X` run, and `z` sleeps. A task in a state `R` or `X` is in a memory stall, too.
@@ -23,7 +24,9 @@ NONE: Times = (0,) * len(LEVELS)
 
 
 class Span(NamedTuple):
-    """A task of this kind is in a state from `begin` to `end` (ns since the start of its block)."""
+    """The state of a task: the task of kind `kind` is in `state` from `begin` to `end` (ns since
+    the start of its block).
+    """
 
     begin: int
     end: int
@@ -32,7 +35,7 @@ class Span(NamedTuple):
 
 
 def possible(times: Times) -> Times:
-    """Returns the nearest times that a group on one processor can have within a tick."""
+    """Limits stall times (ns) to values that a group on one processor can have within a tick."""
     io_some, io_full, mem_some, mem_full, cpu_some, cpu_full = (
         min(TICK, max(0, it)) for it in times
     )
@@ -43,7 +46,7 @@ def possible(times: Times) -> Times:
 
 
 def fitted(times: Times, room: int) -> Times:
-    """Returns the nearest times that fit into a block of `room` ns."""
+    """Limits stall times (ns) to values that fit into a block of `room` ns."""
     io_some, io_full, mem_some, mem_full, cpu_some, cpu_full = (
         min(room, max(0, it)) for it in times
     )
@@ -54,15 +57,16 @@ def fitted(times: Times, room: int) -> Times:
 
 
 def least_length(times: Times) -> int:
-    """Returns the shortest length (ns) of a block with these times."""
+    """Returns the length (ns) of the shortest block with these stall times (ns)."""
     io_some, io_full, mem_some, mem_full, cpu_some, _ = times
     busy = max(cpu_some, io_some - io_full, mem_some - mem_full)
     return busy + max(io_full, mem_full - busy)
 
 
 def easy_length(times: Times) -> int:
-    """Returns the length (ns) of a block in which tasks sleep during the whole time of memory full,
-    which needs fewer context switches. Returns the shortest length if a tick has less room.
+    """Returns the length (ns) of a block in which tasks sleep during all of the memory full time,
+    so that fewer context switches are needed. Returns the length of the shortest block if a tick is
+    too short for that.
     """
     io_some, io_full, mem_some, mem_full, cpu_some, _ = times
     busy = max(cpu_some, io_some - io_full, mem_some - mem_full)
@@ -71,13 +75,13 @@ def easy_length(times: Times) -> int:
 
 
 def spans_of(times: Times, length: int) -> list[Span]:
-    """Returns the states of the tasks in a block of `length` ns."""
+    """Returns the states of the tasks in a block of `length` ns with these stall times (ns)."""
     io_some, io_full, mem_some, mem_full, cpu_some, cpu_full = times
     busy = max(cpu_some, io_some - io_full, mem_some - mem_full)
     idle = max(io_full, min(mem_full, length - busy))
     asleep = min(mem_full, idle)
-    # From `idle` to `stalled` the running or ready task is itself in a memory stall. After that `s`
-    # is in a memory stall until `lacking`.
+    # From `idle` to `stalled`, the running or ready task itself is in a memory stall. From
+    # `stalled` to `lacking`, the task `s` is in a memory stall.
     stalled = idle + mem_full - asleep
     lacking = stalled + mem_some - mem_full
     found = [

@@ -61,7 +61,7 @@ HELP = {
     ),
     "lines": "write at most N lines to a trace (4000000)",
 }
-# The shortest and the longest lead-in (ns).
+# The shortest and the longest warm-up before the first sample (ns).
 LEAST_PAST, MOST_PAST = 120 * SECOND, 3600 * SECOND
 SHOWN = 8
 TRIGGER = re.compile(r"(/\S*) (io|memory|cpu) (some|full) ([1-9][0-9]*) ([1-9][0-9]*)")
@@ -111,11 +111,11 @@ def trigger(word: str) -> Trigger:
     return Trigger(found[1], word.partition(" ")[2])
 
 
-# ---------------------------------------------------------------- the work
+# ---------------------------------------------------------------- running the conversion
 
 
 def read(arguments: argparse.Namespace) -> Data:
-    """Reads all samples."""
+    """Reads all samples in the input files."""
     labels: tuple[str, ...] = tuple(filter(None, arguments.labels.split(",")))
     averages = {"yes": True, "no": False, None: None}[arguments.averages]
     averages = True if arguments.lead is not None else averages
@@ -126,7 +126,9 @@ def read(arguments: argparse.Namespace) -> Data:
 
 
 def span_of(arguments: argparse.Namespace, data: Data) -> tuple[int, int]:
-    """Returns the start and the end of the trace (ns since 1970)."""
+    """Returns the start and the end of the trace (ns since 1970): those of the command line, or
+    those of the samples.
+    """
     length, wall = data.end - data.start, WallTime(data.start, 0)
     ends = []
     for option, value, default in (("--from", arguments.start, 0), ("--to", arguments.end, length)):
@@ -156,13 +158,13 @@ def must_see(triggers: list[Trigger], data: Data) -> None:
 
 
 class Progress:
-    """Shows on a terminal how much of the work is done."""
+    """Shows the progress of the conversion on a terminal."""
 
     def __init__(self, whole: int) -> None:
         self.whole, self.shown, self.is_shown = whole, time.monotonic(), sys.stderr.isatty()
 
     def show(self, done: int) -> None:
-        """Shows that `done` ns are converted, at most twice a second."""
+        """Shows that `done` ns are converted. Updates the terminal at most twice a second."""
         if self.is_shown and time.monotonic() > self.shown + 0.5:
             self.shown = time.monotonic()
             print(f"\rsamples: {min(100, 100 * done // max(1, self.whole))} %", end="",
@@ -170,7 +172,7 @@ class Progress:
 
 
 def report(data: Data, made: Made, span: int) -> list[str]:
-    """Returns the lines of the report on the traces, which cover `span` ns."""
+    """Returns the lines of the report on the written traces, which cover `span` ns."""
     longest = f", the longest {seconds(data.gap)} s" if data.gap > data.every else ""
     several = f", in {len(made.names)} traces that overlap by 15 min" if len(made.names) > 1 else ""
     sampled = f"sampled each {seconds(data.every)} s{longest}{several}"
@@ -205,7 +207,7 @@ def report(data: Data, made: Made, span: int) -> list[str]:
 
 
 def work(arguments: argparse.Namespace) -> int:
-    """Makes the traces, and returns the exit status."""
+    """Converts the samples to one or more traces, and returns the exit status."""
     must_be_writable(arguments.output)
     data = read(arguments)
     must_see(arguments.trigger, data)

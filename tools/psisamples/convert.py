@@ -1,4 +1,6 @@
-"""Converts rows of samples to a trace, tick by tick, in which totals grow as in the samples."""
+"""Converts rows of samples to a trace, tick by tick. The totals in the trace grow as in the
+samples.
+"""
 from __future__ import annotations
 
 from collections import deque
@@ -17,33 +19,34 @@ from .writer import Event, Key, Processor, Task
 
 US = 1000
 TIME = itemgetter(0)
-# The first number of artificial tasks, which is greater than any pid of a kernel.
+# The number of the first artificial task. It is greater than any pid of a kernel.
 FIRST_NUMBER = 4_000_000_000
-# Growth by less than this in a tick (ns) is added at the next sample, unless a descendant is
-# active: averages hardly show it, since they are computed from whole percents of a tick.
+# If a total grows by less than this (ns) in a tick, the growth is added at the next sample, unless
+# a descendant of the group is active. The averages hardly change, since the kernel computes them
+# from whole percents of a tick.
 LEAST = TICK // 100
-# A difference from the wanted total below this (ns) is ignored, so that the ticks between two
-# samples have the same events.
+# If a total differs from the sample by less than this (ns), the difference is ignored, so that all
+# ticks between two samples have the same events.
 SMALL = 500
-# A total that differs from the sample by at most this (us) isn't reported as off.
+# If a total differs from the sample by at most this (us), the difference isn't reported.
 NEAR = 2
-# Between samples, a memory sample is written only if the size changed by more than a twentieth.
+# Between two readings, a memory sample is written only if the size changed by more than 1/PARTS.
 PARTS = 20
 NEVER = 2**62
-# The first word of a pseudo line `tasks NUMBER`, in whose place a group's tasks are created.
+# The first word of an internal line `tasks NUMBER`, which marks where a group's tasks are created.
 TASKS = "tasks"
 
 
 class Off(NamedTuple):
-    """How often a group's total was off by more than NEAR, and the greatest difference (us)."""
+    """How often a group's total was off by more than NEAR, and the largest difference (us)."""
 
     times: int
     most: int
 
 
 class Conversion:
-    """Makes a trace tick by tick. `checks` collects the totals that a replay must print at each
-    tick according to the samples, as lines `TIME PATH LEVEL TOTAL` (ns, us).
+    """Converts samples tick by tick. `checks` collects the totals that a replay must print
+    according to the samples, as lines `TIME PATH LEVEL TOTAL` (ns, us).
     """
 
     def __init__(self, lives: Lives, options: Options) -> None:
@@ -71,13 +74,14 @@ class Conversion:
         self.new: set[int] = set()
         self.ended: set[int] = set()
         self.known_paths: set[str] = set()
-        # The groups that have a sample in the current tick, each with the number of a resource.
+        # The groups that have a sample in the current tick, each with the number of a sampled
+        # resource.
         self.sampled: list[tuple[Life, int]] = []
 
-    # ---------------------------------------------------------------- groups
+    # ---------------------------------------------------------------- creating and removing groups
 
     def change_groups(self) -> list[str]:
-        """Removes and creates groups after the previous tick. Returns the lines without times."""
+        """Removes and creates groups after the previous tick. Returns lines without times."""
         self.lives.read_until((self.tick + 1) * TICK)
         ends = [it for it in self.order if it.end_tick is not None and it.end_tick <= self.tick]
         begins = [it for it in self.lives.born if it.tick <= self.tick]
@@ -94,7 +98,7 @@ class Conversion:
         return lines
 
     def remove(self, ends: list[Life], lines: list[str]) -> list[Life]:
-        """Removes groups and their descendants. Returns new groups for those with more samples."""
+        """Removes groups and descendants. Returns new groups for descendants with more samples."""
         removed = {it.path for it in ends}
         again: list[Life] = []
         for life in sorted(self.order, key=lambda it: -it.path.count("/")):
@@ -112,11 +116,11 @@ class Conversion:
         return again
 
     def has_below(self, path: str) -> bool:
-        """Returns whether the group at `path` has a live descendant, or is the root."""
+        """Whether the group at `path` is the root, or has a descendant that exists."""
         return path == ROOT or any(it.startswith(path + "/") for it in self.live)
 
     def leave(self, life: Life, lines: list[str]) -> None:
-        """Ends the tasks of a group, which are asleep, and removes the group."""
+        """Appends the lines that end a group's sleeping tasks, and remove the group."""
         del self.live[life.path]
         numbers = self.tasks.pop(life.number).numbers
         self.ended.add(life.number)
@@ -129,14 +133,14 @@ class Conversion:
         self.written.pop(life.path, None)
 
     def make(self, life: Life, lines: list[str]) -> None:
-        """Creates a group, and its ancestors that don't exist."""
+        """Creates a group, and any of its ancestors that don't exist."""
         for path in prefixes(life.path):
             if path not in self.live:
                 self.make(Life(path, self.tick, False), lines)
         known = self.live.get(life.path)
         self.live[life.path] = life
         if known is not None:
-            # The group was created for a descendant, and has samples from now on.
+            # The group was created as an ancestor of another group, and has samples from now on.
             life.number = known.number
         else:
             life.number = next(self.groups)
@@ -145,7 +149,7 @@ class Conversion:
             self.made_again += life.path in self.known_paths
             self.known_paths.add(life.path)
             self.tasks[life.number] = Tasks(life.path)
-            # Rules choose among groups with a live task, so each has one.
+            # Rules choose only among groups with a live task, so each group gets a task.
             self.put_back((life.number, "r"), self.task_of((life.number, "r")))
             lines += [f"group {life.path}"] if life.path != ROOT else []
             lines += [
@@ -155,7 +159,7 @@ class Conversion:
         life.start()
 
     def arrange(self) -> None:
-        """Sorts the groups from the deepest up, and computes the chains of their ancestors."""
+        """Sorts the groups by depth, the deepest first, and computes their ancestors."""
         self.order = sorted(self.live.values(),
                             key=lambda it: (it.path == ROOT, -it.path.count("/"), it.path))
         chains = {}
@@ -165,11 +169,11 @@ class Conversion:
         self.tree = Tree(chains, {number: frozenset(chain) for number, chain in chains.items()})
         self.wanted = None
 
-    # ---------------------------------------------------------------- a tick
+    # ---------------------------------------------------------------- converting ticks
 
     def step(self) -> None:
-        """Converts the next tick. Groups are created and removed 1 ns after the previous tick
-        ends, so that the previous tick still counts the stalls of removed groups.
+        """Converts the next tick. Groups are created and removed 1 ns after the end of the previous
+        tick, so that the previous tick still counts the stalls of removed groups.
         """
         changes = self.change_groups()
         start = self.tick * TICK
@@ -190,13 +194,13 @@ class Conversion:
         self.compare()
 
     def end(self) -> None:
-        """Writes the memory samples at the last tick."""
+        """Writes the memory samples that are due at the end of the trace."""
         out: list[str] = []
         self.put_memory(self.tick * TICK, out)
         self.file.write(out)
 
     def put_changes(self, lines: list[str], time: int) -> None:
-        """Writes the lines about groups, and marks the places at which their tasks are created."""
+        """Writes the lines that create or remove groups. Marks where tasks are created."""
         for line in lines:
             verb, _, number = line.partition(" ")
             if verb == TASKS:
@@ -205,8 +209,8 @@ class Conversion:
                 self.file.write([f"{time} {line}\n"])
 
     def events_of(self, start: int) -> list[Event]:
-        """Returns the events of the tick that begins at `start` (ns). If all groups want the same
-        shares as in the previous tick, these are its events again.
+        """Returns the events of the tick that starts at `start` (ns). The events of the previous
+        tick are used again if all groups need the same growth.
         """
         wanted = self.wants(start)
         if wanted == self.wanted and self.plan is not None:
@@ -222,7 +226,9 @@ class Conversion:
         return self.lines
 
     def planned(self, wanted: list[tuple[int, tuple[int, ...]]]) -> Plan:
-        """Returns the plan of a tick with blocks that give the groups these shares (ns)."""
+        """Returns a plan for a tick. `wanted` has, for each group's number, the times (ns) by which
+        the group's totals must grow in the tick.
+        """
         plan = Plan(self.tree, self.before, self.new if self.tick else set())
         for number, times in wanted:
             plan.give(number, times)
@@ -244,7 +250,7 @@ class Conversion:
         return events
 
     def task_of(self, key: Key) -> Task:
-        """Returns a sleeping task of a group and kind: one that isn't in use, or a new one."""
+        """Returns a sleeping task of a group and kind: an unused task, or a new one."""
         free = self.free.get(key)
         if free:
             return free.pop()
@@ -254,14 +260,14 @@ class Conversion:
         return task
 
     def put_back(self, key: Key, task: Task) -> None:
-        """Stores a task that no processor uses, for later use."""
+        """Stores a task that no processor uses, so that it can be used again."""
         self.free.setdefault(key, []).append(task)
 
-    # ---------------------------------------------------------------- what groups want
+    # ---------------------------------------------------------------- required growth
 
     def wants(self, start: int) -> list[tuple[int, tuple[int, ...]]]:
-        """Returns the wanted shares (ns) of each group in the tick that begins at `start` (ns),
-        from the deepest up. Groups without shares in themselves or descendants are left out.
+        """Returns the growth (ns) that each group needs in the tick that starts at `start` (ns),
+        the deepest groups first. A group is left out if neither it nor a descendant needs growth.
         """
         end, active, found = start + TICK, set[int](), []
         chains = self.tree.chains
@@ -276,7 +282,7 @@ class Conversion:
         return found
 
     def wanted_of(self, life: Life, start: int, end: int, is_active: bool) -> tuple[int, ...]:
-        """Returns the wanted shares (ns) of a group in the tick from `start` to `end` (ns)."""
+        """Returns the growth (ns) of each level that a group needs from `start` to `end` (ns)."""
         if not life.is_sampled:
             return NONE
         if self.tick < self.lead:
@@ -307,7 +313,7 @@ class Conversion:
             return NONE
         return tuple(found)
 
-    # ---------------------------------------------------------------- memory
+    # ---------------------------------------------------------------- memory samples
 
     def put_memory(self, time: int, out: list[str]) -> None:
         """Writes memory samples: at each reading, and in between if a size changed much."""
@@ -324,7 +330,7 @@ class Conversion:
                 self.put_sample(life, at, time, out)
 
     def put_sample(self, life: Life, at: int, time: int, out: list[str]) -> None:
-        """Writes the memory sample of a group, unless it hardly differs from the last one."""
+        """Writes a group's memory sample, unless it is almost equal to the previous one."""
         found, is_reading = between_samples(life.memory, at)
         last = self.written.get(life.path)
         if last is None or not is_same(found, last) and (
@@ -337,11 +343,10 @@ class Conversion:
             last = self.written[life.path] = found
         life.memory_due = next_due(life.memory, last)
 
-    # ---------------------------------------------------------------- comparing
+    # ---------------------------------------------------------------- comparison with the samples
 
     def compare(self) -> None:
-        """Stores the totals that a replay must print at this tick, and counts those that are off.
-        """
+        """Stores the totals that a replay must print at this tick, and counts wrong totals."""
         at = self.tick * TICK
         for life, number in self.sampled:
             for level in (2 * number, 2 * number + 1):
@@ -357,13 +362,13 @@ class Conversion:
 
 
 def is_same(found: Memory, last: Memory) -> bool:
-    """Whether two memory samples differ in nothing that is written."""
+    """Whether two memory samples are equal in everything that a trace contains."""
     return (found.current, found.swap, found.scans) == (last.current, last.swap, last.scans)
 
 
 def next_due(samples: deque[Memory], last: Memory) -> int:
-    """Returns the time (ns) until which no memory sample is due after the sample `last`: that of
-    the next sample if its size is similar and no page is scanned until then, and otherwise 0.
+    """Returns the time (ns) of the next sample if its size is similar to that of `last`, and no
+    page is scanned until then. Returns 0 if not: the next memory sample is due at once.
     """
     if len(samples) < 2:
         return NEVER
@@ -375,9 +380,9 @@ def next_due(samples: deque[Memory], last: Memory) -> int:
 
 
 def bounded(growth: int, owed: int) -> int:
-    """Returns the share (ns) of a level in a tick: its growth, corrected by `owed` (ns), which is
-    negative if the total of the trace is too high. At most half of the growth is taken back, since
-    otherwise a group above would need more and more weight.
+    """Returns the growth (ns) of a level in a tick, corrected by `owed` (ns). `owed` is negative if
+    the trace's total is too high. The result is at most a tick, and at least half of `growth`. With
+    less growth, an ancestor would need more and more weight.
     """
     if -SMALL < owed < SMALL:
         return growth
@@ -387,7 +392,7 @@ def bounded(growth: int, owed: int) -> int:
 
 
 def goes_on(life: Life, tick: int) -> Life:
-    """Returns a new group that continues `life`, because an ancestor was created again."""
+    """Returns a new group that continues `life`, after an ancestor was created again."""
     again = Life(life.path, tick, life.is_sampled)
     again.knots, again.memory, again.last = life.knots, life.memory, life.last
     again.shift, again.end_tick = life.shift, life.end_tick

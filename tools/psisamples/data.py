@@ -1,4 +1,4 @@
-"""Summarises all samples: the time that they cover, their interval, and their groups."""
+"""Summarizes all samples: the time that they cover, their interval, and their groups."""
 from __future__ import annotations
 
 from collections import Counter
@@ -13,15 +13,15 @@ from .metrics import SECOND_ROOT
 from .rows import AVERAGES, HOST, MEMORY, ROOT, SCANS
 from .store import Plain
 
-# The unit (ns) in which intervals are counted.
+# The unit (ns) in which intervals between samples are counted.
 GRAIN = SECOND // 10
 MOST_INTERVAL = 600 * SECOND
 
 
 @dataclass
 class Data:
-    """A summary of all samples. Times are in ns since 1970. `every` is the usual interval
-    between a group's samples, and `gap` the longest (both ns).
+    """A summary of all samples. Times are in ns since 1970. `every` is the usual interval (ns)
+    between two samples of a group, and `gap` the longest (ns).
     """
 
     inputs: Inputs
@@ -37,11 +37,11 @@ class Data:
     rows: int = 0
 
     def since(self, time: int) -> Iterator[Plain]:
-        """Yields the rows from `time` on."""
+        """Yields the rows from `time` (ns since 1970) on."""
         return self.only(self.inputs.store.since(time))
 
     def only(self, rows: Iterator[Plain]) -> Iterator[Plain]:
-        """Yields the rows, with samples of the root from a single source."""
+        """Yields the rows, but uses only one source for the samples of the root."""
         for row in rows:
             if row[1] != SECOND_ROOT:
                 yield row
@@ -50,7 +50,7 @@ class Data:
 
 
 def counted(inputs: Inputs) -> Data:
-    """Sorts the samples, and summarises them in one pass."""
+    """Sorts the samples, and summarizes them in a single pass."""
     data = Data(inputs)
     data.has_node_root = ROOT in inputs.paths.values() and any(
         it.group == ROOT and it.field < MEMORY for it in inputs.metrics.series
@@ -80,7 +80,7 @@ def counted(inputs: Inputs) -> Data:
 
 
 def interval_of(gaps: Counter[int]) -> int:
-    """Returns the median of the intervals, in units of GRAIN; 0 if there are none."""
+    """Returns the median of the intervals in units of GRAIN, or 0 if there are no intervals."""
     place, total = sum(gaps.values()) // 2, 0
     for gap in sorted(gaps):
         total += gaps[gap]

@@ -1,4 +1,4 @@
-"""Reads files of samples in any format into a store of rows."""
+"""Reads files of samples in any supported format, and stores their rows."""
 from __future__ import annotations
 
 import gzip
@@ -21,15 +21,15 @@ from .texts import read_csv, read_json_lines, read_loop
 
 BEGINNING = 4096
 SAMPLES = "samples"
-# The least interval of samples (ns) for which avg10 describes the growth of a total better than a
-# straight line. For a shorter interval avg10 depends too much on the time before.
+# The shortest interval between samples (ns) at which avg10 describes the growth of a total better
+# than a straight line. At shorter intervals avg10 depends too much on the time before.
 LONG = 14 * SECOND
 PRESSURE = "pressure"
 
 
 def other_kind(name: str, beginning: str) -> str:
-    """Returns the part of a message that says what a file is instead of samples. Empty if that
-    isn't known. JSON may be samples, unless it is a rules file.
+    """Returns the part of an error message that says what kind of file this is. Returns an empty
+    string if the kind isn't known, or if the file may contain samples.
     """
     kind = kind_of(beginning.encode("utf-8", "surrogateescape"))
     if kind and kind.what == JSON:
@@ -38,7 +38,7 @@ def other_kind(name: str, beginning: str) -> str:
 
 
 def open_text(name: str) -> TextIO:
-    """Opens a text file, which may be compressed by gzip."""
+    """Opens a text file, which may be compressed with gzip."""
     with open(name, "rb") as file:
         is_packed = file.read(2) == b"\x1f\x8b"
     if is_packed:
@@ -47,9 +47,9 @@ def open_text(name: str) -> TextIO:
 
 
 class Naming(NamedTuple):
-    """How groups are named: the paths that replace a group's path and those of its descendants, the
-    largest number of components of a path, and the labels whose values form the path of a series
-    without a label `id`.
+    """The options for the names of groups. `renamed` has the new path for each renamed group; its
+    descendants are renamed too. `depth` is the largest number of components of a path. `labels` has
+    the labels whose values form the path of a series without a label `id`.
     """
 
     renamed: dict[str, str]
@@ -69,11 +69,11 @@ class Naming(NamedTuple):
 
 
 class Inputs:
-    """Reads the samples of files. Error messages name a file and a line."""
+    """Reads the samples of files. Error messages name the file and the line."""
 
     def __init__(self, naming: Naming, averages: bool | None) -> None:
-        # Whether averages are stored. None means that this depends on the interval of samples,
-        # which isn't known yet.
+        # False if averages aren't stored. None until the interval between samples is known:
+        # averages are stored only if it is at least LONG.
         self.naming, self.averages = naming, averages
         self.store = Store()
         self.files: list[str] = []
@@ -83,22 +83,24 @@ class Inputs:
         self.count = self.line = 0
 
     def place(self, where: tuple[int, int]) -> Place:
-        """Returns the file and line of a row."""
+        """Returns the file and line of a row. `where` has the number of the file and the line."""
         return Place(self.files[where[0]], where[1])
 
     def here(self) -> Place:
-        """Returns the file and line that are being read."""
+        """Returns the file and line that are currently read."""
         return Place(self.files[-1], self.line)
 
     def refused(self, beginning: str, why: str) -> Fault:
-        """Returns the error for the current line. For the first line the message says what the file
-        is instead of samples, if that is known.
+        """Returns an error for the current line. In the first line, the message says what kind of
+        file this is instead, if that is known.
         """
         other = other_kind(self.files[-1], beginning) if self.line == 1 else ""
         return Fault(f"{self.files[-1]}: {other}" if other else f"{self.here()}: {why}")
 
     def put(self, time: int, group: str, field: int, values: tuple[int, ...], line: int) -> None:
-        """Stores values of a group at a time (ns)."""
+        """Stores `values` of `group` at `time` (ns since 1970), for consecutive fields from `field`
+        on. `line` is the number of the line in the file.
+        """
         self.line = line
         if field >= AVERAGES and self.averages is False:
             return
@@ -115,7 +117,9 @@ class Inputs:
     def put_in_order(
         self, time: int, group: str, field: int, values: tuple[int, ...], line: int
     ) -> None:
-        """Stores values like `put`, for a format whose lines must be in order of time."""
+        """Stores values as `put` does. Raises a Fault if `time` is before the previous time of the
+        same group and field, since samples in this format must be in order of time.
+        """
         if time < self.newest.get((group, field), time):
             self.line = line
             raise Fault(f"{self.here()}: the time goes back: {group} was read later before")
@@ -140,7 +144,7 @@ class Inputs:
             raise Fault(f"{name}: there are no samples of pressure in it{self.metrics.others()}")
 
     def read_file(self, name: str) -> None:
-        """Reads a file in the format that its first bytes show."""
+        """Reads a file. The format is detected from the file's first characters."""
         beginning = ""
         try:
             with open_text(name) as file:
@@ -157,7 +161,7 @@ class Inputs:
             raise Fault(f"{name}: {fault.strerror}") from None
 
     def read_text(self, file: TextIO, beginning: str) -> None:
-        """Reads a text whose first characters are `beginning`."""
+        """Reads a text whose first characters are `beginning`, which determine its format."""
         first = beginning.lstrip()
         if "\0" in beginning:
             raise self.refused(beginning, "this is no text: is it compressed?")
@@ -180,7 +184,7 @@ class Inputs:
             raise self.refused(beginning, "this is none of the formats of docs/SAMPLES.md")
 
     def numbered(self, file: TextIO) -> Iterator[tuple[int, str]]:
-        """Yields the lines with their numbers."""
+        """Yields the lines of a file with their numbers, from 1."""
         for number, line in enumerate(file, 1):
             self.line = number
             yield number, line.rstrip("\n")

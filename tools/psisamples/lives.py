@@ -1,7 +1,8 @@
-"""Derives from the readings of groups when each group existed, and its totals at any time.
+"""Computes from readings when each group existed, and its totals at any time.
 
 Between two readings a total grows linearly. A group was removed if it has no reading in three
-rounds in which other groups have readings. A group whose totals fall was removed and created again.
+rounds in which other groups have readings. If a group's total falls, the group was removed and
+created again.
 """
 from __future__ import annotations
 
@@ -18,22 +19,22 @@ from .shape import knots_between
 from .store import Plain
 
 US = 1000
-# A group that still exists may miss at most this number of consecutive rounds.
+# A group that still exists may have no reading in at most this number of consecutive rounds.
 MOST_MISSED = 2
-# A total may grow between two readings by FASTEST times the time between them, plus SLACK (ns),
-# since the files of a round aren't read at exactly the same time.
+# Between two readings a total may grow by at most FASTEST times the elapsed time plus SLACK (ns).
+# SLACK is needed because the files of a round aren't read at exactly the same time.
 FASTEST, SLACK = 1.5, 2 * 10**9
 # The largest number of rounds whose times are stored.
 MOST_ROUNDS = 4096
 
 
-# A time (ns since the trace's start), the totals (ns) of some and full of a resource at that time,
-# and 1 if this is a sample or 0 if it is computed.
+# The totals of a resource at one time: the time (ns since the trace's start), the totals (ns) of
+# some and full, and 1 for a sample or 0 for a computed point.
 Knot = tuple[int, int, int, int]
 
 
 def between(one: Knot, other: Knot, time: int) -> tuple[int, int]:
-    """Returns the totals (ns) at `time` (ns), interpolated between two knots."""
+    """Returns the totals (ns) at `time` (ns), interpolated linearly between two points."""
     if time >= other[0]:
         return other[1], other[2]
     if time <= one[0]:
@@ -45,8 +46,8 @@ def between(one: Knot, other: Knot, time: int) -> tuple[int, int]:
 
 
 class Memory(NamedTuple):
-    """A memory sample: its time (ns), the memory and swap in use (bytes), and the pages scanned,
-    -1 if unknown.
+    """A memory sample: its time (ns), the memory and swap in use (bytes), and the count of scanned
+    pages (-1 if unknown).
     """
 
     time: int
@@ -56,15 +57,15 @@ class Memory(NamedTuple):
 
 
 class Reading:
-    """The values of a group at one time, by field."""
+    """The values of a group that were read at one time, by field."""
 
     def __init__(self, time: int, path: str, place: tuple[int, int], is_shaped: bool) -> None:
         self.time, self.path, self.place, self.is_shaped = time, path, place, is_shaped
         self.values: dict[int, int] = {}
 
     def totals(self) -> dict[int, tuple[int, int]]:
-        """Returns the totals (ns) of some and full by the number of the resource. A resource
-        without a total of some is left out; a missing total of full is 0.
+        """Returns the totals (ns) of some and full, by the number of the resource. A resource
+        without a total of some is left out. A missing total of full is 0.
         """
         get = self.values.get
         return {
@@ -74,8 +75,8 @@ class Reading:
         }
 
     def shares(self, number: int) -> Optional[tuple[float, float]]:
-        """Returns avg10 of some and full (percent) of the resource `number`. None if there are
-        none, or if totals grow linearly between samples.
+        """Returns avg10 of some and full (percent) of the resource `number`. Returns None if the
+        reading has no averages, or if totals grow linearly between samples.
         """
         place = AVERAGES + 6 * number
         if not self.is_shaped or place not in self.values:
@@ -84,9 +85,9 @@ class Reading:
 
 
 class Life:
-    """A group from its creation, after the tick `tick`, to its removal, after the tick `end_tick`.
-    `base` has the totals (ns) in the samples at the group's creation, when its totals in the trace
-    are 0.
+    """A group from its creation to its removal. The trace creates the group after `tick` ticks, and
+    removes it after `end_tick` ticks. The group's totals in the trace start at 0; `base` has the
+    totals (ns) in the samples at its creation.
     """
 
     def __init__(self, path: str, tick: int, is_sampled: bool) -> None:
@@ -95,26 +96,27 @@ class Life:
         self.end_tick: Optional[int] = None
         self.last = -1
         self.knots: list[deque[Knot]] = [deque() for _ in RESOURCES]
-        # By level, in ns: the totals at the creation; the totals that the trace should have at the
-        # last tick, according to the samples; and the totals that it has.
+        # Totals (ns) by level. `base` has the totals in the samples at the group's creation.
+        # `target` has the totals that the trace should have at the last tick, according to the
+        # samples, and `achieved` the totals that it has.
         self.base, self.target, self.achieved = [0] * 6, [0] * 6, [0] * 6
         self.memory: deque[Memory] = deque()
         # No memory sample is written before this time (ns).
         self.memory_due = 0
-        # The totals (ns) of the root before they were reset; whether the group was created between
-        # two rounds; and the time (ns) until which no total grows.
+        # `shift` has the root's totals (ns) before they were reset. `is_new` says whether the group
+        # was created between two rounds. No total grows until the time `quiet_until` (ns).
         self.shift = [0] * 6
         self.is_new = False
         self.quiet_until = -1
         # The averages of the first reading (hundredths of a percent), three for each level.
         self.averages: list[int] = []
-        # avg10 of some and full (percent) at the last reading, by resource. Empty if totals grow
+        # avg10 of some and full (percent) in the last reading, by resource. Empty if totals grow
         # linearly between samples.
         self.shares: dict[int, tuple[float, float]] = {}
 
     def add(self, reading: Reading) -> None:
-        """Adds a reading. If a resource occurs for the first time, its totals begin with those of
-        the reading, or at 0 if the group is new.
+        """Adds a reading. If a resource occurs for the first time, its totals start at those of the
+        reading, or at 0 if the group is new.
         """
         totals = reading.totals()
         for number, (some, full) in totals.items():
@@ -145,13 +147,14 @@ class Life:
             self.last = reading.time
 
     def start(self) -> None:
-        """Sets `base` to the totals at the group's creation."""
+        """Sets `base` to the totals (ns) at the group's creation."""
         for number, knots in enumerate(self.knots):
             if knots:
                 self.base[2 * number : 2 * number + 2] = self.totals_at(number, self.tick * TICK)
 
     def totals_at(self, number: int, time: int) -> tuple[int, int]:
-        """Returns the totals (ns) of a resource at a time (ns), as in the samples."""
+        """Returns the totals (ns) of the resource `number` at `time` (ns) according to the samples.
+        """
         knots = self.knots[number]
         last = knots[0]
         for knot in knots:
@@ -162,7 +165,7 @@ class Life:
 
     def grown(self, number: int, one: Knot, other: Knot, start: int, end: int) -> tuple[int, int]:
         """Returns the growth (ns) of a resource's totals in the tick from `start` to `end` (ns),
-        and updates `target`. `one` and `other` are the last knot up to `start` and the next one.
+        and updates `target`. `one` is the last point up to `start`, and `other` the next point.
         """
         target, base, level = self.target, self.base, 2 * number
         if one[0] <= start and end <= other[0]:
@@ -179,19 +182,19 @@ class Life:
         return target[level] - before[0], target[level + 1] - before[1]
 
     def is_known_until(self, time: int) -> bool:
-        """Returns whether there is a reading at `time` (ns) or later."""
+        """Whether there is a reading at `time` (ns) or later."""
         return self.last >= time
 
 
 def limit_text(elapsed: int) -> str:
-    """Returns the end of a message: for how long (ns) a total could grow, and which unit may be
-    wrong if it grew by more.
+    """Returns the end of the error message about a total that grows faster than time. It has the
+    time `elapsed` (ns) between the two samples, formatted in us, and the expected units.
     """
     return f"{elapsed // US} us: totals are us, or seconds in metrics"
 
 
 class Lives:
-    """The groups of all samples, from rows in order of time. `tails` has the last group with each
+    """All groups of the samples. Reads rows in order of time. `tails` has the last group with each
     path, and `born` the groups that aren't in the trace yet. Times are in ns since `origin`.
     """
 
@@ -209,10 +212,10 @@ class Lives:
         self.host: deque[tuple[int, tuple[int, ...]]] = deque()
         self.time = -1
 
-    # ---------------------------------------------------------------- reading
+    # ---------------------------------------------------------------- reading samples
 
     def reading(self) -> Optional[Reading]:
-        """Returns the next reading: all rows with the same group and time. None at the end."""
+        """Returns the next reading: all rows with the same group and time, or None at the end."""
         if self.row is None:
             return None
         time, path, _, _, place = self.row
@@ -232,8 +235,8 @@ class Lives:
             )
 
     def read_until(self, time: int) -> None:
-        """Reads all readings up to `time` (ns), and then further until it is known which groups
-        were removed by that time.
+        """Reads all readings up to `time` (ns), and as many later ones as are needed to know which
+        groups were removed by that time.
         """
         while self.row is not None and (self.time < time + self.every or self.is_open(time)):
             self.read_round()
@@ -249,7 +252,7 @@ class Lives:
                 self.end(life)
 
     def read_round(self) -> None:
-        """Reads the readings of the next half interval."""
+        """Reads a round: all readings within half an interval."""
         end = self.row[0] - self.origin + self.every // 2 if self.row else 0
         while self.row is not None and self.row[0] - self.origin <= end:
             reading = self.reading()
@@ -264,8 +267,8 @@ class Lives:
             del self.rounds[1 : bisect.bisect_left(self.rounds, oldest) - 1]
 
     def is_open(self, time: int) -> bool:
-        """Returns whether there is a group without a reading at `time` (ns) or later that may still
-        have one: it isn't known yet whether that group was removed.
+        """Whether some group has no reading at `time` (ns) or later, but may still have one. Then
+        it isn't known yet whether that group was removed.
         """
         return any(
             not life.is_known_until(time)
@@ -276,14 +279,12 @@ class Lives:
         )
 
     def is_absent(self, life: Life, time: int) -> bool:
-        """Returns whether more than MOST_MISSED rounds lie between the group's last reading and
-        `time` (ns).
-        """
+        """Whether more than MOST_MISSED rounds are between the last reading and `time` (ns)."""
         first = bisect.bisect_right(self.rounds, life.last + self.every // 2)
         return bisect.bisect_left(self.rounds, time - self.every // 2) - first > MOST_MISSED
 
     def take(self, reading: Reading) -> None:
-        """Adds a reading to the existing group of its path, or begins a new group with it."""
+        """Adds a reading to the existing group with its path, or creates a new group for it."""
         if HOST in reading.values:
             self.host.append(
                 (reading.time, tuple(reading.values.get(HOST + it, 0) for it in range(3)))
@@ -316,9 +317,9 @@ class Lives:
         life.add(reading)
 
     def has_fallen(self, life: Life, reading: Reading) -> bool:
-        """Returns whether a total has fallen since the group's last reading, because the group was
-        created again. Raises a Fault if another total is too great to have begun at 0 since then,
-        or if a total grows faster than time.
+        """Whether a total has fallen since the group's last reading, because the group was created
+        again. Raises a Fault if another total is too large to have started at 0 since then, or if a
+        total grew faster than time.
         """
         has_fallen = False
         slower: tuple[int, int] | None = None
@@ -348,12 +349,12 @@ class Lives:
         return has_fallen
 
     def named(self, reading: Reading, level: int) -> str:
-        """Returns the name of a total for a message, with the file and line of its reading."""
+        """Returns a total's name for an error message, with the file and line of its reading."""
         return f"{self.places(reading.place)}: {reading.path} {' '.join(LEVELS[level])}"
 
     def begin(self, reading: Reading, before: Optional[Life]) -> Life:
-        """Returns a new group that begins with this reading. `before` is the earlier group of the
-        path, or None.
+        """Creates a group that starts with this reading. `before` is the previous group with the
+        same path, or None.
         """
         tick = max(0, -(-(reading.time - self.every) // TICK))
         if before is not None and before.end_tick is not None:
@@ -370,12 +371,12 @@ class Lives:
         return life
 
     def has_begun(self) -> bool:
-        """Returns whether the first round of readings has ended."""
+        """Whether the first round of readings has ended."""
         return bool(self.rounds) and self.rounds[-1] - self.rounds[0] > self.every // 2
 
     def end(self, life: Life) -> None:
-        """Marks a group as removed at the first tick at or after its last reading. A group that was
-        removed before the trace begins is dropped.
+        """Marks a group as removed at the first tick at or after its last reading. Drops a group
+        that was removed before the trace starts.
         """
         life.end_tick = max(life.tick + 1, -(-life.last // TICK))
         if life.last <= 0 and life in self.born:
@@ -383,8 +384,8 @@ class Lives:
 
 
 def between_samples(samples: deque[Memory], time: int) -> tuple[Memory, bool]:
-    """Returns the memory at `time` (ns), interpolated between two samples, and whether `time` has
-    passed another sample since the last call. Samples that are no longer needed are removed.
+    """Returns the memory at `time` (ns), interpolated between two samples, and whether a further
+    sample has been passed since the last call. Removes samples that are no longer needed.
     """
     is_new = False
     while len(samples) > 1 and samples[1].time <= time:

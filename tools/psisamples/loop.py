@@ -1,5 +1,5 @@
-"""The command tools/sample: samples the pressure and the memory of all groups at a fixed interval,
-into a file that tools/samples reads.
+"""The command tools/sample: samples the pressure and the memory of all groups at a fixed interval.
+tools/samples converts its output to a trace.
 
 The sampler needs no root, since all users can read the files. It imports no other module of the
 tools, so that this file alone can be copied to a machine.
@@ -20,13 +20,13 @@ from typing import NoReturn
 
 ABOUT = """\
 Reads the pressure, the memory, the swap and the scanned pages of all control groups, and the
-machine's memory, each S seconds, and writes them as CSV. It needs no root. tools/samples makes
+machine's memory, every S seconds, and writes them as CSV. It needs no root. tools/samples makes
 traces of what it wrote.
 
 examples:
-  # each 5 s, until it is stopped
+  # every 5 s, until it is stopped
   tools/sample --into samples.csv
-  # each second, for an hour
+  # every second, for an hour
   tools/sample --every 1 --seconds 3600 --into samples.csv
   # in files of 50 MB, with the newest fourteen
   tools/sample --megabytes 50 --files 14 --into samples.csv
@@ -58,7 +58,7 @@ class Stopped(Exception):
 
 
 def text_of(path: str) -> str:
-    """Returns a file's text, empty if the file can't be read."""
+    """Returns the text of a file, or an empty string if the file can't be read."""
     try:
         with open(path, encoding="utf-8", errors="replace") as file:
             return file.read()
@@ -67,7 +67,7 @@ def text_of(path: str) -> str:
 
 
 def trace_path(path: str) -> str:
-    """Returns a group's path as traces have it: a byte that can't occur in a path of a trace
+    """Returns a group's path in the form of a trace: a byte that a trace doesn't allow in a path
     becomes \\xHH, as in systemd's names of units.
     """
     parts = [it for it in os.fsencode(path).split(b"/") if it]
@@ -77,8 +77,9 @@ def trace_path(path: str) -> str:
 
 
 def pressure_line(head: str, resource: str, text: str) -> str:
-    """Returns the line for a pressure file: both totals (us) and six averages. Empty if the file
-    has no line `some`. An old kernel's file for cpu has no line `full`.
+    """Returns the line of output for a pressure file: the totals of some and full (us), and six
+    averages. Returns an empty string if the file has no line `some`. The totals of full are 0 if an
+    old kernel's file has no line `full`.
     """
     found = {it[1]: it for it in LINE.finditer(text)}
     if "some" not in found:
@@ -89,8 +90,8 @@ def pressure_line(head: str, resource: str, text: str) -> str:
 
 
 def memory_line(head: str, folder: str) -> str:
-    """Returns the line for a group's memory: memory and swap (bytes), and scanned pages. Empty
-    if the group has no memory controller.
+    """Returns the line of output for a group's memory: memory and swap (bytes), and the count of
+    scanned pages. Returns an empty string if the group has no memory controller.
     """
     current = text_of(f"{folder}/memory.current").strip()
     if not current.isdigit():
@@ -103,7 +104,7 @@ def memory_line(head: str, folder: str) -> str:
 
 
 def folders(root: str) -> Iterator[str]:
-    """Yields the folders of all groups, a parent before its children."""
+    """Yields the folders of all groups, each before its children."""
     pending = [root]
     while pending:
         folder = pending.pop()
@@ -118,7 +119,9 @@ def folders(root: str) -> Iterator[str]:
 
 
 class Machine:
-    """The pressure and memory files of a machine, below the folder `top` if it isn't empty."""
+    """The pressure and memory files of a machine. Their paths begin with `top`, which is empty
+    except in tests.
+    """
 
     def __init__(self, top: str) -> None:
         self.proc, self.groups = f"{top}/proc", f"{top}/sys/fs/cgroup"
@@ -128,8 +131,8 @@ class Machine:
             self.groups = f"{self.groups}/unified"
 
     def round(self, now: float) -> str:
-        """Samples all groups and the machine, and returns the lines. `now` is the time (s since
-        1970).
+        """Samples all groups and the machine, and returns the lines of output. `now` is the time (s
+        since 1970).
         """
         head = f"{now:.3f}"
         lines = [
@@ -164,7 +167,7 @@ class Machine:
 
 
 class Output:
-    """The output file, with older files next to it, or standard output if there is no name."""
+    """The output file and the older files next to it, or standard output if `name` is None."""
 
     def __init__(self, name: str | None, most: int, older: int) -> None:
         self.name, self.most, self.older = name, most, older
@@ -173,7 +176,7 @@ class Output:
             self.put(HEAD)
 
     def put(self, text: str) -> None:
-        """Writes the lines of a round. If the file would become too long, it is rotated first."""
+        """Writes the lines of a round. Rotates the file first if it would become too large."""
         data = text.encode()
         if self.name is None:
             sys.stdout.buffer.write(data)
@@ -187,7 +190,7 @@ class Output:
         self.size += len(data)
 
     def rotate(self, name: str) -> None:
-        """Compresses the file as the newest of the older files, and removes the oldest."""
+        """Compresses the file, renames the older files, and removes the oldest."""
         for number in range(self.older, 0, -1):
             before = f"{name}.{number - 1}.gz" if number > 1 else f"{name}.part"
             if number == 1 and self.older:
@@ -199,7 +202,7 @@ class Output:
 
 
 def number(least: float, most: float) -> Callable[[str], float]:
-    """Returns a parser of numbers from `least` to `most`."""
+    """Returns a parser for numbers from `least` to `most`."""
 
     def read(word: str) -> float:
         if not re.fullmatch(r"[0-9]{1,9}(\.[0-9]{1,3})?", word) or not least <= float(word) <= most:
@@ -210,7 +213,7 @@ def number(least: float, most: float) -> Callable[[str], float]:
 
 
 class Words(argparse.ArgumentParser):
-    """A parser that ends the tool with its own status if the arguments are wrong."""
+    """A parser of command-line arguments that exits with the status FAILED on a usage error."""
 
     def error(self, message: str) -> NoReturn:
         self.exit(
@@ -242,7 +245,9 @@ def stop(_number: int, _frame: FrameType | None) -> None:
 
 
 def run(options: argparse.Namespace) -> int:
-    """Writes a round at each interval until a signal or the end, and returns the exit status."""
+    """Writes a round of samples at each interval, until a signal or the requested end. Returns the
+    exit status.
+    """
     machine = Machine(options.root)
     if not machine.round(0.0).count(",/,io,"):
         print(

@@ -1,5 +1,5 @@
-"""Reads samples from metrics: JSON answers of Prometheus, `promtool tsdb dump`, and OpenMetrics
-text with timestamps.
+"""Reads samples from metrics: JSON responses of Prometheus, the output of `promtool tsdb dump`, and
+OpenMetrics text with timestamps.
 """
 from __future__ import annotations
 
@@ -13,8 +13,8 @@ from typing import NamedTuple, Optional, Protocol, TextIO
 from .block import LEVELS, MS
 from .rows import HOST, MEMORY, ROOT, SWAP, Put, ns_of, us_of, whole
 
-# The name of the root's samples from cAdvisor, which are used only if there are no samples of the
-# root from node_exporter.
+# A placeholder path for the root's samples from cAdvisor. They are used only if node_exporter has
+# no samples of the root.
 SECOND_ROOT = "/\0"
 PIECE = 1 << 16
 KINDS = {"some": "waiting", "full": "stalled"}
@@ -30,22 +30,22 @@ SIZES = {
 LABEL = re.compile(r'\s*([a-zA-Z_][a-zA-Z0-9_]*)\s*=\s*"((?:[^"\\]|\\.)*)"\s*,?')
 LINE = re.compile(r"([a-zA-Z_:][a-zA-Z0-9_:]*)?\s*(?:\{(.*)\})?\s+(\S+)\s+([0-9.eE+-]+)(?:\s+#.*)?")
 POINT = re.compile(r'\s*,?\s*\[\s*([0-9.eE+]+)\s*,\s*"([^"]*)"\s*\]')
-# The value of a stale marker in a dump: the series ends here.
+# The value that marks the end of a series in a dump.
 STALE = "NaN"
-# Timestamps with this number of digits are in ms.
+# A timestamp with this number of digits is in ms.
 MILLISECONDS = re.compile("[0-9]{12,14}")
 
 
 class Column(NamedTuple):
-    """The group and the field of the values of a series. Totals are in seconds."""
+    """The group and the field to which a series belongs. Totals in a series are in seconds."""
 
     group: str
     field: int
 
 
 class Metrics:
-    """Finds the series that are samples. There must be a single series for each field of a group:
-    a second one comes from another machine.
+    """Recognizes the series that are samples of pressure or memory. Each field of a group must have
+    a single series, since a second series comes from another machine.
     """
 
     def __init__(self, labels: tuple[str, ...]) -> None:
@@ -54,7 +54,7 @@ class Metrics:
         self.unknown: Counter[str] = Counter()
 
     def column(self, name: str, labels: dict[str, str]) -> Optional[Column]:
-        """Returns the column of a series, or None if the series isn't a sample."""
+        """Returns the group and field of a series, or None if the series isn't a sample."""
         field = PRESSURE.get(name, SIZES.get(name))
         if field is None:
             if len(self.unknown) < 1000:
@@ -80,8 +80,8 @@ class Metrics:
         return found
 
     def group_of(self, name: str, labels: dict[str, str]) -> Optional[str]:
-        """Returns the group of a series, from cAdvisor's label `id` or from the labels that
-        --labels names. None if the series has no group.
+        """Returns the group of a series, from the labels that --labels names or from cAdvisor's
+        label `id`. Returns None if the series has no group.
         """
         if name.startswith("node_"):
             return ROOT
@@ -94,7 +94,7 @@ class Metrics:
         return labels["id"]
 
     def others(self) -> str:
-        """Returns the end of a message, which names other metrics in the input."""
+        """Returns the end of an error message that names other metrics in the input."""
         names = ", ".join(name for name, _ in self.unknown.most_common(3))
         return (
             f": it has {names}, and container_pressure_.. or node_pressure_.. are needed"
@@ -104,7 +104,9 @@ class Metrics:
 
 
 def put_value(put: Put, column: Column, time: int, text: str, line: int) -> None:
-    """Stores a value of a series at a time (ns). NaN isn't stored: it marks the end of a series."""
+    """Parses `text`, a value of a series at `time` (ns), and stores the value. Ignores NaN, which
+    marks the end of a series.
+    """
     if text == STALE:
         return
     put(
@@ -117,7 +119,7 @@ def put_value(put: Put, column: Column, time: int, text: str, line: int) -> None
 
 
 def labels_of(text: str) -> dict[str, str]:
-    """Parses the labels between braces."""
+    """Parses the text between the braces of a metric. Returns the labels by name."""
     found, at = {}, 0
     while at < len(text):
         label = LABEL.match(text, at)
@@ -131,8 +133,8 @@ def labels_of(text: str) -> dict[str, str]:
 
 
 def read_dump(lines: Iterable[tuple[int, str]], metrics: Metrics, put: Put) -> None:
-    """Reads lines `NAME{LABELS} VALUE TIME`, as OpenMetrics writes them (time in s), or
-    `{__name__="NAME", ..} VALUE TIME` as promtool does (ms).
+    """Reads lines of metrics: `NAME{LABELS} VALUE TIME` with the time in s, as in OpenMetrics, or
+    `{__name__="NAME", ..} VALUE TIME` with the time in ms, as promtool prints them.
     """
     known: dict[str, Optional[Column]] = {}
     for number, line in lines:
@@ -163,14 +165,14 @@ def read_dump(lines: Iterable[tuple[int, str]], metrics: Metrics, put: Put) -> N
 
 
 class Lined(Protocol):
-    """An object that has the number of the current line, for messages."""
+    """An object that stores the number of the current line, for error messages."""
 
     line: int
 
 
 class Text:
-    """A text file that is read in pieces. `text` has the current piece, and `at` the position in
-    it.
+    """A JSON file that is read in pieces. `text` is the part in memory, and `at` the current
+    position in it.
     """
 
     def __init__(self, file: TextIO, lined: Lined) -> None:
@@ -178,15 +180,15 @@ class Text:
         self.lined.line = 1
 
     def more(self) -> bool:
-        """Reads another piece. Returns False at the end of the file."""
+        """Reads another piece, and returns True. Returns False at the end of the file."""
         piece = self.file.read(PIECE)
         self.lined.line += self.text.count("\n", 0, self.at)
         self.text, self.at = self.text[self.at :] + piece, 0
         return bool(piece)
 
     def find(self, pattern: re.Pattern[str]) -> Optional[re.Match[str]]:
-        """Finds the next match of a pattern of at most 200 characters, moves to its end, and
-        returns it. None if there is no further match.
+        """Finds the next match of a pattern, moves to its end, and returns it. Returns None if
+        there is no further match. A match has at most 200 characters.
         """
         while True:
             found = pattern.search(self.text, self.at)
@@ -212,7 +214,7 @@ class Text:
             return found
 
     def points(self, put: Put, column: Optional[Column]) -> None:
-        """Reads the points of a series, and stores them unless `column` is None."""
+        """Reads the points of a series. Stores them, unless `column` is None."""
         line = self.lined.line
         while True:
             found = POINT.match(self.text, self.at)
@@ -233,7 +235,7 @@ VALUES = re.compile(r'"values"\s*:\s*\[|"value"\s*:')
 
 
 def read_json(file: TextIO, metrics: Metrics, put: Put, lined: Lined) -> None:
-    """Reads the JSON with which Prometheus answers a query with a range, such as `name[6h]`, or a
+    """Reads the JSON with which Prometheus responds to a range query, such as `name[6h]`, or to a
     request to query_range.
     """
     text = Text(file, lined)

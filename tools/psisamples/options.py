@@ -1,23 +1,25 @@
-"""The options of a conversion of samples."""
+"""Defines the options for the conversion of samples."""
 from __future__ import annotations
 
 from typing import NamedTuple
 
 
 class Trigger(NamedTuple):
-    """A trigger of --trigger: a group, and the other words of its line."""
+    """A trigger from --trigger: its group, and the rest of its line."""
 
     path: str
     fields: str
 
 
 class Options(NamedTuple):
-    """Options: triggers, the lead-in (ticks), and whether totals grow as avg10 indicates."""
+    """The options for a conversion: triggers, the length of the warm-up (ticks), and whether totals
+    grow between samples as avg10 indicates.
+    """
 
     triggers: tuple[Trigger, ...] = ()
     lead: int = 0
     is_shaped: bool = False
 
     def later(self) -> Options:
-        """Returns the options for the parts after the first one, which have no lead-in."""
+        """Returns the options for all parts of a trace after the first. These have no warm-up."""
         return self._replace(lead=0)

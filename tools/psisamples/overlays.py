@@ -1,9 +1,9 @@
-"""Computes which levels of pressure a block causes in the groups above its own, and how tasks of
-such a group change them.
+"""Computes the pressure that a block causes in the ancestors of its group, and how further tasks
+can change that pressure.
 
-Such a task is an overlay: for a part of the block it runs, waits for IO, is in a memory stall or is
-ready. It needs no time besides that of the block, so it adds no weight to its group, and it doesn't
-count in the groups below its own.
+Such a task belongs to an ancestor, and is called an overlay: for a part of the block it runs, waits
+for IO, is in a memory stall or is ready. It needs no further time, so it adds no weight to its
+group. It doesn't count in the groups below its own.
 """
 from __future__ import annotations
 
@@ -11,8 +11,8 @@ from typing import NamedTuple
 
 from .block import Span
 
-# A status describes a segment of a block by these bits: a task waits for IO, a task is in a memory
-# stall, all tasks are in memory stalls, a task is ready, a task runs.
+# The bits of a status, which describes a segment of a block: a task waits for IO, a task is in a
+# memory stall, the time counts as memory full, a task is ready, a task runs.
 WAITS, STALLS, ALL_STALL, READY, RUNS = 1, 2, 4, 8, 16
 BUSY = READY | RUNS
 STATUSES = 32
@@ -20,8 +20,8 @@ IN_STALL = frozenset("sRX")
 
 
 def levels_of(status: int) -> tuple[int, ...]:
-    """Returns for each of the six levels, in the order of LEVELS, 1 if its time passes in this
-    status, and 0 otherwise.
+    """Returns 1 for each of the six levels (in the order of LEVELS) that counts time in this
+    status, and 0 for the others.
     """
     io, stalls, all_stall = status & WAITS, status & STALLS, status & ALL_STALL
     found = (
@@ -36,7 +36,7 @@ def levels_of(status: int) -> tuple[int, ...]:
 
 
 def status_of(states: str) -> int:
-    """Returns the status of a segment in which tasks are in these states."""
+    """Returns the status of a segment, from the letters of its tasks' states."""
     is_stalled = any(it in IN_STALL for it in states)
     is_all = is_stalled and ("X" in states or not any(it in "rx" for it in states))
     status = WAITS * ("w" in states) + STALLS * is_stalled + ALL_STALL * is_all
@@ -45,7 +45,7 @@ def status_of(states: str) -> int:
     )
 
 
-# A bit for each state, and the status of each set of states.
+# The bit of each state in a set of states, and the status of each set.
 STATES = "wsrRxX"
 BITS = {state: 1 << number for number, state in enumerate(STATES)}
 STATUS_OF = [
@@ -54,21 +54,21 @@ STATUS_OF = [
 
 
 class Overlay(NamedTuple):
-    """A task of this kind in this state that is laid over a block. `after` has for each status of
-    a segment the status with the task, or None if the task would change other levels too.
+    """A task that can be added to segments of a block. `after` has, for each status of a segment,
+    the status with the task added, or None if the task would also change other levels.
     """
 
     kind: str
     state: str
     after: tuple[int | None, ...]
-    # The changed levels for each status, as pairs of a level and 1 or -1.
+    # The levels that change, by status, as pairs of a level and 1 or -1.
     changes: tuple[tuple[tuple[int, int], ...], ...]
-    # A set bit for each status over which the task can be laid.
+    # A bit mask of the statuses to which the task can be added.
     takes: int
 
 
 def overlay(kind: str, state: str, has: int, lacks: int, adds: int, takes: int = 0) -> Overlay:
-    """Returns an overlay for segments whose status has all bits of `has` and no bit of `lacks`. It
+    """Returns an overlay for all statuses with all bits of `has` and no bit of `lacks`. The task
     sets the bits `adds`, and clears the bits `takes`.
     """
     after = [
@@ -95,10 +95,10 @@ LESS_CPU_FULL = (
     overlay("r", "x", READY, RUNS | ALL_STALL, RUNS),
     overlay("r", "X", READY | ALL_STALL, RUNS, RUNS),
 )
-# Overlays that reduce a level of `full`, by that level.
+# Overlays that reduce a full level, by the number of the level.
 LESS_FULL = {1: LESS_IO_FULL, 3: LESS_MEMORY_FULL, 5: LESS_CPU_FULL}
-# Overlays that increase a level of `some` and the same resource's `full`, and overlays that
-# increase a level of `some` alone, by the level of `some`.
+# Overlays that increase a resource's some and full together, and overlays that increase only its
+# some. Both are keyed by the level number of some.
 MORE_OF_BOTH = {
     0: overlay("w", "w", 0, WAITS | BUSY, WAITS),
     2: overlay("s", "s", 0, STALLS | BUSY, STALLS | ALL_STALL),

@@ -1,4 +1,6 @@
-"""Makes a trace of the samples, or several overlapping traces if one would be too long."""
+"""Converts the samples to a trace, or to several overlapping traces if a single one would exceed a
+limit.
+"""
 from __future__ import annotations
 
 import os
@@ -19,22 +21,23 @@ from .lives import Lives
 from .options import Options
 from .verify import Checked, check
 
-# The overlap of two parts, in ticks. The averages of a trace begin at 0; after this time those over
-# 300 s are right, too.
+# The number of ticks by which two parts overlap. A trace's averages start at 0; after this time
+# even those over 300 s are correct.
 OVERLAP = 450
-# A part ends if it has more than MOST_GROUPS groups or MOST_TASKS tasks. MOST_OF_ALL groups are an
-# error: a trace has at most 1,024 groups, of which one is the mark of samples, and 65,536 tasks.
+# A part ends when it has more than MOST_GROUPS groups or MOST_TASKS tasks. More than MOST_OF_ALL
+# groups are an error. A trace may have 1,024 groups, including a group that marks samples, and
+# 65,536 tasks.
 MOST_GROUPS, MOST_TASKS, MOST_OF_ALL = 980, 60_000, 1023
-# The largest number of lines that a tick may need.
+# The number of lines that are reserved for one more tick.
 SPARE = 40_000
 Progress = Callable[[int], None]
 
 
 @dataclass
 class Made:
-    """The result of all parts: their file names, their numbers of lines, the largest number of
-    processors, the number of groups that were created again, the totals that are off, the number
-    of totals that were compared with a replay, and the totals that differ.
+    """The result of a conversion, over all parts: the file names, the numbers of lines, the largest
+    number of processors, the number of groups that were created again, the totals that are off, the
+    number of totals that were compared with a replay, and the totals that differ.
     """
 
     names: list[str] = field(default_factory=list)
@@ -46,7 +49,7 @@ class Made:
     wrong: list[tuple[int, str, int, int, int | None]] = field(default_factory=list)
 
     def add(self, name: str, conversion: Conversion, checked: Checked) -> None:
-        """Adds a part."""
+        """Adds the results of a part of the trace."""
         self.names.append(name)
         self.lines.append(conversion.file.count())
         self.processors = max(self.processors, conversion.file.processors + 1)
@@ -59,16 +62,15 @@ class Made:
 
 
 def part_name(output: str, part: int) -> str:
-    """Returns the file name of a part: `output` for the first part; the other parts have their
-    number before the ending.
+    """Returns the file name of part number `part`. The first part is `output`; all others have
+    their number before the suffix.
     """
     root, ending = os.path.splitext(output)
     return output if part == 1 else f"{root}.{part}{ending}"
 
 
 def number_of(data: Data, start: int, end: int) -> int:
-    """Returns a number that identifies the parts of a set of traces, from the times and groups of
-    the samples.
+    """Returns a number that identifies a set of parts: a checksum of the samples' times and groups.
     """
     return zlib.crc32(
         " ".join([str(start), str(end), str(data.every), *sorted(data.groups)]).encode(
@@ -78,7 +80,7 @@ def number_of(data: Data, start: int, end: int) -> int:
 
 
 class Maker:
-    """Makes traces from the samples between `start` and `end` (ns since 1970), of at most `most`
+    """Converts the samples between `start` and `end` (ns since 1970) to traces with at most `most`
     lines each.
     """
 
@@ -97,7 +99,7 @@ class Maker:
         self.whole = number_of(data, start, end)
 
     def make(self, output: str) -> Made:
-        """Makes all parts. The files have temporary names until all parts are complete."""
+        """Writes all parts. Files have temporary names until all parts are complete."""
         begin: int | None = self.start
         part = 0
         try:
@@ -115,14 +117,14 @@ class Maker:
         return self.made
 
     def drop(self) -> None:
-        """Removes the parts that were written."""
+        """Removes the temporary files of all parts."""
         for name in self.made.names:
             if os.path.exists(f"{name}.part"):
                 os.remove(f"{name}.part")
 
     def make_part(self, name: str, begin: int, part: int) -> int | None:
-        """Makes the part that begins at `begin` (ns). Returns the time (ns) at which the next part
-        begins, or None after the last part.
+        """Writes the part that begins at `begin` (ns since 1970). Returns the time at which the
+        next part begins, or None after the last part.
         """
         every = self.data.every
         options = self.options if part == 1 else self.options.later()
@@ -156,7 +158,7 @@ class Maker:
         return None if is_last else begin + (conversion.tick - conversion.lead - OVERLAP) * TICK
 
     def is_full(self, conversion: Conversion) -> bool:
-        """Returns whether the trace is as long as it may be, or has as many groups or tasks."""
+        """Whether the trace has reached its largest number of lines, groups or tasks."""
         file = conversion.file
         most = max(self.most - SPARE, self.most // 2)
         groups = max(MOST_GROUPS, conversion.first_groups + 10)
@@ -167,7 +169,7 @@ class Maker:
         )
 
     def write(self, name: str, conversion: Conversion, part: int, begin: int) -> None:
-        """Writes the file of a part."""
+        """Writes the file of a part of the trace."""
         if conversion.made_groups > MOST_OF_ALL:
             raise Fault(
                 f"there are {conversion.made_groups} groups at once: at most {MOST_OF_ALL}, see"

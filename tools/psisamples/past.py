@@ -1,5 +1,5 @@
-"""Computes the pressure of a lead-in before the first samples, so that the averages of a trace
-begin with the machine's values instead of 0.
+"""Computes the pressure during the warm-up of a trace, which is the time before its first samples.
+This pressure makes the averages start with the machine's values instead of 0.
 """
 from __future__ import annotations
 
@@ -12,8 +12,8 @@ HUNDRED = 100
 
 
 class Past:
-    """The pressure of groups in the `ticks` ticks before their first samples, computed from the
-    averages avg10, avg60 and avg300 in these samples.
+    """The pressure of groups in the `ticks` ticks before their first samples. It is computed from
+    the averages avg10, avg60 and avg300 of these samples.
     """
 
     def __init__(self, ticks: int) -> None:
@@ -22,7 +22,8 @@ class Past:
         self.stretches: dict[str, list[list[float]]] = {}
 
     def wanted(self, life: Life, tick: int) -> Times:
-        """Returns the shares (ns) of a group in a tick of the lead-in."""
+        """Returns by how much (ns) each of the group's totals must grow in a tick of the warm-up.
+        """
         if life.path not in self.stretches:
             averages = [it / HUNDRED for it in life.averages] or [0.0] * 18
             triples = [averages[3 * level : 3 * level + 3] for level in range(len(LEVELS))]
@@ -40,8 +41,8 @@ class Past:
 
 
 def end_past(life: Life) -> None:
-    """Adapts the totals of a group at the end of its lead-in: the totals that it has reached become
-    the wanted ones, so that later growth is compared with the samples.
+    """Sets a group's required totals to the totals that the group has reached at the end of its
+    warm-up, so that only later growth is compared with the samples.
     """
     life.target = list(life.achieved)
     life.base = [base - achieved for base, achieved in zip(life.base, life.achieved)]

@@ -1,10 +1,10 @@
-"""Arranges the blocks of a tick on processors such that each group has its wanted shares.
+"""Arranges the blocks of a tick on processors, so that each group has the wanted shares.
 
-A group's share of a level is sum(weight * time) // sum(weight) over processors. A group without
-blocks of descendants needs a single block, since the share is then the block's time. For any other
-group the blocks of its descendants are corrected in three ways: by overlays, which have no weight;
-by further blocks; and by ballast, blocks in which only a task of the group runs, which lower its
-shares. Groups are handled from the deepest up, so the blocks of all descendants are known.
+A group's share of a level is `sum(weight * time) // sum(weight)` over processors. A group without
+blocks of descendants needs a single block, since its share is then the block's time. The shares of
+any other group are corrected in three ways: by overlays, which have no weight; by further blocks;
+and by ballast, blocks in which only a task of the group runs, which lower its shares. The deepest
+groups are placed first, so the blocks of all descendants are known.
 """
 from __future__ import annotations
 
@@ -28,21 +28,20 @@ from .block import (
 )
 from .overlays import LESS_FULL, LESS_OF_BOTH, MORE_OF_BOTH, MORE_SOME, Overlay, segments_of
 
-# The length of a tick (ms); the number of processors on which tasks run (a 64th is for creating and
-# ending tasks); the number of processors over which groups without descendants are spread; the
-# largest number of further blocks of a group; and the numbers of the levels.
+# The length of a tick (ms), the processors for blocks (a 64th creates and ends tasks), those for
+# groups without descendants, the most further blocks of a group, and the levels.
 ROOM = TICK // MS
 MOST_PROCESSORS = 63
 SPREAD = 24
 MOST_OWN = 24
 SIX = range(6)
-# The levels of the root, whose CPU full isn't shown.
+# The levels of the root. The kernel shows no full pressure of CPU for it.
 ROOT_LEVELS = range(5)
 ROUNDS = 12
 
 
 class Block:
-    """A block of a group on a processor: its start in the tick and its length (ns), the states of
+    """A block of a group on a processor: its start in the tick (ns), its length (ns), the states of
     its own tasks (`spans`) and of overlays (`others`), and its segments.
     """
 
@@ -53,16 +52,17 @@ class Block:
         self.spans = spans_of(times, length) if times is not NONE else [Span(0, length, "r", "x")]
         self.others: list[tuple[int, Span]] = []
         self.segments = segments_of(self.spans, length)
-        # A set bit for each status that a segment has or had, by the number of the status.
+        # A bit mask of the statuses that segments of the block have or had.
         self.has = 0
         for segment in self.segments:
             self.has |= 1 << segment[2]
 
 
 class Offer(NamedTuple):
-    """A possible addition to a group: `blocks` blocks of `length` ms each with these times (ns), on
-    this processor or, if that is None, on processors without blocks of the group. The group then
-    has the weight `heavy` (ms), and its shares differ from the wanted ones by `off` ns.
+    """An option for further blocks of a group: `blocks` blocks of `length` ms with the stall times
+    `times` (ns), on `processor` or, if that is None, on processors without blocks of the group.
+    With these blocks the group's weight is `heavy` (ms), and its shares differ from the wanted
+    shares by `off` ns in total.
     """
 
     off: int
@@ -74,18 +74,16 @@ class Offer(NamedTuple):
 
 
 class Tree(NamedTuple):
-    """The tree of groups by their numbers: the chain from each group up to the root, as a tuple and
-    as a set.
-    """
+    """The tree of groups: the chain from each group up to the root, as a tuple and as a set."""
 
     chains: dict[int, tuple[int, ...]]
     above: dict[int, frozenset[int]]
 
 
 class Plan:
-    """The blocks of a tick, by processor. `before` has the processors on which each group had
-    blocks in the previous tick. Groups in `late` are created 1 ns after the tick begins, so their
-    blocks begin 1 ms later.
+    """The blocks of a tick, by processor. `before` has the processors of each group's blocks in the
+    previous tick. Groups in `late` are created 1 ns after the start of the tick, so their blocks
+    start 1 ms later.
     """
 
     def __init__(
@@ -94,19 +92,19 @@ class Plan:
         self.tree, self.before, self.late = tree, before, late
         self.blocks: list[list[Block]] = []
         self.used: list[int] = []
-        # The weight (ms) and the six times (ns), by group and processor, including descendants.
+        # The weight (ms) and six stall times (ns) by group and processor, including descendants.
         self.has: dict[int, dict[int, list[int]]] = {}
         self.where: dict[int, list[int]] = {}
 
-    # ---------------------------------------------------------------- blocks
+    # ---------------------------------------------------------------- placing blocks
 
     def room(self, processor: int, group: int) -> int:
-        """Returns the length (ms) that is free on a processor for a block of the group."""
+        """Returns the time (ms) on a processor that is free for a block of the group."""
         used = self.used[processor] if processor < len(self.used) else 0
         return ROOM - (used or int(group in self.late))
 
     def place(self, group: int, processor: int, length: int, times: Times) -> None:
-        """Adds a block of `length` ms after the last block of a processor."""
+        """Appends a block of `length` ms to the blocks of a processor."""
         while processor >= len(self.used):
             self.used.append(0)
             self.blocks.append([])
@@ -122,13 +120,13 @@ class Plan:
             places[processor] = list(map(add, before, added)) if before else list(added)
 
     def empty_places(self, group: int) -> Iterator[int]:
-        """Yields processors without blocks of the group or descendants, those of `before` first."""
+        """Yields processors without blocks of the group or descendants, first those of `before`."""
         known, last = self.has.get(group, {}), self.before.get(group, ())
         yield from (it for it in last if it not in known)
         yield from (it for it in range(MOST_PROCESSORS) if it not in known and it not in last)
 
     def free_rooms(self, group: int) -> list[int]:
-        """Returns the lengths (ms) that are free on these processors, in descending order."""
+        """Returns the free times (ms) on processors without blocks of the group, descending."""
         known = self.has.get(group, {})
         late = int(group in self.late)
         found = [
@@ -137,8 +135,8 @@ class Plan:
         return [ROOM - late] * (MOST_PROCESSORS - len(self.used)) + sorted(found, reverse=True)
 
     def place_alone(self, group: int, times: Times) -> None:
-        """Places the block of a group without blocks of descendants, on the processor on which its
-        parent has the least weight: for the parent, blocks on a processor count as a single one.
+        """Places the block of a group without blocks of descendants. Chooses the processor with the
+        least weight of the group's parent, since for the parent all blocks there count as one.
         """
         if group in self.late:
             times = fitted(times, (ROOM - 1) * MS)
@@ -164,8 +162,8 @@ class Plan:
             self.place(group, found, length, times)
 
     def put_ballast(self, group: int, weight: int) -> None:
-        """Adds blocks of `weight` ms in total in which a task of the group runs, on processors
-        without blocks of the group or a descendant.
+        """Adds blocks of `weight` ms in total, in which a task of the group only runs, on
+        processors without blocks of the group or its descendants.
         """
         for processor in list(self.empty_places(group)) if weight > 0 else ():
             if weight <= 0:
@@ -175,11 +173,11 @@ class Plan:
                 self.place(group, processor, part, NONE)
                 weight -= part
 
-    # ---------------------------------------------------------------- overlays
+    # ---------------------------------------------------------------- adding overlays to blocks
 
     def lay(self, group: int, over: Overlay, amount: int) -> int:
-        """Lays tasks of the group over the blocks of its descendants, until the sum of time (ns)
-        times weight (ms) is `amount`. Returns the amount that was possible.
+        """Adds overlays of the group to the blocks of its descendants, until the sum of time (ns)
+        times weight (ms) is `amount`. Returns the amount that was reached.
         """
         done, known = 0, self.has[group]
         for processor in sorted(known, key=lambda it: -known[it][0]):
@@ -194,7 +192,7 @@ class Plan:
         return done
 
     def lay_over(self, group: int, processor: int, block: Block, over: Overlay, most: int) -> int:
-        """Lays a task over a block for at most `most` ns. Returns for how many ns it does."""
+        """Adds an overlay to a block for up to `most` ns. Returns the time (ns) that it covers."""
         done, place = 0, 0
         while place < len(block.segments) and done < most:
             segment = block.segments[place]
@@ -216,10 +214,10 @@ class Plan:
             done += length
         return done
 
-    # ---------------------------------------------------------------- a group above others
+    # ---------------------------------------------------------------- groups with descendants
 
     def sums(self, group: int) -> tuple[int, list[int]]:
-        """Returns the group's weight (ms), and for each level its sum of weight * time."""
+        """Returns the group's weight (ms), and each level's sum of weight * time."""
         weight = io_some = io_full = memory_some = memory_full = cpu_some = cpu_full = 0
         for heavy, *times in self.has.get(group, {}).values():
             weight += heavy
@@ -232,12 +230,12 @@ class Plan:
         return weight, [io_some, io_full, memory_some, memory_full, cpu_some, cpu_full]
 
     def shares(self, group: int) -> list[int]:
-        """Returns the group's shares (ns), as psi_oomd will compute them."""
+        """Returns the group's shares (ns) of the six levels, as psi_oomd will compute them."""
         weight, found = self.sums(group)
         return [it // max(1, weight) for it in found]
 
     def give(self, group: int, wanted: Sequence[int]) -> None:
-        """Corrects the group's shares (ns) to the wanted ones, as nearly as possible."""
+        """Changes the group's shares (ns) to the wanted ones, as nearly as possible."""
         times = possible(tuple(wanted))
         if group not in self.has:
             if any(times):
@@ -264,7 +262,7 @@ class Plan:
     def least_weight(
         self, group: int, times: Times, weight: int, sums: list[int], levels: Sequence[int]
     ) -> int:
-        """Returns the least weight (ms) at which no share is too high, as far as there is room."""
+        """Returns the smallest weight (ms) with which no share is too high, if there is room."""
         found = weight
         for level in levels:
             if times[level] and sums[level] > times[level] * found:
@@ -274,7 +272,7 @@ class Plan:
         return found
 
     def lower(self, group: int, times: Times, heavy: int, levels: Sequence[int]) -> None:
-        """Lays overlays that reduce the group's shares of full."""
+        """Adds overlays that reduce the group's shares of full."""
         sums = self.sums(group)[1]
         io, memory = sums[1] - times[1] * heavy, sums[3] - times[3] * heavy
         if io > heavy and memory > heavy and self.lay(group, LESS_OF_BOTH, min(io, memory)):
@@ -286,7 +284,7 @@ class Plan:
                     sums = self.sums(group)[1]
 
     def lift(self, group: int, times: Times, heavy: int, levels: Sequence[int]) -> None:
-        """Lays overlays that increase the group's shares of some, and of full as far as wanted."""
+        """Adds overlays that increase the group's shares of some and, if needed, of full."""
         sums = self.sums(group)[1]
         for level, overlays in MORE_SOME.items():
             some = times[level] * heavy - sums[level]
@@ -301,13 +299,13 @@ class Plan:
                     some -= self.lay(group, over, some - full)
             sums = self.sums(group)[1]
 
-    # ---------------------------------------------------------------- a block of its own
+    # ---------------------------------------------------------------- further blocks of a group
 
     def best_offer(
         self, group: int, times: Times, heavy: int, levels: Sequence[int]
     ) -> Optional[Offer]:
-        """Returns the lightest further blocks with which the group has its wanted shares, or else
-        the blocks with which it comes nearest. None if no blocks improve its shares.
+        """Returns the further blocks that bring the group's shares nearest to the wanted ones, with
+        the least weight. Returns None if no blocks improve the shares.
         """
         known = self.has[group]
         weight, sums = self.sums(group)
@@ -330,19 +328,18 @@ class Plan:
         return found if found is not None and found.off < now else None
 
     def take(self, group: int, it: Offer) -> None:
-        """Places the blocks of an offer."""
+        """Places the blocks of an offer on processors."""
         places = [it.processor] if it.processor is not None else self.empty_places(group)
-        found = islice(
-            (place for place in places if self.room(place, group) >= it.length), it.blocks
-        )
-        for processor in list(found):
+        fitting = (place for place in places if self.room(place, group) >= it.length)
+        for processor in list(islice(fitting, it.blocks)):
             self.place(group, processor, it.length, it.times)
 
 
 class Need(NamedTuple):
-    """The search for further blocks of a group: the wanted shares (ns); the group's weight (ms) and
-    sums; the bounds of its new weight (ms); in `base` its weight (ms) and six times (ns) on the
-    processor of the new blocks; and the length (ms) of the longest possible block.
+    """The parameters of a search for further blocks of a group: the wanted shares (ns); the group's
+    weight (ms) and its sums of weight * time; the bounds of its new weight (ms); the weight (ms)
+    and six stall times (ns) that it already has on the processor of the new blocks (`base`); and
+    the length (ms) of the longest possible block.
     """
 
     wanted: Times
@@ -356,9 +353,10 @@ class Need(NamedTuple):
     processor: Optional[int]
 
     def at(self, length: int, count: int) -> tuple[int, int, list[int], Times]:
-        """Returns for `count` new blocks of `length` ms: the group's weight with ballast (ms), the
-        weight by which their times count, the sums that they must add, and their times (ns). A
-        block adds (base weight + length) * times + length * base times to the group's sums.
+        """Computes the effect of `count` new blocks of `length` ms. Returns the group's weight with
+        ballast (ms), the weight (ms) with which the blocks' stall times count in the group's sums,
+        the sums that these times must add, and the blocks' stall times (ns). A block adds (base
+        weight + length) * times + length * base times to the group's sums.
         """
         wanted, added = self.wanted, count * length
         heavy = least = max(self.least, self.weight + added)
@@ -378,15 +376,17 @@ class Need(NamedTuple):
         )
 
     def offer(self, count: int) -> Offer:
-        """Returns the shortest `count` blocks that give the group its shares, or the longest."""
+        """Returns an offer of `count` blocks. A single block is as long as it needs to be to give
+        the group its shares, but at most `room` ms. Several blocks are `room` ms long each.
+        """
         length, base = 1 if count == 1 else self.room, self.base[0]
         for turn in range(ROUNDS):
             heavy, share, rest, times = self.at(length, count)
             lack = -(-least_length(times) // MS) - length
             if lack <= 0 or length >= self.room:
                 break
-            # The length at which a block is as long as its times need, if the sums that it must add
-            # don't change. They grow with the length, so later rounds increase it by more.
+            # The length at which a block is exactly as long as its times need, if the sums that it
+            # must add don't change. They grow with the length, so later rounds increase it by more.
             better = (isqrt(base * base + 4 * (length + lack) * (base + length)) - base) // 2
             length = min(
                 self.room, max(better + 1, length + 1 + turn * lack) if turn else better + 1

@@ -15,14 +15,14 @@ from psireplay.lines import LEVELS
 
 from .rows import AVERAGES, HOST, MEMORY, ROOT, Put
 
-# The interval of readings (ns) if no marker shows it.
+# The interval between readings (ns), if no marker shows it.
 EVERY = 2 * 10**9
 
 
 def times_of(source: Source, most: int) -> list[int]:
-    """Returns the time (ns) of each reading of the pressure files, by number from 0 to `most`. If
-    the markers of a reading were lost, its time is interpolated or, before the first and after the
-    last marker, extrapolated. Without any markers readings are EVERY apart.
+    """Returns the time (ns) of each reading of the pressure files, from number 0 to `most`. If a
+    reading's markers were lost, its time is interpolated between the nearest markers, or
+    extrapolated at both ends. Without any markers, readings are EVERY apart.
     """
     begins = {
         number: marker.time_ns for marker, number, is_begin in reading_markers(source) if is_begin
@@ -45,8 +45,8 @@ def times_of(source: Source, most: int) -> list[int]:
 
 
 def read_folder(folder: str, put: Put) -> None:
-    """Stores all samples of a recording. The line number of a row is its line in the pressure file,
-    and 0 for memory samples.
+    """Stores all samples of a recording. The line number of a row is its line in the file of
+    pressure readings, or 0 for a memory sample.
     """
     try:
         source, text = read_recording(folder, True), text_of(folder, PRESSURE)
@@ -82,7 +82,7 @@ def read_folder(folder: str, put: Put) -> None:
 
 
 def put_memory(event: Marker, offset: int, put: Put) -> None:
-    """Stores a marker's memory sample, if it has one."""
+    """Stores the memory sample of a marker, if the marker has one."""
     words = event.text.decode("utf-8", "surrogateescape")[len(MARK) :].split()
     if words[:1] == ["host"] and len(words) == 4:
         put(event.time_ns + offset, ROOT, HOST, tuple(map(int, words[1:])), 0)

@@ -1,4 +1,4 @@
-"""The rows into which all input formats are parsed, and checks of their values."""
+"""Defines the rows into which all formats of samples are parsed, and checks their values."""
 from __future__ import annotations
 
 import re
@@ -10,16 +10,16 @@ from psicli.fault import Fault
 from psicli.times import SECOND
 from psirec.layout import escaped_path
 
-# The fields of a row after the six totals (us) in the order of LEVELS: a group's memory and swap
-# (bytes) and scanned pages, the machine's memory, swap and free swap (bytes), and three averages
-# (hundredths of a percent) for each of the six levels.
+# The numbers of a row's fields. Fields 0 to 5 are the totals (us) in the order of LEVELS. Then
+# follow a group's memory and swap (bytes) and scanned pages, the machine's memory, swap and free
+# swap (bytes), and three averages (hundredths of a percent) for each of the six levels.
 MEMORY, SWAP, SCANS, HOST, AVERAGES = 6, 7, 8, 9, 12
 MOST_COMPONENTS, MOST_BYTES, MOST_VALUE = 32, 255, 2**60
 ROOT = "/"
 
 
 class Place(NamedTuple):
-    """The place at which a sample was read: a file, and a line from 1."""
+    """The place of a sample in the input: a file, and a line number from 1."""
 
     file: str
     line: int
@@ -29,8 +29,8 @@ class Place(NamedTuple):
 
 
 class Row(NamedTuple):
-    """Values of a group at a time (ns since 1970), for consecutive fields from `field` on.
-    `place` has the number of the file and the line.
+    """Values of a group at `time` (ns since 1970), for consecutive fields that start at `field`.
+    `place` has the number of the input file and the line.
     """
 
     time: int
@@ -44,8 +44,8 @@ Put = Callable[[int, str, int, tuple[int, ...], int], None]
 
 
 def ns_of(text: str) -> int:
-    """Parses a decimal number of seconds, possibly with an exponent, and returns ns. Raises
-    ValueError if the number is malformed.
+    """Parses a decimal number of seconds, which may have an exponent. Returns ns. Raises ValueError
+    if the number is malformed.
     """
     if re.fullmatch(r"[0-9]{1,12}", text):
         return int(text) * SECOND
@@ -62,7 +62,9 @@ def ns_of(text: str) -> int:
 
 
 def us_of(text: str) -> int:
-    """Parses a number of seconds, and returns us, rounded since exporters write floating point."""
+    """Parses a number of seconds. Returns us, rounded, since exporters print floating-point
+    numbers.
+    """
     value = float(text)
     if not 0 <= value < 1e12:
         raise ValueError(text)
@@ -70,8 +72,8 @@ def us_of(text: str) -> int:
 
 
 def whole(text: str) -> int:
-    """Parses a whole number, which may be written as floating point. Raises ValueError if it is
-    malformed, negative or too large.
+    """Parses a whole number, which may be written in floating-point notation. Raises ValueError if
+    it is malformed, negative or too large.
     """
     if re.fullmatch(r"[0-9]{1,19}", text):
         found = int(text)
@@ -86,7 +88,7 @@ def whole(text: str) -> int:
 
 
 def hundredths(text: str) -> int:
-    """Parses a percentage with at most two decimals, and returns hundredths of a percent."""
+    """Parses a percentage with at most two decimals. Returns hundredths of a percent."""
     found = re.fullmatch(r"([0-9]{1,3})(?:\.([0-9]{1,2}))?", text)
     if not found:
         raise ValueError(text)
@@ -94,7 +96,7 @@ def hundredths(text: str) -> int:
 
 
 def must_be_path(path: str, place: Place) -> None:
-    """Rejects a group whose path a trace can't contain."""
+    """Raises a Fault if a trace can't contain this path of a group."""
     components = path[1:].split("/") if path != ROOT else []
     if not path.startswith("/"):
         raise Fault(f"{place}: the group {path!r} doesn't begin with a /: --rename gives it a path")
@@ -112,7 +114,7 @@ def must_be_path(path: str, place: Place) -> None:
 
 
 def prefixes(path: str) -> list[str]:
-    """Returns the ancestors of a group, from the root down."""
+    """Returns the paths of a group's ancestors, starting with the root."""
     if path == ROOT:
         return []
     return [ROOT, *(path[:place] for place, letter in enumerate(path) if letter == "/" and place)]

@@ -1,9 +1,9 @@
 """Distributes the growth of a total between two samples over the ticks in between.
 
-A total could have grown early or late in the interval. avg10 at the end shows which, since late
-growth has more weight in it. So the rates of growth follow a straight line, bounded by 0 and the
-largest possible rate, whose slope is chosen such that the total and avg10 at the end agree with the
-samples.
+A total may have grown early or late in the interval. The average avg10 at the end shows which,
+since late growth has more weight in it. So the growth rate is a linear function of time, limited to
+0 and the largest possible rate. Its slope is chosen so that the total and avg10 at the end agree
+with the samples.
 """
 from __future__ import annotations
 
@@ -14,7 +14,7 @@ from psiconvert.lead_in import FACTORS, WHOLE
 from .block import TICK
 
 FACTOR = FACTORS[10]
-# The mean age (ns) of the averages in a file, which the kernel updates every 2 s.
+# The mean age (ns) of the averages in a pressure file, which the kernel updates every 2 s.
 AGE = TICK // 2
 STEEPEST, SLOPES, LEVELS_OF_SLOPE = 64.0, 20, 24
 
@@ -26,7 +26,7 @@ def parts_of(start: int, end: int) -> list[tuple[int, int]]:
 
 
 def left_of(time: int, end: int) -> float:
-    """Returns the fraction to which an average that was read at `time` (ns) has decayed at `end`
+    """Returns the factor by which an average that was read at `time` (ns) has decayed at `end`
     (ns).
     """
     return float(FACTOR ** (max(0, end - AGE - time) / TICK))
@@ -39,8 +39,8 @@ def bounded_rates(
     lengths: Sequence[int],
     growth: float,
 ) -> list[float]:
-    """Returns the rate in each part of an interval, along a line of this slope. The rates are
-    between 0 and the part's `most`, and give the total's growth (ns).
+    """Returns the growth rate in each part of an interval, for a linear function with this slope.
+    Each rate is between 0 and the part's `most`. With these rates the total grows by `growth` (ns).
     """
     low, high = -abs(slope), 1.0 + abs(slope)
     found = [0.0] * len(recent)
@@ -61,8 +61,8 @@ def rates(
     averages: tuple[float, float],
     most: Sequence[float] | None = None,
 ) -> list[float]:
-    """Returns the rate (0 to 1) in each part of an interval. `growth` is the total's growth
-    (ns), `averages` are avg10 (percent) at both ends, and `most` bounds the rates.
+    """Returns the growth rate (0 to 1) in each part of an interval. `growth` is the total's growth
+    (ns), `averages` are avg10 (percent) at both ends, and `most` has upper bounds of the rates.
     """
     parts = parts_of(start, end)
     lengths = [other - one for one, other in parts]
@@ -94,8 +94,8 @@ def knots_between(
     before: tuple[float, float],
     after: tuple[float, float],
 ) -> list[tuple[int, int, int, int]]:
-    """Returns knots at the ticks between two samples. `before` and `after` are avg10 (percent)
-    of some and full at the samples.
+    """Returns computed points of the totals at the ticks between two samples. `before` and `after`
+    are avg10 (percent) of some and full at the samples.
     """
     start, end = one[0], other[0]
     some = rates(start, end, other[1] - one[1], (before[0], after[0]))

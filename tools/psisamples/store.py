@@ -1,5 +1,5 @@
 """Stores rows of samples, and returns them in order of time. At most MOST_IN_MEMORY rows are in
-memory, and the others in temporary files.
+memory, and all others in temporary files.
 """
 from __future__ import annotations
 
@@ -11,35 +11,36 @@ from collections.abc import Iterator
 from operator import itemgetter
 from typing import IO
 
-# The number of rows that are sorted in memory, and the number of rows that are read and written at
+# The number of rows that are sorted in memory, and the number of rows that are read or written at
 # once.
 MOST_IN_MEMORY = 300_000
 BATCH = 5_000
 
-# A row (see rows.Row) as a plain tuple, which marshal can write.
+# A row as a plain tuple, which the module marshal can write. Its fields are those of rows.Row.
 Plain = tuple[int, str, int, tuple[int, ...], tuple[int, int]]
 ORDER = itemgetter(0, 1, 2)
 
 
 class Store:
-    """Takes rows in any order, and then yields them in order of time, from any time on."""
+    """Stores rows in any order, and then yields them in order of time."""
 
     def __init__(self) -> None:
         self.rows: list[Plain] = []
         self.runs: list[IO[bytes]] = []
         self.file: IO[bytes] | None = None
-        # The time (ns) of the first row of each batch, and the batch's offset in the file (bytes).
+        # The time (ns) of the first row of each batch, and the batch's offset (bytes) in the sorted
+        # file.
         self.times: list[int] = []
         self.offsets: list[int] = []
 
     def put(self, row: Plain) -> None:
-        """Adds a row."""
+        """Adds a row in any order of time."""
         self.rows.append(row)
         if len(self.rows) >= MOST_IN_MEMORY:
             self.spill()
 
     def spill(self) -> None:
-        """Sorts the rows in memory, and writes them to a temporary file, a sorted run."""
+        """Sorts the rows in memory, and writes them to a temporary file."""
         self.rows.sort(key=ORDER)
         run = tempfile.TemporaryFile(prefix="samples-")
         for start in range(0, len(self.rows), BATCH):
@@ -48,7 +49,9 @@ class Store:
         self.rows = []
 
     def sort(self) -> Iterator[Plain]:
-        """Yields all rows in order of time. May be called once; after that `since` yields rows."""
+        """Yields all rows in order of time. May be called only once. Afterwards, `since` can yield
+        the rows again.
+        """
         if not self.runs:
             self.rows.sort(key=ORDER)
             yield from self.rows
@@ -74,7 +77,7 @@ class Store:
         marshal.dump(batch, self.file)
 
     def since(self, time: int) -> Iterator[Plain]:
-        """Yields the rows from `time` (ns) on, and possibly some before that."""
+        """Yields all rows from `time` (ns) on. Some earlier rows may precede them."""
         if self.file is None:
             first = bisect.bisect_left(self.rows, time, key=itemgetter(0))
             for place in range(first, len(self.rows)):
@@ -87,7 +90,7 @@ class Store:
 
 
 def rows_in(run: IO[bytes]) -> Iterator[Plain]:
-    """Yields the rows of a sorted run."""
+    """Yields the rows of a sorted temporary file."""
     run.seek(0)
     while True:
         try:

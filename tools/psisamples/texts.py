@@ -1,4 +1,5 @@
-"""Reads samples from text: CSV, JSON lines, and the output of a loop over the pressure files."""
+"""Reads samples from text: CSV, JSON lines, and the output of a shell loop over the pressure files.
+"""
 from __future__ import annotations
 
 import json
@@ -13,7 +14,7 @@ from .block import RESOURCES
 from .rows import AVERAGES, HOST, MEMORY, ROOT, Put, hundredths, ns_of, whole
 
 Lines = Iterable[tuple[int, str]]
-# A line of a pressure file.
+# A line of a pressure file, as the kernel prints it.
 PRESSURE_LINE = re.compile(
     r"(some|full) avg10=([0-9.]+) avg60=([0-9.]+) avg300=([0-9.]+) total=([0-9]+)"
 )
@@ -36,8 +37,8 @@ def put_totals(
     line: int,
     has_averages: bool = True,
 ) -> None:
-    """Stores the totals of a pressure file, some and full (us), and with `has_averages` also the
-    averages of both, if `words` contains them.
+    """Stores the totals (us) of a pressure file's some and full. With `has_averages`, also stores
+    their averages if `words` contains them.
     """
     base = 2 * RESOURCES.index(resource)
     put(time, group, base, (us(words[0]), us(words[1])), line)
@@ -46,9 +47,9 @@ def put_totals(
 
 
 def read_csv(lines: Lines, put: Put, has_averages: Callable[[], bool]) -> None:
-    """Reads lines `TIME,GROUP,RESOURCE,SOME,FULL` with or without the six averages,
-    `TIME,GROUP,mem,CURRENT,SWAP[,SCANS]` and `TIME,/,host,TOTAL,SWAP_TOTAL,SWAP_FREE`. A first
-    line with names is skipped.
+    """Reads CSV lines: `TIME,GROUP,RESOURCE,SOME,FULL`, with or without six averages,
+    `TIME,GROUP,mem,CURRENT,SWAP[,SCANS]` and `TIME,/,host,TOTAL,SWAP_TOTAL,SWAP_FREE`. Skips a
+    first line with the names of columns.
     """
     last, time = "", 0
     for number, line in lines:
@@ -72,8 +73,9 @@ def read_csv(lines: Lines, put: Put, has_averages: Callable[[], bool]) -> None:
 
 
 def read_json_lines(lines: Lines, put: Put) -> None:
-    """Reads an object per line: `time`, `group`, and for each resource an object with `some` and
-    `full` (us); or `current`, `swap` and `pgscan`; or `mem_total`, `swap_total` and `swap_free`.
+    """Reads a JSON object per line, with `time` and `group`. The object also has `some` and `full`
+    (us) for each resource; or `current`, `swap` and `pgscan`; or `mem_total`, `swap_total` and
+    `swap_free`.
     """
     for number, line in lines:
         if not line.strip():
@@ -100,12 +102,12 @@ def read_json_lines(lines: Lines, put: Put) -> None:
             put(time, ROOT, HOST, tuple(whole(str(value.get(it, 0))) for it in names), number)
 
 
-# ---------------------------------------------------------------- a loop
+# ---------------------------------------------------------------- the output of a shell loop
 
 
 class Round:
-    """The files that a shell loop printed in one round: the totals of each pressure file, and the
-    memory sizes (bytes), by group.
+    """The files that a shell loop printed in one round, by group: the totals of each pressure file,
+    and the memory sizes (bytes).
     """
 
     def __init__(self, time: int) -> None:
@@ -115,7 +117,7 @@ class Round:
         self.lines: dict[str, int] = {}
 
     def take(self, number: int, line: str) -> None:
-        """Parses a line `PATH:LINE` of a file. `number` is its line number in the input."""
+        """Parses a line `PATH:LINE` of a file. `number` is the line number in the input."""
         path, _, text = line.partition(":")
         folder, name = os.path.split(path)
         if folder == "/proc/pressure" or name.endswith(".pressure"):
@@ -138,8 +140,8 @@ class Round:
             self.sizes.setdefault(group_of(folder), [None, 0, None])[2] = whole(text.split()[1])
 
     def put_all(self, put: Put) -> None:
-        """Stores the values of the round. The file `cpu` of an old kernel has no line `full`, which
-        then counts as 0.
+        """Stores the values of the round. If an old kernel's file `cpu` has no line `full`, its
+        total is 0.
         """
         for (group, resource), lines in self.totals.items():
             some, number = lines["some"]
@@ -159,7 +161,7 @@ class Round:
 
 
 def group_of(folder: str) -> str:
-    """Returns the path of the group whose folder this is, without the mount point of control
+    """Returns the path of the group whose folder this is, relative to the mount point of control
     groups.
     """
     for mount in ("/sys/fs/cgroup/unified", "/sys/fs/cgroup"):
@@ -169,8 +171,8 @@ def group_of(folder: str) -> str:
 
 
 def read_loop(lines: Lines, put: Put) -> None:
-    """Reads the output of a shell loop: for each round a line with the time (s since 1970), and
-    then the lines of files, `PATH:LINE`, as `grep . FILE ..` prints them.
+    """Reads the output of a shell loop. Each round is a line with the time (s since 1970), followed
+    by lines `PATH:LINE` of the files, as `grep . FILE ..` prints them.
     """
     found: Round | None = None
     for number, line in lines:

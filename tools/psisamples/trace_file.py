@@ -1,5 +1,5 @@
-"""Writes a trace. Events go to a temporary file first, since the number of processors in the header
-and the tasks of a group, which must precede the events, are known only at the end.
+"""Writes a trace. Events are first written to a temporary file: the header has the number of
+processors and a group's tasks precede the events, but both are known only at the end.
 """
 from __future__ import annotations
 
@@ -10,14 +10,14 @@ from typing import IO
 
 from .plan import MOST_PROCESSORS
 
-# The processor on which tasks are created and end. Blocks are on the other processors.
+# The processor on which tasks are created and exit. Blocks use all other processors.
 FIRST = 0
 PIECE = 1 << 20
 
 
 class Tasks:
-    """The tasks of a group, which are created with the group at `time` (ns). `at` is the offset
-    (bytes) in the file of events at which the lines that create them are inserted.
+    """The tasks of a group, which are created together with the group at `time` (ns). The lines
+    that create them are inserted at the offset `at` (bytes) of the temporary file.
     """
 
     def __init__(self, path: str) -> None:
@@ -25,8 +25,8 @@ class Tasks:
         self.numbers: list[int] = []
 
     def lines(self) -> Iterable[str]:
-        """Yields the lines that create the tasks on the processor FIRST and put them to sleep one
-        after another.
+        """Yields the lines that create the tasks on the processor FIRST, and the lines that put
+        them to sleep.
         """
         yield from (f"{self.time} fork {it} {self.path} {FIRST}\n" for it in self.numbers)
         how = "idle"
@@ -37,12 +37,12 @@ class Tasks:
             yield f"{self.time} switch {FIRST} 0 sleep\n"
 
     def count(self) -> int:
-        """Returns the number of these lines."""
+        """Returns the number of lines that `lines` yields."""
         return 2 * len(self.numbers) + 1 if self.numbers else 0
 
 
 class TraceFile:
-    """The events of one trace, and the tasks of its groups."""
+    """The events of a trace, and the tasks of its groups."""
 
     def __init__(self) -> None:
         self.events: IO[bytes] = tempfile.TemporaryFile(prefix="samples-")
@@ -51,23 +51,26 @@ class TraceFile:
         self.lives: list[Tasks] = []
 
     def write(self, lines: list[str]) -> None:
-        """Writes lines, each of which ends in a newline."""
+        """Writes lines of events. Each line ends in a newline."""
         data = "".join(lines).encode("ascii")
         self.events.write(data)
         self.position += len(data)
         self.lines += len(lines)
 
     def put_tasks(self, tasks: Tasks, time: int) -> None:
-        """Marks the place at which the tasks of a group are created, at `time` (ns)."""
+        """Marks the current place for the lines that create a group's tasks, at `time` (ns)."""
         tasks.at, tasks.time = self.position, time
         self.lives.append(tasks)
 
     def count(self) -> int:
-        """Returns the number of lines of the trace, with those for tasks."""
+        """Returns the number of lines of the trace. For the lines that create tasks it counts an
+        upper bound.
+        """
         return self.lines + self.task_lines
 
     def finish(self, head: list[str], end: int, file: IO[bytes]) -> None:
-        """Writes the whole trace, which ends at `end` (ns). `head` has the lines after the header.
+        """Writes the complete trace to `file`. It ends at `end` (ns). `head` has the lines after
+        the header.
         """
         cpus = self.processors + 1
         file.write(f"psitrace 1 cpus={cpus}\n".encode())

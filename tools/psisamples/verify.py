@@ -1,4 +1,4 @@
-"""Replays a trace, and compares the totals that psi_oomd prints with the samples."""
+"""Replays a trace with psi_oomd, and compares the printed totals with the samples."""
 from __future__ import annotations
 
 import re
@@ -24,9 +24,9 @@ NO_TOTALS: Totals = {}
 
 
 class Checked(NamedTuple):
-    """The number of compared totals, and in `wrong` the totals that differ by more than was
-    reported: the time (ns), the group, the level, the total in the samples (us), and the total that
-    the program printed (us), None if it printed none.
+    """The number of compared totals, and the wrong ones, which differ by more than the conversion
+    reported: the time (ns), the group, the level, the total in the samples (us), and the printed
+    total (us) or None.
     """
 
     compared: int
@@ -61,7 +61,9 @@ def reports(output: IO[bytes]) -> Iterator[tuple[int, Totals]]:
 
 
 def wanted(checks: IO[bytes]) -> Iterator[tuple[int, Totals]]:
-    """Yields the totals (us) that a replay must print at each tick, by the lines of `checks`."""
+    """Yields the time (ns) and the totals (us) that a replay must print at each tick. Parses the
+    lines of `checks`.
+    """
     time = -1
     totals: Totals = {}
     checks.seek(0)
@@ -77,8 +79,8 @@ def wanted(checks: IO[bytes]) -> Iterator[tuple[int, Totals]]:
 
 
 def check(trace: str, checks: IO[bytes], off: dict[tuple[str, int], Off]) -> Checked:
-    """Replays a trace, and compares all totals at the ticks of samples. A total may differ by NEAR,
-    or by the difference that `off` already reports.
+    """Replays a trace, and compares all totals at ticks with samples. A total may differ by NEAR
+    us, or by the difference that `off` already reports.
     """
     count, wrong = 0, []
     with tempfile.TemporaryFile() as notes:

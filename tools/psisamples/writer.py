@@ -1,5 +1,6 @@
-"""Writes the event lines of blocks. A task that must run to change its state, such as to begin a
-sleep, is switched to and away at the same time, so that it uses no processor time.
+"""Writes the event lines of blocks. Some changes of a task's state, such as the start of a sleep,
+require that the task runs. Such a task is switched to and away at the same time, so that it uses no
+processor time.
 """
 from __future__ import annotations
 
@@ -10,18 +11,18 @@ from .block import TICK, Span
 from .overlays import IN_STALL
 from .plan import Block
 
-# The word of the switch by which a task leaves its processor, by its next state.
+# The word of the switch by which a task leaves its processor, by the letter of its next state.
 HOW = {"w": "iowait", "s": "sleep", "z": "sleep", "r": "preempt", "R": "preempt"}
 ASLEEP, RUNNING = "wsz", "xX"
 
-# A task of a block by its group and its kind.
+# The key of a task: its group's number, and its kind in a block.
 Key = tuple[int, str]
-# The time (ns since the start of a tick) and the words of an event.
+# An event: its time (ns since the start of the tick), and its line without the time.
 Event = tuple[int, str]
 
 
 class Task:
-    """A task: its number, the letter of its state, and the letter of its next state."""
+    """A task: its number, and the letters of its current and its next state."""
 
     __slots__ = ("number", "state", "next")
 
@@ -30,7 +31,7 @@ class Task:
 
 
 class Processor:
-    """A processor, the tasks that it uses by group and kind, and the task that runs on it."""
+    """A processor: the tasks that it uses, by group and kind, and its running task."""
 
     def __init__(
         self, number: int, task_of: Callable[[Key], Task], put_back: Callable[[Key, Task], None]
@@ -40,8 +41,8 @@ class Processor:
         self.runs: Task | None = None
 
     def changes_of(self, blocks: Iterable[Block]) -> dict[int, dict[Key, str]]:
-        """Returns the states that begin in a tick, by their times (ns since the tick's start).
-        Tasks that the previous tick used fall asleep at the start unless this tick uses them too.
+        """Returns the states that start in a tick, by time (ns since the tick's start). A task that
+        the previous tick used falls asleep at the start, unless this tick uses it too.
         """
         found: dict[int, dict[Key, str]] = {}
         begins: dict[int, dict[Key, str]] = {}
@@ -77,12 +78,13 @@ class Processor:
             self.put_back(key, self.tasks.pop(key))
 
     def forget(self, groups: set[int]) -> None:
-        """Forgets the tasks of these groups, which are asleep."""
+        """Removes the tasks of these groups, which are asleep, from this processor."""
         for key in [it for it in self.tasks if it[0] in groups]:
             del self.tasks[key]
 
     def change(self, time: int, wanted: dict[Key, str], out: list[Event]) -> None:
-        """Appends the events that bring tasks into these states, by turns of 0 ns if necessary."""
+        """Appends to `out` the events that put tasks into the states `wanted` at `time` (ns in the
+        tick). A task that must run to change its state runs for 0 ns."""
         cpu, tasks, runs = self.number, self.tasks, self.runs
         changed, turns, last = list[Task](), list[Task](), None
         for key, state in wanted.items():

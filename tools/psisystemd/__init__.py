@@ -1,3 +1,3 @@
-"""Computes which groups systemd-oomd would have killed in a trace, with a machine's own settings,
-for the tool tools/systemd-oomd.
+"""Computes which groups systemd-oomd would have killed in a trace with a machine's own settings.
+This is the package of tools/systemd-oomd.
 """

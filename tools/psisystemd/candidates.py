@@ -1,4 +1,4 @@
-"""Lists the groups that systemd-oomd may kill, in the order in which it considers them."""
+"""Lists the groups that systemd-oomd may kill, with the values by which it ranks them."""
 from __future__ import annotations
 
 from collections.abc import Iterable, Iterator
@@ -11,14 +11,14 @@ from psiworld.groups import ROOT
 
 
 def is_below(path: str, above: str) -> bool:
-    """Returns whether `path` is `above` or a descendant of it."""
+    """Returns whether `path` is `above` or a descendant of `above`."""
     return above == ROOT or path == above or path.startswith(f"{above}/")
 
 
 def memory_of(group: Group) -> Sample | None:
-    """Returns a group's memory as systemd-oomd reads it; for the root, swap and scans are 0. None
-    if systemd-oomd can't read it, because the group has no memory controller, or its accounting is
-    off and so it has no pressure files.
+    """Returns a group's memory as systemd-oomd reads it. Swap and scans of the root are 0. Returns
+    None if systemd-oomd can't read it: the group has no memory controller, or has no pressure files
+    because its accounting is off.
     """
     sample = group.whole_sample()
     if group.path == ROOT:
@@ -27,8 +27,9 @@ def memory_of(group: Group) -> Sample | None:
 
 
 def leaves(group: Group, settings: Settings) -> Iterator[Group]:
-    """Yields the candidates of a watched group: its descendants without children, and those that
-    are killed as a whole (memory.oom.group).
+    """Yields the candidates of a watched group: its descendants without children, and its
+    descendants that are killed as a whole (memory.oom.group). A watched group without children is
+    its own candidate.
     """
     if not group.children:
         yield group
@@ -40,8 +41,8 @@ def leaves(group: Group, settings: Settings) -> Iterator[Group]:
 
 
 def preference(group: Group, settings: Settings, above: str) -> str:
-    """Returns a candidate's preference, which counts only if the candidate's owner is root or the
-    owner of the watched group `above`.
+    """Returns a candidate's preference. Returns `none` unless the candidate's owner is root, or
+    also owns the watched group `above`.
     """
     if settings.owner(group.path) not in (0, settings.owner(above)):
         return "none"
@@ -51,8 +52,8 @@ def preference(group: Group, settings: Settings, above: str) -> str:
 def candidates_of(
     world: World[Task], settings: Settings, watched: Iterable[str]
 ) -> dict[str, Group]:
-    """Returns the candidates of all watched groups, by path, without those whose memory
-    systemd-oomd can't read.
+    """Returns the candidates of all watched groups, by path. Omits groups whose memory systemd-oomd
+    can't read.
     """
     found = (
         it
@@ -66,9 +67,9 @@ def candidates_of(
 def gathered(
     candidates: dict[str, Group], settings: Settings, above: str, risen: dict[Group, int]
 ) -> list[Candidate]:
-    """Returns the candidates at and below the group `above`, in order of paths. `risen` has the
-    number of scanned pages by which each group is ranked. For a group that `risen` lacks, all pages
-    that it ever scanned count.
+    """Returns the candidates among the group `above` and its descendants, sorted by path. `risen`
+    contains the number of scanned pages by which each group is ranked. For a group that isn't in
+    `risen`, all pages that the group ever scanned count.
     """
     found = []
     for path, group in sorted(candidates.items()):
@@ -86,7 +87,7 @@ def gathered(
 
 
 def is_avoided(candidate: Candidate) -> bool:
-    """Returns whether the candidate has the preference `avoid`, so that it is ranked after all
+    """Returns whether the candidate has the preference `avoid`. Such candidates rank after all
     others.
     """
     return candidate.preference == "avoid"

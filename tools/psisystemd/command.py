@@ -61,7 +61,7 @@ def parser() -> Parser:
 
 
 class Compared:
-    """The kills that psi_oomd makes with a rules file, for comparison."""
+    """The kills that psi_oomd makes with a rules file, for a comparison with systemd-oomd's."""
 
     def __init__(self, name: str, rules: RulesFile, kills: list[Kill]) -> None:
         self.name, self.rules, self.kills = name, rules, kills
@@ -73,7 +73,7 @@ class Compared:
         )
 
     def verdict(self, own: list[Decision]) -> str:
-        """Returns a sentence that says how the first kills differ in time and victim."""
+        """Returns a sentence that compares the first kills by time and victim."""
         one, other = (own[0] if own else None), (self.kills[0] if self.kills else None)
         if not one or not other:
             who = "systemd-oomd" if one else self.name if other else "neither"
@@ -99,8 +99,8 @@ def compared(program: Program, name: str, trace: str, interval_s: int | None) ->
 
 
 def told_decisions(decisions: list[Decision], is_all: bool) -> Iterator[tuple[int, list[str]]]:
-    """Yields each decision's time (ns) and its lines. Consecutive decisions to kill the same
-    group for swap are listed once.
+    """Yields the time (ns) and the lines of each decision. Consecutive decisions to kill the same
+    group for swap are combined.
     """
     for _, same in itertools.groupby(
         decisions, key=lambda it: (it.by, it.victim, it.by == SWAP or it.time_ns)
@@ -119,10 +119,12 @@ def told_decisions(decisions: list[Decision], is_all: bool) -> Iterator[tuple[in
 def tell_lines(
     engine: Engine, other: Compared | None, is_all: bool, part: Span | None
 ) -> None:
-    """Prints text for people: the decisions in order of time, and how near the limits came."""
-    told = [(moment, 0, lines) for moment, lines in told_decisions(engine.decisions, is_all)]
-    told += [(it.time_ns, 1, [other.line(it)]) for it in other.kills] if other else []
-    for _, _, lines in sorted(told, key=lambda it: it[:2]):
+    """Prints the results as text: the decisions in order of time, and how near pressure and swap
+    came to their limits.
+    """
+    rows = [(time_ns, 0, lines) for time_ns, lines in told_decisions(engine.decisions, is_all)]
+    rows += [(it.time_ns, 1, [other.line(it)]) for it in other.kills] if other else []
+    for _, _, lines in sorted(rows, key=lambda it: it[:2]):
         print("\n".join(lines))
     kills = list(engine.kills())
     if not kills:
@@ -130,33 +132,33 @@ def tell_lines(
     if other:
         print(other.verdict(kills))
     for course in sorted(engine.pressure.courses.values(), key=lambda it: it.path):
-        print(f"watched for memory pressure: {course.told()}")
+        print(f"watched for memory pressure: {course.text()}")
     if not engine.pressure.courses:
         print("watched for memory pressure: no group of the trace")
-    swap, memory, moment = engine.swap.most
+    swap, memory, time_ns = engine.swap.most
     if engine.swap.was_watched and engine.swap.is_absent:
         print("watched for swap: the machine has none")
     elif swap >= 0:
         limit = percent(engine.swap.settings.limits.swap_used)
         print(
-            f"watched for swap: at most {percent(swap)} used, at {time_text(moment)}, with"
+            f"watched for swap: at most {percent(swap)} used, at {time_text(time_ns)}, with"
             f" {percent(memory)} of memory; limit {limit}"
         )
 
 
 def tell_json(
-    engine: Engine, other: Compared | None, given: argparse.Namespace, settings: Settings
+    engine: Engine, other: Compared | None, options: argparse.Namespace, settings: Settings
 ) -> None:
-    """Prints the results as JSON."""
-    swap, memory, moment = engine.swap.most
-    told: dict[str, object] = {
-        "trace": given.trace,
-        "settings": given.settings,
+    """Prints the decisions and the watched groups as JSON."""
+    swap, memory, time_ns = engine.swap.most
+    record: dict[str, object] = {
+        "trace": options.trace,
+        "settings": options.settings,
         "systemd": settings.version,
         "decisions": [it.record() for it in engine.decisions],
         "watched": [it.record() for it in engine.pressure.courses.values()],
         "swap": (
-            {"most_percent": swap / 100, "memory_percent": memory / 100, "at_ns": moment}
+            {"most_percent": swap / 100, "memory_percent": memory / 100, "at_ns": time_ns}
             if swap >= 0
             else None
         ),
@@ -165,36 +167,40 @@ def tell_json(
             "kills": [other.rules.record(it) for it in other.kills],
         },
     }
-    json.dump(told, sys.stdout, indent=1)
+    json.dump(record, sys.stdout, indent=1)
     print()
 
 
-def work(given: argparse.Namespace) -> int:
-    """Prints what systemd-oomd would have done, and returns the exit status."""
-    if not given.is_json:
-        show_containers([given.trace], vars(given))
-        show_clock(given.trace, vars(given))
-    if given.interval_s and not given.compare:
+def work(options: argparse.Namespace) -> int:
+    """Prints the decisions that systemd-oomd would have made, and returns the exit status."""
+    if not options.is_json:
+        show_containers([options.trace], vars(options))
+        show_clock(options.trace, vars(options))
+    if options.interval_s and not options.compare:
         raise Fault("--interval-s is of the rules of --compare: systemd-oomd looks each second")
-    settings = Settings(given.settings, given.systemd)
+    settings = Settings(options.settings, options.systemd)
     program = Program()
     program.prepare()
-    with kept_trace(given.trace) as trace:
+    with kept_trace(options.trace) as trace:
         engine = replayed(program, trace, settings, processors())
-        other = compared(program, given.compare, trace, given.interval_s) if given.compare else None
-        part = part_of(given.trace, vars(given), end_of(trace))
+        other = (
+            compared(program, options.compare, trace, options.interval_s)
+            if options.compare
+            else None
+        )
+        part = part_of(options.trace, vars(options), end_of(trace))
     engine.decisions = within(engine.decisions, part)
     if other:
         other.kills = within(other.kills, part)
     for text in [*settings.notes, *warnings(engine, settings)]:
         complain(text)
-    if given.is_json:
-        tell_json(engine, other, given, settings)
+    if options.is_json:
+        tell_json(engine, other, options, settings)
     else:
-        tell_lines(engine, other, given.is_all, part)
+        tell_lines(engine, other, options.is_all, part)
     return Status.DONE
 
 
 def main() -> int:
-    """Runs the command; returns the exit status."""
+    """Runs the command, and returns the exit status."""
     return run(lambda: work(parser().parse_args()))

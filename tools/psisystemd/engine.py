@@ -1,4 +1,4 @@
-"""systemd-oomd's rules: what it checks, when, and which group it chooses.
+"""Implements systemd-oomd's rules: when it checks pressure and swap, and which group it kills.
 
 This follows systemd 252 and 257, which have the same rules and differ only in settings.
 systemd-oomd checks the pressure of groups each second, and the machine's swap each 0.15 s.
@@ -20,16 +20,18 @@ from psiworld.groups import ROOT
 
 SWAP_INTERVAL = 150 * SECOND // 1000
 RECLAIM = 30 * SECOND
-"""The time (ns) after a scan during which a group counts as reclaiming memory."""
+"""After a scan, a group counts as reclaiming memory for this time (ns)."""
 PAUSE = 15 * SECOND
 LEAST_SWAP_PERCENT = 5
 
 
 @dataclass
 class Look:
-    """The state of a watched group between checks: its limit (hundredths of a percent) and duration
-    (ns), the time (ns) since which its pressure is above the limit, the number of scanned pages at
-    the previous check, and the time (ns) of the last scan.
+    """The state of a watched group between checks. `limit` (hundredths of a percent) and `duration`
+    (ns) are its settings. `since` is the time (ns) at which its pressure rose above the limit, or
+    None if it is not above. `scanned` is the number of scanned pages at the previous check, and
+    `last_scan` the time (ns) of the check that last found new scans. `is_told` says whether it was
+    reported that no group is killed.
     """
 
     group: Group
@@ -42,60 +44,60 @@ class Look:
 
 
 class Scans:
-    """The number of pages that each group scanned between the last two samples. A check without a
-    new sample uses the number of the previous check.
+    """The number of pages that each group scanned between the last two samples (`risen`). A check
+    without a new sample uses the numbers of the previous check.
     """
 
     def __init__(self) -> None:
         self.samples = 0
-        self.moments = (0, 0)
+        self.times = (0, 0)
         self.totals: dict[Group, int] = {}
         self.risen: dict[Group, int] = {}
 
     def take(self, now: int, world: World[Task]) -> None:
-        """Takes the latest samples at `now` (ns), if they are new."""
+        """Reads the latest samples at `now` (ns), if there are new ones."""
         if world.samples == self.samples:
             return
         self.samples = world.samples
-        self.moments = (self.moments[1], now)
+        self.times = (self.times[1], now)
         before, self.totals, self.risen = self.totals, {}, {}
         for group in world.live.values():
             sample = memory_of(group)
             if sample:
                 self.totals[group] = sample.scanned
-                # The trace doesn't say when a group scanned the pages that it had scanned before
-                # the trace began, so these pages don't count.
+                # Pages that a group had scanned before the trace started don't count, because the
+                # time of these scans is unknown.
                 old = before.get(group, sample.scanned if group.made == 0 else 0)
                 self.risen[group] = sample.scanned - (old if old <= sample.scanned else 0)
 
     def span(self) -> str:
-        return f" in {seconds(self.moments[1] - self.moments[0])} s"
+        return f" in {seconds(self.times[1] - self.times[0])} s"
 
 
 class PressureRule:
-    """The rule for memory pressure, which is checked each second."""
+    """The rule for memory pressure, which is checked every second."""
 
     def __init__(self, world: World[Task], settings: Settings) -> None:
         self.world, self.settings = world, settings
         self.looks: dict[str, Look] = {}
         self.lost: set[Group] = set()
         self.unread: set[str] = set()
-        """The watched groups that had no memory sample at some check."""
+        """The paths of watched groups that had no memory sample at some check."""
         self.courses: dict[str, Course] = {}
         self.scans = Scans()
         self.candidates: dict[str, Group] = {}
-        """The candidates at the previous check, if some group was above its limit then;
-        otherwise empty.
+        """The candidates at the previous check if some group was above its limit then, and empty if
+        not.
         """
         self.rests_until = 0
         self.paused: list[tuple[int, str, int]] = []
-        """The pauses: the time (ns) at which a group exceeded its limit for its duration, its
-        path, and the time (ns) until which the rule rests after its last kill.
+        """The kills that a pause prevented: the time (ns) of the check, the path of the group whose
+        pressure had been above its limit for its duration, and the end of the pause (ns).
         """
 
     def look(self, now: int, averages: dict[str, int]) -> list[Decision]:
-        """Returns the decisions at `now` (ns). `averages` has the full memory pressure over 10 s
-        of each watched group, in hundredths of a percent.
+        """Checks memory pressure at `now` (ns), and returns the decisions. `averages` contains the
+        full memory pressure over 10 s (hundredths of a percent) of each watched group.
         """
         self.scans.take(now, self.world)
         self.update(now, averages)
@@ -122,7 +124,7 @@ class PressureRule:
         return decisions
 
     def update(self, now: int, averages: dict[str, int]) -> None:
-        """Updates the state of each watched group. A group whose accounting was off once isn't
+        """Updates the state of each watched group. A group whose accounting was ever off isn't
         watched until it is created again.
         """
         before, self.looks = self.looks, {}
@@ -154,7 +156,9 @@ class PressureRule:
             self.judge(now, look, averages[path])
 
     def judge(self, now: int, look: Look, pressure: int) -> None:
-        """Updates the time since which the group's pressure has been above its limit."""
+        """Updates the time since which the group's pressure (hundredths of a percent) is above its
+        limit.
+        """
         if pressure > look.limit:
             look.since = now if look.since is None else look.since
         else:
@@ -170,8 +174,8 @@ class PressureRule:
         return f"memory pressure of {path} {pressure} for {seconds(now - (target.since or 0))} s"
 
     def told_once(self, now: int, target: Look, averages: dict[str, int]) -> list[Decision]:
-        """Returns the decision that no group is killed because no page was scanned, but only at the
-        first check at which this prevents a kill.
+        """Returns a decision that no group is killed, because no page was scanned. Returns an empty
+        list if an earlier check has already reported this.
         """
         if target.is_told:
             return []
@@ -187,9 +191,9 @@ class PressureRule:
     def decided(
         self, now: int, target: Look, averages: dict[str, int], known: set[Group]
     ) -> Decision:
-        """Returns the decision for the group `target`: the victim, or why there is no victim.
-        `known` has the candidates of the previous check. For any other group, all pages that it
-        ever scanned count.
+        """Returns the decision about the watched group of `target`: the victim, or why there is
+        none. `known` contains the candidates of the previous check. For other groups, all pages
+        that they ever scanned count.
         """
         path = target.group.path
         risen = {group: count for group, count in self.scans.risen.items() if group in known}
@@ -211,26 +215,26 @@ class PressureRule:
 
 
 class SwapRule:
-    """The rule for swap, which is checked each 0.15 s."""
+    """The rule for swap, which is checked every 0.15 s."""
 
     def __init__(self, world: World[Task], settings: Settings) -> None:
         self.world, self.settings = world, settings
         self.samples = 0
         self.is_told = False
         self.most = (-1, -1, 0)
-        """The greatest share of swap in use, the share of memory in use at that time (both in
-        hundredths of a percent, -1 if unknown), and the time (ns).
+        """At the check with the largest share of swap in use: this share, the share of memory in
+        use (both in hundredths of a percent, -1 if unknown), and the time (ns).
         """
         self.was_watched = self.is_absent = False
 
     def is_due(self) -> bool:
-        """Returns whether a check would find a new sample. Without a new sample the check would
-        have the result of the previous one.
+        """Returns whether there is a new sample. Without a new sample, a check would have the
+        result of the previous check.
         """
         return self.world.samples != self.samples
 
     def look(self, now: int) -> list[Decision]:
-        """Returns the decisions at `now` (ns)."""
+        """Checks swap at `now` (ns), and returns the decisions."""
         self.samples = self.world.samples
         watched = [path for path in self.world.live if self.settings.watched(path).swap]
         host, root = self.world.host, self.world.live[ROOT].sample
@@ -243,9 +247,9 @@ class SwapRule:
         memory = (host.memory - available) * WHOLE // host.memory if host.memory else 0
         shares = (used * WHOLE // host.swap, memory)
         self.most = max(self.most, (*shares, now), key=lambda it: it[:2])
-        left = WHOLE - limit
-        has_memory = available >= host.memory * left // WHOLE
-        if has_memory or host.swap_free >= host.swap * left // WHOLE:
+        free = WHOLE - limit
+        has_memory = available >= host.memory * free // WHOLE
+        if has_memory or host.swap_free >= host.swap * free // WHOLE:
             self.is_told = False
             return []
         found = gathered(candidates_of(self.world, self.settings, watched), self.settings, ROOT, {})
@@ -268,8 +272,8 @@ class SwapRule:
 
 
 def chosen(world: World[Task], decision: Decision) -> Decision:
-    """Returns `decision` with its victim, the first candidate that isn't skipped. If that group has
-    no tasks, no group is killed, and no other candidate is tried.
+    """Returns the decision with its victim, which is the first candidate that isn't skipped. If
+    that candidate has no tasks, systemd-oomd kills nothing and tries no other candidate.
     """
     first: Candidate | None = next((it for it in decision.candidates if not it.passed_over), None)
     if not first:
@@ -283,7 +287,7 @@ def chosen(world: World[Task], decision: Decision) -> Decision:
 
 
 class Engine:
-    """The rules for memory pressure and for swap, applied to a trace."""
+    """Applies the rules for memory pressure and for swap to a trace."""
 
     def __init__(self, settings: Settings) -> None:
         self.world = World(Task)
@@ -294,21 +298,22 @@ class Engine:
         self.next_look = SWAP_INTERVAL
 
     def look_at_swap(self, until: int) -> None:
-        """Checks swap up to `until` (ns). There is one check per new sample, since further checks
-        have the same result.
+        """Checks swap up to `until` (ns). Checks only once per new sample, since further checks
+        would have the same result.
         """
         if self.next_look < until:
             if self.swap.is_due():
                 self.decisions += self.swap.look(self.next_look)
             self.next_look = -(-until // SWAP_INTERVAL) * SWAP_INTERVAL
 
-    def take(self, moment: int, verb: str, fields: list[str]) -> None:
-        """Applies an event of the trace, after the swap checks that are due before its time."""
-        self.look_at_swap(moment)
-        self.world.take(moment, verb, fields)
+    def take(self, time_ns: int, verb: str, fields: list[str]) -> None:
+        """Applies an event of the trace. Makes the swap checks that are due before its time first.
+        """
+        self.look_at_swap(time_ns)
+        self.world.take(time_ns, verb, fields)
 
     def look_at_pressure(self, now: int, averages: dict[str, int]) -> None:
-        """Checks pressure at a full second (`now`, ns), after the events of that time."""
+        """Checks pressure at a full second `now` (ns), after the events of that time."""
         self.look_at_swap(now + 1)
         self.decisions += self.pressure.look(now, averages)
 

@@ -1,4 +1,4 @@
-"""The limits for all groups, read from oomd.conf and its drop-in files."""
+"""Reads the limits that apply to all groups from oomd.conf and its drop-in files."""
 from __future__ import annotations
 
 import difflib
@@ -13,23 +13,22 @@ from psisystemd.values import duration, share
 SHARE = "a percentage such as 60%, from 0% to 100%, with at most two decimals"
 DURATION = "a time of at least 1 s, such as 20s or 1min 30s"
 SECTION = "OOM"
-# The first version of systemd that also searches oomd.conf in /run and /usr.
+# The first version of systemd that also reads oomd.conf in /run and /usr.
 MAIN_ANYWHERE = 256
 
 
 @dataclass(frozen=True)
 class Limits:
-    """The limits from oomd.conf: shares in hundredths of a percent, and the duration in ns."""
+    """The limits in oomd.conf: shares in hundredths of a percent, and a duration in ns."""
 
     swap_used: int = 9000
     pressure: int = 6000
     duration: int = 30 * SECOND
     places: tuple[tuple[str, str], ...] = ()
-    """Each setting that a file has, with the file and line."""
+    """The file and line of each setting that occurs in a file."""
 
     def changed(self, setting: Setting) -> Limits:
-        """Returns the limits with one setting changed, or raises a Fault if its value is
-        malformed.
+        """Returns the limits with the value of a setting. Raises a Fault if the value is malformed.
         """
         if setting.name == "DefaultMemoryPressureDurationSec":
             return self.put(setting, "duration", checked_duration(setting) or Limits.duration)
@@ -51,8 +50,8 @@ NAMES = {
 
 
 def checked_duration(setting: Setting) -> int | None:
-    """Parses a duration of at least 1 s, and returns ns. None if the value is empty or 0, which
-    select the default.
+    """Parses a duration, and returns ns. Returns None if the value is empty or 0, which selects the
+    default. Raises a Fault if the duration is malformed or shorter than 1 s.
     """
     if not setting.value:
         return None
@@ -65,7 +64,9 @@ def checked_duration(setting: Setting) -> int | None:
 
 
 def unknown(setting: Setting, names: list[str], where: str) -> str:
-    """Returns the message that systemd doesn't know this setting in the file or section `where`."""
+    """Returns a note that systemd doesn't know this setting. `where` names the file or the section
+    that contains the setting.
+    """
     meant = difflib.get_close_matches(setting.name, names, 1)
     guess = f"; did you mean {meant[0]}?" if meant else ""
     return (
@@ -75,15 +76,17 @@ def unknown(setting: Setting, names: list[str], where: str) -> str:
 
 
 def configurations(root: str, version: int) -> list[str]:
-    """Returns the paths of oomd.conf and its drop-in files. The last file has priority."""
+    """Returns the paths of oomd.conf and its drop-in files. A later file overrides an earlier one.
+    If several folders have an oomd.conf, only the first folder's is used.
+    """
     mains = [os.path.join(root, it, "oomd.conf") for it in CONFIGURATIONS]
     main = [it for it in (mains if version >= MAIN_ANYWHERE else mains[:1]) if os.path.exists(it)]
     return main[:1] + drop_ins(root, [f"{it}/oomd.conf.d" for it in CONFIGURATIONS])
 
 
 def read_limits(root: str, version: int, notes: list[str]) -> Limits:
-    """Reads the limits from the files below `root`. Adds a note to `notes` for each ignored
-    setting.
+    """Reads the limits from the files below the folder `root`. Adds a note to `notes` for each
+    setting that systemd ignores.
     """
     limits = Limits()
     for path in configurations(root, version):

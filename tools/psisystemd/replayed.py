@@ -1,5 +1,5 @@
-"""Applies systemd-oomd's rules to a trace, with the pressure that a replay by psi_oomd prints
-each second.
+"""Applies systemd-oomd's rules to a trace. The pressure is that of a replay by psi_oomd, with a
+report every second.
 """
 from __future__ import annotations
 
@@ -24,7 +24,7 @@ from psiworld.groups import ROOT
 
 LOOK_MS = 1000
 BY = (MEMORY_PRESSURE, SWAP)
-"""The rules' names. Their indices stand for the numbers of rulesets in kills."""
+"""The names of systemd-oomd's rules. In kills, their indices are used as numbers of rulesets."""
 
 
 @contextlib.contextmanager
@@ -43,17 +43,17 @@ def kept_trace(name: str) -> Iterator[str]:
 
 @dataclass(frozen=True)
 class Second:
-    """A check each second: its time (ns), and the full memory pressure over 10 s of the watched
-    groups and the root, in hundredths of a percent.
+    """The input of a check: its time (ns), and the full memory pressure over 10 s of the watched
+    groups and the root (hundredths of a percent).
     """
 
     time_ns: int
     averages: dict[str, int]
 
 
-def kept(printed: Iterable[bytes], settings: Settings) -> Iterator[bytes]:
-    """Yields the lines that checks need, without the reports of other resources and of unwatched
-    groups. The root's reports are kept, since they mark each second.
+def needed_lines(printed: Iterable[bytes], settings: Settings) -> Iterator[bytes]:
+    """Yields the lines of a replay that the checks need: reports of memory for watched groups and
+    the root, and all lines that aren't reports. The root's reports mark each second.
     """
     is_kept = True
     for line in printed:
@@ -73,14 +73,14 @@ def is_needed(path: str, settings: Settings) -> bool:
 
 
 def seconds_of(printed: Iterable[bytes], settings: Settings) -> Iterator[Second]:
-    """Yields the checks that correspond to the reports of a replay."""
-    reports = (it for it in read(kept(printed, settings)) if isinstance(it, Report))
-    for moment, of_moment in itertools.groupby(reports, key=lambda it: it.time_ns):
-        yield Second(moment, {it.path: it.full.avg10 for it in of_moment})
+    """Yields the input of each check, from the reports of a replay."""
+    reports = (it for it in read(needed_lines(printed, settings)) if isinstance(it, Report))
+    for time_ns, of_moment in itertools.groupby(reports, key=lambda it: it.time_ns):
+        yield Second(time_ns, {it.path: it.full.avg10 for it in of_moment})
 
 
 def decide(engine: Engine, trace: str, seconds: Iterator[Second]) -> None:
-    """Passes the trace's events and the checks to `engine`, merged by time."""
+    """Feeds the events of the trace and the checks to `engine`, in order of time."""
     events = Events(trace)
     for second in seconds:
         for event in events.until(second.time_ns):
@@ -91,8 +91,8 @@ def decide(engine: Engine, trace: str, seconds: Iterator[Second]) -> None:
 
 
 def replayed(program: Program, trace: str, settings: Settings, threads: int) -> Engine:
-    """Applies the settings to a trace, and returns the engine, which has the decisions. Raises a
-    Refusal if psi_oomd rejects the trace.
+    """Applies the settings to a trace, and returns the engine with its decisions. Raises a Refusal
+    if psi_oomd rejects the trace.
     """
     words = [
         "replay",
@@ -122,8 +122,8 @@ def replayed(program: Program, trace: str, settings: Settings, threads: int) -> 
 
 
 def kills_of(decisions: Iterable[Decision]) -> list[Kill]:
-    """Converts decisions to the kills of a replay. The index of systemd-oomd's rule takes the place
-    of the ruleset's number.
+    """Converts decisions to kills as in a replay. The index of systemd-oomd's rule is used as the
+    number of the ruleset.
     """
     return [
         Kill(it.time_ns, BY.index(it.by), 0, it.victim) for it in decisions if it.victim is not None
@@ -131,8 +131,8 @@ def kills_of(decisions: Iterable[Decision]) -> list[Kill]:
 
 
 def warnings(engine: Engine, settings: Settings) -> list[str]:
-    """Returns warnings about data that the trace or the settings lack, so that no group could be
-    killed.
+    """Returns a warning for each known cause of missing kills: a watched group without memory
+    samples, no watched group at all, a watched root, or unknown use of swap.
     """
     found = []
     pressure, swap = engine.pressure, engine.swap

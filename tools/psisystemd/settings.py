@@ -1,8 +1,8 @@
-"""The settings of systemd-oomd on a machine, by the paths of groups.
+"""Reads a machine's settings of systemd-oomd, and looks them up by a group's path.
 
-They are read from a folder with files as in a machine's root, or from what tools/record stored.
-The latter also has what systemd itself reported about its units, and each group's owner and
-attributes. Such reports have priority over files.
+The settings are read from a folder with files as in a machine's root, or from the folder that
+tools/record stored. The latter also has what systemd itself reported about its units, and each
+group's owner and attributes. These have priority over files.
 """
 from __future__ import annotations
 
@@ -17,7 +17,7 @@ from psisystemd.texts import text_at
 from psisystemd.units import TYPES, Unit, UnitFiles, shown_units
 
 NEWEST = 257
-"""The version of systemd that is assumed if none is given or recorded."""
+"""The version of systemd that is assumed if neither an option nor the recording states one."""
 MANAGER = re.compile(r"user@([0-9]{1,10})\.service")
 BELOW_MANAGER = re.compile(rf"/{MANAGER.pattern}(?:/|$)")
 GROUP_LINE = re.compile(r"(/\S*) uid=([0-9]{1,10}) oom_group=([01]) avoid=([01]) omit=([01])")
@@ -26,8 +26,9 @@ NO_UNIT = Unit()
 
 @dataclass(frozen=True)
 class Watched:
-    """The rules by which a group is watched: for swap, and for memory pressure with a limit
-    (hundredths of a percent) and a duration (ns).
+    """How systemd-oomd watches a group. `swap` and `pressure` say whether it watches the group for
+    swap and for memory pressure. `limit` (hundredths of a percent) and `duration` (ns) apply to
+    memory pressure.
     """
 
     swap: bool
@@ -38,8 +39,8 @@ class Watched:
 
 @dataclass(frozen=True)
 class Attributes:
-    """The attributes of a group's folder: its owner (uid), whether the group is killed as a
-    whole, and its preference.
+    """The attributes of a group's folder: its owner (uid), whether the group is killed as a whole
+    (memory.oom.group), and its preference.
     """
 
     owner: int
@@ -48,7 +49,7 @@ class Attributes:
 
 
 def version_of(path: str) -> int:
-    """Parses the version of a recorded machine's systemd from the output of `systemctl
+    """Parses the version of systemd on a recorded machine, from the output of `systemctl
     --version`.
     """
     found = re.match(r"systemd ([0-9]{1,4})\b", text_at(path))
@@ -61,7 +62,7 @@ def version_of(path: str) -> int:
 
 
 def recorded_groups(path: str) -> dict[str, Attributes]:
-    """Parses the attributes of a recorded machine's groups, by path."""
+    """Parses the attributes of the groups on a recorded machine. Returns them by path."""
     groups = {}
     for number, line in enumerate(text_at(path).splitlines(), 1):
         found = GROUP_LINE.fullmatch(line)
@@ -76,7 +77,8 @@ def recorded_groups(path: str) -> dict[str, Attributes]:
 
 
 class Settings:
-    """All settings of systemd-oomd on a machine. `notes` lists ignored settings."""
+    """All settings of systemd-oomd on a machine. `notes` lists the settings that systemd ignores.
+    """
 
     def __init__(self, root: str, version: int | None = None) -> None:
         self.root = root
@@ -123,7 +125,7 @@ class Settings:
         return replace(shown, is_whole=by_files.is_whole)
 
     def watched(self, path: str) -> Watched:
-        """Returns the rules by which the group is watched."""
+        """Returns how the group at `path` is watched."""
         if path not in self.watches:
             unit = self.unit(path)
             limit = self.limits.pressure if unit.limit is None else unit.limit
@@ -133,14 +135,16 @@ class Settings:
         return self.watches[path]
 
     def is_whole(self, path: str) -> bool:
-        """Returns whether the group is a candidate even if it has children (memory.oom.group)."""
+        """Returns whether the group is killed as a whole (memory.oom.group), so that it is a
+        candidate even if it has children.
+        """
         if path in self.groups:
             return self.groups[path].is_whole
         return bool(self.unit(path).is_whole)
 
     def owner(self, path: str) -> int:
-        """Returns the uid of the group's owner. If it isn't recorded, a user's manager and its
-        descendants belong to the user, and other groups to root.
+        """Returns the uid of the group's owner. If the owner isn't recorded, groups of a user's
+        manager belong to that user, and all other groups to root.
         """
         if path in self.groups:
             return self.groups[path].owner
@@ -148,8 +152,8 @@ class Settings:
         return int(found[1]) if found else 0
 
     def preference(self, path: str, traced: str) -> str:
-        """Returns the group's preference: that of its attributes, otherwise that of its unit,
-        otherwise that of the trace (`traced`).
+        """Returns the group's preference: from its recorded attributes or else from its unit. If
+        neither has one, returns `avoid` if the trace says so (`traced`), and `none` if not.
         """
         if path in self.groups:
             return self.groups[path].preference
@@ -157,9 +161,9 @@ class Settings:
 
 
 def unit_of(path: str) -> tuple[str, bool] | None:
-    """Returns the name of the unit whose group is at `path`, and whether the unit belongs to a
-    user's manager. None if no manager has such a unit: units are in slices, and a user's units in
-    slices below the user's manager.
+    """Returns the name of the unit whose group is at `path`, and whether it belongs to a user's
+    manager. Returns None if the path can't be that of a unit: all folders above a unit are slices,
+    except for the user's manager.
     """
     if path == "/":
         return "-.slice", False

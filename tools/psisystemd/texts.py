@@ -1,4 +1,4 @@
-"""Parses files of settings with sections, comments and continued lines, according to
+"""Parses configuration files of systemd with sections, comments and continued lines, according to
 systemd.syntax(7).
 """
 from __future__ import annotations
@@ -14,7 +14,9 @@ from psicli.wording import quoted
 
 @dataclass(frozen=True)
 class Setting:
-    """A setting with its section, its value, and its place (file and line)."""
+    """A setting in a file. `place` is the file and the line, for messages. `section` is empty for a
+    line of `systemctl show`, whose output has no sections.
+    """
 
     place: str
     section: str
@@ -22,14 +24,14 @@ class Setting:
     value: str
 
     def fault(self, wanted: str) -> Fault:
-        """Returns the error that the setting's value is malformed. `wanted` describes a valid
-        value.
+        """Returns a Fault that says that the setting's value is malformed. `wanted` describes a
+        valid value.
         """
         return Fault(f"{self.place}: {self.name} is {quoted(self.value)}: it has to be {wanted}")
 
 
 def bytes_at(path: str) -> bytes:
-    """Reads the bytes of a file. Raises a Fault if that fails."""
+    """Returns the bytes of a file. Raises a Fault if the file can't be read."""
     try:
         with open(path, "rb") as file:
             return file.read()
@@ -38,7 +40,7 @@ def bytes_at(path: str) -> bytes:
 
 
 def text_at(path: str) -> str:
-    """Reads the text of a file, which must be UTF-8."""
+    """Returns the text of a file. Raises a Fault if the file can't be read or isn't UTF-8."""
     data = bytes_at(path)
     try:
         return data.decode("utf-8")
@@ -48,8 +50,8 @@ def text_at(path: str) -> str:
 
 
 def whole_lines(text: str) -> Iterator[tuple[int, str]]:
-    """Yields each logical line with its number from 1, without comments and empty lines. A line
-    that ends in a backslash continues in the next one, and comments in between don't end it.
+    """Yields each logical line with the number of its first line, from 1. Skips comments and empty
+    lines. A line that ends in a backslash is continued by the next line that isn't a comment.
     """
     begun: tuple[int, str] | None = None
     for number, line in enumerate(text.split("\n"), 1):
@@ -67,7 +69,7 @@ def whole_lines(text: str) -> Iterator[tuple[int, str]]:
 
 
 def settings_of(path: str) -> Iterator[Setting]:
-    """Yields the settings of a file in order. Raises a Fault at a malformed line."""
+    """Yields the settings of a file in order. Raises a Fault if a line is malformed."""
     section = ""
     for number, line in whole_lines(text_at(path)):
         place = f"{path} line {number}"
@@ -88,9 +90,9 @@ def settings_of(path: str) -> Iterator[Setting]:
 
 
 def drop_ins(root: str, folders: list[str]) -> list[str]:
-    """Returns the drop-in files in `folders`, sorted by file name. If several files have the same
-    name, the one in the first folder is used. It may be empty or a link to /dev/null, and then only
-    hides the others.
+    """Returns the drop-in files in `folders`, sorted by file name. If several folders have a file
+    with the same name, only the first folder's is used. That file may be empty or a link to
+    /dev/null, to disable the others.
     """
     found: dict[str, str] = {}
     for folder in folders:

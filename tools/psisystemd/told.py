@@ -1,5 +1,5 @@
-"""Formats the results as text and JSON: kills, why no group was killed, and how near pressure came
-to the limits.
+"""Formats the results as text and JSON: the kills, why no group was killed, and how near pressure
+came to the limits.
 """
 from __future__ import annotations
 
@@ -14,7 +14,7 @@ UNITS = ((1 << 30, "G"), (1 << 20, "M"), (1 << 10, "K"))
 
 
 def size(count: int) -> str:
-    """Formats a number of bytes with one decimal and a unit."""
+    """Formats a number of bytes. From 1 KiB on, the number has one decimal and a unit letter."""
     for unit, letter in UNITS:
         if count >= unit:
             return f"{count / unit:.1f}{letter}"
@@ -23,10 +23,10 @@ def size(count: int) -> str:
 
 @dataclass(frozen=True)
 class Candidate:
-    """A group that could be chosen: the number of scanned pages by which it is ranked, its memory
-    and swap (bytes), and its preference. `passed_over` says why the group was skipped; it is empty
-    for a group that only ranked too low. `is_new` says that the group was no candidate at the
-    previous check, so that all pages that it ever scanned count.
+    """A candidate of a decision. `scanned` is the number of scanned pages by which it is ranked,
+    and `memory` and `swap` are in bytes. `passed_over` says why it was skipped, and is empty if it
+    wasn't. `is_new` says that it wasn't a candidate at the previous check, so that all pages that
+    it ever scanned count.
     """
 
     path: str
@@ -37,8 +37,8 @@ class Candidate:
     passed_over: str = ""
     is_new: bool = False
 
-    def told(self, by: str, span: str) -> str:
-        """Returns the text with the values by which the candidate was ranked."""
+    def text(self, by: str, span: str) -> str:
+        """Returns the values by which the candidate was ranked, as text."""
         span = " ever" if self.is_new else span
         rank = (
             f"scanned {self.scanned} pages{span}, memory {size(self.memory)}"
@@ -54,8 +54,9 @@ class Candidate:
 
 @dataclass(frozen=True)
 class Decision:
-    """A decision at a time (ns): the victim or None, the rule, the watched group, the reason, and
-    all candidates in order of rank. `span` is the time in which the pages were scanned, in words.
+    """A decision at a time (ns). `victim` is None if no group is killed. `by` is the rule,
+    `watched` the watched group, and `why` the reason. All candidates are in order of rank. `span`
+    says in words during which time the pages were scanned.
     """
 
     time_ns: int
@@ -67,22 +68,24 @@ class Decision:
     span: str = ""
 
     def lines(self, is_all: bool) -> list[str]:
-        """Returns the decision as lines of text."""
+        """Returns the lines that describe the decision. Without `is_all`, they name only some
+        candidates.
+        """
         when = time_text(self.time_ns)
         gap = " " * (len(when) + 2)
         chosen = next((it for it in self.candidates if it.path == self.victim), None)
         others = [it for it in self.candidates if it is not chosen]
         shown = others if is_all else others[:MOST_TOLD]
-        told = [
+        lines = [
             f"{when}  would kill {self.victim}" if self.victim else f"{when}  would kill nobody",
             f"{gap}{self.why}",
         ]
         if chosen:
-            told.append(f"{gap}chosen: {chosen.told(self.by, self.span)}")
-        told += [f"{gap}not {it.path}: {it.told(self.by, self.span)}" for it in shown]
+            lines.append(f"{gap}chosen: {chosen.text(self.by, self.span)}")
+        lines += [f"{gap}not {it.path}: {it.text(self.by, self.span)}" for it in shown]
         if others[len(shown) :]:
-            told.append(f"{gap}not {len(others) - len(shown)} more, which --all shows")
-        return told
+            lines.append(f"{gap}not {len(others) - len(shown)} more, which --all shows")
+        return lines
 
     def record(self) -> dict[str, object]:
         """Returns the decision as a JSON object."""
@@ -102,9 +105,9 @@ class Decision:
 
 @dataclass
 class Course:
-    """How near a watched group came to a kill: its limit and its greatest pressure (both in
-    hundredths of a percent), the time (ns) of that pressure, and the longest time (ns) above the
-    limit, or None if the pressure was never above it.
+    """How near a watched group came to a kill. `limit` and `most`, its greatest pressure, are in
+    hundredths of a percent. `most_at` is the time (ns) of that pressure. `longest` is the longest
+    time (ns) above the limit, or None if the pressure never was above it.
     """
 
     path: str
@@ -114,16 +117,16 @@ class Course:
     most_at: int = 0
     longest: int | None = None
 
-    def take(self, moment: int, pressure: int, since: int | None) -> None:
-        """Records the pressure at a time (ns). `since` is the time (ns) since which the pressure
-        has been above the limit, or None.
+    def take(self, time_ns: int, pressure: int, since: int | None) -> None:
+        """Updates the values with the pressure at a time (ns). `since` is the time (ns) at which
+        the pressure rose above the limit, or None if it is not above.
         """
         if pressure > self.most:
-            self.most, self.most_at = pressure, moment
+            self.most, self.most_at = pressure, time_ns
         if since is not None:
-            self.longest = max(self.longest or 0, moment - since)
+            self.longest = max(self.longest or 0, time_ns - since)
 
-    def told(self) -> str:
+    def text(self) -> str:
         above = (
             "never above it"
             if self.longest is None

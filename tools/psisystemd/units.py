@@ -1,5 +1,5 @@
-"""Reads the settings of systemd-oomd for units, from unit files and drop-in files, which are merged
-as systemd does, or from the output of `systemctl show`.
+"""Reads the settings of systemd-oomd in units: from unit files and drop-in files, merged as systemd
+does, or from the output of `systemctl show`.
 """
 from __future__ import annotations
 
@@ -38,9 +38,9 @@ Meaning = TypeVar("Meaning")
 
 @dataclass(frozen=True)
 class Unit:
-    """The settings for a unit's group. The limit is in hundredths of a percent and the duration
-    in ns; None selects oomd.conf's. `is_whole` says whether memory.oom.group is set, None if the
-    unit doesn't say.
+    """The settings of a unit's group. `limit` is in hundredths of a percent, and `duration` in ns.
+    If one of them is None, the value in oomd.conf applies. `is_whole` says whether memory.oom.group
+    is set, and is None if the unit doesn't determine that.
     """
 
     swap: bool = False
@@ -51,10 +51,10 @@ class Unit:
     is_whole: bool | None = None
     slice: str | None = None
     places: dict[str, str] = field(default_factory=dict)
-    """The file and line of each setting."""
+    """The file and line of each setting that the unit has."""
 
     def changed(self, setting: Setting, version: int) -> Unit:
-        """Returns the unit with one setting changed. Precondition: the setting's name is known."""
+        """Returns the unit with the value of a setting. The setting's name must be a known one."""
         places = {**self.places, setting.name: setting.place}
         if setting.name in (SWAP, PRESSURE):
             is_on = chosen(setting, MODES, "auto")
@@ -88,8 +88,8 @@ class Unit:
 
 
 def chosen(setting: Setting, words: dict[str, Meaning], empty: str) -> Meaning:
-    """Returns the meaning of the setting's value, or raises a Fault if the value isn't one of
-    `words`. An empty value has the meaning of the word `empty`.
+    """Returns the meaning of the setting's value, which is a key of `words`. An empty value means
+    `empty`. Raises a Fault for other values.
     """
     value = setting.value or empty
     if value not in words:
@@ -97,12 +97,12 @@ def chosen(setting: Setting, words: dict[str, Meaning], empty: str) -> Meaning:
     return words[value]
 
 
-# ---------------------------------------------------------------- files
+# ---------------------------------------------------------------- unit files
 
 
 def template_of(name: str) -> str | None:
-    """Returns the template of an instance, such as user@.service for user@1000.service. None if
-    `name` isn't an instance.
+    """Returns the template of an instance, such as user@.service for user@1000.service. Returns
+    None if `name` isn't an instance.
     """
     prefix, is_instance, rest = name.partition("@")
     instance, _, kind = rest.rpartition(".")
@@ -110,9 +110,9 @@ def template_of(name: str) -> str | None:
 
 
 def widened(name: str) -> str | None:
-    """Returns a unit's name shortened to the prefix before its last dash: a-b-.service for
-    a-b-c.service, then a-.service. For a template the result isn't a template: a-.service for
-    a-b@.service. None if the name has no such prefix.
+    """Returns a unit's name without its last component between dashes: a-b-.service for
+    a-b-c.service, and then a-.service. The result is never a template: a-.service for a-b@.service.
+    Returns None if the name has only one component.
     """
     name = name.replace("@.", ".", 1)
     stem = name.partition("@")[0] if "@" in name else name.rpartition(".")[0]
@@ -121,8 +121,9 @@ def widened(name: str) -> str | None:
 
 
 def drop_in_names(name: str) -> Iterator[str]:
-    """Yields the names whose drop-in files also apply to a unit, the most specific first: for
-    u-v@x.service these are u-v@.service, u-.service and u-@x.service. A name may occur twice.
+    """Yields the names whose drop-in files apply to a unit, the most specific first. For
+    u-v@x.service these are its own name, u-v@.service, u-.service and u-@x.service. A name may
+    occur twice.
     """
     yield name
     if template := template_of(name):
@@ -132,7 +133,9 @@ def drop_in_names(name: str) -> Iterator[str]:
 
 
 class UnitFiles:
-    """The unit files below a root, of the system's manager or of users' managers."""
+    """The unit files below the folder `root`. If `is_users`, these are the files of users'
+    managers, and otherwise those of the system's manager.
+    """
 
     def __init__(self, root: str, is_users: bool, version: int, notes: list[str]) -> None:
         self.root, self.version, self.notes = root, version, notes
@@ -141,7 +144,7 @@ class UnitFiles:
         self.known: dict[str, Unit] = {}
 
     def unit(self, name: str) -> Unit:
-        """Returns the merged settings of a unit."""
+        """Returns the settings of a unit, merged from all its files."""
         if name not in self.known:
             self.known[name] = self.read(name)
         return self.known[name]
@@ -156,7 +159,9 @@ class UnitFiles:
         return unit
 
     def paths(self, name: str, kind: str) -> list[str]:
-        """Returns the unit's file, or its template's, and then its drop-in files."""
+        """Returns the paths of the unit's file, or of its template's file, and of its drop-in
+        files.
+        """
         files = [
             os.path.join(self.root, it, one)
             for one in (name, template_of(name))
@@ -169,7 +174,7 @@ class UnitFiles:
 
     def is_known(self, setting: Setting, kind: str) -> bool:
         """Returns whether systemd knows the setting in a unit of this kind. Adds a note if systemd
-        ignores a setting that looks like one of systemd-oomd.
+        ignores a setting that resembles one of systemd-oomd.
         """
         if setting.name == DURATION_OF_UNIT and self.version < OWN_DURATION:
             self.note(
@@ -194,7 +199,9 @@ class UnitFiles:
             self.notes.append(text)
 
     def named(self) -> list[str]:
-        """Returns the sorted names of units and templates that have a file or a drop-in folder."""
+        """Returns the names of all units and templates that have a file or a drop-in folder,
+        sorted.
+        """
         found = set()
         for folder in self.folders:
             for name in os.listdir(os.path.join(self.root, folder)):
@@ -204,12 +211,12 @@ class UnitFiles:
         return sorted(found)
 
 
-# ---------------------------------------------------------------- systemctl show
+# ---------------------------------------------------------------- the output of systemctl show
 
 
 def shown_units(path: str, version: int) -> dict[str, tuple[str, Unit]]:
-    """Parses the output of `systemctl show`, blocks of lines separated by empty lines. Returns
-    each unit's name and settings by its group's path.
+    """Parses the output of `systemctl show`, in which empty lines separate the units. Returns each
+    unit's name and settings, by the path of its group.
     """
     found: dict[str, tuple[str, Unit]] = {}
     block: list[Setting] = []
@@ -232,7 +239,7 @@ def shown_units(path: str, version: int) -> dict[str, tuple[str, Unit]]:
 
 
 def shown_unit(shown: dict[str, Setting], version: int) -> Unit:
-    """Returns the settings in a block of `systemctl show`."""
+    """Returns the settings of a unit in the output of `systemctl show`."""
     unit = Unit()
     for name in (SWAP, PRESSURE, PREFERENCE):
         if name in shown:

@@ -7,12 +7,12 @@ from decimal import Decimal
 from psicli.times import SECOND
 
 WHOLE = 10000
-"""A share of 100 percent, in hundredths of a percent (the unit of all shares here)."""
+"""The share of 100 percent in hundredths of a percent, the unit of all shares."""
 SCALE = (1 << 32) - 1
-"""A share of 100 percent in the scale in which `systemctl show` prints a unit's limit."""
+"""The share of 100 percent on the scale in which `systemctl show` prints a unit's limit."""
 SHARE = re.compile(r"([0-9]{1,9})(?:\.([0-9]{1,2}))?([%‰‱])")
-# For each sign the hundredths of a percent in one unit, and the largest number of decimals before
-# the sign.
+# For each sign: the number of hundredths of a percent in one unit, and the maximum number of
+# decimal places.
 SIGNS = {"%": (100, 2), "‰": (10, 1), "‱": (1, 0)}
 PART = re.compile(r"\s*([0-9]{1,18})(?:\.([0-9]{1,9}))?\s*([a-zA-Zµμ]*)")
 UNITS = {
@@ -27,8 +27,8 @@ UNITS = {
 
 
 def share(text: str) -> int | None:
-    """Parses a number with its sign, and returns hundredths of a percent. None if the text is
-    malformed or above 100 percent.
+    """Parses a share with a percent, permille or permyriad sign. Returns hundredths of a percent,
+    or None if the text is malformed or the share is above 100 percent.
     """
     found = SHARE.fullmatch(text)
     if not found:
@@ -41,8 +41,8 @@ def share(text: str) -> int | None:
 
 
 def share_of_scale(text: str) -> int | None:
-    """Parses a share, as `systemctl show` prints it or with a sign, and returns hundredths of a
-    percent. None if the text is malformed.
+    """Parses a share that `systemctl show` prints on its own scale, or a share with a sign. Returns
+    hundredths of a percent, or None if the text is malformed.
     """
     if re.fullmatch("[0-9]{1,10}", text) and int(text) <= SCALE:
         return (int(text) * WHOLE + SCALE // 2) // SCALE
@@ -50,8 +50,8 @@ def share_of_scale(text: str) -> int | None:
 
 
 def duration(text: str) -> int | None:
-    """Parses a duration in the format of systemd.time(7), in seconds if it has no unit, and returns
-    ns. None if the text is malformed or infinite.
+    """Parses a duration in the format of systemd.time(7). A number without a unit is in seconds.
+    Returns ns, or None if the text is malformed or infinite.
     """
     place, ns = 0, 0
     while place < len(text):

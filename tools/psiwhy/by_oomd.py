@@ -21,8 +21,8 @@ NO_VALUE = "oomd never looked"
 def extreme(
     most: Nearest, shown: str, limit: Optional[float], limit_shown: str, unit: str
 ) -> Optional[Extreme]:
-    """Returns a detector's value that came nearest to its limit, or None if it was never
-    evaluated.
+    """Returns the value of a detector that came nearest to its limit, or None if the detector was
+    never evaluated.
     """
     if most.value is None:
         return None
@@ -36,7 +36,7 @@ def lasting(duration: Duration) -> str:
 
 
 def measure(it: Plugin) -> Measure:
-    """Describes a detector and the value that came nearest to its threshold."""
+    """Describes a detector, with the value that came nearest to its threshold."""
     cgroup = it.args["cgroup"].text if "cgroup" in it.args else ""
     if isinstance(it, Above):
         average = "60 s, and over 10 s," if isinstance(it, Rising) else "10 s"
@@ -71,8 +71,8 @@ def timed_measure(it: Plugin, wanted: str, found: Optional[Extreme], duration: D
 
 
 def miss_at(it: Measure) -> Optional[Miss]:
-    """Returns how near a detector came to being true, or None if it has no threshold or never had
-    a value.
+    """Returns how near a detector came to being true. Returns None if the detector has no
+    threshold, or never had a value.
     """
     if it.extreme is None or not it.extreme.limit:
         return None
@@ -85,8 +85,9 @@ def miss_at(it: Measure) -> Optional[Miss]:
 
 
 def miss_of(ruleset: Ruleset, groups: list[tuple[str, list[Measure]]]) -> Optional[Miss]:
-    """Returns how near a ruleset came to firing, or None if it fired. A group of detectors is as
-    near as its farthest detector, and a ruleset is as near as its nearest group.
+    """Returns how near a ruleset came to firing, or None if it fired. A ruleset came as near as its
+    nearest group of detectors. A group came as near as the detector that was farthest from being
+    true.
     """
     if ruleset.fired:
         return None
@@ -103,7 +104,7 @@ def miss_of(ruleset: Ruleset, groups: list[tuple[str, list[Measure]]]) -> Option
 
 
 def choice(act: Act) -> Choice:
-    """Describes an action with its candidates, the victim first."""
+    """Describes an action with its candidates. The victim is the first of them."""
     found = []
     for it in act.candidates:
         is_chosen = act.victim is not None and it.path == act.victim.path
@@ -146,11 +147,11 @@ def part(ruleset: Ruleset) -> Part:
 
 
 def parts(engine: Engine) -> list[Part]:
-    """Describes all rulesets of `engine`."""
+    """Describes all rulesets that `engine` evaluated."""
     return [part(it) for it in engine.rulesets]
 
 
 def notes(engine: Engine) -> list[str]:
-    """Returns the caveats of the answer, among them a crash of oomd."""
+    """Returns notes that limit the explanation's validity, for example a crash of oomd."""
     crash = [f"oomd crashes at {time_text(engine.last)}: {engine.crash}"] if engine.crash else []
     return [*engine.notes.texts, *crash]

@@ -16,11 +16,10 @@ from .truths import Place, has_duration, longest, spans
 
 
 class Near(NamedTuple):
-    """How near a detector, a group of detectors or a ruleset came to being true. `part` is the
-    fraction of the threshold that was reached, and `duration_part` the fraction of the duration
-    for which the condition held, both from 0 to 1. `watch` is the detector that was farthest
-    from being true, and `hold` the longest time (ns) for which its condition held. A greater key
-    is nearer.
+    """How near a detector, a group of detectors or a ruleset came to being true. `part` and
+    `duration_part` are the reached fractions of the threshold and of the duration, from 0 to 1.
+    `watch` is the detector that was farthest from being true, and `hold` the longest time (ns) for
+    which its condition held. The nearer of two has the greater `key`.
     """
 
     part: float
@@ -37,7 +36,7 @@ NEVER, TRUE = Near(0.0, 0.0), Near(1.0, 1.0)
 
 
 def hold_of(judged: Judged, place: Place, detector: dict[str, Any]) -> int:
-    """Returns the longest time (ns) for which a detector's condition held, regardless of its
+    """Returns the longest time (ns) for which a detector's condition held. Ignores the detector's
     duration.
     """
     if detector["name"] == "pressure_rising_beyond":
@@ -47,8 +46,8 @@ def hold_of(judged: Judged, place: Place, detector: dict[str, Any]) -> int:
 
 
 def detector_near(judged: Judged, place: Place, detector: dict[str, Any]) -> Near:
-    """Returns how near a detector came to being true. The detector isn't `exists`, which has no
-    threshold.
+    """Returns how near a detector came to being true. The detector must not be `exists`, which has
+    no threshold.
     """
     watch = judged.watches[place[:3]]
     if judged.truths[place]:
@@ -60,8 +59,8 @@ def detector_near(judged: Judged, place: Place, detector: dict[str, Any]) -> Nea
 
 
 def group_near(judged: Judged, ruleset: int, group: int) -> Near:
-    """Returns how near a group of detectors came to being true: as near as its farthest detector.
-    Detectors `exists` don't count.
+    """Returns how near a group of detectors came to being true: as near as the detector that was
+    farthest from it. Ignores detectors `exists`.
     """
     detectors = judged.json[ruleset]["detectors"][group][1:]
     found = [
@@ -92,8 +91,8 @@ def miss_of(judged: Judged, ruleset: int) -> Optional[Miss]:
 
 
 def extreme(watch: Watch, host: Optional[int]) -> Optional[Extreme]:
-    """Returns a detector's value that came nearest to its threshold, or None if the detector never
-    had a value.
+    """Returns the value of a detector that came nearest to its threshold, or None if the detector
+    never had a value.
     """
     name, args = watch.plugin
     if watch.nearest is None or name == "exists":
@@ -132,7 +131,9 @@ def extreme(watch: Watch, host: Optional[int]) -> Optional[Extreme]:
 
 
 def measure(judged: Judged, place: Place, detector: dict[str, Any]) -> Measure:
-    """Describes a detector: the value nearest to its threshold, and when it was true."""
+    """Describes a detector: the value that came nearest to its threshold, and the times at which it
+    was true.
+    """
     watch = judged.watches[place[:3]]
     true = spans(judged.truths[place], judged.evaluations)
     is_measured = detector["name"] != "exists"
@@ -162,7 +163,7 @@ def part(judged: Judged, number: int, fired: list[Firing]) -> Part:
 
 
 def parts(judged: Judged, kills: list[Kill]) -> list[Part]:
-    """Describes all rulesets, given the kills of the replay."""
+    """Describes all rulesets. `kills` are those of the replay."""
     found: list[list[Firing]] = [[] for _ in judged.json]
     for it in firings(judged, kills):
         names = [judged.json[it.ruleset]["detectors"][group][0] for group in it.groups]
@@ -172,8 +173,8 @@ def parts(judged: Judged, kills: list[Kill]) -> list[Part]:
 
 
 def verdict(judged: Judged, found: list[Part]) -> str:
-    """Returns in words why the rules killed nothing: which ruleset fired without a victim, or else
-    which ruleset came nearest to firing.
+    """Returns a sentence that says why the rules killed nothing: it names the ruleset that fired
+    without a victim, or else the ruleset that came nearest to firing.
     """
     names = [f"ruleset {number} ‘{printable(it['name'])}’" for number, it in enumerate(judged.json)]
     for name, it in zip(names, found):

@@ -1,5 +1,5 @@
-"""Explains why systemd-oomd killed a group or didn't, for the memory pressure of each watched group
-and for swap.
+"""Explains why systemd-oomd killed a group or didn't. It explains the memory pressure of each
+watched group, and the use of swap.
 """
 from __future__ import annotations
 
@@ -18,7 +18,7 @@ KILL = "kill"
 
 
 def candidate(it: Candidate, decision: Decision) -> choice.Candidate:
-    """Describes a candidate of a decision, and why systemd-oomd chose it or didn't."""
+    """Describes a candidate of a decision, with the reason why systemd-oomd chose it or didn't."""
     is_chosen = it.path == decision.victim
     wish = "" if it.preference == "none" else it.preference
     reason = (
@@ -26,7 +26,7 @@ def candidate(it: Candidate, decision: Decision) -> choice.Candidate:
         if is_chosen
         else it.passed_over or ("ranked lower" if decision.victim else "")
     )
-    text = it.told(decision.by, decision.span).removesuffix(f", {it.passed_over or wish}")
+    text = it.text(decision.by, decision.span).removesuffix(f", {it.passed_over or wish}")
     numbers: choice.Numbers = {
         "scanned_pages": it.scanned, "memory_bytes": it.memory, "swap_bytes": it.swap,
         "preference": it.preference,
@@ -37,7 +37,7 @@ def candidate(it: Candidate, decision: Decision) -> choice.Candidate:
 
 
 def firing(decision: Decision) -> Firing:
-    """Describes a decision: the group that was killed, or why no group was killed."""
+    """Describes a decision: the killed group, or the reason why no group was killed."""
     found = sorted(
         (candidate(it, decision) for it in decision.candidates), key=lambda it: not it.is_chosen
     )
@@ -64,7 +64,7 @@ def course_measure(it: Course) -> Measure:
 
 
 def course_miss(it: Course) -> Miss:
-    """Returns how near a watched group came to a decision to kill, if there never was one."""
+    """Returns how near a watched group came to a kill, for a group that never led to a decision."""
     part = min(1.0, it.most / it.limit) if it.limit else 1.0
     duration_part = min(1.0, (it.longest or 0) / it.duration) if it.duration else 0.0
     far = (
@@ -76,8 +76,9 @@ def course_miss(it: Course) -> Miss:
 
 
 def pressure_part(engine: Engine, path: str) -> Part:
-    """Describes the memory pressure of the watched group at `path`, with its decisions and
-    pauses.
+    """Describes the memory pressure of the watched group at `path`: its course, the kills that
+    systemd-oomd decides on because of it, and the times at which such a kill is delayed by a pause
+    after an earlier kill.
     """
     course = engine.pressure.courses[path]
     decided = [
@@ -94,7 +95,7 @@ def pressure_part(engine: Engine, path: str) -> Part:
 
 
 def swap_part(engine: Engine, settings: Settings) -> Optional[Part]:
-    """Describes the use of swap, or returns None if no unit is watched for its use of swap."""
+    """Describes the use of swap. Returns None if no unit is watched for swap."""
     rule, limit = engine.swap, settings.limits.swap_used
     if not rule.was_watched:
         return None

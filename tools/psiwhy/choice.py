@@ -1,6 +1,4 @@
-"""Explains why an action chooses a group or doesn't: the values of its candidates, each with a
-reason.
-"""
+"""Explains why an action chose a group or didn't, with the values of all candidates."""
 from __future__ import annotations
 
 from fractions import Fraction
@@ -18,8 +16,8 @@ Numbers = dict[str, object]
 
 
 class Candidate(NamedTuple):
-    """A group that an action matches. `text` has its measured values in words, `numbers` the same
-    values by name, and `reason` says why the action chose it or didn't.
+    """A group that an action matches. `text` has its measured values in words, and `numbers` has
+    the values by name. `reason` says why the action chose the group or didn't.
     """
 
     path: str
@@ -30,8 +28,9 @@ class Candidate(NamedTuple):
 
 
 class Choice(NamedTuple):
-    """The outcome of an action: its number and plugin; the path of its victim, or in `nobody` the
-    reason why it killed nothing; and its candidates, with `recursive` those of all levels.
+    """What an action did: its number and plugin, the path of its victim (or None), and its
+    candidates. `nobody` says why it killed nothing. A recursive action has the candidates of all
+    levels.
     """
 
     action: int
@@ -42,8 +41,8 @@ class Choice(NamedTuple):
 
 
 class Measured(NamedTuple):
-    """The value by which a candidate is ranked, as a number and in words. `lack` says why the
-    value is too small for the action; empty if it suffices.
+    """The value by which a candidate is ranked, as a number and in words. `lack` says why the value
+    is too small for the action, and is empty if it is large enough.
     """
 
     value: int
@@ -97,7 +96,9 @@ def has_task(now: Evaluation, path: str) -> bool:
 def compared(
     plugin: Plugin, now: Evaluation, paths: list[str], victim: Optional[str]
 ) -> list[Candidate]:
-    """Returns the candidates of an action that ranks groups by a single value, in order of rank."""
+    """Returns the candidates of an action that ranks groups by one value. They are in order of
+    rank.
+    """
     measured = {path: MEASURES[plugin.name](plugin.args, now, path) for path in paths}
     order = sorted(paths, key=lambda it: (preference(now, it), -measured[it].value, it))
     found = []
@@ -115,7 +116,7 @@ def compared(
 
 
 def why_ranked_lower(now: Evaluation, path: str, victim: str, value: int, most: int) -> str:
-    """Says why the victim is ranked before another candidate whose value suffices."""
+    """Says why the victim ranks before another candidate that also has a sufficient value."""
     if preference(now, path) > preference(now, victim):
         return f"{victim} is preferred"
     if value < most:
@@ -131,9 +132,9 @@ def wish_of(now: Evaluation, path: str) -> str:
 
 
 class Sizes:
-    """The candidates of `kill_by_memory_size_or_growth`. `live` has the candidates with a live
-    task, and `first` those among them with the best preference, by descending size. Only the
-    largest `few` groups of `first` are chosen for their growth.
+    """The candidates of `kill_by_memory_size_or_growth`. `live` has those with a live task. `first`
+    has those of `live` with the best preference, by descending size. Only the first `few` groups of
+    `first` can be chosen for their growth.
     """
 
     def __init__(self, plugin: Plugin, now: Evaluation, paths: list[str]) -> None:
@@ -179,9 +180,9 @@ class Sizes:
         }
 
     def best(self) -> Optional[str]:
-        """Returns the group that the action chooses: the largest group if it is large enough,
-        otherwise the group that grew most if it grew enough, otherwise the largest group. None
-        without candidates.
+        """Returns the group that the action chooses, or None without candidates. It is the largest
+        group if that is large enough. If not, it is the group that grew most among those that grew
+        enough, or the largest group if none did.
         """
         if not self.first or self.is_large(self.first[0]):
             return next(iter(self.first), None)
@@ -238,13 +239,14 @@ def by_size(
 def candidates(
     plugin: Plugin, now: Evaluation, paths: list[str], victim: Optional[str]
 ) -> list[Candidate]:
-    """Returns the candidates among the groups `paths`, the chosen group first."""
+    """Returns the candidates among the groups `paths`. The chosen group is the first."""
     make = compared if plugin.name in MEASURES else by_size
     return sorted(make(plugin, now, paths, victim), key=lambda it: not it.is_chosen)
 
 
 def best(plugin: Plugin, now: Evaluation, paths: list[str]) -> Optional[str]:
-    """Returns the candidate that ranks first by the printed values, or None if no value suffices.
+    """Returns the candidate that ranks first by the printed values. Returns None if no candidate's
+    value is large enough.
     """
     if plugin.name not in MEASURES:
         return Sizes(plugin, now, paths).best()
@@ -253,8 +255,8 @@ def best(plugin: Plugin, now: Evaluation, paths: list[str]) -> Optional[str]:
 
 
 def step_to(plugin: Plugin, now: Evaluation, paths: list[str], victim: str) -> Optional[str]:
-    """Returns the group among `paths` through which an action reached its victim: the victim itself
-    or, if the action is recursive, an ancestor of the victim.
+    """Returns the group in `paths` through which an action reached its victim: the victim itself,
+    or an ancestor of the victim if the action is recursive.
     """
     if plugin.args.get("recursive", "false") not in TRUTHS:
         return victim
@@ -264,8 +266,8 @@ def step_to(plugin: Plugin, now: Evaluation, paths: list[str], victim: str) -> O
 
 
 def choice(number: int, plugin: Plugin, now: Evaluation, victim: Optional[str]) -> Choice:
-    """Describes what an action did at an evaluation. `victim` is the path of the group that it
-    killed, or None.
+    """Describes what an action did at an evaluation. `victim` is the path of the group that the
+    action killed, or None.
     """
     paths = sorted(path for path in now.world.live if plugin.covers(path))
     if victim is None:
@@ -281,7 +283,9 @@ def choice(number: int, plugin: Plugin, now: Evaluation, victim: Optional[str]) 
 
 
 def nobody(plugin: Plugin, now: Evaluation, matches: list[str]) -> tuple[str, list[Candidate]]:
-    """Says why an action found no victim, and returns the groups that it matched as candidates."""
+    """Says why an action found no victim. Also returns the groups that the action matched, as
+    candidates.
+    """
     found = candidates(plugin, now, matches, None)
     if not matches:
         return f"no live group matches '{plugin.args['cgroup']}'", found

@@ -1,5 +1,5 @@
-"""Reconstructs the state of the machine at each evaluation of the rules: its groups, their last
-samples, their pressure, and the values of earlier evaluations that the rules compare with.
+"""Reconstructs the machine's state at each evaluation of the rules: its groups, their last samples
+and their pressure, and values of earlier evaluations.
 """
 from __future__ import annotations
 
@@ -14,15 +14,15 @@ from psireplay.lines import Report, read
 from .judged import Asked
 
 NO_SAMPLE = Sample(0, 0, 0)
-# The number of earlier evaluations with whose sizes the rules compare.
+# The number of earlier evaluations whose memory sizes the rules use.
 REMEMBERED = 4
 
 
 class Evaluation:
-    """The state of the machine at an evaluation, at `time_ns`. `full` has the averages
-    of full pressure in hundredths of a percent, by path, resource and average. `sizes` has the
-    memory (bytes) of each group at earlier evaluations, the newest first, and `scans` the number of
-    pages scanned up to the previous evaluation.
+    """The machine's state at the evaluation at `time_ns`. `full` has the averages of full pressure
+    (hundredths of a percent), by path, resource and average. `sizes` has each group's memory
+    (bytes) at earlier evaluations, the newest first. `scans` has each group's count of scanned
+    pages at the previous evaluation.
     """
 
     def __init__(self, world: World[Task]) -> None:
@@ -33,7 +33,7 @@ class Evaluation:
         self.scans: dict[Group, int] = {}
 
     def take(self, time_ns: int, reports: list[Report]) -> None:
-        """Advances to the evaluation at `time_ns` with its reports."""
+        """Advances to the evaluation at `time_ns`, and stores the averages in its reports."""
         self.time_ns = time_ns
         self.full = {}
         for it in reports:
@@ -41,7 +41,7 @@ class Evaluation:
             self.full[it.path, it.resource, "avg60"] = it.full.avg60
 
     def remember(self) -> None:
-        """Stores the sizes and scan counts with which the rules compare at later evaluations."""
+        """Stores the memory sizes and scan counts that later evaluations need."""
         groups = self.world.live.values()
         self.scans = {group: self.sample(group).scanned for group in groups}
         self.sizes = {
@@ -50,7 +50,7 @@ class Evaluation:
         }
 
     def sample(self, group: Group) -> Sample:
-        """Returns the group's last sample, or a sample of zeros if it has none."""
+        """Returns the group's last sample, or a sample of zeros if there is none."""
         return group.sample or NO_SAMPLE
 
     def at(self, path: str) -> Sample:
@@ -61,16 +61,16 @@ class Evaluation:
         return sum(self.full.get((path, resource, it), 0) for it in ("avg10", "avg60"))
 
     def rise(self, path: str) -> int:
-        """Returns the pages scanned since the previous evaluation, 0 if the group wasn't live
-        then.
+        """Returns the number of pages scanned since the previous evaluation, or 0 if the group
+        didn't exist then.
         """
         group = self.world.live[path]
         scanned = self.sample(group).scanned
         return max(0, scanned - self.scans.get(group, scanned))
 
     def growth(self, path: str) -> tuple[int, int]:
-        """Returns the growth as a fraction: the size divided by the mean of earlier sizes. The
-        denominator is 0 if there is no earlier size, or if all were 0.
+        """Returns the growth as a numerator and a denominator: the size divided by the mean of
+        earlier sizes. The denominator is 0 if there are no earlier sizes, or if all are 0.
         """
         group = self.world.live[path]
         past = self.sizes.get(group, [])
@@ -78,8 +78,8 @@ class Evaluation:
 
 
 def evaluations(printed: Iterable[bytes], asked: Asked) -> Iterator[Evaluation]:
-    """Yields the state at each evaluation of a replay that prints a report at each of them. Yields
-    the same object each time, which then has the state of the next evaluation.
+    """Yields the state at each evaluation of a replay, which must have a report at each evaluation.
+    Always yields the same object, whose content changes.
     """
     world = World(Task)
     found = Evaluation(world)

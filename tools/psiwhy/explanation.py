@@ -1,4 +1,6 @@
-"""Formats why each ruleset fired or didn't, as lines and as JSON, for all kinds of rules."""
+"""Formats explanations of rulesets as lines and as JSON, for the rules of psi_oomd, oomd and
+systemd-oomd.
+"""
 from __future__ import annotations
 
 from typing import NamedTuple, Optional
@@ -10,15 +12,15 @@ from psireplay.part import within
 
 from .choice import Candidate, Choice
 
-# The largest number of candidates that are printed of an action, and of lines about the firings of
-# a ruleset.
+# The largest number of candidates that are printed for an action, and the largest number of lines
+# that are printed about a ruleset's firings.
 MOST_CANDIDATES, MOST_FIRINGS = 8, 40
 Span = tuple[int, int]
 
 
 class Extreme(NamedTuple):
     """The value that came nearest to a limit, the time (ns) at which it was first reached, the path
-    of the group that reached it, and the limit. `value` and `limit` are in `unit`; `shown` and
+    of the group that reached it, and the limit. `value` and `limit` are in `unit`, and `shown` and
     `limit_shown` are the printed texts. `word` is `highest` or `lowest`.
     """
 
@@ -39,9 +41,9 @@ class Extreme(NamedTuple):
 
 class Measure(NamedTuple):
     """A detector: its condition in words (`wanted`), the value nearest to its threshold or the
-    reason why there is no value (`absent`), the longest time (ns) for which the condition held, the
-    time (ns) for which it must hold, and the spans (ns) in which the detector was true. None stands
-    for a property that the detector doesn't have.
+    reason why there is none (`absent`), the longest time (ns) for which the condition held, the
+    time (ns) for which it must hold, and the spans (ns) in which the detector was true. A property
+    that the detector doesn't have is None.
     """
 
     plugin: str
@@ -76,8 +78,8 @@ class Measure(NamedTuple):
 
 
 class Firing(NamedTuple):
-    """A firing at `time_ns`: what was true then, and what the actions did. No
-    action ran if the ruleset rested until a later time (ns) or was paused.
+    """A firing of a ruleset at `time_ns`: the groups of detectors that were true, and what the
+    actions did. No action ran if the ruleset was in a pause, until `paused_until` (ns).
     """
 
     time_ns: int
@@ -102,7 +104,7 @@ class Firing(NamedTuple):
 
 class Miss(NamedTuple):
     """How near a ruleset that never fired came to firing: the fractions of the threshold and of the
-    duration that it reached, from 0 to 1, and in words the value that came nearest.
+    duration that were reached, from 0 to 1, and the nearest value in words.
     """
 
     part: float
@@ -111,13 +113,13 @@ class Miss(NamedTuple):
 
     @property
     def key(self) -> tuple[float, float]:
-        """The key by which misses are compared: the ruleset that came nearest has the greatest."""
+        """The sort key: the ruleset that came nearest to firing has the greatest key."""
         return self.part, self.duration_part
 
 
 class Part(NamedTuple):
-    """A ruleset, or a rule of systemd-oomd: its name, its named groups of detectors, its firings,
-    and how near it came to firing if it never fired.
+    """A ruleset, or a rule of systemd-oomd: its name, its groups of detectors by name, its firings
+    and, if it never fired, how near it came to firing.
     """
 
     name: str
@@ -130,7 +132,7 @@ class Part(NamedTuple):
         return [(it.time_ns, one.victim) for it in self.firings for one in it.choices if one.victim]
 
     def within(self, part: Optional[Selected]) -> Part:
-        """Returns this part with only the firings in a time of the trace."""
+        """Returns a copy that has only the firings within the selected part of the trace."""
         return self._replace(firings=within(self.firings, part))
 
     def record(self) -> dict[str, object]:
@@ -154,7 +156,7 @@ def candidate_record(it: Candidate) -> dict[str, object]:
 
 
 def spans_text(spans: list[Span], most: int = 3) -> str:
-    """Formats the first `most` spans (ns), such as `from 146 s to 214 s`."""
+    """Formats up to `most` spans (ns), such as `from 146 s to 214 s`. Counts the others."""
     found = [
         f"at {time_text(start)}" if start == end else f"from {time_text(start)} to {time_text(end)}"
         for start, end in spans[:most]
@@ -164,7 +166,7 @@ def spans_text(spans: list[Span], most: int = 3) -> str:
 
 
 def head_of(part: Part) -> str:
-    """Returns the first line about a ruleset: how often it fired, and what it killed."""
+    """Returns the first line about a ruleset, which says how often it fired and what it killed."""
     if not part.firings:
         return f"{part.name}: {'never fired' if part.miss else 'fired at other times only'}"
     killed = [f"{path} at {time_text(time_ns)}" for time_ns, path in part.victims()]
@@ -175,7 +177,7 @@ def head_of(part: Part) -> str:
 
 
 def choice_lines(it: Choice, is_all: bool) -> list[str]:
-    """Returns the lines for an action and its candidates."""
+    """Returns the lines that describe an action and its candidates."""
     lines = [f"action {it.action} {it.plugin}: {f'killed {it.victim}' if it.victim else it.nobody}"]
     shown = it.candidates if is_all else it.candidates[:MOST_CANDIDATES]
     for one in shown:
@@ -187,8 +189,8 @@ def choice_lines(it: Choice, is_all: bool) -> list[str]:
 
 
 def firing_lines(found: list[Firing], is_all: bool) -> list[str]:
-    """Returns the lines for firings with their actions. Consecutive firings during the same pause
-    of the ruleset share a line.
+    """Returns the lines that describe firings and their actions. Consecutive firings during the
+    same pause share a line.
     """
     lines: list[str] = []
     place = 0
@@ -218,7 +220,7 @@ def firing_lines(found: list[Firing], is_all: bool) -> list[str]:
 
 
 def part_lines(part: Part, is_all: bool) -> list[str]:
-    """Returns the lines for a ruleset: what it did, its detectors and its firings."""
+    """Returns the lines that describe a ruleset, its detectors and its firings."""
     lines = [head_of(part)]
     for name, measures in part.groups:
         lines += [f"  {name}"] if name else []
@@ -235,8 +237,8 @@ def part_lines(part: Part, is_all: bool) -> list[str]:
 
 
 def nearest(parts: list[Part]) -> Optional[Part]:
-    """Returns the ruleset that came nearest to firing among those that never fired. None if all
-    fired, or if none came near.
+    """Returns the ruleset that came nearest to firing among those that never fired. Returns None if
+    there is none with a value near its threshold.
     """
     missed = [it for it in parts if it.miss and it.miss.part]
     order = sorted(missed, key=lambda it: it.miss.key if it.miss else (0.0, 0.0))
@@ -244,7 +246,7 @@ def nearest(parts: list[Part]) -> Optional[Part]:
 
 
 def lines_of(parts: list[Part], is_all: bool) -> list[str]:
-    """Returns the lines of the whole explanation."""
+    """Returns the lines of a complete explanation."""
     lines = [line for part in parts for line in part_lines(part, is_all)]
     best = nearest(parts)
     if best and best.miss:

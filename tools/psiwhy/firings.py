@@ -16,9 +16,9 @@ from .truths import Place
 
 
 class Firing(NamedTuple):
-    """A firing of a ruleset at a time (ns): the numbers of the groups of detectors that were true,
-    and what the actions did. After a kill a ruleset pauses: if it paused until a later time (ns),
-    no action ran.
+    """A firing of a ruleset at `time_ns`: the numbers of the groups of detectors that were true,
+    and what the actions did. If the ruleset was in the pause after a kill, `paused_until` is the
+    end of the pause (ns), and no action ran.
     """
 
     time_ns: int
@@ -29,8 +29,7 @@ class Firing(NamedTuple):
 
 
 class Chains:
-    """The actions of each ruleset, its kills by time (ns), and the time (ns) until which it pauses.
-    """
+    """The actions of each ruleset, its kills by time (ns), and the end (ns) of its pause."""
 
     def __init__(self, judged: Judged, kills: list[Kill]) -> None:
         self.actions = [
@@ -42,8 +41,7 @@ class Chains:
         self.pauses: dict[int, int] = {}
 
     def run(self, ruleset: int, now: Evaluation) -> Iterator[Choice]:
-        """Yields what the actions of a firing ruleset did, up to the action that ended the
-        chain.
+        """Yields what each action of a firing ruleset did, up to the action that ended the firing.
         """
         kills = self.kills[ruleset, now.time_ns]
         for number, plugin in enumerate(self.actions[ruleset]):
@@ -55,15 +53,15 @@ class Chains:
                 return
 
     def pause_end(self, ruleset: int, time_ns: int) -> Optional[int]:
-        """Returns the time (ns) until which a ruleset pauses, or None if it doesn't pause at
-        `time_ns`.
+        """Returns the end (ns) of the ruleset's pause, or None if it isn't in a pause at `time_ns`.
         """
         until = self.pauses.get(ruleset, 0)
         return until if time_ns < until else None
 
 
 def firings(judged: Judged, kills: list[Kill]) -> list[Firing]:
-    """Returns all firings in order of time. Simultaneous firings are in the order of the rulesets.
+    """Returns all firings in order of time. Firings at the same time are in the order of their
+    rulesets.
     """
     fired = {number: set(judged.truths[Place(number)]) for number in range(len(judged.json))}
     if not any(fired.values()):

@@ -1,5 +1,5 @@
-"""Evaluates a rules file on a trace: its kills, when detectors were true, and how near they
-came.
+"""Evaluates a rules file on a trace. Finds the kills, the times at which detectors were true, and
+how near detectors came to their thresholds.
 """
 from __future__ import annotations
 
@@ -14,13 +14,13 @@ from psireplay.runs import Done, Runs
 from .nearness import Watch, watch
 from .truths import ALWAYS, Truths, truths
 
-# The defaults of `replay`: the tick (ms) and the interval of evaluations (s).
+# The program's defaults for the length of a tick (ms) and the interval of evaluations (s).
 TICK_MS, INTERVAL_S = 2000, 5
 
 
 class Asked(NamedTuple):
-    """The file names of a trace and of rules. `tick_ms` and `interval_s` (the interval of
-    evaluations) are None for the program's defaults.
+    """A trace and a rules file to evaluate. `tick_ms` is the length of a tick, and `interval_s` the
+    interval of evaluations; None selects the program's default.
     """
 
     trace: str
@@ -31,22 +31,22 @@ class Asked(NamedTuple):
 
     @property
     def pace(self) -> list[str]:
-        """The options of `replay` for tick and interval."""
+        """The options for `psi_oomd replay` that set the tick and the interval."""
         options = (("--tick-ms", self.tick_ms), ("--interval-s", self.interval_s))
         return [f"{name}={value}" for name, value in options if value is not None]
 
     def is_due(self, tick: int) -> bool:
-        """Returns whether the rules are evaluated at the tick at the time `tick` (ns)."""
+        """Whether the rules are evaluated at the tick that ends at `tick` (ns)."""
         length = (self.tick_ms or TICK_MS) * SECOND // 1000
         interval = (self.interval_s or INTERVAL_S) * SECOND
         return tick // interval > (tick - length) // interval
 
 
 class Judged(NamedTuple):
-    """The outcome of rules on a trace: the replay `run`; in `json` the rules as the program parsed
-    them; in `asked` the runs that show when detectors were true; and in `watches` how near each
-    detector came to its threshold, by the numbers of its ruleset, its group and itself. `host` is
-    the machine's memory (bytes).
+    """The results of evaluating rules on a trace. `run` is the replay, and `json` has the rulesets
+    as the program parsed them. `asked` has the runs that determined when detectors were true.
+    `watches` says how near each detector came to its threshold, keyed by the numbers of the
+    ruleset, the group and the detector. `host` is the machine's memory (bytes).
     """
 
     of: Asked
@@ -64,7 +64,7 @@ class Judged(NamedTuple):
 
 
 def read_rules(runs: Runs, asked: Asked) -> tuple[list[dict[str, Any]], Rules]:
-    """Returns the rules as the program parsed them, including the drop-in file."""
+    """Returns the rules as the program parsed them, with the drop-in file applied."""
     words = [f"--drop-in={asked.drop_in}"] if asked.drop_in is not None else []
     text = runs.program("rules", *words, "--", asked.rules).text()
     with tempfile.NamedTemporaryFile("w", suffix=".json", encoding="utf-8") as file:
@@ -76,8 +76,8 @@ def read_rules(runs: Runs, asked: Asked) -> tuple[list[dict[str, Any]], Rules]:
 
 
 def judge(runs: Runs, asked: Asked, run: Done) -> Judged:
-    """Finds when each detector of the rules was true in a trace and how near it came to its
-    threshold. `run` is a replay of the trace with a report at each evaluation.
+    """Finds when each detector of the rules was true in a trace, and how near it came to its
+    threshold. `run` is a replay of the trace that prints a report at each evaluation.
     """
     values, rules = read_rules(runs, asked)
     before = len(runs.done)

@@ -1,4 +1,4 @@
-"""Finds the value of each detector that came nearest to its threshold at any evaluation."""
+"""Finds, for each detector, the value that came nearest to its threshold at any evaluation."""
 from __future__ import annotations
 
 from typing import Any, Iterable, NamedTuple, Optional
@@ -16,9 +16,9 @@ PRESSURE = {"pressure_above": 10, "pressure_rising_beyond": 60}
 
 
 class Group(NamedTuple):
-    """A group at an evaluation: full averages of IO and of memory over 10 and 60 s (hundredths
-    of a percent), its memory (bytes) or None without a sample, and the number of pages scanned
-    since the previous evaluation.
+    """A group at an evaluation: its averages of full pressure of IO and memory over 10 s and 60 s
+    (hundredths of a percent), its memory (bytes, or None without a sample), and the number of pages
+    that it scanned since the previous evaluation.
     """
 
     full: dict[tuple[str, str], int]
@@ -27,8 +27,8 @@ class Group(NamedTuple):
 
 
 class Nearest(NamedTuple):
-    """The value nearest to the threshold, the time (ns) at which it was first reached, and the
-    path of the group that reached it.
+    """The value that came nearest to a threshold, the time (ns) at which it was first reached, and
+    the path of the group that reached it.
     """
 
     value: int
@@ -37,8 +37,8 @@ class Nearest(NamedTuple):
 
 
 class Memory:
-    """The last samples of groups and of the host at an evaluation, and each group's scan count
-    (pages) at the previous evaluation.
+    """The last samples of the groups and the host at an evaluation. `before` has each group's count
+    of scanned pages at the previous evaluation.
     """
 
     def __init__(self, trace: str) -> None:
@@ -46,33 +46,33 @@ class Memory:
         self.before: dict[TraceGroup, int] = {}
 
     def go_to(self, time_ns: int) -> None:
-        """Advances to the evaluation at `time_ns`, and applies the events up to that time."""
+        """Applies the events up to the evaluation at `time_ns`."""
         self.before = {group: scanned(group) for group in self.groups.live.values()}
         for event in self.events.until(time_ns):
             self.groups.take(*event)
 
     def memory(self, path: str) -> Optional[int]:
-        """Returns the memory (bytes) at the last sample of a live group, or None without a
-        sample.
+        """Returns the memory (bytes) in a group's last sample, or None without a sample. The group
+        must be live.
         """
         sample = self.groups.live[path].sample
         return sample.memory if sample else None
 
     def rise(self, path: str) -> int:
-        """Returns the pages scanned since the previous evaluation, 0 if the group wasn't live
-        then.
+        """Returns the number of pages scanned since the previous evaluation, or 0 if the group
+        didn't exist then.
         """
         group = self.groups.live[path]
         return max(0, scanned(group) - self.before.get(group, scanned(group)))
 
 
 def scanned(group: TraceGroup) -> int:
-    """Returns a group's scan count (pages) at its last sample."""
+    """Returns the count of scanned pages in a group's last sample, or 0 without a sample."""
     return group.sample.scanned if group.sample else 0
 
 
 class Watch:
-    """A detector, and the value that came nearest to its threshold."""
+    """A detector, and the value that came nearest to its threshold so far."""
 
     def __init__(self, detector: dict[str, Any]) -> None:
         self.plugin = Plugin(
@@ -80,13 +80,13 @@ class Watch:
         )
         self.nearest: Optional[Nearest] = None
         self.has_matched = self.lacks_swap = False
-        # The longest time (ns) for which the highest pressure was above the threshold, by the
-        # averages with the two decimals that are printed.
+        # The longest time (ns) for which the highest pressure was above the threshold. Averages
+        # have two decimals, as printed.
         self.hold = 0
         self.since: Optional[int] = None
 
     def update(self, time_ns: int, groups: GroupsByPath, memory: Memory) -> None:
-        """Updates the nearest value with the values at the evaluation at `time_ns`."""
+        """Updates the nearest value after the evaluation at `time_ns`."""
         name = self.plugin.name
         if name == "swap_free":
             host = memory.groups.host
@@ -121,8 +121,8 @@ class Watch:
             self.nearest = Nearest(value, time_ns, path)
 
     def part(self, host: Optional[int]) -> float:
-        """Returns how close the detector came to its threshold, as a fraction from 0 to 1.
-        `host` is the host's memory (bytes).
+        """Returns the fraction of its threshold that the detector reached, from 0 to 1. `host` is
+        the machine's memory (bytes).
         """
         name, args = self.plugin
         if self.nearest is None or name == "exists":
@@ -139,9 +139,9 @@ class Watch:
         )
 
     def nearest_text(self, host: Optional[int], hold: int) -> str:
-        """Returns in words the value nearest to the threshold and its distance from the threshold
-        or, if it was above, by how much it was above for too short a time. `hold` is the longest
-        time (ns) for which the condition held.
+        """Describes the value that came nearest to the threshold, and its distance from the
+        threshold. If the value was above for too short a time, describes that time. `hold` is the
+        longest time (ns) for which the condition held.
         """
         name, args = self.plugin
         if self.nearest is None or name in ("exists", "memory_reclaim"):
@@ -167,7 +167,7 @@ class Watch:
         return f"{share(-value)} percent of the swap was free {at}, {limit_shown}"
 
     def wanted(self) -> str:
-        """Returns the detector's condition in words."""
+        """Describes the detector's condition."""
         name, args = self.plugin
         long = lasting(args)
         whom = args.get("cgroup", "")
@@ -184,7 +184,7 @@ class Watch:
         }[name]
 
     def came(self, host: Optional[int]) -> str:
-        """Returns in words how near the detector came to its threshold."""
+        """Describes how near the detector came to its threshold."""
         name, args = self.plugin
         if self.nearest is None:
             none = (
@@ -215,18 +215,20 @@ class Watch:
 
 
 def reached(value: int, limit: int) -> float:
-    """Returns a value as a fraction of a limit, at most 1."""
+    """Returns `value / limit`, at most 1."""
     return min(1.0, value / limit) if limit > 0 else 1.0
 
 
 def lasting(args: dict[str, str]) -> str:
-    """Returns in words for how long a condition must hold. Empty if it has no duration."""
+    """Returns the words ` for N s` if the condition must hold for a duration, and an empty string
+    if not.
+    """
     return f" for {args['duration']} s" if args.get("duration", "0") != "0" else ""
 
 
 def short_of(args: dict[str, str], hold: int, is_above: bool) -> str:
-    """Returns in words by how much `hold`, the longest time (ns) above the threshold, was too
-    short. Empty if it was long enough.
+    """Says by how much `hold`, the longest time (ns) above the threshold, was shorter than the
+    duration. Returns an empty string if it wasn't, or if the value is not above the threshold.
     """
     missing = int(args.get("duration", "0")) * SECOND - hold
     return (
@@ -245,7 +247,7 @@ def mebibytes(number: int) -> str:
 
 
 def groups_of(reports: list[Report], memory: Memory) -> GroupsByPath:
-    """Returns the groups that had reports at an evaluation, by path."""
+    """Returns the groups that have reports at an evaluation, by path."""
     full: dict[str, dict[tuple[str, str], int]] = {}
     for it in reports:
         shares = full.setdefault(it.path, {})
@@ -258,9 +260,9 @@ def groups_of(reports: list[Report], memory: Memory) -> GroupsByPath:
 def watch(
     printed: Iterable[bytes], trace: str, evaluations: list[int], watches: list[Watch]
 ) -> Optional[int]:
-    """Updates `watches` with each evaluation of a replay. `printed` is its output, which has
-    reports at all `evaluations` (ns). Returns the host's memory (bytes), or None if the trace
-    doesn't contain it.
+    """Updates `watches` at each evaluation of a replay. `printed` is the output of the replay, and
+    has reports at all `evaluations` (ns). Returns the machine's memory (bytes), or None if the
+    trace doesn't contain it.
     """
     memory, due = Memory(trace), set(evaluations)
     reports: list[Report] = []

@@ -1,9 +1,9 @@
-"""Finds when detectors were true. psi_oomd replays the trace with rulesets of a single detector
-each, which kill whenever the detector is true.
+"""Finds the times at which detectors were true. psi_oomd replays the trace with one ruleset per
+detector, which kills whenever the detector is true.
 
-A kill changes nothing else in a replay, and an action with a post-action delay of 0 s kills at
-each evaluation. So a ruleset kills exactly when its detector is true. The victim is the root,
-which is a candidate as long as some task is live; without a live task no rule can kill.
+In a replay a kill changes nothing else, and an action with a post-action delay of 0 s kills at each
+evaluation. So a ruleset kills exactly when its detector is true. The victim is the root, which is a
+candidate as long as some task is live. Without a live task no rule can kill.
 """
 from __future__ import annotations
 
@@ -17,16 +17,16 @@ from psireplay.lines import Kill, read
 
 from psireplay.runs import Runs
 
-# The largest number of rulesets in a rules file.
+# The largest number of rulesets that a rules file may have.
 MOST = 64
 KILL = {"name": "kill_by_memory_size_or_growth", "args": {"cgroup": "/", "post_action_delay": "0"}}
 Detector = dict[str, Any]
 
 
 class Place(NamedTuple):
-    """A ruleset, one of its groups of detectors, and one detector of the group, by numbers from 0;
-    -1 means all of them. With `held` the condition of the detector counts without its duration.
-    The page of a report shows places with the names of these fields.
+    """Identifies a ruleset, one of its groups of detectors, or one detector of the group. Numbers
+    count from 0, and -1 means all. With `held`, the detector's condition counts even if it holds
+    for less than the duration. The page of a report shows these field names.
     """
 
     ruleset: int
@@ -36,7 +36,8 @@ class Place(NamedTuple):
 
 
 ALWAYS = Place(-1)
-# The times (ns) of the evaluations at which each place was true.
+# For each ruleset, group of detectors and detector, the times (ns) of the evaluations at which it
+# was true.
 Truths = dict[Place, list[int]]
 
 
@@ -45,8 +46,8 @@ def without_duration(detector: Detector) -> Detector:
 
 
 def has_duration(detector: Detector) -> bool:
-    """Returns whether a detector's condition must hold for a duration. The argument `duration` of
-    memory_reclaim has another meaning: for how long a rise counts.
+    """Whether a detector's condition must hold for a duration. In memory_reclaim the argument
+    `duration` has another meaning: the time for which a rise counts.
     """
     return bool(
         detector["name"] != "memory_reclaim" and detector["args"].get("duration", "0") != "0"
@@ -54,7 +55,9 @@ def has_duration(detector: Detector) -> bool:
 
 
 def questions(rulesets: list[dict[str, Any]]) -> Iterator[tuple[Place, list[list[Any]]]]:
-    """Yields each place of the rules with the detectors of the ruleset that is replayed for it."""
+    """Yields the places to evaluate: rulesets, groups of detectors, and detectors with and without
+    their durations. Each has the detectors of the ruleset that is replayed for it.
+    """
     yield ALWAYS, [["always"]]
     for number, ruleset in enumerate(rulesets):
         yield Place(number), ruleset["detectors"]
@@ -67,7 +70,9 @@ def questions(rulesets: list[dict[str, Any]]) -> Iterator[tuple[Place, list[list
 
 
 def truths(runs: Runs, rulesets: list[dict[str, Any]], trace: str, pace: list[str]) -> Truths:
-    """Returns the times (ns) at which each place of the rulesets was true in a trace."""
+    """Returns the times (ns) at which each ruleset, group of detectors and detector was true in a
+    trace.
+    """
     asked = list(questions(rulesets))
     found: Truths = {place: [] for place, _ in asked}
     with tempfile.TemporaryDirectory() as folder:
@@ -93,7 +98,7 @@ def truths(runs: Runs, rulesets: list[dict[str, Any]], trace: str, pace: list[st
 
 
 def spans(times_ns: list[int], evaluations: list[int]) -> list[tuple[int, int]]:
-    """Joins times of consecutive evaluations into spans. Returns the first and the last time (ns)
+    """Joins the times of consecutive evaluations into spans. Returns the first and last time (ns)
     of each span.
     """
     places = {time_ns: place for place, time_ns in enumerate(evaluations)}
@@ -111,5 +116,7 @@ def spans(times_ns: list[int], evaluations: list[int]) -> list[tuple[int, int]]:
 
 
 def longest(times_ns: list[int], evaluations: list[int]) -> int:
-    """Returns the longest time (ns) for which a place was true without interruption."""
+    """Returns the length (ns) of the longest span of consecutive evaluations. `times_ns` are the
+    times at which a detector was true.
+    """
     return max((end - start for start, end in spans(times_ns, evaluations)), default=0)
